@@ -1,0 +1,58 @@
+-- What no check refuses keeps the tree within its limits.
+use Rattle.std.proofs.Common.{◌≡◌, ℕ, ◌<◌, ◌≤◌, Bool, true, false, not, ◌&&◌, ◌||◌, List, [], ◌∷◌, Option, Some, None, is_some, is_none, nat_le, if◌then◌else◌, arith, refl, subst}
+use Rattle.std.proofs.lemmas.Bool.Decides.{nat_tests}
+use Rattle.std.specs.List.{AllByRecursion}
+use Rattle.std.specs.FinMap as map
+use Rattle.osc_model.specs.Tree.{Tree, payload_length, longest_payload, most_resources}
+use Rattle.osc_model.specs.Scope.{Scope, allows, names}
+use Rattle.osc_model.specs.Checks.{CanWrite, AllowsWrite, first_failing, checks, refusal}
+use Rattle.osc_model.specs.declared.code.Code.{Code}
+use Rattle.osc_model.specs.declared.code.Method.{Method}
+use Rattle.osc_model.specs.declared.code.Method.TheVariants.{Get, Post, Put, Delete}
+use Rattle.osc_model.specs.declared.request.Request.{Request}
+use Rattle.osc_model.specs.declared.resource.Resource.{Resource}
+
+first_passes : (b : Bool) (c : Code) (rest : Option Code) → (if b then rest else Some c) ≡ None → (b ≡ true) × (rest ≡ None)
+first_passes true c rest e = (refl, e)
+first_passes false c rest e = cc
+
+-- where no check fails, each passes
+pub all_pass : (rows : List (Bool × Code)) → first_failing rows ≡ None → AllByRecursion (λ row. row.0 ≡ true) rows
+all_pass [] e = tt
+all_pass (row ∷ rows) e =
+    let first = first_passes row.0 row.1 (first_failing rows) e in
+    (first.0, all_pass rows first.1)
+
+room_left : (found : Option Resource) (n : ℕ) → not (true && is_none found && nat_le most_resources n) ≡ true → is_some found ≡ false → n < most_resources
+room_left None n e absent = grind (arith, nat_tests)
+room_left (Some r) n e absent = cc
+
+-- the last two rows of the table
+written_passes : (tree : Tree) (path : List ℕ) (new : Option Resource) (resource : Resource) → new ≡ Some resource → nat_le (payload_length new) longest_payload ≡ true → not (is_some new && is_none (map.get tree path) && nat_le most_resources (map.len tree)) ≡ true → CanWrite tree path resource
+written_passes tree path None resource e short room = cc
+written_passes tree path (Some new) resource e short room = record {
+  short = subst (λ r. payload_length r ≤ longest_payload) e (grind (arith, nat_tests));
+  room = room_left (map.get tree path) (map.len tree) room;
+}
+
+pub allows_write : (tree : Tree) (scope : Scope) (path : List ℕ) (request : Request) → refusal tree scope path request ≡ None → AllowsWrite tree path request
+unfolding refusal
+allows_write tree scope path request passed resource e =
+    let passes = all_pass (checks tree scope path request) passed in
+    written_passes tree path _ resource e passes.1.1.1.1.1.1.0 passes.1.1.1.1.1.1.1.0
+
+either_true : (a b : Bool) → a ≡ true → (a || b) ≡ true
+either_true true b e = refl
+either_true false b e = cc
+
+other_true : (a b : Bool) → b ≡ true → (a || b) ≡ true
+other_true true b e = refl
+other_true false b e = e
+
+-- a scope that allows a method on a path has the path
+pub names_from_allows : (scope : Scope) (path : List ℕ) (method : Option Method) → allows scope path method ≡ true → names scope path ≡ true
+names_from_allows scope path None e = cc
+names_from_allows scope path (Some Get) e = either_true _ _ (either_true _ _ (either_true _ _ e))
+names_from_allows scope path (Some Post) e = either_true _ _ (either_true _ _ (other_true _ _ e))
+names_from_allows scope path (Some Put) e = either_true _ _ (other_true _ _ e)
+names_from_allows scope path (Some Delete) e = other_true _ _ e

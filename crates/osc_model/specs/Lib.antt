@@ -1,0 +1,10 @@
+pub mod Code
+pub mod Path
+pub mod Tree
+pub mod Scope
+pub mod Reply
+pub mod Checks
+pub mod Apply
+pub mod Grant
+pub mod History
+pub mod Step

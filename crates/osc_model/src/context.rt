@@ -1,0 +1,27 @@
+//! Names of security contexts (RFC 8613 section 3).
+
+use crate::bytes::Bytes;
+
+/// What a security context is derived from. Two contexts are the same exactly where their names are equal.
+#[derive(Debug, PartialEq, Eq, Clone, Drop)]
+pub struct ContextName {
+    /// The master secret.
+    pub secret: Bytes,
+    /// The master salt: salt and both nonces, each as a CBOR byte string (RFC 9203 section 4.3).
+    pub salt: Bytes,
+    /// The id context, which a client may name in its requests (RFC 8613 section 3.1).
+    pub id_context: Option<Bytes>,
+    /// The client's sender ID, 0 to 7 bytes.
+    pub client_id: Bytes,
+    /// The server's sender ID, 0 to 7 bytes.
+    pub server_id: Bytes,
+}
+
+/// One of the two ends of a security context.
+#[derive(Clone, Copy, Debug, PartialEq, Eq)]
+pub enum Side {
+    /// Who sends requests.
+    Client,
+    /// Who answers them.
+    Server,
+}

@@ -1,0 +1,25 @@
+//! The abstract machine: plain types of requests, replies and steps, and the definitions of what a request does
+//! to a tree of resources under a scope, and of what a history of requests does (`specs/`).
+#![tactic(auto)]
+
+mod bytes;
+mod code;
+mod context;
+mod laws;
+mod node;
+mod path;
+mod reply;
+mod request;
+mod resource;
+mod step;
+
+pub use bytes::Bytes;
+pub use code::{Code, Method};
+pub use context::{ContextName, Side};
+pub use laws::{never_out_of_memory, one_more_entry};
+pub use node::{Draw, Moment, Peer};
+pub use path::Path;
+pub use reply::Reply;
+pub use request::{ETags, Request};
+pub use resource::Resource;
+pub use step::{ClientResult, Datagram, Datagrams, Entry, Note, Step};

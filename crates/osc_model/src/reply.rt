@@ -1,0 +1,34 @@
+//! Replies.
+ghost use Rattle.std.specs.Prelude.{◌≡◌};
+ghost use Rattle.osc_model.specs.Reply.{bare};
+
+use crate::bytes::Bytes;
+use crate::code::Code;
+use std::alloc::Global;
+
+/// What a request is answered (RFC 7252 section 5.9).
+#[derive(Clone, Debug, PartialEq, Eq, Drop)]
+pub struct Reply {
+    /// The response code.
+    pub code: Code,
+    /// The ETag option (section 5.10.6).
+    pub etag: Option<[u8; 8]>,
+    /// The Content-Format option (section 5.10.3).
+    pub format: Option<u16>,
+    /// The payload, of 0 to 512 bytes.
+    pub payload: Bytes,
+}
+
+impl Reply {
+    /// A reply with neither options nor payload; takes no memory.
+    pub fn bare(alloc: Global, code: Code) -> Self
+        ensures { result ≡ bare code }
+    {
+        Reply {
+            code,
+            etag: None,
+            format: None,
+            payload: Bytes::new(alloc),
+        }
+    }
+}

@@ -1,0 +1,141 @@
+//! What one event at a node did.
+ghost use Rattle.std.specs.Prelude.{◌≡◌, [], ◌++◌, ◌∷◌, OnErr, OnOk, length};
+ghost use Rattle.osc_model.specs.Step.{sends};
+
+use crate::bytes::Bytes;
+use crate::code::Code;
+use crate::context::{ContextName, Side};
+use crate::node::{Moment, Peer};
+use crate::reply::Reply;
+use std::alloc::{AllocError, Global};
+use std::marker::Model;
+
+/// One use of a key: what was sealed or opened, and under which name.
+#[derive(Clone, Debug, PartialEq, Eq, Drop)]
+pub struct Note {
+    /// The name of the security context.
+    pub context: ContextName,
+    /// The end that sealed or opened.
+    pub side: Side,
+    /// The sender sequence number of the request, or of the one that is answered (RFC 8613 section 7.2).
+    pub number: u64,
+    /// The nonce (RFC 8613 section 5.2).
+    pub nonce: [u8; 13],
+    /// The associated data (RFC 8613 section 5.4).
+    pub aad: Bytes,
+    /// The plaintext (RFC 8613 section 5.3).
+    pub plaintext: Bytes,
+}
+
+/// A protected request that was served.
+#[derive(Clone, Debug, PartialEq, Eq, Drop)]
+pub struct Entry {
+    /// The name of the context that opened it.
+    pub context: ContextName,
+    /// The sender sequence number that the client gave the request.
+    pub number: u64,
+    /// What was opened.
+    pub plaintext: Bytes,
+    /// When it was served.
+    pub moment: Moment,
+    /// What it was answered.
+    pub reply: Reply,
+}
+
+/// How something that a client began went on.
+#[derive(Clone, Debug, PartialEq, Eq, Drop)]
+pub enum ClientResult {
+    /// The exchange made a security context.
+    Made,
+    /// The request was answered, and the answer opened.
+    Answer(Reply),
+    /// What was begun ended with an unprotected answer of this code, or a Reset, as code 0.00.
+    Unverified(Code),
+    /// No answer came in time.
+    TimedOut,
+    /// It wasn't begun, or ended, for the reason of this number.
+    Refused(u8),
+}
+
+/// A datagram to send.
+#[derive(Clone, Debug, PartialEq, Eq, Drop)]
+pub struct Datagram {
+    /// To whom.
+    pub to: Peer,
+    /// The payload of the UDP datagram.
+    pub bytes: Bytes,
+}
+
+/// Datagrams in the order in which they are sent; contracts see the list.
+#[derive(Debug, Drop)]
+pub struct Datagrams {
+    items: Vec<Datagram>,
+}
+
+impl Model for Datagrams {
+    ghost use Rattle.std.specs.Prelude.{List};
+    ghost use Rattle.osc_model.specs.declared.step.Datagram.{Datagram as Sent};
+
+    ghost Value = { List Sent };
+
+    ghost view = { λ d. d.items.items };
+}
+
+impl Datagrams {
+    /// No datagrams.
+    pub fn new(alloc: Global) -> Self
+        ensures { result ≡ [] }
+    {
+        Datagrams {
+            items: Vec::new(alloc),
+        }
+    }
+
+    /// Adds one at the end; without memory all stays as it was.
+    pub fn push(&mut self, datagram: Datagram) -> Result<(), AllocError>
+        ensures ok { OnOk result (self.new ≡ self.old ++ datagram ∷ []) }
+        ensures err { OnErr result (self.new ≡ self.old) }
+    {
+        Ok(self.items.push(datagram)?)
+    }
+
+    /// The datagrams, lent.
+    pub fn as_slice(&self) -> &[Datagram]
+        ensures { result.now ≡ self.now }
+    {
+        &self.items
+    }
+}
+
+/// What one event at a node did, beside changing the node.
+#[derive(Debug, Drop)]
+pub struct Step {
+    /// What is sent.
+    pub out: Datagrams,
+    /// What was sealed, if anything was.
+    pub seals: Option<Note>,
+    /// What was opened, if anything was.
+    pub opens: Option<Note>,
+    /// The request that was served, if one was.
+    pub served: Option<Entry>,
+    /// What a client learnt, if it did.
+    pub result: Option<ClientResult>,
+    /// The nonce that an exchange drew, if one did.
+    pub drawn: Option<[u8; 8]>,
+}
+
+impl Step {
+    /// A step that sends these and does nothing else; takes no memory.
+    pub fn sending(out: Datagrams) -> Step
+        ensures { result ≡ sends out }
+    {
+        Step {
+            out,
+            seals: None,
+            opens: None,
+            served: None,
+            result: None,
+            drawn: None,
+        }
+    }
+}
