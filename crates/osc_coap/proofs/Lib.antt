@@ -1,0 +1,9 @@
+pub mod Steps
+pub mod HeaderLaws
+pub mod OptionLaws
+pub mod BodyLaws
+pub mod BodySteps
+pub mod MessageLaws
+pub mod LengthLaws
+pub mod FewerLaws
+pub mod BuildLaws

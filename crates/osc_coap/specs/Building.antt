@@ -1,0 +1,25 @@
+-- A message that grows.
+use Rattle.std.specs.Prelude.{ℕ, List, [], ◌∷◌, ◌++◌, Option, Some, None}
+use Rattle.osc_coap.specs.declared.kind.Kind.{Kind}
+use Rattle.osc_coap.specs.Message.{NumberAndValue, Message}
+
+-- the number of the last option, or what stands before the first
+abbrev pub last_number : ℕ → List NumberAndValue → ℕ
+last_number before [] = before
+last_number before (option ∷ options) = last_number option.0 options
+
+-- a message with neither options nor payload
+abbrev pub bare : Kind → ℕ → ℕ → List ℕ → Message
+bare kind code id token = record { kind = kind; code = code; id = id; token = token; options = []; payload = None }
+
+-- the message with one option more, behind the others
+abbrev pub with_option : Message → ℕ → List ℕ → Message
+with_option m number value = record m { options = m.options ++ (number, value) ∷ [] }
+
+-- no bytes are no payload
+abbrev pub payload_of : List ℕ → Option (List ℕ)
+payload_of [] = None
+payload_of (b ∷ bytes) = Some (b ∷ bytes)
+
+abbrev pub with_payload : Message → List ℕ → Message
+with_payload m bytes = record m { payload = payload_of bytes }

@@ -1,0 +1,9 @@
+pub mod Kind
+pub mod Message
+pub mod Header
+pub mod Length
+pub mod Building
+pub mod Errors
+pub mod Reading
+pub mod MessageRef
+pub mod MessageBuilder

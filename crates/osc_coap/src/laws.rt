@@ -1,0 +1,87 @@
+//! Laws of the definitions, for the crates above: what a spelling is, how long it is, and how
+//! messages grow. These functions do nothing: whoever calls one has its clauses for a proof.
+
+ghost use Rattle.std.specs.Prelude.{◌≡◌, ◌<◌, ◌≤◌, ◌+◌, ◌^◌, ◌++◌, ℕ, List, [], Bool, None, length, filter, sum_by};
+ghost use Rattle.osc_coap.specs.declared.kind.Kind.{Kind as AnyKind};
+ghost use Rattle.osc_coap.specs.Message.{NumberAndValue, Message, IsOptionBehind, AreOptions, HasSpelling, Spells, spelling};
+ghost use Rattle.osc_coap.specs.Header.{HasHeader};
+ghost use Rattle.osc_coap.specs.Length.{option_length, options_length, payload_length, spelled_length};
+ghost use Rattle.osc_coap.specs.Building.{last_number, bare, with_option, payload_of, with_payload};
+
+/// No bytes are two messages.
+pub fn one_message()
+    ensures { (bytes : List ℕ) (m n : Message) → Spells bytes m → Spells bytes n → m ≡ n }
+{}
+
+/// A message has one spelling, and its header names its kind and its message ID.
+pub fn one_spelling()
+    ensures spelled { (m : Message) → HasSpelling m → Spells (spelling m) m }
+    ensures only { (bytes : List ℕ) (m : Message) → Spells bytes m → bytes ≡ spelling m }
+    ensures header { (bytes : List ℕ) (m : Message) → Spells bytes m → HasHeader bytes m.kind m.id }
+{}
+
+/// The length of a spelling, exactly, and by the lengths of its parts alone.
+pub fn length_of_spelling()
+    ensures exact { (m : Message) → length (spelling m) ≡ spelled_length m }
+    ensures most { (m : Message) → length (spelling m)
+        ≤ 4 + length m.token + sum_by (λ option. 5 + length option.1) m.options
+        + payload_length m.payload }
+{}
+
+/// A message that grows has a spelling at each step.
+pub fn growing()
+    ensures bare { (kind : AnyKind) (code id : ℕ) (token : List ℕ)
+        → id < 2 ^ 16 → length token ≤ 8 → (code ≡ 0 → token ≡ [])
+        → HasSpelling (bare kind code id token) }
+    ensures option { (m : Message) (number : ℕ) (value : List ℕ)
+        → HasSpelling m → 0 < m.code → IsOptionBehind (last_number 0 m.options) (number, value)
+        → HasSpelling (with_option m number value) }
+    ensures last { (m : Message) (number : ℕ) (value : List ℕ)
+        → last_number 0 (with_option m number value).options ≡ number }
+    ensures payload { (m : Message) (bytes : List ℕ)
+        → HasSpelling m → 0 < m.code → HasSpelling (with_payload m bytes) }
+{}
+
+/// By how much each step makes the spelling longer, exactly, and at most.
+pub fn length_of_growing()
+    ensures bare { (kind : AnyKind) (code id : ℕ) (token : List ℕ)
+        → length (spelling (bare kind code id token)) ≡ 4 + length token }
+    ensures option { (m : Message) (number : ℕ) (value : List ℕ)
+        → length (spelling (with_option m number value))
+        ≡ length (spelling m) + option_length (last_number 0 m.options) (number, value) }
+    ensures option_most { (before : ℕ) (option : NumberAndValue)
+        → option_length before option ≤ 5 + length option.1 }
+    ensures payload { (m : Message) (bytes : List ℕ)
+        → m.payload ≡ None
+        → length (spelling (with_payload m bytes))
+        ≡ length (spelling m) + payload_length (payload_of bytes) }
+    ensures payload_most { (bytes : List ℕ) → payload_length (payload_of bytes) ≤ 1 + length bytes }
+{}
+
+/// Options in two parts.
+pub fn options_in_parts()
+    ensures last { (before : ℕ) (front back : List NumberAndValue)
+        → last_number before (front ++ back) ≡ last_number (last_number before front) back }
+    ensures length { (before : ℕ) (front back : List NumberAndValue)
+        → options_length before (front ++ back)
+        ≡ options_length before front + options_length (last_number before front) back }
+    ensures joined { (before : ℕ) (front back : List NumberAndValue)
+        → AreOptions before front → AreOptions (last_number before front) back
+        → AreOptions before (front ++ back) }
+    ensures front { (before : ℕ) (front back : List NumberAndValue)
+        → AreOptions before (front ++ back) → AreOptions before front }
+    ensures back { (before : ℕ) (front back : List NumberAndValue)
+        → AreOptions before (front ++ back) → AreOptions (last_number before front) back }
+{}
+
+/// Options of which some are left out: they are options, and no longer.
+pub fn fewer_options()
+    ensures options { (keeps : NumberAndValue → Bool) (before : ℕ) (options : List NumberAndValue)
+        → AreOptions before options → AreOptions before (filter keeps options) }
+    ensures last { (keeps : NumberAndValue → Bool) (before : ℕ) (options : List NumberAndValue)
+        → AreOptions before options
+        → last_number before (filter keeps options) ≤ last_number before options }
+    ensures length { (keeps : NumberAndValue → Bool) (before : ℕ) (options : List NumberAndValue)
+        → AreOptions before options
+        → options_length before (filter keeps options) ≤ options_length before options }
+{}
