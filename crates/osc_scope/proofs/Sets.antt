@@ -1,0 +1,20 @@
+-- A set of permissions.
+use Rattle.std.proofs.Common.{◌≡◌, ℕ, List, Bool, true, false, ◌||◌, refl, sym, ap, ◌∙◌}
+use Rattle.std.specs.Ordering.{eq_by_cmp}
+use Rattle.std.specs.Cmp.{Equal-is}
+use Rattle.std.specs.FinSet as set
+use Rattle.osc_model.specs.Scope.{Scope as Permissions, permission_cmp}
+use Rattle.osc_model.specs.declared.code.Method.{Method}
+use Rattle.osc_model.proofs.Orders.{permissions_total, permissions_exact}
+
+absorbed : (a b : Bool) → (a ≡ true → b ≡ true) → (a || b) ≡ b
+absorbed true true h = refl
+absorbed true false h = sym (h refl)
+absorbed false b h = refl
+
+-- to add what is there changes nothing
+pub insert_present : (scope : Permissions) (permission : List ℕ × Method) → set.contains scope permission ≡ true → set.insert scope permission ≡ scope
+insert_present scope permission there = set.same_set permissions_total permissions_exact _ _ (λ q.
+    set.contains-insert permissions_total scope permission q
+    ∙ absorbed (eq_by_cmp permission_cmp q permission) (set.contains scope q)
+    (λ tied. ap (set.contains scope) (permissions_exact q permission ((Equal-is (permission_cmp q permission)).0 tied)) ∙ there))
