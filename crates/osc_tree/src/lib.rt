@@ -1,0 +1,13 @@
+//! The tree of resources, and what a request does to it (RFC 7252 section 5.8).
+#![tactic(auto)]
+
+mod apply;
+mod checks;
+mod tags;
+mod tree;
+
+pub use tags::etag;
+pub use tree::{LONGEST_PAYLOAD, MOST_RESOURCES, Tree};
+
+#[cfg(test)]
+mod tests;

@@ -1,0 +1,112 @@
+//! The tree.
+ghost use Rattle.std.specs.Prelude.{◌≡◌, ◌≤◌, ◌<◌, ◌==◌, false, length, nat_le, option_copied, IfOk, OnOk, OnErr};
+ghost use Rattle.std.specs.FinMap as map;
+ghost use Rattle.osc_model.specs.Tree.{IsWithinLimits, most_resources, longest_payload};
+
+use osc_model::{Path, Resource};
+use std::alloc::{AllocError, Global};
+use std::collections::BTreeMap;
+use std::collections::btree_map::Iter;
+use std::marker::Model;
+
+/// How many resources a tree has at most.
+pub const MOST_RESOURCES: usize = 1024;
+
+/// How many bytes each of them has at most.
+pub const LONGEST_PAYLOAD: usize = 512;
+
+/// A finite map from paths to resources: at most 1024, each of at most 512 bytes. To look a path up takes logarithmic
+/// time and no memory.
+#[derive(Debug, Drop)]
+pub struct Tree {
+    resources: BTreeMap<Path, Resource>,
+}
+
+impl Model for Tree {
+    ghost use Rattle.std.specs.FinMap as map;
+    ghost use Rattle.osc_model.specs.Tree.{Tree as Resources, coded_tree, IsWithinLimits};
+
+    ghost Value = { Resources };
+
+    ghost coded = { coded_tree };
+
+    ghost view = { λ t. map.from_entries t.resources.entries };
+
+    ghost invariant = { λ t. IsWithinLimits (map.from_entries t.resources.entries) };
+}
+
+impl Tree {
+    /// The empty tree; takes no memory.
+    pub fn new(alloc: Global) -> Self
+        ensures { result ≡ map.empty }
+    {
+        Tree {
+            resources: BTreeMap::new(alloc),
+        }
+    }
+
+    /// What the path has, if it has something; takes logarithmic time and no memory.
+    pub fn get(&self, path: &Path) -> Option<&Resource>
+        ensures found { option_copied result ≡ map.get self.now path.now }
+        ensures limits { IsWithinLimits self.now }
+    {
+        self.resources.get(path)
+    }
+
+    /// How many resources there are.
+    pub fn len(&self) -> usize
+        ensures len { result ≡ map.len self.now }
+        ensures limits { IsWithinLimits self.now }
+    {
+        self.resources.len()
+    }
+
+    /// Whether there is none.
+    pub fn is_empty(&self) -> bool
+        ensures { result ≡ (map.len self.now == 0) }
+    {
+        self.len() == 0
+    }
+
+    /// Whether there are `MOST_RESOURCES`.
+    pub fn is_full(&self) -> bool
+        ensures { result ≡ nat_le most_resources (map.len self.now) }
+    {
+        MOST_RESOURCES <= self.len()
+    }
+
+    /// Sets what the path has. The caller knows that the payload has at most `LONGEST_PAYLOAD` bytes, and that the path
+    /// has something (`get`) or the tree is not full (`is_full`). Without memory the tree stays as it was.
+    pub fn put(&mut self, path: Path, resource: Resource) -> Result<(), AllocError>
+        requires short { length resource.payload ≤ longest_payload }
+        requires room { map.contains_key self.old path ≡ false → map.len self.old < most_resources }
+        ensures ok { OnOk result (self.new ≡ map.insert self.old path resource) }
+        ensures err { OnErr result (self.new ≡ self.old) }
+    {
+        self.resources.insert(path, resource)?;
+        Ok(())
+    }
+
+    /// Leaves the path with nothing; takes no memory.
+    pub(crate) fn remove(&mut self, path: &Path)
+        ensures { self.new ≡ map.remove self.old path.now }
+    {
+        self.resources.remove(path);
+    }
+
+    /// The paths with their resources, in the byte order of the paths' texts; takes no memory.
+    pub fn iter(&self) -> Iter<'_, Path, Resource>
+        ensures { result ≡ map.entries self.now }
+    {
+        self.resources.iter()
+    }
+
+    /// Another tree of the same resources. Without memory an `AllocError`.
+    pub fn copy(&self) -> Result<Tree, AllocError>
+        ensures { IfOk result (λ copy. copy ≡ self.now) }
+    {
+        Ok(Tree {
+            resources: self.resources.clone()?,
+        })
+    }
+}
