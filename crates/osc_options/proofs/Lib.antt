@@ -1,0 +1,2 @@
+pub mod RecognisedLaws
+pub mod ReplyLaws

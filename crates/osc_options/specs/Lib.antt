@@ -1,0 +1,4 @@
+pub mod Table
+pub mod Recognised
+pub mod Asking
+pub mod Answering

@@ -1,0 +1,107 @@
+//! Which options of a message are recognised (RFC 7252 section 5.4).
+ghost use Rattle.std.specs.Prelude.{◌≡◌, ◌==◌, [], ◌∷◌, MatchOption};
+ghost use Rattle.std.specs.List.{list_any};
+ghost use Rattle.std.specs.Iterator.{YieldsFirstBy, item_count};
+ghost use Rattle.osc_options.specs.Recognised as spec;
+
+use crate::table::{is_critical, rule_of};
+use osc_coap::{MessageRef, Options};
+use std::marker::Model;
+
+/// Whether this option, behind one of number `before` or first behind 0, is recognised: it has a row in the table,
+/// the length that the row allows, and is no second copy of one that doesn't repeat.
+fn is_recognised(before: u16, number: u16, value: &[u8]) -> bool
+    ensures { result ≡ spec.is_recognised before (number, value.now) }
+{
+    match rule_of(number) {
+        Some(rule) => {
+            rule.shortest as usize <= value.len()
+                && value.len() <= rule.longest as usize
+                && (rule.repeats || number != before)
+        }
+        None => false,
+    }
+}
+
+/// The first critical option that isn't recognised, by its number: a message with one is refused (RFC 7252
+/// section 5.4.1).
+pub fn unrecognised_critical(message: &MessageRef<'_>) -> Option<u16>
+    ensures { result ≡ spec.unrecognised_critical 0 message.now.options }
+{
+    let mut before = 0;
+    for (number, value) in message.options() {
+        if is_critical(number) && !is_recognised(before, number, value) {
+            return Some(number);
+        }
+        before = number;
+    }
+    None
+}
+
+/// Whether an option of this number stands in the message, recognised or not.
+pub fn has_option(message: &MessageRef<'_>, number: u16) -> bool
+    ensures { result ≡ list_any (λ option. option.0 == number) message.now.options }
+{
+    for (other, _) in message.options() {
+        if other == number {
+            return true;
+        }
+    }
+    false
+}
+
+/// Takes options until one is recognised, which it returns; `before` is the number of the option taken last.
+fn take_recognised<'a>(before: &mut u16, options: &mut Options<'a>) -> Option<(u16, &'a [u8])>
+    ensures { MatchOption result
+        ((spec.recognised before.old options.old ≡ []) × (spec.recognised before.new options.new ≡ []))
+        (λ option. spec.recognised before.old options.old ≡ (option.0, option.1.now) ∷ spec.recognised before.new options.new) }
+{
+    while let Some((number, value)) = options.next() {
+        let behind = *before;
+        *before = number;
+        if is_recognised(behind, number, value) {
+            return Some((number, value));
+        }
+    }
+    None
+}
+
+/// The recognised options of a message that are left, in order: number and value.
+#[derive(Drop)]
+pub(crate) struct RecognisedOptions<'a> {
+    /// The number of the option before them.
+    before: u16,
+    options: Options<'a>,
+}
+
+impl<'a> Model for RecognisedOptions<'a> {
+    ghost use Rattle.std.specs.Prelude.{List};
+    ghost use Rattle.osc_coap.specs.Message.{NumberAndValue};
+    ghost use Rattle.osc_options.specs.Recognised as spec;
+
+    ghost Value = { List NumberAndValue };
+
+    ghost view = { λ left. spec.recognised left.before left.options };
+}
+
+impl<'a> Iterator for RecognisedOptions<'a> {
+    type Item = (u16, &'a [u8]);
+
+    ghost next_gives = { YieldsFirstBy (λ option. (option.0, option.1.now)) (λ options. options) };
+
+    ghost remaining = { item_count (λ options. options) };
+
+    fn next(&mut self) -> Option<(u16, &'a [u8])> {
+        take_recognised(&mut self.before, &mut self.options)
+    }
+}
+
+/// The recognised options of the message, in order.
+pub(crate) fn recognised_options<'a>(message: &MessageRef<'a>) -> RecognisedOptions<'a>
+    ensures { result ≡ spec.recognised 0 message.now.options }
+{
+    RecognisedOptions {
+        before: 0,
+        options: message.options(),
+    }
+}
