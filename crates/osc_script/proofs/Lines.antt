@@ -1,0 +1,155 @@
+-- What is read from the words of a line, they say, and what they say is read.
+use Rattle.std.proofs.Common.{◌≡◌, ℕ, ◌+◌, ◌<◌, ◌≤◌, ◌^◌, Bool, true, false, cond, List, [], ◌∷◌, ◌++◌, length, get_or, map, Option, Some, None, codes, nat_lt, nat_le, Bor, ◌⊎◌, inl, inr, refl, sym, ap, subst, ◌∙◌, arith, bytes_eq, ltb-true, lt-ltb, leb-true, le-leb, IsUtf8}
+use Rattle.std.specs.Prelude.{◌&&◌}
+use Rattle.std.proofs.lemmas.Bool.{cases_Bool, and_parts}
+use Rattle.std.proofs.lemmas.Option.{cond_some}
+use Rattle.std.proofs.lemmas.Slice.Eq.{bytes_eq-Decides}
+use Rattle.osc_model.specs.Path.{IsPath}
+use Rattle.osc_model.specs.Tree.{longest_payload}
+use Rattle.osc_script.specs.declared.line.Line.{Line}
+use Rattle.osc_script.specs.declared.line.Line.TheVariants.{Skipped, Put, Open, At, Inject}
+use Rattle.osc_script.specs.Words.{words_of}
+use Rattle.osc_script.specs.Line.{IsSkipped, Say, Says}
+use Rattle.osc_script.specs.Reading.{◌>>=◌, Reads, number_in, format_in, bytes_in, with_one, with_three, put_in, at_in, inject_in, line_in, HasPath, Gives}
+use Rattle.osc_script.proofs.Found.{step_found, test_held}
+use Rattle.osc_script.proofs.Numbers.{number_found, number_again, format_found, format_again}
+use Rattle.osc_script.proofs.Payloads.{bytes_found, bytes_again}
+
+line_is : (x y : Line) → Some x ≡ Some y → x ≡ y
+line_is x y e = cc
+
+-- ---- arguments
+
+one_found : (f : List ℕ → Option Line) (args : List (List ℕ)) (line : Line) → with_one f args ≡ Some line → (a : List ℕ) × (args ≡ a ∷ []) × (f a ≡ Some line)
+one_found f [] line e = absurd cc
+one_found f (a ∷ []) line e = (a, refl, e)
+one_found f (a ∷ b ∷ args) line e = absurd cc
+
+three_found : (f : List ℕ → List ℕ → List ℕ → Option Line) (args : List (List ℕ)) (line : Line) → with_three f args ≡ Some line → (a b c : List ℕ) × (args ≡ a ∷ b ∷ c ∷ []) × (f a b c ≡ Some line)
+three_found f [] line e = absurd cc
+three_found f (a ∷ []) line e = absurd cc
+three_found f (a ∷ b ∷ []) line e = absurd cc
+three_found f (a ∷ b ∷ c ∷ []) line e = (a, b, c, refl, e)
+three_found f (a ∷ b ∷ c ∷ d ∷ args) line e = absurd cc
+
+-- ---- each kind of line
+
+put_found : (path format bytes : List ℕ) (line : Line) → put_in path format bytes ≡ Some line → HasPath line → Say (codes "put" ∷ path ∷ format ∷ bytes ∷ []) line
+unfolding put_in
+put_found path format bytes line e has =
+    let a = step_found (format_in format) (λ f. bytes_in bytes >>= λ p. cond (nat_le (length p) longest_payload) (Some (Put path (record { format = f; payload = p }))) None) line e in
+    let b = step_found (bytes_in bytes) (λ p. cond (nat_le (length p) longest_payload) (Some (Put path (record { format = a.0; payload = p }))) None) line a.2 in
+    let c = test_held (nat_le (length b.0) longest_payload) (Some (Put path (record { format = a.0; payload = b.0 }))) line b.2 in
+    let is_put : Put path (record { format = a.0; payload = b.0 }) ≡ line = line_is (Put path (record { format = a.0; payload = b.0 })) line c.1 in
+    let is_path : IsPath path = subst HasPath (sym is_put) has in
+    subst (Say (codes "put" ∷ path ∷ format ∷ bytes ∷ [])) is_put (format, bytes, refl, is_path, format_found format a.0 a.1, bytes_found bytes b.0 b.1, leb-true (length b.0) longest_payload c.0)
+
+open_found : (path : List ℕ) (line : Line) → Some (Open path) ≡ Some line → HasPath line → Say (codes "open" ∷ path ∷ []) line
+open_found path line e has =
+    let is_open : Open path ≡ line = line_is (Open path) line e in
+    let is_path : IsPath path = subst HasPath (sym is_open) has in
+    subst (Say (codes "open" ∷ path ∷ [])) is_open (refl, is_path)
+
+at_found : (number : List ℕ) (line : Line) → at_in number ≡ Some line → Say (codes "at" ∷ number ∷ []) line
+unfolding at_in
+at_found number line e =
+    let a = step_found (number_in number) (λ m. cond (nat_lt m (2 ^ 63)) (Some (At (record { 0 = m }))) None) line e in
+    let c = test_held (nat_lt a.0 (2 ^ 63)) (Some (At (record { 0 = a.0 }))) line a.2 in
+    subst (Say (codes "at" ∷ number ∷ [])) (line_is (At (record { 0 = a.0 })) line c.1) (number, refl, number_found number a.0 a.1, ltb-true a.0 (2 ^ 63) c.0)
+
+inject_found : (from to spelled : List ℕ) (line : Line) → inject_in from to spelled ≡ Some line → Say (codes "inject" ∷ from ∷ to ∷ spelled ∷ []) line
+unfolding inject_in
+inject_found from to spelled line e =
+    let t = test_held (bytes_eq from (codes "x") && bytes_eq to (codes "s")) (bytes_in spelled >>= λ bytes. Some (Inject bytes)) line e in
+    let b = and_parts (bytes_eq from (codes "x")) (bytes_eq to (codes "s")) t.0 in
+    let from_is : from ≡ codes "x" = (bytes_eq-Decides from (codes "x")).0 b.0 in
+    let to_is : to ≡ codes "s" = (bytes_eq-Decides to (codes "s")).0 b.1 in
+    let a = step_found (bytes_in spelled) (λ bytes. Some (Inject bytes)) line t.1 in
+    let words : codes "inject" ∷ from ∷ to ∷ spelled ∷ [] ≡ codes "inject" ∷ codes "x" ∷ codes "s" ∷ spelled ∷ [] = rw (from_is, to_is) refl in
+    subst (Say (codes "inject" ∷ from ∷ to ∷ spelled ∷ [])) (line_is (Inject a.0) line a.2) (spelled, words, bytes_found spelled a.0 a.1)
+
+-- ---- a line
+
+same_verb : (verb word : List ℕ) → bytes_eq verb word ≡ true → verb ≡ word
+same_verb verb word e = (bytes_eq-Decides verb word).0 e
+
+other_verb : (verb word : List ℕ) → (verb ≡ word → ⊥) → bytes_eq verb word ≡ false
+other_verb verb word h =
+    elim (cases_Bool (bytes_eq verb word)) [
+      | inl same ↦ absurd (h (same_verb verb word same))
+      | inr other ↦ other
+    ]
+
+-- which way a test went
+chosen : (b : Bool) (x y z : Option Line) → cond b x y ≡ z → ((b ≡ true) × (x ≡ z)) ⊎ ((b ≡ false) × (y ≡ z))
+chosen true x y z e = inl (refl, e)
+chosen false x y z e = inr (refl, e)
+
+pub say_found : (words : List (List ℕ)) (line : Line) → line_in words ≡ Some line → HasPath line → Say words line
+unfolding line_in
+say_found [] line e has = absurd cc
+say_found (verb ∷ args) line e has =
+    elim (chosen (bytes_eq verb (codes "put")) _ _ _ e) [
+      | inl put ↦
+          let a = three_found put_in args line put.1 in
+          rw (same_verb verb (codes "put") put.0, a.3) (put_found a.0 a.1 a.2 line a.4 has)
+      | inr other ↦ elim (chosen (bytes_eq verb (codes "open")) _ _ _ other.1) [
+        | inl open_ ↦
+            let a = one_found (λ path. Some (Open path)) args line open_.1 in
+            rw (same_verb verb (codes "open") open_.0, a.1) (open_found a.0 line a.2 has)
+        | inr other ↦ elim (chosen (bytes_eq verb (codes "at")) _ _ _ other.1) [
+          | inl at ↦
+              let a = one_found at_in args line at.1 in
+              rw (same_verb verb (codes "at") at.0, a.1) (at_found a.0 line a.2)
+          | inr other ↦
+              let t = test_held (bytes_eq verb (codes "inject")) (with_three inject_in args) line other.1 in
+              let a = three_found inject_in args line t.1 in
+              rw (same_verb verb (codes "inject") t.0, a.3) (inject_found a.0 a.1 a.2 line a.4)
+        ]
+      ]
+    ]
+
+pub say_again : (words : List (List ℕ)) (line : Line) → Say words line → (line_in words ≡ Some line) × HasPath line
+unfolding line_in put_in at_in inject_in
+say_again words Skipped s = absurd s
+say_again words (Put path resource) s =
+    let short : nat_le (length resource.payload) longest_payload ≡ true = le-leb (length resource.payload) longest_payload s.6 in
+    (ap line_in s.2 ∙ rw (format_again s.0 resource.format s.4, bytes_again s.1 resource.payload s.5, short) refl, s.3)
+say_again words (Open path) s = (ap line_in s.0, s.1)
+say_again words (At moment) s = (ap line_in s.1 ∙ rw (number_again s.0 moment.0 s.2, lt-ltb moment.0 (2 ^ 63) s.3) refl, tt)
+say_again words (Inject bytes) s = (ap line_in s.1 ∙ rw (bytes_again s.0 bytes s.2) refl, tt)
+
+-- words that begin no line
+pub no_verb : (words : List (Bor (List ℕ))) (d : Bor (List ℕ)) (line : Line) → 1 ≤ length words
+    → ((get_or words 0 d).now ≡ codes "put" → ⊥) → ((get_or words 0 d).now ≡ codes "open" → ⊥) → ((get_or words 0 d).now ≡ codes "at" → ⊥) → ((get_or words 0 d).now ≡ codes "inject" → ⊥)
+    → line_in (map (λ word. word.now) words) ≡ Some line → ⊥
+unfolding line_in
+no_verb [] d line le p o a i e = absurd (omega arith)
+no_verb (w ∷ ws) d line le p o a i e =
+    let none : line_in (map (λ word. word.now) (w ∷ ws)) ≡ None = rw (other_verb w.now (codes "put") p, other_verb w.now (codes "open") o, other_verb w.now (codes "at") a, other_verb w.now (codes "inject") i) refl in
+    absurd cc
+
+-- ---- the text of a line
+
+-- what was found in the words is what the text says
+pub gives_says : (text : List ℕ) (words : List (List ℕ)) (found : Option Line) → IsUtf8 text → ¬ IsSkipped text → words ≡ words_of text → Gives (line_in words) found → Reads (Says text) found
+gives_says text words (Some line) u n w g = (u, inr (n, subst (λ (ws : List (List ℕ)). Say ws line) w (say_found words line g.0 g.1)))
+gives_says text words None u n w g = λ line s.
+    elim s.1 [
+      | inl a ↦ n a.0
+      | inr b ↦ let read = say_again words line (subst (λ (ws : List (List ℕ)). Say ws line) (sym w) b.1) in g line read.0 read.1
+    ]
+
+-- a text says one thing
+pub one_line : (text : List ℕ) (line other : Line) → Says text line → Says text other → line ≡ other
+one_line text line other s t =
+    elim s.1 [
+      | inl a ↦ elim t.1 [
+        | inl b ↦ a.1 ∙ sym b.1
+        | inr b ↦ absurd (b.0 a.0)
+      ]
+      | inr a ↦ elim t.1 [
+        | inl b ↦ absurd (a.0 b.0)
+        | inr b ↦ line_is line other (sym (say_again (words_of text) line a.1).0 ∙ (say_again (words_of text) other b.1).0)
+      ]
+    ]

@@ -1,0 +1,207 @@
+-- A word spells bytes exactly where they are read, and they are those.
+use Rattle.std.proofs.Common.{◌≡◌, ℕ, zero, suc, ◌+◌, ◌*◌, ◌<◌, ◌==◌, Bool, true, false, cond, List, [], ◌∷◌, ◌++◌, length, get_or, replicate, Option, Some, None, Result, Ok, Err, codes, nat_lt, refl, sym, ap, subst, ◌∙◌, arith, inl, inr, ◌⊎◌, Bor, map, drop, add-one, drop-cons, drop_of_length-le, ◌≤◌, append_assoc, append-nil, eqb-true, bytes_eq, ltb-true, lt-ltb}
+use Rattle.std.specs.Prelude.{slice_index}
+use Rattle.std.specs.List.{slice_split}
+use Rattle.std.proofs.lemmas.Bool.{cases_Bool}
+use Rattle.std.proofs.lemmas.List.Elements.{All-head, All-tail}
+use Rattle.std.proofs.lemmas.Slice.Eq.{bytes_eq-Decides}
+use Rattle.hex.specs.Hex.{decode_of, is_hex_digit}
+use Rattle.hex.specs.declared.error.FromHexError.{FromHexError}
+use Rattle.hex.proofs.HexLemmas.{decode_of-ok}
+use Rattle.osc_script.specs.Words.{SpellsNumber, SpellsHex, SpellsRepeated, SpellParts, SpellsBytes}
+use Rattle.osc_script.specs.Reading.{◌>>=◌, number_in, decoded, hex_in, repeated_in, part_in, parts_in, bytes_in}
+use Rattle.osc_script.proofs.Found.{step_found, test_held, none_unless}
+use Rattle.osc_script.proofs.Numbers.{number_found, number_again}
+
+decoded_ok : (r : Result (List ℕ) FromHexError) (bytes : List ℕ) → decoded r ≡ Some bytes → r ≡ Ok bytes
+decoded_ok (Ok x) bytes e = cc
+decoded_ok (Err d) bytes e = absurd cc
+
+pub hex_found : (part bytes : List ℕ) → hex_in part ≡ Some bytes → SpellsHex part bytes
+unfolding hex_in
+hex_found part bytes e =
+    let t = test_held (nat_lt 0 (length part)) (decoded (decode_of part)) bytes e in
+    record { some = ltb-true 0 (length part) t.0; digits = decoded_ok (decode_of part) bytes t.1 }
+
+pub hex_again : (part bytes : List ℕ) → SpellsHex part bytes → hex_in part ≡ Some bytes
+unfolding hex_in
+hex_again part bytes s =
+    let some : nat_lt 0 (length part) ≡ true = lt-ltb 0 (length part) s.some in
+    rw (some, s.digits) refl
+
+-- pairs of digits are twice as long as their bytes
+twice : (part bytes : List ℕ) → decode_of part ≡ Ok bytes → length part ≡ 2 * length bytes
+twice part bytes e = (decode_of-ok part bytes e).2
+
+one_byte : (bytes : List ℕ) → length bytes ≡ 1 → bytes ≡ get_or bytes 0 0 ∷ []
+one_byte [] h = absurd (omega arith)
+one_byte (b ∷ []) h = refl
+one_byte (b ∷ c ∷ bytes) h = absurd (omega arith)
+
+-- no `*` is a digit
+no_star : (high low : ℕ) (digits bytes : List ℕ) → decode_of (high ∷ low ∷ 42 ∷ digits) ≡ Ok bytes → ⊥
+no_star high low digits bytes e =
+    let P : ℕ → Type 0 = λ x. is_hex_digit x ≡ true in
+    let all = (decode_of-ok (high ∷ low ∷ 42 ∷ digits) bytes e).1 in
+    let star : is_hex_digit 42 ≡ true = All-head P 42 digits (All-tail P low (42 ∷ digits) (All-tail P high (low ∷ 42 ∷ digits) all)) in
+    cc
+
+repeated_found : (high low : ℕ) (digits bytes : List ℕ) → repeated_in (high ∷ low ∷ []) digits ≡ Some bytes → SpellsRepeated (high ∷ low ∷ 42 ∷ digits) bytes
+unfolding repeated_in
+repeated_found high low digits bytes e =
+    let a = step_found (hex_in (high ∷ low ∷ [])) (λ bytes. number_in digits >>= λ count. Some (replicate count (slice_index bytes 0))) bytes e in
+    let b = step_found (number_in digits) (λ count. Some (replicate count (slice_index a.0 0))) bytes a.2 in
+    let pair = (hex_found (high ∷ low ∷ []) a.0 a.1).digits in
+    record {
+      byte = get_or a.0 0 0;
+      count = b.0;
+      pair = high ∷ low ∷ [];
+      digits = digits;
+      whole = refl;
+      is_pair = pair ∙ ap Ok (one_byte a.0 (omega (arith, twice (high ∷ low ∷ []) a.0 pair)));
+      is_count = number_found digits b.0 b.1;
+      repeated = sym (some_is (replicate b.0 (get_or a.0 0 0)) bytes b.2);
+    }
+  where
+    some_is : (x y : List ℕ) → Some x ≡ Some y → x ≡ y
+    some_is x y e = cc
+
+pub part_found : (part bytes : List ℕ) → part_in part ≡ Some bytes → SpellsHex part bytes ⊎ SpellsRepeated part bytes
+unfolding part_in
+part_found [] bytes e = inl (hex_found [] bytes e)
+part_found (high ∷ []) bytes e = inl (hex_found (high ∷ []) bytes e)
+part_found (high ∷ low ∷ []) bytes e = inl (hex_found (high ∷ low ∷ []) bytes e)
+part_found (high ∷ low ∷ star ∷ digits) bytes e =
+    elim (cases_Bool (star == 42)) [
+      | inl same ↦
+          let is_star : 42 ≡ star = sym (eqb-true star 42 same) in
+          let read : repeated_in (high ∷ low ∷ []) digits ≡ Some bytes = sym (rw same refl) ∙ e in
+          subst (λ (c : ℕ). SpellsHex (high ∷ low ∷ c ∷ digits) bytes ⊎ SpellsRepeated (high ∷ low ∷ c ∷ digits) bytes) is_star (inr (repeated_found high low digits bytes read))
+      | inr other ↦
+          let read : hex_in (high ∷ low ∷ star ∷ digits) ≡ Some bytes = sym (rw other refl) ∙ e in
+          inl (hex_found (high ∷ low ∷ star ∷ digits) bytes read)
+    ]
+
+hex_part : (part bytes : List ℕ) → SpellsHex part bytes → part_in part ≡ Some bytes
+unfolding part_in
+hex_part [] bytes s = hex_again [] bytes s
+hex_part (high ∷ []) bytes s = hex_again (high ∷ []) bytes s
+hex_part (high ∷ low ∷ []) bytes s = hex_again (high ∷ low ∷ []) bytes s
+hex_part (high ∷ low ∷ star ∷ digits) bytes s =
+    elim (cases_Bool (star == 42)) [
+      | inl same ↦ absurd (no_star high low digits bytes (ap (λ (c : ℕ). decode_of (high ∷ low ∷ c ∷ digits)) (sym (eqb-true star 42 same)) ∙ s.digits))
+      | inr other ↦ rw other (hex_again (high ∷ low ∷ star ∷ digits) bytes s)
+    ]
+
+repeated_part : (pair digits : List ℕ) (byte count : ℕ) → decode_of pair ≡ Ok (byte ∷ []) → SpellsNumber digits count → part_in (pair ++ 42 ∷ digits) ≡ Some (replicate count byte)
+unfolding part_in repeated_in
+repeated_part [] digits byte count d n = absurd (omega (arith, twice [] (byte ∷ []) d))
+repeated_part (high ∷ []) digits byte count d n = absurd (omega (arith, twice (high ∷ []) (byte ∷ []) d))
+repeated_part (high ∷ low ∷ []) digits byte count d n =
+    let pair : hex_in (high ∷ low ∷ []) ≡ Some (byte ∷ []) = hex_again (high ∷ low ∷ []) (byte ∷ []) (record { some = omega arith; digits = d }) in
+    rw (pair, number_again digits count n) refl
+repeated_part (high ∷ low ∷ more ∷ rest) digits byte count d n = absurd (omega (arith, twice (high ∷ low ∷ more ∷ rest) (byte ∷ []) d))
+
+pub part_again : (part bytes : List ℕ) → SpellsHex part bytes ⊎ SpellsRepeated part bytes → part_in part ≡ Some bytes
+part_again part bytes (inl s) = hex_part part bytes s
+part_again part bytes (inr s) = ap part_in s.whole ∙ repeated_part s.pair s.digits s.byte s.count s.is_pair s.is_count ∙ ap Some (sym s.repeated)
+
+pub parts_found : (parts : List (List ℕ)) (bytes : List ℕ) → parts_in parts ≡ Some bytes → SpellParts parts bytes
+unfolding parts_in
+parts_found [] bytes e = cc
+parts_found (part ∷ parts) bytes e =
+    let a = step_found (part_in part) (λ first. parts_in parts >>= λ rest. Some (first ++ rest)) bytes e in
+    let b = step_found (parts_in parts) (λ rest. Some (a.0 ++ rest)) bytes a.2 in
+    (a.0, b.0, part_found part a.0 a.1, parts_found parts b.0 b.1, some_is (a.0 ++ b.0) bytes b.2)
+  where
+    some_is : (x y : List ℕ) → Some x ≡ Some y → y ≡ x
+    some_is x y e = cc
+
+pub parts_again : (parts : List (List ℕ)) (bytes : List ℕ) → SpellParts parts bytes → parts_in parts ≡ Some bytes
+unfolding parts_in
+parts_again [] bytes s = ap Some (sym s)
+parts_again (part ∷ parts) bytes s = rw (part_again part s.0 s.2, parts_again parts s.1 s.3) (ap Some (sym s.4))
+
+pub bytes_found : (word bytes : List ℕ) → bytes_in word ≡ Some bytes → SpellsBytes word bytes
+unfolding bytes_in
+bytes_found word bytes e =
+    elim (cases_Bool (bytes_eq word (codes "-"))) [
+      | inl same ↦ inl ((bytes_eq-Decides word (codes "-")).0 same, some_is [] bytes (sym (rw same refl) ∙ e))
+      | inr other ↦ inr (parts_found (slice_split (λ b. b == 43) word) bytes (sym (rw other refl) ∙ e))
+    ]
+  where
+    some_is : (x y : List ℕ) → Some x ≡ Some y → y ≡ x
+    some_is x y e = cc
+
+pub bytes_again : (word bytes : List ℕ) → SpellsBytes word bytes → bytes_in word ≡ Some bytes
+unfolding bytes_in parts_in part_in hex_in
+bytes_again word bytes (inl s) = rw s.0 (ap Some (sym s.1))
+bytes_again word bytes (inr s) =
+    elim (cases_Bool (bytes_eq word (codes "-"))) [
+      | inl same ↦
+          let is_dash : word ≡ codes "-" = (bytes_eq-Decides word (codes "-")).0 same in
+          let read : parts_in (slice_split (λ b. b == 43) (codes "-")) ≡ Some bytes = ap (λ (w : List ℕ). parts_in (slice_split (λ b. b == 43) w)) (sym is_dash) ∙ parts_again (slice_split (λ b. b == 43) word) bytes s in
+          absurd cc
+      | inr other ↦ rw other (parts_again (slice_split (λ b. b == 43) word) bytes s)
+    ]
+
+-- what hex reads
+pub pairs_read : (part bytes : List ℕ) (empty : Bool) → empty ≡ (length part == 0) → empty ≡ false → decode_of part ≡ Ok bytes → Some bytes ≡ hex_in part
+pairs_read [] bytes empty e f d = absurd cc
+pairs_read (c ∷ part) bytes empty e f d = sym (hex_again (c ∷ part) bytes (record { some = omega arith; digits = d }))
+
+-- what was read isn't empty
+pub not_empty : (part bytes : List ℕ) → Some bytes ≡ hex_in part → 0 < length bytes
+not_empty part bytes e =
+    let s = hex_found part bytes (sym e) in
+    omega (arith, s.some, twice part bytes s.digits)
+
+-- what a pair and a count read
+pub repeated_read : (pair digits read bytes : List ℕ) (count byte : ℕ) → Some read ≡ hex_in pair → Some count ≡ number_in digits → byte ≡ get_or read 0 0 → bytes ≡ replicate count byte → Some bytes ≡ repeated_in pair digits
+unfolding repeated_in
+repeated_read pair digits read bytes count byte h n b e = rw (← h, ← n, e, b) refl
+
+-- the parts before, and those that are still to come
+abbrev pub with_front : List ℕ → Option (List ℕ) → Option (List ℕ)
+with_front front found = found >>= λ rest. Some (front ++ rest)
+
+goes_on : (front first : List ℕ) (part : List ℕ) (parts : List (List ℕ)) → Some first ≡ part_in part → with_front front (parts_in (part ∷ parts)) ≡ with_front (front ++ first) (parts_in parts)
+unfolding parts_in
+goes_on front first part parts e = rw (← e) (regroup (parts_in parts))
+  where
+    regroup : (found : Option (List ℕ)) → with_front front (found >>= λ rest. Some (first ++ rest)) ≡ with_front (front ++ first) found
+    regroup (Some rest) = ap Some (sym (append_assoc front first rest))
+    regroup None = refl
+
+ends : (front part : List ℕ) (parts : List (List ℕ)) → None ≡ part_in part → with_front front (parts_in (part ∷ parts)) ≡ None
+unfolding parts_in
+ends front part parts e = rw (← e) refl
+
+is_done : (front : List ℕ) → with_front front (parts_in []) ≡ Some front
+unfolding parts_in
+is_done front = ap Some (append-nil front)
+
+-- the same at place i of what a loop goes over
+drop_part : (parts : List (Bor (List ℕ))) (i : ℕ) (d : Bor (List ℕ)) → i < length parts → map (λ part. part.now) (drop i parts) ≡ (get_or parts i d).now ∷ map (λ part. part.now) (drop (i + 1) parts)
+drop_part parts i d lt = rw (add-one, drop-cons parts i d) refl
+
+pub goes_on_at : (front first all : List ℕ) (parts : List (Bor (List ℕ))) (i : ℕ) (d : Bor (List ℕ)) (total : Option (List ℕ)) → i < length parts → Some first ≡ part_in (get_or parts i d).now → all ≡ front ++ first
+    → with_front front (parts_in (map (λ part. part.now) (drop i parts))) ≡ total → with_front all (parts_in (map (λ part. part.now) (drop (i + 1) parts))) ≡ total
+goes_on_at front first all parts i d total lt e joined so_far =
+    let rest = map (λ (part : Bor (List ℕ)). part.now) (drop (i + 1) parts) in
+    rw joined (sym (goes_on front first (get_or parts i d).now rest e) ∙ sym (ap (λ (p : List (List ℕ)). with_front front (parts_in p)) (drop_part parts i d lt)) ∙ so_far)
+
+pub ends_at : (front : List ℕ) (parts : List (Bor (List ℕ))) (i : ℕ) (d : Bor (List ℕ)) (total : Option (List ℕ)) → i < length parts → None ≡ part_in (get_or parts i d).now
+    → with_front front (parts_in (map (λ part. part.now) (drop i parts))) ≡ total → None ≡ total
+ends_at front parts i d total lt e so_far =
+    let rest = map (λ (part : Bor (List ℕ)). part.now) (drop (i + 1) parts) in
+    sym (ends front (get_or parts i d).now rest e) ∙ sym (ap (λ (p : List (List ℕ)). with_front front (parts_in p)) (drop_part parts i d lt)) ∙ so_far
+
+pub is_done_at : (front : List ℕ) (parts : List (Bor (List ℕ))) (i : ℕ) (total : Option (List ℕ)) → length parts ≤ i
+    → with_front front (parts_in (map (λ part. part.now) (drop i parts))) ≡ total → Some front ≡ total
+is_done_at front parts i total le so_far = sym (is_done front) ∙ sym (ap (λ (p : List (Bor (List ℕ))). with_front front (parts_in (map (λ part. part.now) p))) (drop_of_length-le parts le)) ∙ so_far
+
+-- an item at a place inside, whatever stands for the others
+pub get_inside : (xs : List ℕ) (x : ℕ) → 0 < length xs → x ≡ get_or xs 0 x → x ≡ get_or xs 0 0
+get_inside [] x lt e = absurd (omega arith)
+get_inside (y ∷ xs) x lt e = e

@@ -1,0 +1,7 @@
+use Rattle.std.proofs.Common.{◌≡◌, [], map, take}
+use Rattle.osc_script.specs.Script.{StandFor}
+use Rattle.osc_script.proofs.read.read_lines.Given as goal
+
+-- the lines so far are what the texts so far stand for
+abbrev pub invariant-loop-text : goal.invariant-loop-text
+invariant-loop-text l = StandFor [] (map (λ text. text.now) (take l.text-index l.texts)) l.lines.items

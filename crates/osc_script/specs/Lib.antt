@@ -1,0 +1,4 @@
+pub mod Words
+pub mod Line
+pub mod Script
+pub mod Reading

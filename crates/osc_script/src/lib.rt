@@ -1,0 +1,18 @@
+//! Scripts of the simulation: what each line says, and where it may stand.
+#![tactic(auto)]
+
+mod laws;
+mod line;
+mod place;
+mod read;
+mod say;
+mod split;
+mod text;
+mod words;
+
+pub use laws::one_script;
+pub use line::{Line, Script};
+pub use read::{ScriptError, read_script};
+
+#[cfg(test)]
+mod tests;
