@@ -1,0 +1,6 @@
+pub mod FieldLaws
+pub mod Inverses
+pub mod Schedule
+pub mod StateLaws
+pub mod ByteLaws
+pub mod Table

@@ -1,0 +1,4 @@
+pub mod Field
+pub mod SubBytes
+pub mod KeyExpansion
+pub mod Cipher
