@@ -1,0 +1,4 @@
+pub mod XorLemmas
+pub mod BlockLemmas
+pub mod StreamLemmas
+pub mod GenuineLemmas

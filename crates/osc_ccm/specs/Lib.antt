@@ -1,0 +1,5 @@
+-- Definitions that the contracts cite.
+pub mod Ccm
+pub mod Limits
+pub mod Errors
+pub mod OneText

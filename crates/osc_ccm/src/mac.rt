@@ -1,0 +1,138 @@
+//! Authentication: the CBC-MAC and the tag (RFC 3610 section 2.2).
+
+ghost use Rattle.std.specs.Prelude.{◌≡◌, ◌+◌, ◌*◌, ◌<◌, ◌≤◌, ◌∷◌, ◌++◌, fold, take, length};
+ghost use Rattle.osc_ccm.specs.Ccm.{xor, blocks, filled, two_bytes, ciphered, flagged, first_flags, aad_blocks, mac_step, cbc_mac, stream_block, tag_of};
+
+use crate::{block, stream};
+use osc_aes::Aes128;
+
+/// One block more under the CBC-MAC.
+fn mac_step(cipher: &Aes128, state: &mut [u8; 16], block: &[u8; 16])
+    ensures { state.new ≡ mac_step cipher.now state.old block.now }
+{
+    block::xor_into(state, block);
+    let output = cipher.encrypt(*state);
+    *state = output;
+}
+
+/// The blocks of some bytes under the CBC-MAC.
+fn absorb(cipher: &Aes128, state: &mut [u8; 16], bytes: &[u8])
+    requires { length bytes.now ≤ 65535 }
+    ensures { state.new ≡ fold (mac_step cipher.now) state.old (blocks bytes.now) }
+{
+    for index in 0..block::block_count(bytes.len()) {
+        let block = block::filled(block::piece(bytes, index));
+        mac_step(cipher, state, &block);
+    }
+}
+
+/// The blocks of the text that a ciphertext stands for under the CBC-MAC.
+fn absorb_ciphered(cipher: &Aes128, state: &mut [u8; 16], nonce: &[u8; 13], bytes: &[u8])
+    requires { length bytes.now ≤ 65535 }
+    ensures state { state.new
+        ≡ fold (mac_step cipher.now) state.old (blocks (ciphered cipher.now nonce.now bytes.now)) }
+    ensures whole { length (ciphered cipher.now nonce.now bytes.now) ≡ length bytes.now }
+{
+    for index in 0..block::block_count(bytes.len()) {
+        let block = stream::ciphered_block(cipher, nonce, bytes, index);
+        mac_step(cipher, state, &block);
+    }
+}
+
+/// The first block of the associated data: its length and its first 14 bytes.
+fn first_of_aad(aad: &[u8]) -> [u8; 16]
+    requires { length aad.now ≤ 65279 }
+    ensures { result ≡ filled (two_bytes (length aad.now) ++ take 14 aad.now) }
+{
+    let mut block = [0; 16];
+    block[0] = (aad.len() / 256) as u8;
+    block[1] = (aad.len() % 256) as u8;
+    let count = aad.len().min(14);
+    block[2..2 + count].copy_from_slice(&aad[..count]);
+    block
+}
+
+/// The blocks of the associated data under the CBC-MAC.
+fn absorb_aad(cipher: &Aes128, state: &mut [u8; 16], aad: &[u8])
+    requires { length aad.now ≤ 65279 }
+    ensures { state.new ≡ fold (mac_step cipher.now) state.old (aad_blocks aad.now) }
+{
+    if !aad.is_empty() {
+        mac_step(cipher, state, &first_of_aad(aad));
+        absorb(cipher, state, &aad[aad.len().min(14)..]);
+    }
+}
+
+/// The flags of the first block.
+fn first_flags(size: usize, aad: &[u8]) -> u8
+    requires low { 2 ≤ size }
+    requires high { size ≤ 16 }
+    ensures { result ≡ first_flags size aad.now }
+{
+    let flags = 8 * ((size - 2) / 2) + 1;
+    if aad.is_empty() {
+        flags as u8
+    } else {
+        (64 + flags) as u8
+    }
+}
+
+/// The CBC-MAC over the first block and the associated data.
+fn begin(cipher: &Aes128, size: usize, nonce: &[u8; 13], aad: &[u8], text_length: usize) -> [u8; 16]
+    requires low { 2 ≤ size }
+    requires high { size ≤ 16 }
+    requires aad { length aad.now ≤ 65279 }
+    requires text { text_length ≤ 65535 }
+    ensures { result ≡ cbc_mac cipher.now
+        (flagged (first_flags size aad.now) nonce.now text_length ∷ aad_blocks aad.now) }
+{
+    let mut state = [0; 16];
+    let first = block::flagged(first_flags(size, aad), nonce, text_length);
+    mac_step(cipher, &mut state, &first);
+    absorb_aad(cipher, &mut state, aad);
+    state
+}
+
+/// A block that begins with the tag of a text.
+#[tactic(auto, unfolding(crate::specs::Ccm::tag_of))]
+pub fn tag_of_text(
+    cipher: &Aes128,
+    size: usize,
+    nonce: &[u8; 13],
+    aad: &[u8],
+    text: &[u8],
+) -> [u8; 16]
+    requires low { 2 ≤ size }
+    requires high { size ≤ 16 }
+    requires aad { length aad.now ≤ 65279 }
+    requires text { length text.now ≤ 65535 }
+    ensures { take size result ≡ tag_of cipher.now size nonce.now aad.now text.now }
+{
+    let mut state = begin(cipher, size, nonce, aad, text.len());
+    absorb(cipher, &mut state, text);
+    block::xor_into(&mut state, &stream::stream_block(cipher, nonce, 0));
+    state
+}
+
+/// A block that begins with the tag of the text that a ciphertext stands for.
+#[tactic(auto, unfolding(crate::specs::Ccm::tag_of))]
+pub fn tag_of_ciphertext(
+    cipher: &Aes128,
+    size: usize,
+    nonce: &[u8; 13],
+    aad: &[u8],
+    bytes: &[u8],
+) -> [u8; 16]
+    requires low { 2 ≤ size }
+    requires high { size ≤ 16 }
+    requires aad { length aad.now ≤ 65279 }
+    requires text { length bytes.now ≤ 65535 }
+    ensures tag { take size result
+        ≡ tag_of cipher.now size nonce.now aad.now (ciphered cipher.now nonce.now bytes.now) }
+    ensures whole { length (ciphered cipher.now nonce.now bytes.now) ≡ length bytes.now }
+{
+    let mut state = begin(cipher, size, nonce, aad, bytes.len());
+    absorb_ciphered(cipher, &mut state, nonce, bytes);
+    block::xor_into(&mut state, &stream::stream_block(cipher, nonce, 0));
+    state
+}
