@@ -1,0 +1,9 @@
+use Rattle.std.proofs.Common.{◌≡◌, ◌*◌, length, take}
+use Rattle.osc_hkdf.specs.Hkdf.{output_blocks}
+use Rattle.osc_hkdf.proofs.hkdf.fill.Given as goal
+
+abbrev pub invariant-loop-i : goal.invariant-loop-i
+invariant-loop-i l = record {
+  kept : length l.out ≡ length l.initial.out;
+  blocks : take (32 * l.i) l.out ≡ take (length l.out) (output_blocks l.prk l.info l.i);
+}

@@ -1,0 +1,20 @@
+//! HMAC-SHA-256 (RFC 2104) and HKDF-SHA-256 (RFC 5869).
+//!
+//! `specs/` defines them on lists of bytes over SHA-256, in the standards' terms, and the functions give what it
+//! defines. They take no memory.
+//!
+//! Nothing is claimed about time, and nothing erases a key.
+#![tactic(auto)]
+
+mod error;
+mod hkdf;
+mod laws;
+mod mac;
+
+pub use error::OutputTooLong;
+pub use hkdf::{expand, extract};
+pub use laws::{a_shorter_output_begins_a_longer, lengths};
+pub use mac::hmac;
+
+#[cfg(test)]
+mod tests;
