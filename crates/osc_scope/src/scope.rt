@@ -10,7 +10,8 @@ use osc_model::{Code, Method, Path};
 use std::alloc::{AllocError, Global};
 use std::marker::Model;
 
-/// Which methods a holder may use on which paths: a set of pairs of a path and a method.
+/// Which methods a holder may use on which paths: a set of pairs of a path and a method. A look-up goes over the pairs, so
+/// it takes time linear in their number, and no memory.
 #[derive(Debug, Drop)]
 pub struct Scope {
     // No pair twice.
@@ -51,7 +52,7 @@ impl Scope {
         Ok(())
     }
 
-    /// What the scope says of a request with this path, or with none, and this code.
+    /// What the scope says of a request with this path, or with none, and this code; takes linear time and no memory.
     pub fn verdict(&self, path: Option<&Path>, code: Code) -> Verdict
         ensures { result ≡ verdict_of self.now (option_map (λ p. p.now) path.entry) code }
     {

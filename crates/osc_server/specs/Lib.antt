@@ -1,0 +1,5 @@
+pub mod State
+pub mod Heard
+pub mod Case
+pub mod Table
+pub mod Parts

@@ -1,0 +1,119 @@
+//! Which case a datagram is.
+ghost use Rattle.std.specs.Prelude.{◌≡◌, ◌||◌, is_some, IfOk, OnErr, IsTrue};
+ghost use Rattle.osc_options.specs.Recognised.{unrecognised_critical};
+ghost use Rattle.osc_server.specs.Case as spec;
+ghost use Rattle.osc_server.specs.Parts.{AsksGet};
+
+use crate::heard::Heard;
+use osc_coap::{Kind, MessageRef};
+use osc_model::Request;
+use osc_options::numbers::{OSCORE, PROXY_SCHEME, PROXY_URI};
+use osc_options::{has_option, request_of, unrecognised_critical};
+use osc_scope::{Scope, Verdict};
+use std::alloc::{AllocError, Global};
+
+/// What a server makes of a datagram.
+#[derive(Debug, Drop)]
+pub enum Case<'a> {
+    /// Nothing is answered.
+    Ignored,
+    /// A confirmable message of this ID is rejected.
+    Reset(u16),
+    /// A request with a critical option that isn't understood.
+    BadOption(MessageRef<'a>),
+    /// A request that wants a proxy.
+    ProxyAsked(MessageRef<'a>),
+    /// An unprotected GET that the open scope grants.
+    OpenGet(MessageRef<'a>, Request),
+    /// Any other unprotected request.
+    Unauthorised(MessageRef<'a>),
+}
+
+const GET: u8 = 1;
+
+/// Whether the code is a method's (RFC 7252 section 12.1).
+fn is_request(code: u8) -> bool
+    ensures { result ≡ spec.is_request code }
+{
+    0 < code && code < 32
+}
+
+/// Whether the request is a GET that the open scope grants.
+fn is_open(open_scope: &Scope, request: &Request) -> bool
+    ensures granted { result ≡ spec.is_open_get open_scope.now request.now }
+    ensures get { IsTrue result → request.now.code.0 ≡ 1 }
+{
+    request.code.0 == GET
+        && open_scope.verdict(request.path.as_ref(), request.code) == Verdict::Granted
+}
+
+/// Whether the request has an option that isn't understood.
+fn has_bad_option(message: &MessageRef<'_>) -> bool
+    ensures { result ≡ (is_some (unrecognised_critical 0 message.now.options) || spec.has_option 9 message.now.options) }
+{
+    unrecognised_critical(message).is_some() || has_option(message, OSCORE)
+}
+
+#[tactic(auto, using(crate::proofs::Cases::requests_answered))]
+fn request_case<'a>(
+    alloc: Global,
+    open_scope: &Scope,
+    message: MessageRef<'a>,
+) -> Result<Case<'a>, AllocError>
+    ensures case { IfOk result (λ case. case ≡ spec.request_case open_scope.now message.entry) }
+    ensures get { IfOk result AsksGet }
+    ensures needs_memory { OnErr result (spec.IsAnswered (spec.request_case open_scope.now message.entry)) }
+{
+    if has_bad_option(&message) {
+        return Ok(Case::BadOption(message));
+    }
+    if has_option(&message, PROXY_URI) || has_option(&message, PROXY_SCHEME) {
+        return Ok(Case::ProxyAsked(message));
+    }
+    if message.code() != GET {
+        return Ok(Case::Unauthorised(message));
+    }
+    let request = request_of(alloc, &message)?;
+    if is_open(open_scope, &request) {
+        Ok(Case::OpenGet(message, request))
+    } else {
+        Ok(Case::Unauthorised(message))
+    }
+}
+
+fn message_case<'a>(
+    alloc: Global,
+    open_scope: &Scope,
+    message: MessageRef<'a>,
+) -> Result<Case<'a>, AllocError>
+    ensures case { IfOk result (λ case. case ≡ spec.message_case open_scope.now message.entry) }
+    ensures get { IfOk result AsksGet }
+    ensures needs_memory { OnErr result (spec.IsAnswered (spec.message_case open_scope.now message.entry)) }
+{
+    if message.kind() != Kind::Confirmable {
+        return Ok(Case::Ignored);
+    }
+    if !is_request(message.code()) {
+        return Ok(Case::Reset(message.id()));
+    }
+    request_case(alloc, open_scope, message)
+}
+
+/// Which case it is. A request's path and payload take memory where the code and the options don't refuse it; without
+/// it an `AllocError`.
+pub fn case_of<'a>(
+    alloc: Global,
+    open_scope: &Scope,
+    heard: Heard<'a>,
+) -> Result<Case<'a>, AllocError>
+    ensures case { IfOk result (λ case. case ≡ spec.case_of open_scope.now heard.entry) }
+    ensures get { IfOk result AsksGet }
+    ensures needs_memory { OnErr result (spec.IsAnswered (spec.case_of open_scope.now heard.entry)) }
+{
+    match heard {
+        Heard::Ignored => Ok(Case::Ignored),
+        Heard::Malformed(Kind::Confirmable, id) => Ok(Case::Reset(id)),
+        Heard::Malformed(_, _) => Ok(Case::Ignored),
+        Heard::Message(message) => message_case(alloc, open_scope, message),
+    }
+}
