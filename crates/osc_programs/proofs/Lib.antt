@@ -1,0 +1,4 @@
+pub mod Entered
+pub mod Lines
+pub mod Runs
+pub mod Puts

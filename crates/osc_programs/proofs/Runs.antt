@@ -1,0 +1,57 @@
+-- Runs that go on: what is left prints behind what was printed.
+use Rattle.std.proofs.Common.{◌≡◌, ◌∙◌, ap, sym, subst, refl, ℕ, ◌+◌, List, [], ◌∷◌, ◌++◌, ◌<◌, drop, get_or, suc, add-one, length, append_assoc, append-nil, Bool, Option, Some, None}
+use Rattle.std.proofs.Math.Seq.{drop-cons}
+use Rattle.std.specs.Io.KnownBytes.{Appends, Keeps}
+use Rattle.osc_model.specs.declared.step.Datagram.{Datagram}
+use Rattle.osc_script.specs.declared.line.Line.{Line}
+use Rattle.osc_server.specs.State.{State}
+use Rattle.osc_programs.specs.Simulation.{Prints, PrintsLine}
+use Rattle.osc_programs.specs.Trace.{PrintsSent, PrintAllSent}
+use Rattle.osc_programs.specs.declared.node.Node.{Node}
+
+-- what is left at an item, and behind it
+pub drop_item : {A : Type 0} (xs : List A) (i : ℕ) (x : A) → i < length xs → x ≡ get_or xs i x → drop i xs ≡ x ∷ drop (i + 1) xs
+drop_item xs i x lt e = rw (add-one, drop-cons xs i x lt) (ap (λ y. y ∷ drop (suc i) xs) (sym e))
+
+pub sent_more : (with_bytes : Bool) (number : ℕ) (from : Node) (left left-after : List Datagram) (d : Datagram) (text line : List ℕ) (P : List ℕ → Type 0)
+    → left ≡ d ∷ left-after → PrintsSent with_bytes number from d line
+    → ((rest : List ℕ) → PrintAllSent with_bytes number from left rest → P (text ++ rest))
+    → (rest : List ℕ) → PrintAllSent with_bytes (number + 1) from left-after rest → P ((text ++ line) ++ rest)
+sent_more with_bytes number from left left-after d text line P e printed h rest more =
+    subst P (sym (append_assoc text line rest))
+    (h (line ++ rest) (subst (λ ds. PrintAllSent with_bytes number from ds (line ++ rest)) (sym e) (line, rest, printed, more, refl)))
+
+pub sent_end : (with_bytes : Bool) (number : ℕ) (from : Node) (left : List Datagram) (text : List ℕ) (P : List ℕ → Type 0)
+    → left ≡ [] → ((rest : List ℕ) → PrintAllSent with_bytes number from left rest → P (text ++ rest)) → P text
+sent_end with_bytes number from left text P e h =
+    subst P (append-nil text) (h [] (subst (λ ds. PrintAllSent with_bytes number from ds []) (sym e) refl))
+
+pub lines_more : (with_bytes : Bool) (server : State) (before after : ℕ) (left left-after : List Line) (l : Line) (text printed : List ℕ) (P : List ℕ → Type 0)
+    → left ≡ l ∷ left-after → PrintsLine with_bytes server before l printed after
+    → ((rest : List ℕ) → Prints with_bytes server before left rest → P (text ++ rest))
+    → (rest : List ℕ) → Prints with_bytes server after left-after rest → P ((text ++ printed) ++ rest)
+lines_more with_bytes server before after left left-after l text printed P e prints h rest more =
+    subst P (sym (append_assoc text printed rest))
+    (h (printed ++ rest) (subst (λ ls. Prints with_bytes server before ls (printed ++ rest)) (sym e) (printed, rest, after, prints, more, refl)))
+
+pub lines_end : (with_bytes : Bool) (server : State) (before : ℕ) (left : List Line) (text : List ℕ) (P : List ℕ → Type 0)
+    → left ≡ [] → ((rest : List ℕ) → Prints with_bytes server before left rest → P (text ++ rest)) → P text
+lines_end with_bytes server before left text P e h =
+    subst P (append-nil text) (h [] (subst (λ ls. Prints with_bytes server before ls []) (sym e) refl))
+
+-- what a writer got in two parts, and in none
+pub appends_more : (a b c : Option (List ℕ)) (xs ys : List ℕ) → Appends a b xs → Appends b c ys → Appends a c (xs ++ ys)
+appends_more None b c xs ys h k = h
+appends_more (Some x) None c xs ys h k = absurd h
+appends_more (Some x) (Some y) None xs ys h k = k
+appends_more (Some x) (Some y) (Some z) xs ys h k = k ∙ (ap (λ bytes. bytes ++ ys) h ∙ append_assoc x xs ys)
+
+pub appends_none : (a : Option (List ℕ)) → Appends a a []
+appends_none None = tt
+appends_none (Some x) = sym (append-nil x)
+
+pub appends_kept : (a b c : Option (List ℕ)) (xs : List ℕ) → Appends a b xs → Keeps b c → Appends a c xs
+appends_kept None b c xs h k = h
+appends_kept (Some x) None c xs h k = absurd h
+appends_kept (Some x) (Some y) None xs h k = k
+appends_kept (Some x) (Some y) (Some z) xs h k = k ∙ h

@@ -1,0 +1,17 @@
+-- The nodes of a simulation: their names and their addresses.
+use Rattle.std.specs.Prelude.{ℕ, List, [], ◌∷◌, codes}
+use Rattle.osc_model.specs.declared.node.Peer.{Peer}
+use Rattle.osc_programs.specs.declared.node.Node.{Node}
+use Rattle.osc_programs.specs.declared.node.Node.TheVariants.{Server, Stranger}
+
+abbrev pub name_of : Node → List ℕ
+name_of Server = codes "s"
+name_of Stranger = codes "x"
+
+-- 127.0.0.1 and a port
+abbrev pub local : ℕ → Peer
+local port = record { address = 127 ∷ 0 ∷ 0 ∷ 1 ∷ []; port = port }
+
+abbrev pub address_of : Node → Peer
+address_of Server = local 5683
+address_of Stranger = local 9000

@@ -1,0 +1,172 @@
+//! Whole scripts with the traces that are wanted of them, and inputs and outputs that fail.
+use crate::{Ended, Words, ended_by, read_words, sim, status};
+use std::alloc::{AllocError, Global};
+use std::io::{self, ErrorKind, Read, Write};
+use std::test::Fail;
+
+const FIRST_RUN: &str = "put /e none -\nopen /e\ninject x s 40010002b165\n";
+
+const FIRST_TRACE: &str =
+    "sent 1 s>x ACK 2.05 60450002486e340b9cffb37a98\ntree /e none -\nhistory 0\npremise: held\n";
+
+const REJECTED: &str =
+    "# none of these is a request\n\nopen /e\ninject x s -\ninject x s 80010006\ninject x s 40000005\ninject x s 4025000c";
+
+const REJECTED_TRACE: &str =
+    "nothing\nnothing\nsent 1 s>x RST 0.00\nsent 2 s>x RST 0.00\nhistory 0\npremise: held\n";
+
+const REFUSED: &str =
+    "put /t 42 00*33\nput /k none 37+3a*2\nat 5\nopen /e\ninject x s 40010014b174\ninject x s 40010018b165c0\n";
+
+const REFUSED_TRACE: &str =
+    "sent 1 s>x ACK 4.01 60810014\nsent 2 s>x ACK 4.02 60820018\ntree /k none 373a3a\ntree /t 42 bytes=33\nhistory 0\npremise: held\n";
+
+// How the run ends, and what it writes.
+fn run(alloc: Global, script: &str, with_bytes: bool) -> (Ended, Vec<u8>) {
+    let mut reader = script.as_bytes();
+    let mut writer = Vec::new(alloc);
+    let ended = sim(alloc, &mut reader, &mut writer, with_bytes);
+    (ended, writer)
+}
+
+#[test]
+fn scripts_have_their_traces(rt: HostRuntime) -> Result<(), Fail> {
+    for (script, with_bytes, trace) in [
+        ("", false, "history 0\npremise: held\n"),
+        (FIRST_RUN, true, FIRST_TRACE),
+        (REJECTED, false, REJECTED_TRACE),
+        (REFUSED, true, REFUSED_TRACE),
+    ] {
+        let (ended, written) = run(rt.alloc(), script, with_bytes);
+        assert_eq!(rt; ended, Ended::Done, "{script}");
+        assert_eq!(rt; written.as_slice(), trace.as_bytes(), "{script}");
+    }
+    Ok(())
+}
+
+#[test]
+fn a_bad_line_is_all_that_is_written(rt: HostRuntime) -> Result<(), Fail> {
+    let alloc = rt.alloc();
+    for (script, number, text) in [
+        ("grant c1", 1, "line 1: bad\n"),
+        ("\nput e none -", 2, "line 2: bad\n"),
+        ("put /e 65536 -", 1, "line 1: bad\n"),
+        ("put /e none 0", 1, "line 1: bad\n"),
+        ("put /e none 00*513", 1, "line 1: bad\n"),
+        ("put /e none -\nput /e none -", 2, "line 2: bad\n"),
+        ("open /e  ", 1, "line 1: bad\n"),
+        ("at 2\nat 1", 2, "line 2: bad\n"),
+        ("inject s x -", 1, "line 1: bad\n"),
+        ("inject x s -\nopen /e", 2, "line 2: bad\n"),
+    ] {
+        let (ended, written) = run(alloc, script, true);
+        assert_eq!(rt; ended, Ended::BadLine(number), "{script}");
+        assert_eq!(rt; written.as_slice(), text.as_bytes(), "{script}");
+    }
+    Ok(())
+}
+
+// Where an allocation fails, what is written is a front of the trace, and the line that says so.
+#[test]
+fn want_of_memory_is_told_last(rt: HostRuntime) -> Result<(), Fail> {
+    let (ended, written) = run(rt.alloc(), FIRST_RUN, true);
+    match ended {
+        Ended::Done => assert_eq!(rt; written.as_slice(), FIRST_TRACE.as_bytes()),
+        Ended::OutOfMemory => {
+            let Some(front) = written.as_slice().strip_suffix(b"out of memory\n") else {
+                return Err(Fail::from(AllocError));
+            };
+            assert!(rt; FIRST_TRACE.as_bytes().starts_with(front));
+        }
+        _ => assert_eq!(rt; ended, Ended::Done),
+    }
+    Ok(())
+}
+
+// Gives some bytes and then fails.
+#[derive(Drop)]
+struct BrokenReader {
+    bytes: &'static [u8],
+}
+
+impl Read for BrokenReader {
+    fn read(&mut self, buf: &mut [u8]) -> io::Result<usize> {
+        if self.bytes.is_empty() {
+            return Err(io::Error::from(ErrorKind::BrokenPipe));
+        }
+        self.bytes.read(buf)
+    }
+}
+
+// Takes some writes and then fails.
+#[derive(Drop)]
+struct BrokenWriter {
+    writes: usize,
+}
+
+impl Write for BrokenWriter {
+    fn write(&mut self, buf: &[u8]) -> io::Result<usize> {
+        if self.writes == 0 {
+            return Err(io::Error::from(ErrorKind::BrokenPipe));
+        }
+        self.writes -= 1;
+        Ok(buf.len())
+    }
+
+    fn flush(&mut self) -> io::Result<()> {
+        Ok(())
+    }
+}
+
+#[test]
+fn a_broken_input_or_output_fails(rt: HostRuntime) -> Result<(), Fail> {
+    let alloc = rt.alloc();
+    let mut reader = BrokenReader {
+        bytes: FIRST_RUN.as_bytes(),
+    };
+    let mut written = Vec::new(alloc);
+    assert_eq!(rt; sim(alloc, &mut reader, &mut written, true), Ended::Failed);
+    assert_eq!(rt; written.len(), 0);
+    for (writes, ended) in [(0, Ended::Failed), (1, Ended::Failed), (2, Ended::Done)] {
+        let mut script = FIRST_RUN.as_bytes();
+        let mut writer = BrokenWriter { writes };
+        assert_eq!(rt; sim(alloc, &mut script, &mut writer, true), ended);
+    }
+    Ok(())
+}
+
+#[test]
+fn words_name_a_subcommand(rt: HostRuntime) -> Result<(), Fail> {
+    let alloc = rt.alloc();
+    let good: [(&[&str], bool); 2] = [(&["osc", "sim"], false), (&["osc", "sim", "--bytes"], true)];
+    for (words, bytes) in good {
+        assert_eq!(rt; read_words(alloc, words).ok(), Some(Words::Sim { bytes }));
+    }
+    let bad: [(&[&str], Ended); 5] = [
+        (&["osc"], Ended::BadCommandLine),
+        (&["osc", "simulate"], Ended::BadCommandLine),
+        (&["osc", "sim", "--byte"], Ended::BadCommandLine),
+        (&["osc", "sim", "script"], Ended::BadCommandLine),
+        (&["osc", "--help"], Ended::Done),
+    ];
+    for (words, ended) in bad {
+        match read_words(alloc, words) {
+            Ok(_) => assert_eq!(rt; ended, Ended::OutOfMemory),
+            Err(error) => assert_eq!(rt; ended_by(&error), ended),
+        }
+    }
+    Ok(())
+}
+
+#[test]
+fn endings_have_their_statuses(rt: HostRuntime) {
+    for (ended, wanted) in [
+        (Ended::Done, 0),
+        (Ended::BadCommandLine, 2),
+        (Ended::BadLine(7), 2),
+        (Ended::OutOfMemory, 3),
+        (Ended::Failed, 4),
+    ] {
+        assert_eq!(rt; status(ended), wanted);
+    }
+}
