@@ -29,6 +29,7 @@ static volatile uint64_t sink;
 
 /* A GET with a token of 4 bytes and an option Uri-Path of 4. */
 static const uint8_t GET_R000[] = {0x44, 0x01, 0x00, 0x01, 1, 2, 3, 4, 0xb4, 'r', '0', '0', '0'};
+static const uint8_t GET_R999[] = {0x44, 0x01, 0x00, 0x01, 1, 2, 3, 4, 0xb4, 'r', '9', '9', '9'};
 
 /* A POST with If-Match, two segments of Uri-Path, Content-Format, Accept, an option of number 2053, and 64 bytes. */
 static const uint8_t POST_MANY[] = {
@@ -58,15 +59,15 @@ static void parse(const char *name, const uint8_t *datagram, size_t length) {
     row(name, CALLS, best);
 }
 
-static void serve(const char *name, uint16_t resources) {
-    enum { CALLS = 500000 };
+static void serve(const char *name, uint16_t resources, const uint8_t *datagram, size_t length) {
+    enum { CALLS = 200000 };
     double best = 1e9;
     for (int run = 0; run < RUNS; run++) {
         double start = seconds();
-        sink = osc_bench_serve(resources, GET_R000, sizeof GET_R000, 0);
+        sink = osc_bench_serve(resources, datagram, length, 0);
         double set_up = seconds() - start;
         start = seconds();
-        sink = osc_bench_serve(resources, GET_R000, sizeof GET_R000, CALLS);
+        sink = osc_bench_serve(resources, datagram, length, CALLS);
         double taken = seconds() - start - set_up;
         if (taken < best) best = taken;
     }
@@ -189,7 +190,8 @@ int main(void) {
     }
     parse("MessageRef::parse, GET, 1 option", GET_R000, sizeof GET_R000);
     parse("MessageRef::parse, POST, 6 options, 64 bytes", POST_MANY, sizeof POST_MANY);
-    serve("Server::on_datagram, GET, 1 resource", 1);
-    serve("Server::on_datagram, GET, 1,024 resources", 1024);
+    serve("Server::on_datagram, GET, 1 resource", 1, GET_R000, sizeof GET_R000);
+    serve("Server::on_datagram, GET, 1st of 1,024", 1024, GET_R000, sizeof GET_R000);
+    serve("Server::on_datagram, GET, 1,000th of 1,024", 1024, GET_R999, sizeof GET_R999);
     return ciphers();
 }
