@@ -129,11 +129,16 @@ static void mbedtls_encrypt(void) {
     row("mbedTLS AES-128", ROUNDS, best);
 }
 
-static uint64_t mbedtls_seal(const uint8_t *text, size_t length, uint8_t *out, size_t room, uint64_t rounds) {
-    (void)room;
+static mbedtls_ccm_context keyed(void) {
     mbedtls_ccm_context ccm;
     mbedtls_ccm_init(&ccm);
     mbedtls_ccm_setkey(&ccm, MBEDTLS_CIPHER_ID_AES, KEY, 128);
+    return ccm;
+}
+
+static uint64_t mbedtls_seal(const uint8_t *text, size_t length, uint8_t *out, size_t room, uint64_t rounds) {
+    (void)room;
+    mbedtls_ccm_context ccm = keyed();
     uint64_t sum = 0;
     for (uint64_t i = 0; i < rounds; i++)
         sum += mbedtls_ccm_encrypt_and_tag(&ccm, length, NONCE, 13, AAD, 8, text, out, out + length, 8) == 0;
@@ -143,9 +148,7 @@ static uint64_t mbedtls_seal(const uint8_t *text, size_t length, uint8_t *out, s
 
 static uint64_t mbedtls_open(const uint8_t *sealed, size_t length, uint8_t *out, size_t room, uint64_t rounds) {
     (void)room;
-    mbedtls_ccm_context ccm;
-    mbedtls_ccm_init(&ccm);
-    mbedtls_ccm_setkey(&ccm, MBEDTLS_CIPHER_ID_AES, KEY, 128);
+    mbedtls_ccm_context ccm = keyed();
     uint64_t sum = 0;
     for (uint64_t i = 0; i < rounds; i++)
         sum += mbedtls_ccm_auth_decrypt(&ccm, length - 8, NONCE, 13, AAD, 8, sealed, out, sealed + length - 8, 8) == 0;
