@@ -42,6 +42,21 @@ impl Bytes {
         })
     }
 
+    /// These bytes, which are not copied.
+    pub fn from_vec(items: Vec<u8>) -> Bytes
+        ensures { result ≡ items.items }
+    {
+        Bytes { items }
+    }
+
+    /// The bytes as a vector; they are not copied.
+    pub fn into_vec(self) -> Vec<u8>
+        ensures { result.items ≡ self }
+    {
+        let Bytes { items } = self;
+        items
+    }
+
     /// The first bytes, then the second.
     pub fn joined(alloc: Global, first: &[u8], second: &[u8]) -> Result<Self, AllocError>
         ensures { IfOk result (λ bytes. bytes ≡ first.now ++ second.now) }

@@ -1,0 +1,4 @@
+pub mod Distinct
+pub mod History
+pub mod Keys
+pub mod Splits
