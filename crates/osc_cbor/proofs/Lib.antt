@@ -1,0 +1,12 @@
+pub mod Views
+pub mod ReadSteps
+pub mod SameSteps
+pub mod Steps
+pub mod HeadLaws
+pub mod KeyLaws
+pub mod FoundLaws
+pub mod AgainLaws
+pub mod RefuseLaws
+pub mod FailLaws
+pub mod ReadLaws
+pub mod OneItem

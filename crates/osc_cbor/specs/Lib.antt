@@ -1,0 +1,10 @@
+pub mod Data
+pub mod Head
+pub mod Major
+pub mod Spelling
+pub mod Faults
+pub mod Errors
+pub mod View
+pub mod Parts
+pub mod Same
+pub mod Reading

@@ -1,0 +1,60 @@
+//! Why bytes can't be read.
+
+ghost use Rattle.std.specs.Prelude.{◌≡◌};
+ghost use Rattle.osc_cbor.specs.Errors.{number_of};
+ghost use Rattle.osc_cbor.specs.declared.error.ReadError.TheVariants.{Memory};
+
+use std::alloc::{AllocError, AllocFailed};
+use thiserror::Error;
+
+/// Why no item stands at the beginning of some bytes: the first fault in their order, but for `Memory`.
+#[derive(Clone, Copy, Debug, PartialEq, Eq, Error)]
+pub enum ReadError {
+    /// The bytes end inside an item.
+    #[error("the bytes end inside an item")]
+    Truncated,
+    /// What stands there isn't in the subset: a reserved head, an indefinite length, a floating-point number, another
+    /// simple value, or a text that isn't UTF-8.
+    #[error("an item of an unsupported kind, or a text that is not UTF-8")]
+    Unsupported,
+    /// A map has two equal keys.
+    #[error("two equal keys in a map")]
+    DuplicateKey,
+    /// An item stands in more than 8 arrays, maps and tags.
+    #[error("items are nested too deep")]
+    TooDeep,
+    /// There was no memory for the item.
+    #[error("out of memory")]
+    Memory,
+}
+
+impl ReadError {
+    /// The number by which programs name the refusal.
+    pub fn number(self) -> u8
+        ensures { result ≡ number_of self }
+    {
+        match self {
+            ReadError::Truncated => 5,
+            ReadError::Unsupported => 6,
+            ReadError::DuplicateKey => 7,
+            ReadError::TooDeep => 8,
+            ReadError::Memory => 9,
+        }
+    }
+}
+
+impl From<AllocError> for ReadError {
+    ghost from_gives = { λ _ e. e ≡ Memory };
+
+    fn from(_error: AllocError) -> ReadError {
+        ReadError::Memory
+    }
+}
+
+impl<T: Drop> From<AllocFailed<T>> for ReadError {
+    ghost from_gives = { λ _ e. e ≡ Memory };
+
+    fn from(_error: AllocFailed<T>) -> ReadError {
+        ReadError::Memory
+    }
+}

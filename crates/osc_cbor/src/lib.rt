@@ -1,0 +1,22 @@
+//! CBOR (RFC 8949), in the subset that security objects need: integers, strings, arrays, maps, tags, false, true and null.
+//!
+//! What is read may come from strangers: heads of any width are taken, and equal keys, reserved bits, indefinite lengths,
+//! floating-point numbers and deep nesting are refused. What is written has the shortest heads.
+#![tactic(auto)]
+
+mod error;
+mod heads;
+mod item;
+pub mod laws;
+mod reader;
+mod same;
+mod writer;
+
+pub use error::ReadError;
+pub use heads::{HEAD_LIMIT, Major, head};
+pub use item::Item;
+pub use reader::read;
+pub use writer::write;
+
+#[cfg(test)]
+mod tests;

@@ -1,0 +1,136 @@
+//! Derivation of a security context from its name (RFC 8613 section 3.2).
+
+ghost use Rattle.std.specs.Prelude.{◌≡◌, ◌≤◌, ◌<◌, ◌↔◌, ◌⊎◌, [], codes, length, IfOk, Err};
+ghost use Rattle.osc_cbor.specs.Spelling.{spelling};
+ghost use Rattle.osc_hkdf.specs.Hkdf.{extract_of, expand_of};
+ghost use Rattle.osc_context.specs.Derivation.{info, derived, key_of, common_iv_of, id_of, sender_of, recipient_of};
+
+use crate::append::{append_bytes, append_head, append_id_context, append_text, append_unsigned};
+use crate::error::DeriveError;
+use crate::nonce::ID_LIMIT;
+use crate::recipient::RecipientContext;
+use crate::sender::SenderContext;
+use arrayvec::ArrayVec;
+use osc_cbor::Major;
+use osc_hkdf::{expand, extract};
+use osc_model::{ContextName, Side};
+use std::alloc::{AllocError, Global};
+
+/// The number of AES-CCM-16-64-128 (RFC 9053 section 4.2).
+const ALGORITHM: u64 = 10;
+
+/// The info that tells an output from the others: the ID, the id context, the algorithm, what it is for and its length.
+pub(crate) fn info_of(
+    alloc: Global,
+    name: &ContextName,
+    id: &[u8],
+    output: &[u8],
+    size: u64,
+) -> Result<Vec<u8>, AllocError>
+    ensures { IfOk result (λ bytes. bytes.items ≡ spelling (info name.now id.now output.now size)) }
+{
+    let mut out = Vec::new(alloc);
+    append_head(&mut out, Major::Array, 5)?;
+    append_bytes(&mut out, id)?;
+    append_id_context(&mut out, &name.id_context)?;
+    append_unsigned(&mut out, ALGORITHM)?;
+    append_text(&mut out, output)?;
+    append_unsigned(&mut out, size)?;
+    Ok(out)
+}
+
+/// Fills `out` with the output of this info.
+fn fill(name: &ContextName, info: &[u8], out: &mut [u8])
+    requires { length out.old ≤ 8160 }
+    ensures { out.new ≡ expand_of (extract_of name.now.salt name.now.secret) info.now (length out.old) }
+{
+    let prk = extract(name.salt.as_slice(), name.secret.as_slice());
+    expand(&prk, info, out).unwrap()
+}
+
+/// The key under which the end with this ID seals.
+#[tactic(auto, unfolding(crate::specs::Derivation::derived))]
+fn derive_key(alloc: Global, name: &ContextName, id: &[u8]) -> Result<[u8; 16], AllocError>
+    ensures { IfOk result (λ key. key ≡ derived name.now id.now (codes "Key") 16) }
+{
+    let info = info_of(alloc, name, id, b"Key", 16)?;
+    let mut key = [0; 16];
+    fill(name, &info, &mut key);
+    Ok(key)
+}
+
+/// The common IV: no ID tells it from another.
+#[tactic(auto, unfolding(crate::specs::Derivation::derived))]
+fn derive_common_iv(alloc: Global, name: &ContextName) -> Result<[u8; 13], AllocError>
+    ensures { IfOk result (λ common_iv. common_iv ≡ common_iv_of name.now) }
+{
+    let info = info_of(alloc, name, b"", b"IV", 13)?;
+    let mut common_iv = [0; 13];
+    fill(name, &info, &mut common_iv);
+    Ok(common_iv)
+}
+
+/// A copy of an ID.
+fn id_copy(id: &[u8]) -> ArrayVec<u8, ID_LIMIT>
+    requires { length id.now ≤ ID_LIMIT }
+    ensures { result.items ≡ id.now }
+{
+    let mut copy = ArrayVec::new();
+    let _ = copy.try_extend_from_slice(id);
+    copy
+}
+
+/// The contexts of an end with these two IDs, its own and the other end's.
+fn contexts(
+    alloc: Global,
+    name: &ContextName,
+    own: &[u8],
+    other: &[u8],
+) -> Result<(SenderContext, RecipientContext), AllocError>
+    requires own { length own.now ≤ ID_LIMIT }
+    requires other { length other.now ≤ ID_LIMIT }
+    ensures sender { IfOk result (λ made. made.0
+        ≡ record { id = own.now; key = derived name.now own.now (codes "Key") 16; common_iv = common_iv_of name.now; next = 0 }) }
+    ensures recipient { IfOk result (λ made. made.1
+        ≡ record { id = other.now; key = derived name.now other.now (codes "Key") 16; common_iv = common_iv_of name.now }) }
+{
+    let common_iv = derive_common_iv(alloc, name)?;
+    let own_key = derive_key(alloc, name, own)?;
+    let other_key = derive_key(alloc, name, other)?;
+    let sender = SenderContext::new(id_copy(own), own_key, common_iv);
+    let recipient = RecipientContext::new(id_copy(other), other_key, common_iv);
+    Ok((sender, recipient))
+}
+
+/// The contexts of one end, of the security context with this name.
+///
+/// # Errors
+///
+/// The first of these that stands: `IdTooLong` for a sender ID of more than 7 bytes, `EqualIds` where both ends have the
+/// same sender ID, else `Memory` for want of memory.
+pub fn derive(
+    alloc: Global,
+    name: &ContextName,
+    side: Side,
+) -> Result<(SenderContext, RecipientContext), DeriveError>
+    ensures sender { IfOk result (λ made. made.0 ≡ sender_of name.now side 0) }
+    ensures recipient { IfOk result (λ made. made.1 ≡ recipient_of name.now side) }
+    ensures too_long { (result ≡ Err DeriveError.IdTooLong)
+        ↔ ((ID_LIMIT < length name.now.client_id) ⊎ (ID_LIMIT < length name.now.server_id)) }
+    ensures equal { (result ≡ Err DeriveError.EqualIds)
+        ↔ ((length name.now.client_id ≤ ID_LIMIT) × (name.now.client_id ≡ name.now.server_id)) }
+{
+    if name.client_id.len() > ID_LIMIT || name.server_id.len() > ID_LIMIT {
+        return Err(DeriveError::IdTooLong);
+    }
+    if name.client_id == name.server_id {
+        return Err(DeriveError::EqualIds);
+    }
+    let client_id = name.client_id.as_slice();
+    let server_id = name.server_id.as_slice();
+    let made = match side {
+        Side::Client => contexts(alloc, name, client_id, server_id),
+        Side::Server => contexts(alloc, name, server_id, client_id),
+    };
+    made.map_err(|_| DeriveError::Memory)
+}

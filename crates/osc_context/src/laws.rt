@@ -1,0 +1,38 @@
+//! Laws of the definitions, for the crates above. These functions do nothing: whoever calls one has its clauses for a proof.
+
+ghost use Rattle.std.specs.Prelude.{◌≡◌, ◌≤◌, ◌<◌, ◌^◌, ℕ, List, length};
+ghost use Rattle.osc_model.specs.declared.context.ContextName.{ContextName as AnyName};
+ghost use Rattle.osc_model.specs.declared.context.Side.{Side as AnySide};
+ghost use Rattle.osc_context.specs.Nonce.{greatest_number, partial_iv, nonce, nonce_of};
+ghost use Rattle.osc_context.specs.Derivation.{key_of, common_iv_of};
+ghost use Rattle.osc_context.specs.MasterSalt.{master_salt, client_nonce, server_nonce};
+
+/// Numbers below 2^40 have distinct Partial IVs, of 1 to 5 bytes.
+pub fn one_partial_iv()
+    ensures number { (m n : ℕ) → m ≤ greatest_number → n ≤ greatest_number → partial_iv m ≡ partial_iv n → m ≡ n }
+    ensures size { (n : ℕ) → (0 < length (partial_iv n)) × (length (partial_iv n) ≤ 5) }
+{}
+
+/// Distinct pairs of sender ID and number have distinct nonces under one common IV.
+pub fn distinct_nonces()
+    ensures { (iv a b : List ℕ) (m n : ℕ)
+        → length iv ≡ 13 → length a ≤ 7 → length b ≤ 7 → m ≤ greatest_number → n ≤ greatest_number
+        → nonce iv a m ≡ nonce iv b n → (a ≡ b) × (m ≡ n) }
+{}
+
+/// The lengths of what is derived: keys have 16 bytes, common IVs 13.
+pub fn derived_lengths()
+    ensures key { (name : AnyName) (side : AnySide) → length (key_of name side) ≡ 16 }
+    ensures common_iv { (name : AnyName) → length (common_iv_of name) ≡ 13 }
+{
+    osc_hkdf::lengths();
+}
+
+/// Both nonces of an exchange are read back from its master salt, so two exchanges whose salts are equal had equal nonces.
+pub fn nonces_of_a_salt()
+    ensures client { (salt nonce1 nonce2 : List ℕ)
+        → length salt < 256 → length nonce1 < 256 → length nonce2 < 256
+        → client_nonce (master_salt salt nonce1 nonce2) ≡ nonce1 }
+    ensures server { (salt nonce1 nonce2 : List ℕ)
+        → length nonce2 ≡ 8 → server_nonce (master_salt salt nonce1 nonce2) ≡ nonce2 }
+{}

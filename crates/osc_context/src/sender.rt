@@ -1,0 +1,136 @@
+//! The sender context, and sender sequence numbers (RFC 8613 sections 3.1 and 7.2.1).
+
+ghost use Rattle.std.specs.Prelude.{◌≡◌, ◌<◌, ◌≤◌, ◌+◌, ◌↔◌, max, length, IsErr, IfOk, OnErr};
+ghost use Rattle.osc_context.specs.Nonce.{greatest_number};
+
+use crate::error::Exhausted;
+use crate::nonce::{ID_LIMIT, NUMBER_LIMIT};
+use arrayvec::ArrayVec;
+use std::marker::Model;
+
+/// A sender sequence number that was taken for one message. It can't be copied or dropped: it is spent by one seal.
+#[derive(Debug)]
+pub struct SendNumber {
+    number: u64,
+}
+
+impl Model for SendNumber {
+    ghost use Rattle.std.specs.Prelude.{ℕ, ◌≤◌};
+    ghost use Rattle.osc_context.specs.Nonce.{greatest_number};
+
+    ghost Value = { ℕ };
+
+    ghost view = { λ taken. taken.number };
+
+    ghost invariant = { λ taken. taken.number ≤ greatest_number };
+}
+
+impl SendNumber {
+    /// The number, which is not spent by this.
+    pub fn get(&self) -> u64
+        ensures value { result ≡ self.now }
+        ensures lawful { result ≤ greatest_number }
+    {
+        self.number
+    }
+
+    /// Spends the number.
+    pub fn spend(self) -> u64
+        ensures value { result ≡ self }
+        ensures lawful { result ≤ greatest_number }
+    {
+        let SendNumber { number } = self;
+        number
+    }
+}
+
+/// What an end seals with: its ID, its key, the common IV, and the sender sequence number that it takes next.
+///
+/// A context of the same name that is derived again takes the same numbers again: derive each context once.
+#[derive(Debug, Drop)]
+pub struct SenderContext {
+    id: ArrayVec<u8, ID_LIMIT>,
+    key: [u8; 16],
+    common_iv: [u8; 13],
+    next: u64,
+}
+
+impl Model for SenderContext {
+    ghost use Rattle.osc_context.specs.Derivation.{Sender};
+
+    ghost Value = { Sender };
+
+    ghost view = { λ context. record { id = context.id.items; key = context.key; common_iv = context.common_iv; next = context.next } };
+}
+
+impl SenderContext {
+    pub(crate) fn new(
+        id: ArrayVec<u8, ID_LIMIT>,
+        key: [u8; 16],
+        common_iv: [u8; 13],
+    ) -> SenderContext
+        ensures { result ≡ record { id = id.items; key = key; common_iv = common_iv; next = 0 } }
+    {
+        SenderContext {
+            id,
+            key,
+            common_iv,
+            next: 0,
+        }
+    }
+
+    /// The sender ID, at most 7 bytes.
+    pub fn id(&self) -> &[u8]
+        ensures value { result.now ≡ self.now.id }
+        ensures short { length result.now ≤ ID_LIMIT }
+    {
+        self.id.as_slice()
+    }
+
+    /// The sender key.
+    pub fn key(&self) -> &[u8; 16]
+        ensures { result.now ≡ self.now.key }
+    {
+        &self.key
+    }
+
+    /// The common IV.
+    pub fn common_iv(&self) -> &[u8; 13]
+        ensures { result.now ≡ self.now.common_iv }
+    {
+        &self.common_iv
+    }
+
+    /// The number that is taken next.
+    pub fn next_number(&self) -> u64
+        ensures { result ≡ self.now.next }
+    {
+        self.next
+    }
+
+    /// Takes the next number, so that each is given once, rising.
+    ///
+    /// # Errors
+    ///
+    /// `Exhausted` exactly where the greatest number, 2^40 - 1, has been taken or skipped; nothing is changed then.
+    pub fn take_number(&mut self) -> Result<SendNumber, Exhausted>
+        ensures refused { IsErr result ↔ (greatest_number < self.old.next) }
+        ensures number { IfOk result (λ number. number ≡ self.old.next) }
+        ensures next { IfOk result (λ number. self.new ≡ record self.old { next = self.old.next + 1 }) }
+        ensures err { OnErr result (self.new ≡ self.old) }
+    {
+        if self.next > NUMBER_LIMIT {
+            return Err(Exhausted);
+        }
+        let number = self.next;
+        self.next += 1;
+        Ok(SendNumber { number })
+    }
+
+    /// Raises the number that is taken next to this one; a lower one changes nothing.
+    pub fn skip_to(&mut self, next: u64)
+        ensures { self.new ≡ record self.old { next = max self.old.next next } }
+    {
+        self.next = self.next.max(next);
+    }
+}

@@ -1,0 +1,29 @@
+use Rattle.std.proofs.Common.{sym, ◌∙◌, rules}
+use Rattle.std.proofs.lemmas.Bool.{false≢true}
+use Rattle.osc_cose.proofs.OpenLemmas.{IfOk-always}
+use Rattle.osc_cose.proofs.opening.open0.Goals as goal
+
+pub returns-then-not-branch-clause-only : goal.returns-then-not-branch-clause-only
+returns-then-not-branch-clause-only g c = λ text names s.
+    let is = rw c.as_slice-protected.ensures at c.in_ok-names_algorithm.ensures in
+    absurd (false≢true (sym c.if-not-branch.true ∙ is.1 names))
+
+pub returns-then-not-branch-clause-algorithm : goal.returns-then-not-branch-clause-algorithm
+returns-then-not-branch-clause-algorithm g c = λ e names.
+    let is = rw c.as_slice-protected.ensures at c.in_ok-names_algorithm.ensures in
+    false≢true (sym c.if-not-branch.true ∙ is.1 names)
+
+pub returns-clause-named : goal.returns-clause-named
+returns-clause-named g c =
+    let is = rw c.as_slice-protected.ensures at c.in_ok-names_algorithm.ensures in
+    IfOk-always c.open_text.result _ (is.0 c.if-not-branch.false)
+
+pub returns-clause-not_genuine : goal.returns-clause-not_genuine
+returns-clause-not_genuine g c = λ e.
+    let is = rw c.as_slice-protected.ensures at c.in_ok-names_algorithm.ensures in
+    (is.0 c.if-not-branch.false, λ text s. c.open_text.ensures.not_genuine e text (search rules))
+
+pub returns-clause-too_long : goal.returns-clause-too_long
+returns-clause-too_long g c = λ e.
+    let is = rw c.as_slice-protected.ensures at c.in_ok-names_algorithm.ensures in
+    (is.0 c.if-not-branch.false, search rules)

@@ -1,0 +1,21 @@
+-- The parts of an object, taken out of its item. No public contract rests on this.
+use Rattle.std.specs.Prelude.{ℕ, List, Option, Some, None, option_and_then}
+use Rattle.osc_cbor.specs.Data.{DataItem, byte_string, array, map, Items, no_items, item, Pairs}
+use Rattle.osc_cbor.specs.Parts.{as_bytes, as_array, as_map}
+
+-- the array of an object
+abbrev pub whole_array : List ℕ → Pairs → List ℕ → DataItem
+whole_array protected unprotected ciphertext =
+    array (item (byte_string protected) (item (map unprotected) (item (byte_string ciphertext) no_items)))
+
+abbrev pub three_of : Items → Option (DataItem × (DataItem × DataItem))
+three_of (item a (item b (item c no_items))) = Some (a, (b, c))
+three_of _ = None
+
+-- a byte string, a map and a byte string
+abbrev pub typed : DataItem × (DataItem × DataItem) → Option (List ℕ × (DataItem × List ℕ))
+typed (a, (b, c)) =
+    option_and_then (λ protected. option_and_then (λ pairs. option_and_then (λ ciphertext. Some (protected, (b, ciphertext))) (as_bytes c)) (as_map b)) (as_bytes a)
+
+abbrev pub parts_of : DataItem → Option (List ℕ × (DataItem × List ℕ))
+parts_of d = option_and_then typed (option_and_then three_of (as_array d))

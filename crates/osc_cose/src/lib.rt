@@ -1,0 +1,26 @@
+//! COSE_Encrypt0 (RFC 9052 section 5.2): which bytes are such an object, its associated data, sealing and opening.
+//!
+//! Generic over the cipher: all that is known of it is the law of `Aead`.
+#![tactic(auto)]
+
+mod encrypt0;
+mod error;
+mod laws;
+mod opening;
+mod parsing;
+mod parts;
+mod protected;
+mod sealing;
+mod structure;
+mod whole;
+
+pub use encrypt0::Encrypt0;
+pub use error::{OpenError, ParseError, SealError};
+pub use laws::one_text;
+pub use opening::open0;
+pub use parsing::parse0;
+pub use sealing::seal0;
+pub use structure::enc_structure;
+
+#[cfg(test)]
+mod tests;

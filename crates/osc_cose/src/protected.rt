@@ -1,0 +1,53 @@
+//! Protected headers.
+
+ghost use Rattle.std.specs.Prelude.{◌≡◌, ◌↔◌, Some, IfOk, IsTrue};
+ghost use Rattle.osc_cbor.specs.Data.{unsigned};
+ghost use Rattle.osc_cbor.specs.Parts as part;
+ghost use Rattle.osc_cbor.specs.View.{view};
+ghost use Rattle.osc_cose.specs.Encrypt0.{IsProtected, NamesAlgorithm};
+
+use crate::whole::whole;
+use osc_cbor::Item;
+use std::alloc::{AllocError, Global};
+
+/// The algorithm AES-CCM-16-64-128 (RFC 9053 section 4.2).
+const ALGORITHM: u64 = 10;
+
+/// The label of the algorithm in a header (RFC 9052 section 3.1).
+const ALGORITHM_LABEL: u64 = 1;
+
+/// Whether the bytes are a protected header: empty, or one whole map.
+pub(crate) fn is_protected(alloc: Global, bytes: &[u8]) -> Result<bool, AllocError>
+    ensures { IfOk result (λ is. IsTrue is ↔ IsProtected bytes.now) }
+{
+    if bytes.is_empty() {
+        return Ok(true);
+    }
+    Ok(match whole(alloc, bytes)? {
+        Some(item) => item.as_map().is_some(),
+        None => false,
+    })
+}
+
+/// Whether the bytes are a protected header that names no other algorithm than AES-CCM-16-64-128.
+pub(crate) fn names_algorithm(alloc: Global, bytes: &[u8]) -> Result<bool, AllocError>
+    ensures { IfOk result (λ names. IsTrue names ↔ NamesAlgorithm bytes.now) }
+{
+    if bytes.is_empty() {
+        return Ok(true);
+    }
+    Ok(match whole(alloc, bytes)? {
+        Some(item) => has_algorithm(&item),
+        None => false,
+    })
+}
+
+/// Whether the item is a map with the algorithm's number under its label.
+fn has_algorithm(item: &Item) -> bool
+    ensures { IsTrue result ↔ (part.value 1 (view item.now) ≡ Some (unsigned 10)) }
+{
+    match item.value(ALGORITHM_LABEL) {
+        Some(value) => value.as_unsigned() == Some(ALGORITHM),
+        None => false,
+    }
+}
