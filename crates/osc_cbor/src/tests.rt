@@ -324,3 +324,15 @@ fn memory_is_bounded_by_the_bytes(rt: HostRuntime) -> Result<(), Fail> {
     }
     Ok(())
 }
+
+/// An array of bytes, a text and a map, in which a tagged array stands: one allocation of each kind.
+const OF_EVERY_KIND: &[u8] = b"\x83\x41a\x61b\xa1\x01\xc1\x81\x00";
+
+/// The test allocates nothing else, so that each allocation of `read` can be refused in turn.
+#[test]
+fn a_refused_allocation_is_want_of_memory(rt: HostRuntime) {
+    match read(rt.alloc(), OF_EVERY_KIND) {
+        Ok((_, taken)) => assert_eq!(rt; taken, OF_EVERY_KIND.len()),
+        Err(fault) => assert_eq!(rt; fault.number(), 9),
+    }
+}

@@ -23,14 +23,14 @@ option_appended out before number value =
     append_assoc ((out ++ b ∷ []) ++ d) s value ∙ append_assoc (out ++ b ∷ []) d (s ++ value) ∙ append_assoc out (b ∷ []) (d ++ (s ++ value)) ∙ ap (λ (t : List ℕ). out ++ (b ∷ t)) (sym (append_assoc d s value))
 
 -- the spelling of one option more
-options-push : (before : ℕ) (options : List NumberAndValue) (option : NumberAndValue) → options_spelling before (options ++ option ∷ []) ≡ options_spelling before options ++ option_spelling (last_number before options) option
+pub options-push : (before : ℕ) (options : List NumberAndValue) (option : NumberAndValue) → options_spelling before (options ++ option ∷ []) ≡ options_spelling before options ++ option_spelling (last_number before options) option
 unfolding options_spelling
 options-push before [] option = append-nil (option_spelling before option)
 options-push before (first ∷ options) option =
     ap (λ (t : List ℕ). option_spelling before first ++ t) (options-push first.0 options option) ∙ sym (append_assoc (option_spelling before first) (options_spelling first.0 options) (option_spelling (last_number first.0 options) option))
 
 -- one option more are options
-AreOptions-push : (before : ℕ) (options : List NumberAndValue) (option : NumberAndValue) → AreOptions before options → IsOptionBehind (last_number before options) option → AreOptions before (options ++ option ∷ [])
+pub AreOptions-push : (before : ℕ) (options : List NumberAndValue) (option : NumberAndValue) → AreOptions before options → IsOptionBehind (last_number before options) option → AreOptions before (options ++ option ∷ [])
 AreOptions-push before [] option fits last = (last, tt)
 AreOptions-push before (first ∷ options) option fits last = (fits.0, AreOptions-push first.0 options option fits.1 last)
 
@@ -69,7 +69,7 @@ lawful_with_option m number value lawful code last = record {
 }
 
 -- a payload is not empty
-nonempty : (bytes : List ℕ) → IfSome (payload_of bytes) (λ bytes. 0 < length bytes)
+pub nonempty : (bytes : List ℕ) → IfSome (payload_of bytes) (λ bytes. 0 < length bytes)
 nonempty [] = tt
 nonempty (b ∷ bytes) = omega arith
 

@@ -96,7 +96,7 @@ options_length_most before (option ∷ options) =
     omega (arith, sum_by-cons (λ (option : NumberAndValue). 5 + length option.1) option options, option_length_most before option, options_length_most option.0 options)
 
 -- the length of a marker and a payload
-length-payload_spelling : (payload : Option (List ℕ)) → length (payload_spelling payload) ≡ payload_length payload
+pub length-payload_spelling : (payload : Option (List ℕ)) → length (payload_spelling payload) ≡ payload_length payload
 unfolding payload_spelling
 length-payload_spelling None = refl
 length-payload_spelling (Some bytes) = omega arith

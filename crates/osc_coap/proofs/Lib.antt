@@ -7,3 +7,4 @@ pub mod MessageLaws
 pub mod LengthLaws
 pub mod FewerLaws
 pub mod BuildLaws
+pub mod PlaintextLaws

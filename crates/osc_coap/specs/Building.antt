@@ -1,7 +1,8 @@
--- A message that grows.
+-- A message that grows, and a plaintext that does.
 use Rattle.std.specs.Prelude.{ℕ, List, [], ◌∷◌, ◌++◌, Option, Some, None}
 use Rattle.osc_coap.specs.declared.kind.Kind.{Kind}
 use Rattle.osc_coap.specs.Message.{NumberAndValue, Message}
+use Rattle.osc_coap.specs.Plaintext.{Plaintext}
 
 -- the number of the last option, or what stands before the first
 abbrev pub last_number : ℕ → List NumberAndValue → ℕ
@@ -23,3 +24,14 @@ payload_of (b ∷ bytes) = Some (b ∷ bytes)
 
 abbrev pub with_payload : Message → List ℕ → Message
 with_payload m bytes = record m { payload = payload_of bytes }
+
+-- a plaintext with neither options nor payload
+abbrev pub bare_plaintext : ℕ → Plaintext
+bare_plaintext code = record { code = code; options = []; payload = None }
+
+-- the plaintext with one option more, behind the others
+abbrev pub with_inner_option : Plaintext → ℕ → List ℕ → Plaintext
+with_inner_option p number value = record p { options = p.options ++ (number, value) ∷ [] }
+
+abbrev pub with_inner_payload : Plaintext → List ℕ → Plaintext
+with_inner_payload p bytes = record p { payload = payload_of bytes }

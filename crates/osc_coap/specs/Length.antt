@@ -1,6 +1,7 @@
--- How many bytes the spelling of a message has (RFC 7252 section 3).
+-- How many bytes the spelling of a message has (RFC 7252 section 3), and that of a plaintext (RFC 8613 section 5.3).
 use Rattle.std.specs.Prelude.{ℕ, ◌+◌, ◌-◌, List, [], ◌∷◌, length, Option, Some, None, nat_lt, if◌then◌else◌}
 use Rattle.osc_coap.specs.Message.{NumberAndValue, Message}
+use Rattle.osc_coap.specs.Plaintext.{Plaintext}
 
 -- the extension of a delta or a length
 abbrev pub extension_length : ℕ → ℕ
@@ -21,3 +22,6 @@ payload_length (Some bytes) = 1 + length bytes
 
 abbrev pub spelled_length : Message → ℕ
 spelled_length m = 4 + length m.token + options_length 0 m.options + payload_length m.payload
+
+abbrev pub plaintext_length : Plaintext → ℕ
+plaintext_length p = 1 + options_length 0 p.options + payload_length p.payload

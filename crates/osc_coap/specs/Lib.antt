@@ -1,5 +1,6 @@
 pub mod Kind
 pub mod Message
+pub mod Plaintext
 pub mod Header
 pub mod Length
 pub mod Building
@@ -7,3 +8,5 @@ pub mod Errors
 pub mod Reading
 pub mod MessageRef
 pub mod MessageBuilder
+pub mod PlaintextRef
+pub mod PlaintextBuilder

@@ -6,6 +6,7 @@ use Rattle.osc_coap.specs.declared.kind.Kind.TheVariants.{Confirmable, NonConfir
 use Rattle.osc_coap.specs.declared.error.ParseError.{ParseError}
 use Rattle.osc_coap.specs.declared.error.ParseError.TheVariants.{Version, Format}
 use Rattle.osc_coap.specs.Message.{NumberAndValue, Message}
+use Rattle.osc_coap.specs.Plaintext.{Plaintext}
 
 infixl 10 ◌>>=◌
 abbrev pub ◌>>=◌ : {A B : Type 0} → Option A → (A → Option B) → Option B
@@ -102,3 +103,12 @@ message_at (first ∷ []) = Err Format
 message_at (first ∷ code ∷ []) = Err Format
 message_at (first ∷ code ∷ high ∷ []) = Err Format
 message_at (first ∷ code ∷ high ∷ low ∷ rest) = if first / 64 == 1 then fields_at first code (256 * high + low) rest else Err Version
+
+-- ---- a plaintext
+
+abbrev pub plaintext_with : ℕ → Body → Plaintext
+plaintext_with code body = record { code = code; options = body.0; payload = body.1 }
+
+unfoldable pub plaintext_at : List ℕ → Option Plaintext
+plaintext_at [] = None
+plaintext_at (code ∷ body) = option_map (plaintext_with code) (body_at 0 body)

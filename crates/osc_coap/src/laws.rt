@@ -4,8 +4,9 @@
 ghost use Rattle.std.specs.Prelude.{◌≡◌, ◌<◌, ◌≤◌, ◌+◌, ◌^◌, ◌++◌, ℕ, List, [], Bool, None, length, filter, sum_by};
 ghost use Rattle.osc_coap.specs.declared.kind.Kind.{Kind as AnyKind};
 ghost use Rattle.osc_coap.specs.Message.{NumberAndValue, Message, IsOptionBehind, AreOptions, HasSpelling, Spells, spelling};
+ghost use Rattle.osc_coap.specs.Plaintext.{Plaintext, HasPlaintextSpelling, SpellsPlaintext, plaintext_spelling};
 ghost use Rattle.osc_coap.specs.Header.{HasHeader};
-ghost use Rattle.osc_coap.specs.Length.{option_length, options_length, payload_length, spelled_length};
+ghost use Rattle.osc_coap.specs.Length.{option_length, options_length, payload_length, spelled_length, plaintext_length};
 ghost use Rattle.osc_coap.specs.Building.{last_number, bare, with_option, payload_of, with_payload};
 
 /// No bytes are two messages.
@@ -26,6 +27,21 @@ pub fn length_of_spelling()
     ensures most { (m : Message) → length (spelling m)
         ≤ 4 + length m.token + sum_by (λ option. 5 + length option.1) m.options
         + payload_length m.payload }
+{}
+
+/// A plaintext has one spelling, and no bytes are two plaintexts.
+pub fn one_plaintext()
+    ensures one { (bytes : List ℕ) (p q : Plaintext)
+        → SpellsPlaintext bytes p → SpellsPlaintext bytes q → p ≡ q }
+    ensures spelled { (p : Plaintext)
+        → HasPlaintextSpelling p → SpellsPlaintext (plaintext_spelling p) p }
+    ensures only { (bytes : List ℕ) (p : Plaintext)
+        → SpellsPlaintext bytes p → bytes ≡ plaintext_spelling p }
+{}
+
+/// The length of a plaintext's spelling, exactly.
+pub fn length_of_plaintext()
+    ensures { (p : Plaintext) → length (plaintext_spelling p) ≡ plaintext_length p }
 {}
 
 /// A message that grows has a spelling at each step.

@@ -1,7 +1,8 @@
-//! CoAP messages (RFC 7252 section 3), borrowed from a datagram or built into one. Nothing here
-//! takes memory.
+//! CoAP messages (RFC 7252 section 3), borrowed from a datagram or built into one, and the plaintexts
+//! that OSCORE makes of them (RFC 8613 section 5.3). Nothing here takes memory.
 #![tactic(auto)]
 
+mod body;
 mod builder;
 mod error;
 mod header;
@@ -9,13 +10,16 @@ mod kind;
 pub mod laws;
 mod message;
 mod options;
+mod plaintext;
 
-pub use builder::{DATAGRAM_LIMIT, MessageBuilder};
+pub use body::DATAGRAM_LIMIT;
+pub use builder::MessageBuilder;
 pub use error::{DatagramTooLong, ParseError};
 pub use header::kind_and_id;
 pub use kind::Kind;
 pub use message::MessageRef;
 pub use options::{Options, PAYLOAD_MARKER};
+pub use plaintext::{PlaintextBuilder, PlaintextRef};
 
 #[cfg(test)]
 mod tests;

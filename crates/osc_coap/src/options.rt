@@ -112,6 +112,16 @@ impl<'a> Options<'a> {
             rest: body,
         }
     }
+
+    /// The options that are left, to be gone through once more.
+    pub fn rest(&self) -> Options<'a>
+        ensures { result ≡ self.now }
+    {
+        Options {
+            before: self.before,
+            rest: self.rest,
+        }
+    }
 }
 
 impl<'a> Iterator for Options<'a> {

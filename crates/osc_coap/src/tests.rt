@@ -160,3 +160,31 @@ fn printed(rt: HostRuntime) -> Result<(), Fail> {
     assert_eq!(rt; long.as_str(), "14 the message is longer than 1152 bytes");
     Ok(())
 }
+
+/// The plaintext of a GET with Uri-Path "tv1", and one of a 2.05 with a payload.
+#[test]
+fn plaintexts(rt: HostRuntime) -> Result<(), Fail> {
+    let mut builder = PlaintextBuilder::start(1);
+    builder.option(11, b"tv1").ok().ok_or("room")?;
+    assert_eq!(rt; builder.bytes(), b"\x01\xb3\x74\x76\x31".as_slice());
+    let request = PlaintextRef::parse(builder.bytes()).ok_or("a plaintext")?;
+    assert_eq!(rt; request.code(), 1);
+    assert_eq!(rt; request.payload(), None);
+    let mut options = request.options();
+    assert_eq!(rt; options.rest().next(), Some((11, b"tv1".as_slice())));
+    assert_eq!(rt; options.next(), Some((11, b"tv1".as_slice())));
+    assert_eq!(rt; options.next(), None);
+
+    let mut builder = PlaintextBuilder::start(0x45);
+    builder.payload(b"Hello World!").ok().ok_or("room")?;
+    assert_eq!(rt; builder.bytes(), b"\x45\xffHello World!".as_slice());
+    let reply = PlaintextRef::parse(builder.bytes()).ok_or("a plaintext")?;
+    assert_eq!(rt; reply.payload(), Some(b"Hello World!".as_slice()));
+
+    // No bytes, a marker with nothing behind it, a length of 15.
+    let refused: [&[u8]; 3] = [b"", b"\x01\xff", b"\x01\x0f"];
+    for bytes in refused {
+        assert!(rt; PlaintextRef::parse(bytes).is_none(), "at {bytes:?}");
+    }
+    Ok(())
+}

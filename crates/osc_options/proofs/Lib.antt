@@ -1,2 +1,6 @@
 pub mod RecognisedLaws
-pub mod ReplyLaws
+pub mod MergeLaws
+pub mod SplitLaws
+pub mod AddLaws
+pub mod ReplyAgainLaws
+pub mod SplitLengths

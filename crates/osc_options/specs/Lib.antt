@@ -2,3 +2,9 @@ pub mod Table
 pub mod Recognised
 pub mod Asking
 pub mod Answering
+pub mod Split
+pub mod Merging
+pub mod MergedOptions
+pub mod Errors
+pub mod Plain
+pub mod PlainReply

@@ -1,15 +1,25 @@
-//! CoAP options: which are recognised, the request that they make, and those of a reply.
+//! CoAP options: which are recognised, which OSCORE encrypts, and the requests and replies that they make.
 #![tactic(auto)]
 
+mod error;
+mod inside;
+pub mod laws;
+mod merging;
 pub mod numbers;
+mod parts;
+mod protection;
 mod recognised;
 mod reply;
 mod request;
 mod table;
 
-pub use recognised::{has_option, unrecognised_critical};
-pub use reply::reply_message;
-pub use request::request_of;
+pub use error::{ReplyError, RequestError};
+pub use merging::{Merged, merge};
+pub use parts::{InnerOptions, OuterOptions, SplitOptions, split};
+pub use protection::{plaintext_of, protected_message, unprotected_message};
+pub use recognised::{has_option, unrecognised_critical, value_of};
+pub use reply::{reply_message, reply_of, reply_plaintext};
+pub use request::{request_of, request_of_message};
 pub use table::{Class, Rule, class_of, is_critical, is_unsafe, rule_of};
 
 #[cfg(test)]

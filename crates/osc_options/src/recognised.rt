@@ -1,8 +1,10 @@
 //! Which options of a message are recognised (RFC 7252 section 5.4).
 ghost use Rattle.std.specs.Prelude.{◌≡◌, ◌==◌, [], ◌∷◌, MatchOption};
 ghost use Rattle.std.specs.List.{list_any};
+ghost use Rattle.std.specs.Option.{option_map};
 ghost use Rattle.std.specs.Iterator.{YieldsFirstBy, item_count};
 ghost use Rattle.osc_options.specs.Recognised as spec;
+ghost use Rattle.osc_options.specs.Asking.{value as value_in};
 
 use crate::table::{is_critical, rule_of};
 use osc_coap::{MessageRef, Options};
@@ -10,7 +12,7 @@ use std::marker::Model;
 
 /// Whether this option, behind one of number `before` or first behind 0, is recognised: it has a row in the table,
 /// the length that the row allows, and is no second copy of one that doesn't repeat.
-fn is_recognised(before: u16, number: u16, value: &[u8]) -> bool
+pub(crate) fn is_recognised(before: u16, number: u16, value: &[u8]) -> bool
     ensures { result ≡ spec.is_recognised before (number, value.now) }
 {
     match rule_of(number) {
@@ -96,12 +98,28 @@ impl<'a> Iterator for RecognisedOptions<'a> {
     }
 }
 
-/// The recognised options of the message, in order.
-pub(crate) fn recognised_options<'a>(message: &MessageRef<'a>) -> RecognisedOptions<'a>
-    ensures { result ≡ spec.recognised 0 message.now.options }
+/// Those of the options that are recognised, in order.
+pub(crate) fn recognised_options<'a>(options: Options<'a>) -> RecognisedOptions<'a>
+    ensures { result ≡ spec.recognised 0 options.entry }
 {
-    RecognisedOptions {
-        before: 0,
-        options: message.options(),
+    RecognisedOptions { before: 0, options }
+}
+
+/// The value of the first recognised option of this number.
+pub(crate) fn first_value<'a>(options: RecognisedOptions<'a>, number: u16) -> Option<&'a [u8]>
+    ensures { option_map (λ value. value.now) result ≡ value_in number options.entry }
+{
+    for (found, value) in options {
+        if found == number {
+            return Some(value);
+        }
     }
+    None
+}
+
+/// The first recognised option of this number, by its value.
+pub fn value_of<'a>(message: &MessageRef<'a>, number: u16) -> Option<&'a [u8]>
+    ensures { option_map (λ value. value.now) result ≡ value_in number (spec.recognised 0 message.now.options) }
+{
+    first_value(recognised_options(message.options()), number)
 }

@@ -1,30 +1,37 @@
-//! A message that carries a reply (RFC 7252 section 5.10).
-ghost use Rattle.std.specs.Prelude.{◌≡◌, ◌<◌, ◌≤◌, ◌↔◌, None, length, IsOk, IfOk, OnOk};
+//! A message or a plaintext that carries a reply, and the reply that a plaintext is (RFC 7252 section 5.10, RFC 8613
+//! section 5.3).
+ghost use Rattle.std.specs.Prelude.{◌≡◌, ◌<◌, ◌≤◌, ◌↔◌, Err, length, IsOk, IfOk};
 ghost use Rattle.osc_coap.specs.Message.{spelling};
-ghost use Rattle.osc_coap.specs.Building.{bare, last_number, with_option};
-ghost use Rattle.osc_options.specs.Answering.{uint_bytes, with_reply};
+ghost use Rattle.osc_coap.specs.Plaintext.{Plaintext, SpellsPlaintext, plaintext_spelling};
+ghost use Rattle.osc_coap.specs.Building.{bare};
+ghost use Rattle.osc_options.specs.Asking.{value as value_in};
+ghost use Rattle.osc_options.specs.Answering.{uint_bytes as bytes_of, with_reply};
+ghost use Rattle.osc_options.specs.Plain.{IsMemoryAside};
+ghost use Rattle.osc_options.specs.PlainReply as spec;
 
+use crate::error::ReplyError;
+use crate::inside::unheeded;
 use crate::numbers::{CONTENT_FORMAT, ETAG};
-use osc_coap::laws::length_of_spelling;
-use osc_coap::{DatagramTooLong, Kind, MessageBuilder};
-use osc_model::Reply;
+use crate::recognised::{RecognisedOptions, first_value, recognised_options};
+use crate::request::uint_of;
+use arrayvec::ArrayVec;
+use osc_coap::laws::{length_of_plaintext, length_of_spelling};
+use osc_coap::{DatagramTooLong, Kind, MessageBuilder, PlaintextBuilder, PlaintextRef};
+use osc_model::{Bytes, Code, Reply};
+use std::alloc::{AllocError, Global};
 
-/// Adds the Content-Format, without leading zero bytes (RFC 7252 section 3.2).
-fn add_format(message: &mut MessageBuilder, format: u16) -> Result<(), DatagramTooLong>
-    requires code { 0 < message.old.code }
-    requires rises { last_number 0 message.old.options ≤ 12 }
-    requires open { message.old.payload ≡ None }
-    ensures variant { IsOk result ↔ (length (spelling (with_option message.old 12 (uint_bytes format))) ≤ 1152) }
-    ensures ok { OnOk result (message.new ≡ with_option message.old 12 (uint_bytes format)) }
+/// A whole number without leading zero bytes (RFC 7252 section 3.2).
+fn uint_bytes(n: u16) -> ArrayVec<u8, 2>
+    ensures value { result.items ≡ bytes_of n }
 {
-    let [high, low] = format.to_be_bytes();
-    if format == 0 {
-        message.option(CONTENT_FORMAT, &[])
-    } else if format < 256 {
-        message.option(CONTENT_FORMAT, &[low])
-    } else {
-        message.option(CONTENT_FORMAT, &[high, low])
+    let mut bytes = ArrayVec::new();
+    if n >= 256 {
+        bytes.push((n / 256) as u8);
     }
+    if n > 0 {
+        bytes.push((n % 256) as u8);
+    }
+    bytes
 }
 
 /// A message of this kind, message ID and token that is the reply; refused only where it is longer than a
@@ -46,8 +53,85 @@ pub fn reply_message(
         message.option(ETAG, tag)?;
     }
     if let Some(format) = reply.format {
-        add_format(&mut message, format)?;
+        message.option(CONTENT_FORMAT, &uint_bytes(format))?;
     }
     message.payload(reply.payload.as_slice())?;
     Ok(message)
+}
+
+/// The plaintext that carries the reply, encrypted with all its options; refused only where it is longer than a datagram
+/// may be.
+pub fn reply_plaintext(reply: &Reply) -> Result<PlaintextBuilder, DatagramTooLong>
+    ensures ok { IfOk result (λ p. p ≡ spec.reply_plaintext reply.now) }
+    ensures fits { IsOk result ↔ (length (plaintext_spelling (spec.reply_plaintext reply.now)) ≤ 1152) }
+{
+    length_of_plaintext();
+    let mut plaintext = PlaintextBuilder::start(reply.code.0);
+    if let Some(tag) = &reply.etag {
+        plaintext.option(ETAG, tag)?;
+    }
+    if let Some(format) = reply.format {
+        plaintext.option(CONTENT_FORMAT, &uint_bytes(format))?;
+    }
+    plaintext.payload(reply.payload.as_slice())?;
+    Ok(plaintext)
+}
+
+/// Whether a code is one of a response, of class 2 to 5.
+fn is_reply_code(code: u8) -> bool
+    ensures { result ≡ spec.is_reply_code code }
+{
+    64 <= code && code < 192
+}
+
+/// The first ETag, where it has 8 bytes.
+fn etag_of(options: RecognisedOptions<'_>) -> Option<[u8; 8]>
+    ensures { result ≡ spec.etag_in (value_in 4 options.entry) }
+{
+    let tag = first_value(options, ETAG)?;
+    match <[u8; 8]>::try_from(tag) {
+        Ok(tag) => Some(tag),
+        Err(_) => None,
+    }
+}
+
+/// The reply of a plaintext's code, recognised options and payload; refused only for want of memory.
+fn reply_with(alloc: Global, plaintext: &PlaintextRef<'_>) -> Result<Reply, AllocError>
+    ensures { IfOk result (λ reply. reply ≡ spec.reply_with plaintext.now) }
+{
+    Ok(Reply {
+        code: Code(plaintext.code()),
+        etag: etag_of(recognised_options(plaintext.options())),
+        format: uint_of(&plaintext.options(), CONTENT_FORMAT),
+        payload: Bytes::from_slice(alloc, plaintext.payload().unwrap_or(&[]))?,
+    })
+}
+
+/// The reply that a plaintext is.
+fn heeded(alloc: Global, plaintext: &PlaintextRef<'_>) -> Result<Reply, ReplyError>
+    ensures { IsMemoryAside ReplyError.Memory (spec.answered plaintext.now) result }
+{
+    if !is_reply_code(plaintext.code()) {
+        return Err(ReplyError::Format);
+    }
+    if let Some(number) = unheeded(plaintext) {
+        return Err(ReplyError::BadOption(number));
+    }
+    reply_with(alloc, plaintext).map_err(|_| ReplyError::Memory)
+}
+
+/// The reply that these bytes are as a plaintext (RFC 8613 section 5.3). The error is `Format` where they are no
+/// plaintext or its code is none of a response, and else `BadOption` where an option of class U, or a critical one that
+/// isn't recognised, stands in it. An ETag of another length than 8 is left out.
+pub fn reply_of(alloc: Global, plaintext: &[u8]) -> Result<Reply, ReplyError>
+    ensures plain { (p : Plaintext) → SpellsPlaintext plaintext.now p
+        → IsMemoryAside ReplyError.Memory (spec.answered p) result }
+    ensures none { ((p : Plaintext) → ¬ SpellsPlaintext plaintext.now p) → result ≡ Err ReplyError.Format }
+    ensures memory { result ≡ Err ReplyError.Memory
+        → (p : Plaintext) × SpellsPlaintext plaintext.now p × IsOk (spec.answered p) }
+{
+    match PlaintextRef::parse(plaintext) {
+        Some(plaintext) => heeded(alloc, &plaintext),
+        None => Err(ReplyError::Format),
+    }
 }

@@ -1,29 +1,21 @@
-//! The request that a message is (RFC 7252 section 5.10).
-ghost use Rattle.std.specs.Prelude.{◌≡◌, ◌≤◌, length, is_some, IfOk, IfSome};
-ghost use Rattle.std.specs.Option.{option_map};
+//! The request that a message or a plaintext is (RFC 7252 section 5.10, RFC 8613 section 5.3).
+ghost use Rattle.std.specs.Prelude.{◌≡◌, ◌≤◌, ◌↔◌, length, is_some, Err, IsTrue, IsOk, IfOk, IfSome};
+ghost use Rattle.std.specs.Option.{option_map, option_copied};
 ghost use Rattle.osc_model.specs.Path.{path_of};
+ghost use Rattle.osc_coap.specs.Plaintext.{Plaintext, SpellsPlaintext};
 ghost use Rattle.osc_options.specs.Table.{rule_of};
 ghost use Rattle.osc_options.specs.Recognised.{recognised};
-ghost use Rattle.osc_options.specs.Asking.{request_of as asked, uint as number_of, value as value_in, values as values_in};
+ghost use Rattle.osc_options.specs.Asking.{request_in as asked_by, request_of as asked_of_message, uint as number_of, value as value_in, values as values_in};
+ghost use Rattle.osc_options.specs.Plain.{IsRequestCode, is_request_code as spec_is_request_code, asked, IsMemoryAside};
 
+use crate::error::RequestError;
+use crate::inside::unheeded;
 use crate::numbers::{ACCEPT, CONTENT_FORMAT, IF_MATCH, IF_NONE_MATCH, URI_PATH};
-use crate::recognised::recognised_options;
+use crate::recognised::{first_value, recognised_options};
 use arrayvec::ArrayVec;
-use osc_coap::MessageRef;
+use osc_coap::{MessageRef, Options, PlaintextRef};
 use osc_model::{Bytes, Code, ETags, Path, Request};
 use std::alloc::{AllocError, Global};
-
-/// The first recognised option of this number, by its value.
-fn value_of<'a>(message: &MessageRef<'a>, number: u16) -> Option<&'a [u8]>
-    ensures { option_map (λ value. value.now) result ≡ value_in number (recognised 0 message.now.options) }
-{
-    for (other, value) in recognised_options(message) {
-        if other == number {
-            return Some(value);
-        }
-    }
-    None
-}
 
 /// A whole number: big-endian, leading zeros don't count (RFC 7252 section 3.2).
 fn uint(bytes: &[u8]) -> u16
@@ -38,20 +30,20 @@ fn uint(bytes: &[u8]) -> u16
 }
 
 /// The whole number that the first recognised option of this number holds.
-fn uint_of(message: &MessageRef<'_>, number: u16) -> Option<u16>
+pub(crate) fn uint_of(options: &Options<'_>, number: u16) -> Option<u16>
     requires { IfSome (rule_of number) (λ rule. rule.longest ≤ 2) }
-    ensures { result ≡ option_map number_of (value_in number (recognised 0 message.now.options)) }
+    ensures { result ≡ option_map number_of (value_in number (recognised 0 options.now)) }
 {
-    let value = value_of(message, number)?;
+    let value = first_value(recognised_options(options.rest()), number)?;
     Some(uint(value))
 }
 
 /// The path that the Uri-Path options make, if they make one.
-fn path(alloc: Global, message: &MessageRef<'_>) -> Result<Option<Path>, AllocError>
-    ensures { IfOk result (λ path. path ≡ path_of (values_in 11 (recognised 0 message.now.options))) }
+fn path(alloc: Global, options: &Options<'_>) -> Result<Option<Path>, AllocError>
+    ensures { IfOk result (λ path. path ≡ path_of (values_in 11 (recognised 0 options.now))) }
 {
     let mut segments: ArrayVec<&[u8], 8> = ArrayVec::new();
-    for (number, value) in recognised_options(message) {
+    for (number, value) in recognised_options(options.rest()) {
         if number == URI_PATH {
             if segments.is_full() {
                 return Ok(None);
@@ -63,11 +55,11 @@ fn path(alloc: Global, message: &MessageRef<'_>) -> Result<Option<Path>, AllocEr
 }
 
 /// The values of the If-Match options.
-fn if_match(alloc: Global, message: &MessageRef<'_>) -> Result<ETags, AllocError>
-    ensures { IfOk result (λ tags. tags ≡ values_in 1 (recognised 0 message.now.options)) }
+fn if_match(alloc: Global, options: &Options<'_>) -> Result<ETags, AllocError>
+    ensures { IfOk result (λ tags. tags ≡ values_in 1 (recognised 0 options.now)) }
 {
     let mut tags = ETags::new(alloc);
-    for (number, value) in recognised_options(message) {
+    for (number, value) in recognised_options(options.rest()) {
         if number == IF_MATCH {
             tags.push(Bytes::from_slice(alloc, value)?)?;
         }
@@ -75,19 +67,75 @@ fn if_match(alloc: Global, message: &MessageRef<'_>) -> Result<ETags, AllocError
     Ok(tags)
 }
 
+/// The request of a code, recognised options and a payload; refused only for want of memory.
+fn request_in(
+    alloc: Global,
+    code: u8,
+    options: &Options<'_>,
+    payload: Option<&[u8]>,
+) -> Result<Request, AllocError>
+    ensures { IfOk result (λ request. request ≡ asked_by code options.now (option_copied payload.entry)) }
+{
+    let known = recognised_options(options.rest());
+    Ok(Request {
+        code: Code(code),
+        path: path(alloc, options)?,
+        format: uint_of(options, CONTENT_FORMAT),
+        accept: uint_of(options, ACCEPT),
+        if_match: if_match(alloc, options)?,
+        if_none_match: first_value(known, IF_NONE_MATCH).is_some(),
+        payload: Bytes::from_slice(alloc, payload.unwrap_or(&[]))?,
+    })
+}
+
 /// The request of a message's code, recognised options and payload; refused only for want of memory.
 ///
 /// Options that aren't recognised are left out: ask `unrecognised_critical` first.
-pub fn request_of(alloc: Global, message: &MessageRef<'_>) -> Result<Request, AllocError>
-    ensures { IfOk result (λ request. request ≡ asked message.now) }
+pub fn request_of_message(alloc: Global, message: &MessageRef<'_>) -> Result<Request, AllocError>
+    ensures { IfOk result (λ request. request ≡ asked_of_message message.now) }
 {
-    Ok(Request {
-        code: Code(message.code()),
-        path: path(alloc, message)?,
-        format: uint_of(message, CONTENT_FORMAT),
-        accept: uint_of(message, ACCEPT),
-        if_match: if_match(alloc, message)?,
-        if_none_match: value_of(message, IF_NONE_MATCH).is_some(),
-        payload: Bytes::from_slice(alloc, message.payload().unwrap_or(&[]))?,
-    })
+    request_in(alloc, message.code(), &message.options(), message.payload())
+}
+
+/// Whether a code is one of a request (RFC 7252 section 5.2).
+fn is_request_code(code: u8) -> bool
+    ensures value { result ≡ spec_is_request_code code }
+    ensures means { IsTrue result ↔ IsRequestCode code }
+{
+    0 < code && code < 32
+}
+
+/// The request that a plaintext is.
+fn heeded(alloc: Global, plaintext: &PlaintextRef<'_>) -> Result<Request, RequestError>
+    ensures { IsMemoryAside RequestError.Memory (asked plaintext.now) result }
+{
+    if !is_request_code(plaintext.code()) {
+        return Err(RequestError::Format);
+    }
+    if let Some(number) = unheeded(plaintext) {
+        return Err(RequestError::BadOption(number));
+    }
+    request_in(
+        alloc,
+        plaintext.code(),
+        &plaintext.options(),
+        plaintext.payload(),
+    )
+    .map_err(|_| RequestError::Memory)
+}
+
+/// The request that these bytes are as a plaintext (RFC 8613 section 5.3). The error is `Format` where they are no
+/// plaintext or its code is none of a request, and else `BadOption` where an option of class U, or a critical one that
+/// isn't recognised, stands in it.
+pub fn request_of(alloc: Global, plaintext: &[u8]) -> Result<Request, RequestError>
+    ensures plain { (p : Plaintext) → SpellsPlaintext plaintext.now p
+        → IsMemoryAside RequestError.Memory (asked p) result }
+    ensures none { ((p : Plaintext) → ¬ SpellsPlaintext plaintext.now p) → result ≡ Err RequestError.Format }
+    ensures memory { result ≡ Err RequestError.Memory
+        → (p : Plaintext) × SpellsPlaintext plaintext.now p × IsOk (asked p) }
+{
+    match PlaintextRef::parse(plaintext) {
+        Some(plaintext) => heeded(alloc, &plaintext),
+        None => Err(RequestError::Format),
+    }
 }

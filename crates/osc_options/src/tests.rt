@@ -1,5 +1,5 @@
 use super::*;
-use osc_coap::{Kind, MessageRef};
+use osc_coap::{Kind, MessageRef, PlaintextRef};
 use osc_model::{Bytes, Code, Reply};
 use std::test::*;
 
@@ -67,7 +67,7 @@ fn a_request(rt: HostRuntime) -> Result<(), Fail> {
     let message = MessageRef::parse(datagram).ok().ok_or("a message")?;
     assert!(rt; has_option(&message, numbers::ACCEPT));
     assert!(rt; !has_option(&message, numbers::OSCORE));
-    let request = request_of(rt.alloc(), &message)?;
+    let request = request_of_message(rt.alloc(), &message)?;
     assert_eq!(rt; request.code, Code(3));
     assert_eq!(rt; request.path.ok_or("a path")?.text(), b"/a/b".as_slice());
     assert_eq!(rt; request.format, Some(42));
@@ -82,14 +82,14 @@ fn a_request(rt: HostRuntime) -> Result<(), Fail> {
 fn at_most_eight_segments(rt: HostRuntime) -> Result<(), Fail> {
     let eight = b"\x40\x01\x00\x01\xb1a\x01b\x01c\x01d\x01e\x01f\x01g\x01h";
     let message = MessageRef::parse(eight).ok().ok_or("a message")?;
-    let request = request_of(rt.alloc(), &message)?;
+    let request = request_of_message(rt.alloc(), &message)?;
     assert_eq!(rt;
         request.path.ok_or("a path")?.text(),
         b"/a/b/c/d/e/f/g/h".as_slice()
     );
     let nine = b"\x40\x01\x00\x01\xb1a\x01b\x01c\x01d\x01e\x01f\x01g\x01h\x01i";
     let message = MessageRef::parse(nine).ok().ok_or("a message")?;
-    assert!(rt; request_of(rt.alloc(), &message)?.path.is_none());
+    assert!(rt; request_of_message(rt.alloc(), &message)?.path.is_none());
     Ok(())
 }
 
@@ -115,6 +115,165 @@ fn replies(rt: HostRuntime) -> Result<(), Fail> {
             .ok_or("room")?;
         assert!(rt; message.bytes().starts_with(b"\x61\x45\x12\x34t"));
         assert!(rt; message.bytes().ends_with(expected));
+    }
+    Ok(())
+}
+
+fn message(datagram: &[u8]) -> Result<MessageRef<'_>, &'static str> {
+    MessageRef::parse(datagram).ok().ok_or("a message")
+}
+
+/// A GET with the token 00003974, Uri-Host "localhost" and Uri-Path "tv1".
+const REQUEST: [u8; 22] = [
+    0x44, 0x01, 0x5d, 0x1f, 0x00, 0x00, 0x39, 0x74, 0x39, 0x6c, 0x6f, 0x63, 0x61, 0x6c, 0x68, 0x6f,
+    0x73, 0x74, 0x83, 0x74, 0x76, 0x31,
+];
+
+/// The same request protected (RFC 8613 appendix C.4).
+const PROTECTED: [u8; 35] = [
+    0x44, 0x02, 0x5d, 0x1f, 0x00, 0x00, 0x39, 0x74, 0x39, 0x6c, 0x6f, 0x63, 0x61, 0x6c, 0x68, 0x6f,
+    0x73, 0x74, 0x62, 0x09, 0x14, 0xff, 0x61, 0x2f, 0x10, 0x92, 0xf1, 0x77, 0x6f, 0x1c, 0x16, 0x68,
+    0xb3, 0x82, 0x5e,
+];
+
+#[test]
+fn a_protected_request(rt: HostRuntime) -> Result<(), Fail> {
+    let request = message(&REQUEST)?;
+    let mut parts = split(&request);
+    assert_eq!(rt; parts.outer.next(), Some((3, b"localhost".as_slice())));
+    assert_eq!(rt; parts.outer.next(), None);
+    assert_eq!(rt; parts.inner.next(), Some((11, b"tv1".as_slice())));
+    assert_eq!(rt; parts.inner.next(), None);
+
+    let plaintext = plaintext_of(&request).ok().ok_or("room")?;
+    assert_eq!(rt; plaintext.bytes(), b"\x01\xb3tv1".as_slice());
+    let outer = protected_message(&request, 2, b"\x09\x14", &PROTECTED[22..])
+        .ok()
+        .ok_or("room")?;
+    assert_eq!(rt; outer.bytes(), PROTECTED.as_slice());
+    assert_eq!(rt;
+        value_of(&outer.message(), numbers::OSCORE),
+        Some(b"\x09\x14".as_slice())
+    );
+
+    let inner = PlaintextRef::parse(plaintext.bytes()).ok_or("a plaintext")?;
+    let again = unprotected_message(&outer.message(), &inner)
+        .ok()
+        .ok_or("room")?;
+    assert_eq!(rt; again.bytes(), REQUEST.as_slice());
+    Ok(())
+}
+
+/// Outer and inner options take turns, and the outer one is first of two of one number.
+#[test]
+fn merged(rt: HostRuntime) -> Result<(), Fail> {
+    let outside = message(b"\x40\x01\x00\x01\x31a\x41b\xd1\x0fc")?;
+    let inside = message(b"\x40\x01\x00\x01\x51d\x61e\x01f")?;
+    let mut options = merge(split(&outside).outer, split(&inside).inner);
+    let expected: [(u16, &[u8]); 6] = [
+        (3, b"a"),
+        (5, b"d"),
+        (7, b"b"),
+        (11, b"e"),
+        (11, b"f"),
+        (35, b"c"),
+    ];
+    for option in expected {
+        assert_eq!(rt; options.next(), Some(option));
+    }
+    assert_eq!(rt; options.next(), None);
+    Ok(())
+}
+
+#[test]
+fn an_encrypted_request(rt: HostRuntime) -> Result<(), Fail> {
+    let request = request_of(rt.alloc(), b"\x01\xb3tv1")
+        .ok()
+        .ok_or("a request")?;
+    assert_eq!(rt; request.code, Code(1));
+    assert_eq!(rt; request.path.ok_or("a path")?.text(), b"/tv1".as_slice());
+
+    let format = Some(RequestError::Format);
+    let refused: [(&[u8], Option<RequestError>); 9] = [
+        (b"", format),
+        (b"\x00", format),
+        (b"\x45", format),
+        (b"\x01\xff", format),
+        (b"\x20", format),
+        // Uri-Host, which has to stay outside, also where it is too short.
+        (b"\x01\x31s", Some(RequestError::BadOption(3))),
+        (b"\x01\x30", Some(RequestError::BadOption(3))),
+        // A critical option that nobody knows, and an elective one.
+        (b"\x01\xd0\x00", Some(RequestError::BadOption(13))),
+        (b"\x01\xd0\x35", None),
+    ];
+    for (plaintext, error) in refused {
+        assert_eq!(rt;
+            request_of(rt.alloc(), plaintext).err(),
+            error,
+            "at {plaintext:?}"
+        );
+    }
+    Ok(())
+}
+
+#[test]
+fn an_encrypted_reply(rt: HostRuntime) -> Result<(), Fail> {
+    let reply = Reply {
+        code: Code::CONTENT,
+        etag: Some(*b"abcdefgh"),
+        format: Some(42),
+        payload: Bytes::from_slice(rt.alloc(), b"hi")?,
+    };
+    let plaintext = reply_plaintext(&reply).ok().ok_or("room")?;
+    assert_eq!(rt;
+        plaintext.bytes(),
+        b"\x45\x48abcdefgh\x81\x2a\xffhi".as_slice()
+    );
+    assert_eq!(rt; reply_of(rt.alloc(), plaintext.bytes()), Ok(reply));
+
+    // An ETag of another length is left out.
+    let short = reply_of(rt.alloc(), b"\x45\x41a").ok().ok_or("a reply")?;
+    assert_eq!(rt; short.etag, None);
+    for plaintext in [b"\x01".as_slice(), b"\x3f", b"\xc0", b"\x45\xff"] {
+        assert_eq!(rt;
+            reply_of(rt.alloc(), plaintext).err(),
+            Some(ReplyError::Format)
+        );
+    }
+    assert_eq!(rt;
+        reply_of(rt.alloc(), b"\x45\xd0\x00").err(),
+        Some(ReplyError::BadOption(13))
+    );
+    Ok(())
+}
+
+#[test]
+fn printed(rt: HostRuntime) -> Result<(), Fail> {
+    let alloc = rt.alloc();
+    for (error, number, text) in [
+        (RequestError::Format, 13, "the plaintext is no request"),
+        (
+            RequestError::BadOption(3),
+            15,
+            "the option 3 is not understood inside",
+        ),
+        (RequestError::Memory, 9, "out of memory"),
+    ] {
+        assert_eq!(rt; error.number(), number);
+        assert_eq!(rt; format!(in alloc; "{error}")?.as_str(), text);
+    }
+    for (error, number, text) in [
+        (ReplyError::Format, 13, "the plaintext is no reply"),
+        (
+            ReplyError::BadOption(3),
+            15,
+            "the option 3 is not understood inside",
+        ),
+        (ReplyError::Memory, 9, "out of memory"),
+    ] {
+        assert_eq!(rt; error.number(), number);
+        assert_eq!(rt; format!(in alloc; "{error}")?.as_str(), text);
     }
     Ok(())
 }

@@ -8,7 +8,7 @@ use crate::heard::Heard;
 use osc_coap::{Kind, MessageRef};
 use osc_model::Request;
 use osc_options::numbers::{OSCORE, PROXY_SCHEME, PROXY_URI};
-use osc_options::{has_option, request_of, unrecognised_critical};
+use osc_options::{has_option, request_of_message, unrecognised_critical};
 use osc_scope::{Scope, Verdict};
 use std::alloc::{AllocError, Global};
 
@@ -73,7 +73,7 @@ fn request_case<'a>(
     if message.code() != GET {
         return Ok(Case::Unauthorised(message));
     }
-    let request = request_of(alloc, &message)?;
+    let request = request_of_message(alloc, &message)?;
     if is_open(open_scope, &request) {
         Ok(Case::OpenGet(message, request))
     } else {

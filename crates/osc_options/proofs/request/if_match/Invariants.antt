@@ -4,4 +4,4 @@ use Rattle.osc_options.specs.Asking.{values}
 use Rattle.osc_options.proofs.request.if_match.Given as goal
 
 abbrev pub invariant-loop-number : goal.invariant-loop-number
-invariant-loop-number l = l.tags ++ values 1 l.number-iterator ≡ values 1 (recognised 0 l.message.options)
+invariant-loop-number l = l.tags ++ values 1 l.number-iterator ≡ values 1 (recognised 0 l.options)

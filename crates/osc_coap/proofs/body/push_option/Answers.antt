@@ -3,7 +3,7 @@ use Rattle.std.proofs.lemmas.List.{length-append}
 use Rattle.osc_coap.specs.Message.{extension, option_spelling}
 use Rattle.osc_coap.proofs.LengthLaws.{length-extension, length-option_spelling}
 use Rattle.osc_coap.proofs.BuildLaws.{option_appended}
-use Rattle.osc_coap.proofs.builder.push_option.Goals as goal
+use Rattle.osc_coap.proofs.body.push_option.Goals as goal
 
 pub returns-then-room-value-clause-variant : goal.returns-then-room-value-clause-variant
 returns-then-room-value-clause-variant c =

@@ -1,0 +1,109 @@
+//! Options and a payload, written behind one another.
+
+ghost use Rattle.std.specs.Prelude.{◌≡◌, ◌<◌, ◌≤◌, ◌↔◌, ◌+◌, ◌++◌, length, IsOk, OnOk, OnErr};
+ghost use Rattle.arrayvec.specs.ArrayVec.{array_vec_len};
+ghost use Rattle.osc_coap.specs.Message.{nibble, extension, option_spelling, payload_spelling};
+ghost use Rattle.osc_coap.specs.Building.{payload_of};
+
+use crate::error::DatagramTooLong;
+use crate::options::PAYLOAD_MARKER;
+use arrayvec::ArrayVec;
+
+/// The most bytes of a message (RFC 7252 section 4.6).
+pub const DATAGRAM_LIMIT: usize = 1152;
+
+/// The four bits that stand for an option's delta or length (RFC 7252 section 3.1).
+#[tactic(auto, unfolding(crate::specs::Message::nibble))]
+fn nibble_of(n: usize) -> u8
+    ensures value { result ≡ nibble n }
+    ensures bound { result < 15 }
+{
+    if n < 13 {
+        n as u8
+    } else if n < 269 {
+        13
+    } else {
+        14
+    }
+}
+
+/// The bytes of its extension.
+#[tactic(auto, unfolding(crate::specs::Message::extension))]
+fn extension_of(n: usize) -> ArrayVec<u8, 2>
+    requires { n < 65536 }
+    ensures value { result.items ≡ extension n }
+    ensures bound { array_vec_len result ≤ 2 }
+{
+    let mut out = ArrayVec::new();
+    if n >= 269 {
+        let above = n - 269;
+        out.push((above / 256) as u8);
+        out.push((above % 256) as u8);
+    } else if n >= 13 {
+        out.push((n - 13) as u8);
+    }
+    out
+}
+
+/// Appends bytes for which there is room.
+pub(crate) fn append(out: &mut ArrayVec<u8, DATAGRAM_LIMIT>, bytes: &[u8])
+    requires { array_vec_len out.old + length bytes.now ≤ DATAGRAM_LIMIT }
+    ensures { out.new.items ≡ out.old.items ++ bytes.now }
+{
+    let _ = out.try_extend_from_slice(bytes);
+}
+
+/// Appends an option behind one of number `before`, if there is room.
+pub(crate) fn push_option(
+    out: &mut ArrayVec<u8, DATAGRAM_LIMIT>,
+    before: u16,
+    number: u16,
+    value: &[u8],
+) -> Result<(), DatagramTooLong>
+    requires { before ≤ number }
+    ensures variant { IsOk result
+        ↔ (length (out.old.items ++ option_spelling before (number, value.now)) ≤ DATAGRAM_LIMIT) }
+    ensures ok { OnOk result
+        (out.new.items ≡ out.old.items ++ option_spelling before (number, value.now)) }
+    ensures err { OnErr result (out.new ≡ out.old) }
+{
+    let room = out.remaining_capacity();
+    if room < value.len() {
+        return Err(DatagramTooLong);
+    }
+    let delta = (number - before) as usize;
+    let delta_extension = extension_of(delta);
+    let size_extension = extension_of(value.len());
+    if room < 1 + delta_extension.len() + size_extension.len() + value.len() {
+        return Err(DatagramTooLong);
+    }
+    out.push(16 * nibble_of(delta) + nibble_of(value.len()));
+    append(out, &delta_extension);
+    append(out, &size_extension);
+    append(out, value);
+    Ok(())
+}
+
+/// Appends the marker and the payload, if there is room. No bytes are no payload.
+#[tactic(auto, unfolding(crate::specs::Message::payload_spelling))]
+pub(crate) fn push_payload(
+    out: &mut ArrayVec<u8, DATAGRAM_LIMIT>,
+    payload: &[u8],
+) -> Result<(), DatagramTooLong>
+    ensures variant { IsOk result
+        ↔ (length (out.old.items ++ payload_spelling (payload_of payload.now)) ≤ DATAGRAM_LIMIT) }
+    ensures ok { OnOk result
+        (out.new.items ≡ out.old.items ++ payload_spelling (payload_of payload.now)) }
+    ensures err { OnErr result (out.new ≡ out.old) }
+{
+    let room = out.remaining_capacity();
+    if payload.is_empty() {
+        return Ok(());
+    }
+    if room <= payload.len() {
+        return Err(DatagramTooLong);
+    }
+    out.push(PAYLOAD_MARKER);
+    append(out, payload);
+    Ok(())
+}

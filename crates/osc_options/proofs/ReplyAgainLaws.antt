@@ -1,0 +1,102 @@
+-- A reply that is written is read again.
+use Rattle.std.proofs.Common.{◌≡◌, ℕ, ◌<◌, ◌≤◌, true, false, ◌==◌, nat_le, List, [], ◌∷◌, ◌++◌, length, Option, Some, None, refl, ap, ◌∙◌, arith, inl, inr}
+use Rattle.std.specs.Prelude.{IfSome, option_map, unwrap_or}
+use Rattle.std.proofs.lemmas.Bool.{cases_lt, cases_eq, lt-ltb, le-ltb, ne_eqb}
+use Rattle.std.proofs.lemmas.Bool.Decides.{nat_tests}
+use Rattle.osc_model.specs.declared.reply.Reply.{Reply}
+use Rattle.osc_coap.specs.Message.{NumberAndValue}
+use Rattle.osc_coap.specs.Building.{payload_of}
+use Rattle.osc_options.specs.Recognised.{recognised}
+use Rattle.osc_options.specs.Asking.{uint, value}
+use Rattle.osc_options.specs.Answering.{uint_bytes, etag_option, format_option, reply_options}
+use Rattle.osc_options.specs.Plain.{unheeded}
+use Rattle.osc_options.specs.PlainReply.{reply_plaintext, is_reply_code, etag_in, reply_in}
+
+le_test : (m n : ℕ) → m ≤ n → nat_le m n ≡ true
+le_test m n le = grind (arith, nat_tests)
+
+-- ---- a whole number
+
+pub uint_again : (n : ℕ) → n < 65536 → uint (uint_bytes n) ≡ n
+uint_again n lt =
+    elim (cases_eq n 0) [
+      | inl is ↦ rw is refl
+      | inr positive ↦ elim (cases_lt n 256) [
+        | inl low ↦ rw (ne_eqb n 0 positive, lt-ltb n 256 low) (omega arith)
+        | inr wide ↦ rw (ne_eqb n 0 positive, le-ltb n 256 wide) (omega arith)
+      ]
+    ]
+
+pub uint_short : (n : ℕ) → length (uint_bytes n) ≤ 2
+uint_short n =
+    elim (cases_eq n 0) [
+      | inl is ↦ rw is (omega arith)
+      | inr positive ↦ elim (cases_lt n 256) [
+        | inl low ↦ rw (ne_eqb n 0 positive, lt-ltb n 256 low) (omega arith)
+        | inr wide ↦ rw (ne_eqb n 0 positive, le-ltb n 256 wide) (omega arith)
+      ]
+    ]
+
+payload_again : (bytes : List ℕ) → unwrap_or (payload_of bytes) [] ≡ bytes
+payload_again [] = refl
+payload_again (b ∷ bytes) = refl
+
+-- ---- the options of a reply
+
+-- none of them is refused
+pub reply_heeded : (etag : Option (List ℕ)) (format : Option ℕ) → unheeded 0 (etag_option etag ++ format_option format) ≡ None
+reply_heeded None None = refl
+reply_heeded None (Some n) = refl
+reply_heeded (Some tag) None = refl
+reply_heeded (Some tag) (Some n) = refl
+
+-- an option within its row is recognised
+format_known : (before n : ℕ) → (12 == before) ≡ false → recognised before (format_option (Some n)) ≡ format_option (Some n)
+format_known before n other =
+    let short = uint_short n in
+    rw (le_test 0 (length (uint_bytes n)) (omega arith), le_test (length (uint_bytes n)) 2 short, other) refl
+
+etag_known : (tag : List ℕ) (format : Option ℕ) → length tag ≡ 8 → recognised 0 (etag_option (Some tag) ++ format_option format) ≡ (4, tag) ∷ recognised 4 (format_option format)
+etag_known tag format is = rw is refl
+
+pub all_known : (etag : Option (List ℕ)) (format : Option ℕ) → IfSome etag (λ tag. length tag ≡ 8) → recognised 0 (etag_option etag ++ format_option format) ≡ etag_option etag ++ format_option format
+all_known None None is = refl
+all_known None (Some n) is = format_known 0 n refl
+all_known (Some tag) None is = etag_known tag None is
+all_known (Some tag) (Some n) is = etag_known tag (Some n) is ∙ ap (λ (rest : List NumberAndValue). (4, tag) ∷ rest) (format_known 4 n refl)
+
+-- ---- its fields
+
+etag_again : (etag : Option (List ℕ)) (format : Option ℕ) → IfSome etag (λ tag. length tag ≡ 8) → etag_in (value 4 (etag_option etag ++ format_option format)) ≡ etag
+etag_again None None is = refl
+etag_again None (Some n) is = refl
+etag_again (Some tag) None is = rw is refl
+etag_again (Some tag) (Some n) is = rw is refl
+
+format_again : (etag : Option (List ℕ)) (format : Option ℕ) → IfSome format (λ n. n < 65536) → option_map uint (value 12 (etag_option etag ++ format_option format)) ≡ format
+format_again None None is = refl
+format_again None (Some n) is = ap (λ (n : ℕ). Some n) (uint_again n is)
+format_again (Some tag) None is = refl
+format_again (Some tag) (Some n) is = ap (λ (n : ℕ). Some n) (uint_again n is)
+
+reply_code : (code : ℕ) → 64 ≤ code → code < 192 → is_reply_code code ≡ true
+reply_code code least most = rw (le_test 64 code least, lt-ltb code 192 most) refl
+
+abbrev made : Reply → Option (List ℕ) → Option ℕ → List ℕ → Option Reply
+made reply etag format payload = Some (record { code = reply.code; etag = etag; format = format; payload = payload })
+
+-- ---- the whole
+
+pub reply_again : (reply : Reply) → 64 ≤ reply.code.0 → reply.code.0 < 192 → IfSome reply.etag (λ tag. length tag ≡ 8) → IfSome reply.format (λ n. n < 65536) → reply_in (reply_plaintext reply) ≡ Some reply
+reply_again reply least most tag number =
+    let options = reply_options reply in
+    let known = all_known reply.etag reply.format tag in
+    let etag = ap (λ (options : List NumberAndValue). etag_in (value 4 options)) known ∙ etag_again reply.etag reply.format tag in
+    let format = ap (λ (options : List NumberAndValue). option_map uint (value 12 options)) known ∙ format_again reply.etag reply.format number in
+    let payload = payload_again reply.payload in
+    let read : reply_in (reply_plaintext reply) ≡ made reply (etag_in (value 4 (recognised 0 options))) (option_map uint (value 12 (recognised 0 options))) (unwrap_or (payload_of reply.payload) []) =
+    rw (reply_code reply.code.0 least most, reply_heeded reply.etag reply.format) refl in
+    read
+    ∙ ap (λ (t : Option (List ℕ)). made reply t (option_map uint (value 12 (recognised 0 options))) (unwrap_or (payload_of reply.payload) [])) etag
+    ∙ ap (λ (n : Option ℕ). made reply reply.etag n (unwrap_or (payload_of reply.payload) [])) format
+    ∙ ap (made reply reply.etag reply.format) payload

@@ -1,0 +1,12 @@
+use Rattle.std.proofs.Common.{◌≡◌, ◌<◌, None}
+use Rattle.osc_coap.specs.Building.{last_number}
+use Rattle.osc_options.specs.Merging.{AreInOrder, with_options}
+use Rattle.osc_options.proofs.protection.add_options.Given as goal
+
+abbrev pub invariant-loop-number : goal.invariant-loop-number
+invariant-loop-number l = record {
+  whole : with_options l.message l.number-iterator ≡ with_options l.fn.message l.fn.options;
+  code : 0 < l.message.code;
+  first : l.message.payload ≡ None;
+  order : AreInOrder (last_number 0 l.message.options) l.number-iterator;
+}

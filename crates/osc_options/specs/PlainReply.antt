@@ -1,0 +1,53 @@
+-- The replies that go and come encrypted (RFC 7252 sections 5.4.1 and 5.9, RFC 8613 section 5.3).
+use Rattle.std.specs.Prelude.{ℕ, Bool, ◌==◌, ◌&&◌, nat_le, nat_lt, if◌then◌else◌, List, [], length, Option, Some, None, option_map, unwrap_or, Result, Ok, Err}
+use Rattle.osc_model.specs.declared.reply.Reply.{Reply}
+use Rattle.osc_coap.specs.Plaintext.{Plaintext}
+use Rattle.osc_coap.specs.Building.{payload_of}
+use Rattle.osc_options.specs.declared.error.ReplyError.{ReplyError}
+use Rattle.osc_options.specs.declared.error.ReplyError.TheVariants.{Format, BadOption}
+use Rattle.osc_options.specs.Recognised.{recognised}
+use Rattle.osc_options.specs.Asking.{uint, value}
+use Rattle.osc_options.specs.Answering.{reply_options}
+use Rattle.osc_options.specs.Plain.{unheeded}
+
+-- ---- written
+
+abbrev pub reply_plaintext : Reply → Plaintext
+reply_plaintext reply = record { code = reply.code.0; options = reply_options reply; payload = payload_of reply.payload }
+
+-- ---- read
+
+-- classes 2 to 5
+abbrev pub is_reply_code : ℕ → Bool
+is_reply_code code = nat_le 64 code && nat_lt code 192
+
+-- the first ETag, where it has 8 bytes; else there is none
+abbrev pub etag_in : Option (List ℕ) → Option (List ℕ)
+etag_in None = None
+etag_in (Some tag) = if length tag == 8 then Some tag else None
+
+-- the code, the ETag (option 4), the Content-Format (option 12) and the payload; all else is left out
+abbrev pub reply_with : Plaintext → Reply
+reply_with p =
+    let known = recognised 0 p.options in
+    record {
+      code = record { 0 = p.code };
+      etag = etag_in (value 4 known);
+      format = option_map uint (value 12 known);
+      payload = unwrap_or p.payload [];
+    }
+
+abbrev pub heeded_reply : Option ℕ → Reply → Result Reply ReplyError
+heeded_reply None reply = Ok reply
+heeded_reply (Some number) reply = Err (BadOption number)
+
+-- the reply that a plaintext is, or the first reason why it is none
+abbrev pub answered : Plaintext → Result Reply ReplyError
+answered p = if is_reply_code p.code then heeded_reply (unheeded 0 p.options) (reply_with p) else Err Format
+
+abbrev pub if_answered : Result Reply ReplyError → Option Reply
+if_answered (Ok reply) = Some reply
+if_answered (Err e) = None
+
+abbrev pub reply_in : Plaintext → Option Reply
+reply_in p = if_answered (answered p)
