@@ -1,0 +1,49 @@
+-- The associated data, part by part.
+use Rattle.std.proofs.Common.{◌≡◌, ℕ, ◌+◌, ◌*◌, ◌<◌, ◌≤◌, List, [], ◌∷◌, ◌++◌, length, refl, arith}
+use Rattle.std.proofs.lemmas.List.{append-nil, append_assoc, length-append}
+use Rattle.osc_model.specs.declared.context.ContextName.{ContextName}
+use Rattle.osc_cbor.specs.Data.{byte_string}
+use Rattle.osc_cbor.specs.Head.{head}
+use Rattle.osc_cbor.specs.Spelling.{spelling}
+use Rattle.osc_cose.specs.Encrypt0.{enc_structure}
+use Rattle.osc_context.specs.Nonce.{partial_iv}
+use Rattle.osc_protect.specs.Aad.{external_aad, aad_of}
+
+-- a short string's head is one byte
+pub short_head : (major n : ℕ) → n < 24 → head major n ≡ (32 * major + n) ∷ []
+unfolding head
+short_head major n h = grind arith
+
+pub short_head_length : (major n : ℕ) → n < 24 → length (head major n) ≡ 1
+short_head_length major n h = rw (short_head major n h) refl
+
+pub short_string_length : (bytes : List ℕ) → length bytes < 24 → length (spelling (byte_string bytes)) ≡ 1 + length bytes
+short_string_length bytes h =
+    let front = short_head_length 2 (length bytes) h in
+    simp length-append (omega (arith, front))
+
+-- the parts in the order in which they are written
+pub external_aad_is : (name : ContextName) (number : ℕ)
+    → external_aad name number
+    ≡ (133 ∷ 1 ∷ 129 ∷ 10 ∷ []) ++ spelling (byte_string name.client_id) ++ spelling (byte_string (partial_iv number)) ++ spelling (byte_string [])
+unfolding external_aad head
+external_aad_is name number = grind (arith, append_assoc)
+
+pub aad_of_is : (name : ContextName) (number : ℕ) → aad_of name number ≡ enc_structure [] (external_aad name number)
+unfolding aad_of
+aad_of_is name number = refl
+
+beginning_length : (external : List ℕ) → length (enc_structure [] external) ≡ 11 + length (spelling (byte_string external))
+unfolding enc_structure head
+beginning_length external = simp (append-nil, length-append) (omega arith)
+
+pub structure_length : (external : List ℕ) → length external < 24 → length (enc_structure [] external) ≡ 12 + length external
+structure_length external h =
+    let front = beginning_length external in
+    let behind = short_string_length external h in
+    omega (arith, front, behind)
+
+pub aad_length : (name : ContextName) (number : ℕ) → length (external_aad name number) ≤ 19 → length (aad_of name number) ≤ 31
+aad_length name number h =
+    let long : length (enc_structure [] (external_aad name number)) ≡ 12 + length (external_aad name number) = structure_length (external_aad name number) (omega arith) in
+    rw (aad_of_is name number) (omega arith)

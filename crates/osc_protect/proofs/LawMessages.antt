@@ -1,0 +1,92 @@
+-- What a protected message says is what it was made of.
+use Rattle.std.proofs.Common.{◌≡◌, ℕ, ◌+◌, ◌<◌, ◌≤◌, false, List, [], ◌∷◌, length, Option, Some, None, refl, ap, ◌∙◌, arith, inl, inr}
+use Rattle.std.specs.Prelude.{filter, IfSome, not, nat_lt, ◌==◌}
+use Rattle.std.proofs.lemmas.Bool.{cases_Bool}
+use Rattle.osc_model.specs.declared.context.ContextName.{ContextName}
+use Rattle.osc_model.specs.declared.context.Side.TheVariants.{Client, Server}
+use Rattle.osc_coap.specs.Message.{NumberAndValue, Message}
+use Rattle.osc_coap.specs.Plaintext.{Plaintext, plaintext_spelling}
+use Rattle.osc_coap.specs.Building.{payload_of}
+use Rattle.osc_options.specs.Asking.{value}
+use Rattle.osc_options.specs.Split.{outer_options, of_class, merge, plaintext_of}
+use Rattle.osc_options.specs.declared.table.Class.TheVariants.{U}
+use Rattle.osc_context.specs.Derivation.{key_of}
+use Rattle.osc_context.specs.Nonce.{greatest_number}
+use Rattle.osc_protect.specs.Aad.{aad_of}
+use Rattle.osc_protect.specs.Protection.{HasShortContext, plain_bytes, request_nonce, response_nonce, request_value, response_value, IsProtectedRequest, IsProtectedResponse, Asked, IsRequest, IsFor, Answered, IsResponse}
+
+-- ---- option 9
+
+-- none of these is OSCORE's own
+abbrev NoneIsOwn : List NumberAndValue → Type 0
+NoneIsOwn [] = Unit {0}
+NoneIsOwn (option ∷ options) = ((option.0 == 9) ≡ false) × NoneIsOwn options
+
+none_is_own : (options : List NumberAndValue) → NoneIsOwn (filter (λ option. not (option.0 == 9)) options)
+none_is_own [] = tt
+none_is_own (option ∷ options) =
+    elim (cases_Bool (option.0 == 9)) [
+      | inl own ↦ rw own (none_is_own options)
+      | inr other ↦ rw other (other, none_is_own options)
+    ]
+
+value_among : (outer : List NumberAndValue) (bytes : List ℕ) → NoneIsOwn outer → value 9 (merge outer ((9, bytes) ∷ [])) ≡ Some bytes
+value_among [] bytes others = refl
+value_among (option ∷ outer) bytes others =
+    elim (cases_Bool (nat_lt 9 option.0)) [
+      | inl larger ↦ rw larger refl
+      | inr other ↦ rw (other, others.0) (value_among outer bytes others.1)
+    ]
+
+-- option 9 is the value that was written
+value_written : (options : List NumberAndValue) (bytes : List ℕ) → value 9 (merge (outer_options options) ((9, bytes) ∷ [])) ≡ Some bytes
+value_written options bytes = value_among (outer_options options) bytes (none_is_own (of_class U options))
+
+-- ---- the payload
+
+payload_written : (bytes : List ℕ) → 0 < length bytes → payload_of bytes ≡ Some bytes
+payload_written [] some = absurd (omega arith)
+payload_written (b ∷ bytes) some = refl
+
+plaintext-some : (p : Plaintext) → 0 < length (plaintext_spelling p)
+unfolding plaintext_spelling
+plaintext-some p = omega arith
+
+-- ---- whole messages, under any cipher
+
+context_fits : (context : Option (List ℕ)) → IfSome context (λ bytes. length bytes ≤ 64) → IfSome context (λ bytes. length bytes < 256)
+context_fits None short = tt
+context_fits (Some bytes) short = omega arith
+
+module _ (is_sealing : List ℕ → List ℕ → List ℕ → List ℕ → List ℕ → Type 0) (tag : ℕ)
+    (one_text : (key nonce aad text other sealed : List ℕ) → is_sealing key nonce aad text sealed → is_sealing key nonce aad other sealed → text ≡ other)
+    (sealed_length : (key nonce aad text sealed : List ℕ) → is_sealing key nonce aad text sealed → length sealed ≡ length text + tag) where
+  pub request_says : (name : ContextName) (number : ℕ) (m p : Message) → HasShortContext name → number ≤ greatest_number → IsProtectedRequest is_sealing name number m p
+      → (asked : Asked) × IsRequest p asked × (asked.number ≡ number) × IsFor name asked
+      × ((text : List ℕ) → is_sealing (key_of name Client) (request_nonce name number) (aad_of name number) text asked.sealed → text ≡ plain_bytes m)
+  request_says name number m p short fits made =
+      let asked : Asked = record { number = number; kid = name.client_id; kid_context = name.id_context; sealed = made.sealed } in
+      let some : 0 < length made.sealed = omega (arith, sealed_length _ _ _ _ _ made.is_sealed, plaintext-some (plaintext_of m)) in
+      let says : IsRequest p asked = record {
+        bytes = request_value name number;
+        option = ap (λ (q : Message). value 9 q.options) made.whole ∙ value_written m.options (request_value name number);
+        spelled = record { lawful = record { number = fits; kid_context = context_fits name.id_context short }; whole = refl };
+        payload = ap (λ (q : Message). q.payload) made.whole ∙ payload_written made.sealed some;
+      } in
+      (asked, says, refl, record { kid = refl; kid_context = λ bytes same. same }, λ text opens. one_text _ _ _ _ _ _ opens made.is_sealed)
+
+  pub response_says : (name : ContextName) (number : ℕ) (own : Option ℕ) (m p : Message) → IfSome own (λ n. n ≤ greatest_number) → IsProtectedResponse is_sealing name number own m p
+      → (answered : Answered) × IsResponse p answered × (answered.own ≡ own)
+      × ((text : List ℕ) → is_sealing (key_of name Server) (response_nonce name number own) (aad_of name number) text answered.sealed → text ≡ plain_bytes m)
+  response_says name number own m p fits made =
+      let answered : Answered = record { own = own; sealed = made.sealed } in
+      let some : 0 < length made.sealed = omega (arith, sealed_length _ _ _ _ _ made.is_sealed, plaintext-some (plaintext_of m)) in
+      let says : IsResponse p answered = record {
+        bytes = response_value own;
+        kid_context = None;
+        kid = None;
+        option = ap (λ (q : Message). value 9 q.options) made.whole ∙ value_written m.options (response_value own);
+        spelled = record { lawful = record { number = fits; kid_context = tt }; whole = refl };
+        payload = ap (λ (q : Message). q.payload) made.whole ∙ payload_written made.sealed some;
+      } in
+      (answered, says, refl, λ text opens. one_text _ _ _ _ _ _ opens made.is_sealed)

@@ -1,0 +1,6 @@
+-- Definitions that the contracts cite.
+pub mod Value
+pub mod ValueReading
+pub mod Aad
+pub mod Protection
+pub mod Errors

@@ -1,0 +1,108 @@
+-- Protected requests and responses (RFC 8613 sections 4, 5 and 8).
+use Rattle.std.specs.Prelude.{◌≡◌, ℕ, ◌+◌, ◌≤◌, List, length, replicate, Option, Some, None, IfSome}
+use Rattle.std.specs.Option.{ForSome}
+use Rattle.osc_model.specs.declared.context.ContextName.{ContextName}
+use Rattle.osc_model.specs.declared.context.Side.{Side}
+use Rattle.osc_model.specs.declared.context.Side.TheVariants.{Client, Server}
+use Rattle.osc_model.specs.declared.step.Note.{Note}
+use Rattle.osc_coap.specs.Message.{Message, spelling}
+use Rattle.osc_coap.specs.Plaintext.{plaintext_spelling}
+use Rattle.osc_options.specs.Asking.{value}
+use Rattle.osc_options.specs.Split.{plaintext_of, protected}
+use Rattle.osc_context.specs.Derivation.{key_of}
+use Rattle.osc_context.specs.Nonce.{nonce_of}
+use Rattle.osc_protect.specs.Value.{value_spelling, SpellsValue}
+use Rattle.osc_protect.specs.Aad.{aad_of}
+
+-- an id context is short enough for the option's value
+abbrev pub HasShortContext : ContextName → Type 0
+HasShortContext name = IfSome name.id_context (λ bytes. length bytes ≤ 64)
+
+-- ---- what is sealed
+
+-- what the plaintext of a message is spelled like
+abbrev pub plain_bytes : Message → List ℕ
+plain_bytes m = plaintext_spelling (plaintext_of m)
+
+-- the nonce of a request: its Partial IV is the client's (section 5.2)
+abbrev pub request_nonce : ContextName → ℕ → List ℕ
+request_nonce name number = nonce_of name name.client_id number
+
+-- the nonce of a response: the request's, or that of a Partial IV of its own, which is the server's
+abbrev pub response_nonce : ContextName → ℕ → Option ℕ → List ℕ
+response_nonce name number None = request_nonce name number
+response_nonce name number (Some own) = nonce_of name name.server_id own
+
+-- one use of a key, noted: the number is the request's, and the associated data is the request's and its response's
+abbrev pub note_of : ContextName → Side → ℕ → List ℕ → List ℕ → Note
+note_of name side number nonce text =
+    record { context = name; side = side; number = number; nonce = nonce; aad = aad_of name number; plaintext = text }
+
+-- ---- protected messages
+
+-- option 9 of a request: Partial IV, kid, and the id context where there is one (section 6.1)
+abbrev pub request_value : ContextName → ℕ → List ℕ
+request_value name number = value_spelling (record { partial_iv = Some number; kid_context = name.id_context; kid = Some name.client_id })
+
+-- option 9 of a response: its own Partial IV, where it has one
+abbrev pub response_value : Option ℕ → List ℕ
+response_value own = value_spelling (record { partial_iv = own; kid_context = None; kid = None })
+
+-- a protected request is a POST (0.02), and a protected response 2.04 (section 4.2)
+abbrev pub request_with : ContextName → ℕ → Message → List ℕ → Message
+request_with name number m sealed = protected m 2 (request_value name number) sealed
+
+abbrev pub response_with : Option ℕ → Message → List ℕ → Message
+response_with own m sealed = protected m 68 (response_value own) sealed
+
+-- `is_sealing key nonce aad text sealed` is the cipher's relation
+module _ (is_sealing : List ℕ → List ℕ → List ℕ → List ℕ → List ℕ → Type 0) where
+  pub record IsProtectedRequest (name : ContextName) (number : ℕ) (m p : Message) : Type 0 where
+    pub sealed : List ℕ
+    pub is_sealed : is_sealing (key_of name Client) (request_nonce name number) (aad_of name number) (plain_bytes m) sealed
+    pub whole : p ≡ request_with name number m sealed
+
+  pub record IsProtectedResponse (name : ContextName) (number : ℕ) (own : Option ℕ) (m p : Message) : Type 0 where
+    pub sealed : List ℕ
+    pub is_sealed : is_sealing (key_of name Server) (response_nonce name number own) (aad_of name number) (plain_bytes m) sealed
+    pub whole : p ≡ response_with own m sealed
+
+-- how long the protected message is, where a tag has so many bytes: only the length of what is sealed counts
+abbrev pub request_length : ℕ → ContextName → ℕ → Message → ℕ
+request_length tag name number m = length (spelling (request_with name number m (replicate (length (plain_bytes m) + tag) 0)))
+
+abbrev pub response_length : ℕ → Option ℕ → Message → ℕ
+response_length tag own m = length (spelling (response_with own m (replicate (length (plain_bytes m) + tag) 0)))
+
+-- ---- what a message says, before it is opened
+
+-- what a protected request says: its number, its kid, maybe a kid context, and what is sealed
+pub record Asked : Type 0 where
+  pub number : ℕ
+  pub kid : List ℕ
+  pub kid_context : Option (List ℕ)
+  pub sealed : List ℕ
+
+pub record IsRequest (m : Message) (asked : Asked) : Type 0 where
+  pub bytes : List ℕ
+  pub option : value 9 m.options ≡ Some bytes
+  pub spelled : SpellsValue bytes (record { partial_iv = Some asked.number; kid_context = asked.kid_context; kid = Some asked.kid })
+  pub payload : m.payload ≡ Some asked.sealed
+
+-- it names this context: by the client's ID, and by the id context where it has a kid context
+pub record IsFor (name : ContextName) (asked : Asked) : Type 0 where
+  pub kid : asked.kid ≡ name.client_id
+  pub kid_context : ForSome asked.kid_context (λ bytes. name.id_context ≡ Some bytes)
+
+-- what a protected response says: maybe a Partial IV of its own, and what is sealed; kid and kid context have no effect
+pub record Answered : Type 0 where
+  pub own : Option ℕ
+  pub sealed : List ℕ
+
+pub record IsResponse (m : Message) (answered : Answered) : Type 0 where
+  pub bytes : List ℕ
+  pub kid_context : Option (List ℕ)
+  pub kid : Option (List ℕ)
+  pub option : value 9 m.options ≡ Some bytes
+  pub spelled : SpellsValue bytes (record { partial_iv = answered.own; kid_context = kid_context; kid = kid })
+  pub payload : m.payload ≡ Some answered.sealed
