@@ -4,10 +4,9 @@ use Rattle.std.specs.Prelude.{find, option_map, option_and_then}
 use Rattle.clap.specs.Words.{Row, Shape, Text, built, fault_of, new_app, subcommand_of}
 use Rattle.clap.specs.Kinds.{Kinds, check_kinds, or_else}
 use Rattle.clap.specs.Faults.{check_fault, defaults_fault, entered_fault, level_fault, settle_fault, walk_fault}
-use Rattle.clap.specs.Simple.{label_of, rows_at, argument_words, entered, names_of}
+use Rattle.clap.specs.Simple.{label_of, rows_at, argument_words, names_of}
 use Rattle.clap.specs.Walk.{Held, Names, answers_to, finished, nothing_held, settled, stop_after, walk, walk_from}
 use Rattle.osc_programs.specs.Command.{program, words_in}
-use Rattle.osc_programs.specs.declared.command.Words.{Words}
 
 last_nil : (a b c d e : Kinds) → or_else a (or_else b (or_else c (or_else d e))) ≡ [] → e ≡ []
 last_nil [] [] [] [] e h = h

@@ -4,10 +4,10 @@ use Rattle.std.proofs.Math.Seq.{drop-cons}
 use Rattle.std.specs.Io.KnownBytes.{Appends, Keeps}
 use Rattle.osc_model.specs.declared.step.Datagram.{Datagram}
 use Rattle.osc_script.specs.declared.line.Line.{Line}
-use Rattle.osc_server.specs.State.{State}
 use Rattle.osc_programs.specs.Simulation.{Prints, PrintsLine}
 use Rattle.osc_programs.specs.Trace.{PrintsSent, PrintAllSent}
 use Rattle.osc_programs.specs.declared.node.Node.{Node}
+use Rattle.osc_programs.specs.declared.simulate.Progress.{Progress}
 
 -- what is left at an item, and behind it
 pub drop_item : {A : Type 0} (xs : List A) (i : ℕ) (x : A) → i < length xs → x ≡ get_or xs i x → drop i xs ≡ x ∷ drop (i + 1) xs
@@ -26,18 +26,18 @@ pub sent_end : (with_bytes : Bool) (number : ℕ) (from : Node) (left : List Dat
 sent_end with_bytes number from left text P e h =
     subst P (append-nil text) (h [] (subst (λ ds. PrintAllSent with_bytes number from ds []) (sym e) refl))
 
-pub lines_more : (with_bytes : Bool) (server : State) (before after : ℕ) (left left-after : List Line) (l : Line) (text printed : List ℕ) (P : List ℕ → Type 0)
-    → left ≡ l ∷ left-after → PrintsLine with_bytes server before l printed after
-    → ((rest : List ℕ) → Prints with_bytes server before left rest → P (text ++ rest))
-    → (rest : List ℕ) → Prints with_bytes server after left-after rest → P ((text ++ printed) ++ rest)
-lines_more with_bytes server before after left left-after l text printed P e prints h rest more =
-    subst P (sym (append_assoc text printed rest))
-    (h (printed ++ rest) (subst (λ ls. Prints with_bytes server before ls (printed ++ rest)) (sym e) (printed, rest, after, prints, more, refl)))
+pub lines_more : (with_bytes : Bool) (before after : Progress) (left left-after : List Line) (l : Line) (text printed : List ℕ) (P : List ℕ → Progress → Type 0)
+    → left ≡ l ∷ left-after → PrintsLine with_bytes before l printed after
+    → ((rest : List ℕ) (last : Progress) → Prints with_bytes before left rest last → P (text ++ rest) last)
+    → (rest : List ℕ) (last : Progress) → Prints with_bytes after left-after rest last → P ((text ++ printed) ++ rest) last
+lines_more with_bytes before after left left-after l text printed P e prints h rest last more =
+    subst (λ whole. P whole last) (sym (append_assoc text printed rest))
+    (h (printed ++ rest) last (subst (λ ls. Prints with_bytes before ls (printed ++ rest) last) (sym e) (printed, rest, after, prints, more, refl)))
 
-pub lines_end : (with_bytes : Bool) (server : State) (before : ℕ) (left : List Line) (text : List ℕ) (P : List ℕ → Type 0)
-    → left ≡ [] → ((rest : List ℕ) → Prints with_bytes server before left rest → P (text ++ rest)) → P text
-lines_end with_bytes server before left text P e h =
-    subst P (append-nil text) (h [] (subst (λ ls. Prints with_bytes server before ls []) (sym e) refl))
+pub lines_end : (with_bytes : Bool) (before : Progress) (left : List Line) (text : List ℕ) (P : List ℕ → Progress → Type 0)
+    → left ≡ [] → ((rest : List ℕ) (last : Progress) → Prints with_bytes before left rest last → P (text ++ rest) last) → P text before
+lines_end with_bytes before left text P e h =
+    subst (λ whole. P whole before) (append-nil text) (h [] before (subst (λ ls. Prints with_bytes before ls [] before) (sym e) (refl, refl)))
 
 -- what a writer got in two parts, and in none
 pub appends_more : (a b c : Option (List ℕ)) (xs ys : List ℕ) → Appends a b xs → Appends b c ys → Appends a c (xs ++ ys)

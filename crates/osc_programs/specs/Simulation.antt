@@ -1,5 +1,5 @@
 -- From the lines of a script to the lines of its trace.
-use Rattle.std.specs.Prelude.{◌≡◌, ℕ, ◌+◌, Bool, List, [], ◌∷◌, ◌++◌, length}
+use Rattle.std.specs.Prelude.{◌≡◌, ℕ, ◌+◌, Bool, List, [], ◌∷◌, ◌++◌, length, None}
 use Rattle.std.specs.FinMap as map
 use Rattle.std.specs.FinSet as set
 use Rattle.osc_model.specs.Tree.{Tree}
@@ -8,15 +8,19 @@ use Rattle.osc_model.specs.declared.code.Method.TheVariants.{Get}
 use Rattle.osc_model.specs.declared.step.Step.{Step}
 use Rattle.osc_script.specs.Script.{IsScript}
 use Rattle.osc_script.specs.declared.line.Line.{Line}
-use Rattle.osc_script.specs.declared.line.Line.TheVariants.{Put, Open, Inject}
+use Rattle.osc_script.specs.declared.line.Line.TheVariants.{Put, Open, At, Inject}
+use Rattle.osc_message.specs.Received.{Receives}
+use Rattle.osc_message.specs.Heard.{heard}
+use Rattle.osc_message.specs.declared.received.Received.{Received}
 use Rattle.osc_server.specs.State.{State}
-use Rattle.osc_server.specs.Heard.{Hears}
 use Rattle.osc_server.specs.Case.{case_of}
 use Rattle.osc_server.specs.Table.{Answers}
-use Rattle.osc_server.specs.declared.heard.Heard.{Heard}
+use Rattle.osc_server.specs.declared.case.Case.{Case}
+use Rattle.osc_programs.specs.Draw.{draw_of}
 use Rattle.osc_programs.specs.Node.{address_of}
 use Rattle.osc_programs.specs.Trace.{PrintsStep, end_text}
 use Rattle.osc_programs.specs.declared.node.Node.TheVariants.{Server, Stranger}
+use Rattle.osc_programs.specs.declared.simulate.Progress.{Progress}
 
 -- the resources that the set-up lines put
 abbrev pub tree_after : Tree → Line → Tree
@@ -36,31 +40,49 @@ abbrev pub scope_from : Scope → List Line → Scope
 scope_from scope [] = scope
 scope_from scope (line ∷ lines) = scope_from (scope_after scope line) lines
 
--- the server before the first event
+-- the server before the first event: it heard nothing and sent nothing yet
 abbrev pub first_server : List Line → State
-first_server lines = record { tree = tree_from map.empty lines; open_scope = scope_from set.empty lines }
+first_server lines = record {
+  tree = tree_from map.empty lines;
+  open_scope = scope_from set.empty lines;
+  endpoint = record { seen = []; sending = []; room = 0 };
+  next_id = None;
+}
 
--- A datagram comes to the server from the stranger, behind `sent` datagrams. The server's step prints as this text, and then there are `after`.
-abbrev pub Happens : Bool → State → ℕ → List ℕ → List ℕ → ℕ → Type 0
-Happens with_bytes server sent bytes text after =
-    (step : Step) × (heard : Heard) × Hears bytes heard × Answers server (address_of Stranger) (case_of server.open_scope heard) step
-    × PrintsStep with_bytes sent Server step text × (after ≡ sent + length step.out)
+-- where a run begins: moment 0, no event, and nothing sent
+abbrev pub beginning : State → Progress
+beginning server = record { server = server; now = record { 0 = 0 }; events = 0; sent = 0 }
 
--- an event prints its step, and any other line nothing
-abbrev pub PrintsLine : Bool → State → ℕ → Line → List ℕ → ℕ → Type 0
-PrintsLine with_bytes server sent (Inject bytes) text after = Happens with_bytes server sent bytes text after
-PrintsLine with_bytes server sent line text after = (text ≡ []) × (after ≡ sent)
+-- which case a datagram from the stranger is to the server, as far as the run has come
+abbrev pub case_at : Progress → Received → Case
+case_at at received = case_of at.server.open_scope (heard at.server.endpoint.seen at.now (address_of Stranger) received)
 
--- the lines one after another, behind `sent` datagrams
-abbrev pub Prints : Bool → State → ℕ → List Line → List ℕ → Type 0
-Prints with_bytes server sent [] text = text ≡ []
-Prints with_bytes server sent (line ∷ lines) text =
-    (first rest : List ℕ) × (after : ℕ) × PrintsLine with_bytes server sent line first after × Prints with_bytes server after lines rest × (text ≡ first ++ rest)
+-- A datagram comes to the server from the stranger: an event, with the draw of its number. The server's step prints as
+-- this text, and this is how far the run has come then.
+abbrev pub Happens : Bool → Progress → List ℕ → List ℕ → Progress → Type 0
+Happens with_bytes old bytes text new =
+    (step : Step) × (received : Received) × (server : State) × Receives bytes received
+    × Answers old.server old.now (address_of Stranger) (draw_of (old.events + 1)) (case_at old received) step server
+    × PrintsStep with_bytes old.sent Server step text
+    × (new ≡ record { server = server; now = old.now; events = old.events + 1; sent = old.sent + length step.out })
+
+-- a moment is set, an event prints its step, and any other line changes and prints nothing
+abbrev pub PrintsLine : Bool → Progress → Line → List ℕ → Progress → Type 0
+PrintsLine with_bytes old (At moment) text new = (text ≡ []) × (new ≡ record old { now = moment })
+PrintsLine with_bytes old (Inject bytes) text new = Happens with_bytes old bytes text new
+PrintsLine with_bytes old line text new = (text ≡ []) × (new ≡ old)
+
+-- the lines one after another
+abbrev pub Prints : Bool → Progress → List Line → List ℕ → Progress → Type 0
+Prints with_bytes old [] text last = (text ≡ []) × (last ≡ old)
+Prints with_bytes old (line ∷ lines) text last =
+    (first rest : List ℕ) × (next : Progress) × PrintsLine with_bytes old line first next × Prints with_bytes next lines rest last × (text ≡ first ++ rest)
 
 -- the trace of a script: what its events print, and the end lines
 abbrev pub IsTrace : Bool → List Line → List ℕ → Type 0
 IsTrace with_bytes lines text =
-    (events : List ℕ) × Prints with_bytes (first_server lines) 0 lines events × (text ≡ events ++ end_text (first_server lines).tree)
+    (events : List ℕ) × (last : Progress) × Prints with_bytes (beginning (first_server lines)) lines events last
+    × (text ≡ events ++ end_text last.server.tree)
 
 -- what a script's text prints
 abbrev pub Simulates : Bool → List ℕ → List ℕ → Type 0

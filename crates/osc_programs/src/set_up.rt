@@ -19,7 +19,7 @@ pub(crate) fn first_server(alloc: Global, lines: &[Line]) -> Result<Server, Allo
 {
     let tree = first_tree(alloc, lines)?;
     let open_scope = open_scope(alloc, lines)?;
-    Ok(Server::new(tree, open_scope))
+    Server::new(alloc, tree, open_scope)
 }
 
 fn first_tree(alloc: Global, lines: &[Line]) -> Result<Tree, AllocError>

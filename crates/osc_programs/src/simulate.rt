@@ -3,7 +3,7 @@ ghost use Rattle.std.specs.Prelude.{◌≡◌, ◌≢◌, ◌≤◌, ◌<◌, �
 ghost use Rattle.std.specs.FinMap as map;
 ghost use Rattle.std.specs.Io.KnownBytes.{Appends};
 ghost use Rattle.osc_script.specs.Script.{IsFirstBad};
-ghost use Rattle.osc_programs.specs.SetUp.{CanPutAll};
+ghost use Rattle.osc_programs.specs.SetUp.{CanPutAll, IsInTime, AreInTime};
 ghost use Rattle.osc_programs.specs.Simulation as spec;
 ghost use Rattle.osc_programs.specs.Simulation.{Simulates};
 ghost use Rattle.osc_programs.specs.Trace.{bad_line_text};
@@ -102,41 +102,46 @@ fn run_lines<W: Write>(
     writer: &mut W,
     with_bytes: bool,
 ) -> io::Result<()>
-    requires { CanPutAll map.empty lines.now }
+    requires puts { CanPutAll map.empty lines.now }
+    requires times { AreInTime lines.now }
     ensures { OnOk result ((text : List ℕ) × spec.IsTrace with_bytes lines.now text × Appends (W.contents writer.old) (W.contents writer.new) text) }
 {
-    let mut server = first_server(alloc, lines)?;
-    run_events(alloc, &mut server, lines, writer, with_bytes)?;
-    writer.write_all(&end_text(alloc, server.tree())?)?;
+    let server = first_server(alloc, lines)?;
+    let last = run_events(alloc, server, lines, writer, with_bytes)?;
+    writer.write_all(&end_text(alloc, last.server.tree())?)?;
     writer.flush()?;
     Ok(())
 }
 
+// Does what the lines say, and answers how far the run came.
 fn run_events<W: Write>(
     alloc: Global,
-    server: &mut Server,
+    server: Server,
     lines: &[Line],
     writer: &mut W,
     with_bytes: bool,
-) -> io::Result<()>
-    ensures printed { OnOk result ((text : List ℕ) × spec.Prints with_bytes server.old 0 lines.now text × Appends (W.contents writer.old) (W.contents writer.new) text) }
-    ensures same { server.new ≡ server.old }
+) -> io::Result<Progress>
+    requires { AreInTime lines.now }
+    ensures { IfOk result (λ last. (text : List ℕ) × spec.Prints with_bytes (spec.beginning server) lines.now text last
+        × Appends (W.contents writer.old) (W.contents writer.new) text) }
 {
     let mut progress = Progress {
+        server,
         now: Moment(0),
         events: 0,
         sent: 0,
     };
     for line in lines {
-        let text = line_text(alloc, server, &mut progress, line, with_bytes)?;
+        let text = line_text(alloc, &mut progress, line, with_bytes)?;
         writer.write_all(&text)?;
     }
-    Ok(())
+    Ok(progress)
 }
 
 // How far a run has come.
-#[derive(Clone, Copy)]
-struct Progress {
+#[derive(Drop)]
+pub(crate) struct Progress {
+    server: Server,
     now: Moment,
     /// How many events there were.
     events: u64,
@@ -147,27 +152,25 @@ struct Progress {
 // Does what the line says: the text that it prints.
 fn line_text(
     alloc: Global,
-    server: &mut Server,
     progress: &mut Progress,
     line: &Line,
     with_bytes: bool,
 ) -> Result<Vec<u8>, AllocError>
+    requires now { progress.old.now.0 < 2 ^ 63 }
+    requires moment { IsInTime line.now }
     requires events { progress.old.events + 1 < 2 ^ 64 }
     requires sent { progress.old.sent + 1 < 2 ^ 64 }
-    ensures prints { IfOk result (λ text. spec.PrintsLine with_bytes server.old progress.old.sent line.now text.items progress.new.sent) }
+    ensures prints { IfOk result (λ text. spec.PrintsLine with_bytes progress.old line.now text.items progress.new) }
+    ensures now { progress.new.now.0 < 2 ^ 63 }
     ensures events { progress.new.events ≤ progress.old.events + 1 }
     ensures sent { progress.new.sent ≤ progress.old.sent + 1 }
-    ensures same { server.new ≡ server.old }
 {
     match line {
         Line::At { moment } => {
             progress.now = *moment;
             Ok(Vec::new(alloc))
         }
-        Line::Inject { bytes } => {
-            progress.events += 1;
-            inject(alloc, server, progress, bytes.as_slice(), with_bytes)
-        }
+        Line::Inject { bytes } => inject(alloc, progress, bytes.as_slice(), with_bytes),
         _ => Ok(Vec::new(alloc)),
     }
 }
@@ -175,19 +178,24 @@ fn line_text(
 // A datagram comes to the server from the stranger.
 fn inject(
     alloc: Global,
-    server: &mut Server,
     progress: &mut Progress,
     bytes: &[u8],
     with_bytes: bool,
 ) -> Result<Vec<u8>, AllocError>
-    requires { progress.old.sent + 1 < 2 ^ 64 }
-    ensures happens { IfOk result (λ text. spec.Happens with_bytes server.old progress.old.sent bytes.now text.items progress.new.sent) }
-    ensures events { progress.new.events ≡ progress.old.events }
+    requires now { progress.old.now.0 < 2 ^ 63 }
+    requires events { progress.old.events + 1 < 2 ^ 64 }
+    requires sent { progress.old.sent + 1 < 2 ^ 64 }
+    ensures happens { IfOk result (λ text. spec.Happens with_bytes progress.old bytes.now text.items progress.new) }
+    ensures now { progress.new.now ≡ progress.old.now }
+    ensures events { progress.new.events ≡ progress.old.events + 1 }
     ensures sent { progress.new.sent ≤ progress.old.sent + 1 }
-    ensures same { server.new ≡ server.old }
 {
+    progress.events += 1;
     let draw = draw_of(progress.events);
-    let step = server.on_datagram(alloc, progress.now, Node::Stranger.address(), bytes, &draw)?;
+    let from = Node::Stranger.address();
+    let step = progress
+        .server
+        .on_datagram(alloc, progress.now, from, bytes, &draw)?;
     let text = step_text(alloc, with_bytes, progress.sent, Node::Server, &step)?;
     progress.sent += step.out.as_slice().len() as u64;
     Ok(text)

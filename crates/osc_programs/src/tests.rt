@@ -21,6 +21,12 @@ const REFUSED: &str =
 const REFUSED_TRACE: &str =
     "sent 1 s>x ACK 4.01 60810014\nsent 2 s>x ACK 4.02 60820018\ntree /k none 373a3a\ntree /t 42 bytes=33\nhistory 0\npremise: held\n";
 
+const REPEATED: &str =
+    "put /e none -\nopen /e\ninject x s 40010002b165\ninject x s 40010002b165\ninject x s 50010020b165\ninject x s 50010020b165\nat 145000\ninject x s 50010020b165\n";
+
+const REPEATED_TRACE: &str =
+    "sent 1 s>x ACK 2.05 60450002486e340b9cffb37a98\nsent 2 s>x ACK 2.05 60450002486e340b9cffb37a98\nsent 3 s>x NON 2.05 50450300486e340b9cffb37a98\nnothing\nsent 4 s>x NON 2.05 50450301486e340b9cffb37a98\ntree /e none -\nhistory 0\npremise: held\n";
+
 // How the run ends, and what it writes.
 fn run(alloc: Global, script: &str, with_bytes: bool) -> (Ended, Vec<u8>) {
     let mut reader = script.as_bytes();
@@ -36,6 +42,7 @@ fn scripts_have_their_traces(rt: HostRuntime) -> Result<(), Fail> {
         (FIRST_RUN, true, FIRST_TRACE),
         (REJECTED, false, REJECTED_TRACE),
         (REFUSED, true, REFUSED_TRACE),
+        (REPEATED, true, REPEATED_TRACE),
     ] {
         let (ended, written) = run(rt.alloc(), script, with_bytes);
         assert_eq!(rt; ended, Ended::Done, "{script}");

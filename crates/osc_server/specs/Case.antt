@@ -1,28 +1,25 @@
 -- Which case a datagram is to a server: the first test that holds, read from the top.
-use Rattle.std.specs.Prelude.{ℕ, Bool, true, false, ◌&&◌, ◌||◌, ◌==◌, nat_lt, if◌then◌else◌, is_some, List}
+use Rattle.std.specs.Prelude.{ℕ, Bool, true, false, ◌==◌, ◌&&◌, ◌||◌, if◌then◌else◌, List, is_some}
 use Rattle.std.specs.List.{list_any}
+use Rattle.osc_model.specs.Scope.{Scope}
+use Rattle.osc_model.specs.declared.request.Request.{Request}
 use Rattle.osc_coap.specs.Message.{NumberAndValue, Message as CoapMessage}
 use Rattle.osc_coap.specs.declared.kind.Kind.{Kind}
 use Rattle.osc_coap.specs.declared.kind.Kind.TheVariants.{Confirmable}
-use Rattle.osc_model.specs.Scope.{Scope}
-use Rattle.osc_model.specs.declared.request.Request.{Request}
-use Rattle.osc_options.specs.Recognised.{unrecognised_critical}
 use Rattle.osc_options.specs.Asking.{request_of}
+use Rattle.osc_options.specs.Recognised.{unrecognised_critical}
 use Rattle.osc_scope.specs.Verdict.{verdict_of}
 use Rattle.osc_scope.specs.declared.verdict.Verdict.{Verdict}
 use Rattle.osc_scope.specs.declared.verdict.Verdict.TheVariants.{Granted}
-use Rattle.osc_server.specs.declared.heard.Heard.{Heard}
-use Rattle.osc_server.specs.declared.heard.Heard.TheVariants.{Ignored as Unheard, Malformed, Message}
+use Rattle.osc_message.specs.declared.heard.Heard.{Heard}
+use Rattle.osc_message.specs.declared.heard.Heard.TheVariants as heard
+use Rattle.osc_message.specs.Heard.{is_request}
 use Rattle.osc_server.specs.declared.case.Case.{Case}
-use Rattle.osc_server.specs.declared.case.Case.TheVariants.{Ignored, Reset, BadOption, ProxyAsked, OpenGet, Unauthorised}
+use Rattle.osc_server.specs.declared.case.Case.TheVariants.{Ignored, Reset, Repeated, Empty, BadOption, ProxyAsked, OpenGet, Unauthorised}
 
 abbrev pub is_confirmable : Kind → Bool
 is_confirmable Confirmable = true
 is_confirmable kind = false
-
--- a code of class 0 other than 0.00 is a method's (RFC 7252 section 12.1)
-abbrev pub is_request : ℕ → Bool
-is_request code = nat_lt 0 code && nat_lt code 32
 
 abbrev pub has_option : ℕ → List NumberAndValue → Bool
 has_option number options = list_any (λ option. option.0 == number) options
@@ -35,29 +32,32 @@ is_granted verdict = false
 abbrev pub is_open_get : Scope → Request → Bool
 is_open_get open_scope request = (request.code.0 == 1) && is_granted (verdict_of open_scope request.path request.code)
 
--- A request without protection: a critical option that isn't recognised, or OSCORE's, which isn't understood yet
--- (section 5.4.1); a wish for a proxy (section 5.10.2); a GET that needs no protection; any other request.
+-- A request without protection: a critical option that isn't recognised, or OSCORE's, which isn't understood yet, is
+-- refused where the request is confirmable, and ignored otherwise (section 5.4.1); a wish for a proxy (section 5.10.2); a
+-- GET that needs no protection; any other request.
 abbrev pub request_case : Scope → CoapMessage → Case
 request_case open_scope message =
-    if is_some (unrecognised_critical 0 message.options) || has_option 9 message.options then BadOption message
+    if is_some (unrecognised_critical 0 message.options) || has_option 9 message.options
+    then (if is_confirmable message.kind then BadOption message else Ignored)
     else if has_option 35 message.options || has_option 39 message.options then ProxyAsked message
     else if is_open_get open_scope (request_of message) then OpenGet message (request_of message)
     else Unauthorised message
 
--- Confirmable messages alone are answered. One that is no request is rejected: nothing that a server sends is
--- confirmable, so it waits for no response (sections 4.2 and 5.3.2).
+-- A server sends no request, so it waits for no response: a confirmable one is rejected (sections 4.2 and 5.3.2).
 abbrev pub message_case : Scope → CoapMessage → Case
 message_case open_scope message =
-    if is_confirmable message.kind
-    then (if is_request message.code then request_case open_scope message else Reset message.id)
-    else Ignored
+    if is_request message.code then request_case open_scope message
+    else if is_confirmable message.kind then Reset message.id else Ignored
 
 abbrev pub case_of : Scope → Heard → Case
-case_of open_scope Unheard = Ignored
-case_of open_scope (Malformed kind id) = if is_confirmable kind then Reset id else Ignored
-case_of open_scope (Message message) = message_case open_scope message
+case_of open_scope heard.Ignored = Ignored
+case_of open_scope (heard.Reset id) = Reset id
+case_of open_scope (heard.Repeat id) = Repeated id
+case_of open_scope (heard.Empty kind id) = Empty kind id
+case_of open_scope (heard.Message message) = message_case open_scope message
 
--- whether anything is sent
+-- whether anything may be sent
 abbrev pub IsAnswered : Case → Type 0
 IsAnswered Ignored = ⊥
+IsAnswered (Empty kind id) = ⊥
 IsAnswered case = Unit {0}

@@ -1,11 +1,13 @@
 //! Which case a datagram is.
-ghost use Rattle.std.specs.Prelude.{◌≡◌, ◌||◌, is_some, IfOk, OnErr, IsTrue};
+ghost use Rattle.std.specs.Prelude.{◌≡◌, ◌||◌, is_some, if◌then◌else◌, IfOk, OnErr, IsTrue};
+ghost use Rattle.osc_message.specs.Heard.{is_request as is_request_of};
+ghost use Rattle.osc_options.specs.Asking.{request_of};
 ghost use Rattle.osc_options.specs.Recognised.{unrecognised_critical};
 ghost use Rattle.osc_server.specs.Case as spec;
-ghost use Rattle.osc_server.specs.Parts.{AsksGet};
+ghost use Rattle.osc_server.specs.Parts.{AsksGet, unrefused_case as spec_unrefused};
 
-use crate::heard::Heard;
 use osc_coap::{Kind, MessageRef};
+use osc_message::Heard;
 use osc_model::Request;
 use osc_options::numbers::{OSCORE, PROXY_SCHEME, PROXY_URI};
 use osc_options::{has_option, request_of_message, unrecognised_critical};
@@ -19,7 +21,11 @@ pub enum Case<'a> {
     Ignored,
     /// A confirmable message of this ID is rejected.
     Reset(u16),
-    /// A request with a critical option that isn't understood.
+    /// The confirmable message of this ID was heard before: what answered it goes out again.
+    Repeated(u16),
+    /// An empty acknowledgement or Reset, which names a confirmable message by this ID.
+    Empty(Kind, u16),
+    /// A confirmable request with a critical option that isn't understood.
     BadOption(MessageRef<'a>),
     /// A request that wants a proxy.
     ProxyAsked(MessageRef<'a>),
@@ -33,9 +39,19 @@ const GET: u8 = 1;
 
 /// Whether the code is a method's (RFC 7252 section 12.1).
 fn is_request(code: u8) -> bool
-    ensures { result ≡ spec.is_request code }
+    ensures { result ≡ is_request_of code }
 {
     0 < code && code < 32
+}
+
+/// Whether a message of this kind waits for an acknowledgement.
+pub fn is_confirmable(kind: Kind) -> bool
+    ensures { result ≡ spec.is_confirmable kind }
+{
+    match kind {
+        Kind::Confirmable => true,
+        _ => false,
+    }
 }
 
 /// Whether the request is a GET that the open scope grants.
@@ -54,7 +70,34 @@ fn has_bad_option(message: &MessageRef<'_>) -> bool
     unrecognised_critical(message).is_some() || has_option(message, OSCORE)
 }
 
-#[tactic(auto, using(crate::proofs::Cases::requests_answered))]
+/// Whether the request wants a proxy.
+fn asks_proxy(message: &MessageRef<'_>) -> bool
+    ensures { result ≡ (spec.has_option 35 message.now.options || spec.has_option 39 message.now.options) }
+{
+    has_option(message, PROXY_URI) || has_option(message, PROXY_SCHEME)
+}
+
+/// Which case a request is whose options are all understood.
+fn unrefused_case<'a>(
+    alloc: Global,
+    open_scope: &Scope,
+    message: MessageRef<'a>,
+) -> Result<Case<'a>, AllocError>
+    ensures case { IfOk result (λ case. case ≡ spec_unrefused open_scope.now message.entry) }
+    ensures get { IfOk result AsksGet }
+{
+    if message.code() != GET {
+        return Ok(Case::Unauthorised(message));
+    }
+    let request = request_of_message(alloc, &message)?;
+    if is_open(open_scope, &request) {
+        Ok(Case::OpenGet(message, request))
+    } else {
+        Ok(Case::Unauthorised(message))
+    }
+}
+
+#[tactic(auto, using(crate::proofs::Cases::unrefused_answered))]
 fn request_case<'a>(
     alloc: Global,
     open_scope: &Scope,
@@ -65,19 +108,15 @@ fn request_case<'a>(
     ensures needs_memory { OnErr result (spec.IsAnswered (spec.request_case open_scope.now message.entry)) }
 {
     if has_bad_option(&message) {
-        return Ok(Case::BadOption(message));
-    }
-    if has_option(&message, PROXY_URI) || has_option(&message, PROXY_SCHEME) {
-        return Ok(Case::ProxyAsked(message));
-    }
-    if message.code() != GET {
-        return Ok(Case::Unauthorised(message));
-    }
-    let request = request_of_message(alloc, &message)?;
-    if is_open(open_scope, &request) {
-        Ok(Case::OpenGet(message, request))
+        if is_confirmable(message.kind()) {
+            Ok(Case::BadOption(message))
+        } else {
+            Ok(Case::Ignored)
+        }
+    } else if asks_proxy(&message) {
+        Ok(Case::ProxyAsked(message))
     } else {
-        Ok(Case::Unauthorised(message))
+        unrefused_case(alloc, open_scope, message)
     }
 }
 
@@ -90,13 +129,13 @@ fn message_case<'a>(
     ensures get { IfOk result AsksGet }
     ensures needs_memory { OnErr result (spec.IsAnswered (spec.message_case open_scope.now message.entry)) }
 {
-    if message.kind() != Kind::Confirmable {
-        return Ok(Case::Ignored);
+    if is_request(message.code()) {
+        request_case(alloc, open_scope, message)
+    } else if is_confirmable(message.kind()) {
+        Ok(Case::Reset(message.id()))
+    } else {
+        Ok(Case::Ignored)
     }
-    if !is_request(message.code()) {
-        return Ok(Case::Reset(message.id()));
-    }
-    request_case(alloc, open_scope, message)
 }
 
 /// Which case it is. A request's path and payload take memory where the code and the options don't refuse it; without
@@ -112,8 +151,9 @@ pub fn case_of<'a>(
 {
     match heard {
         Heard::Ignored => Ok(Case::Ignored),
-        Heard::Malformed(Kind::Confirmable, id) => Ok(Case::Reset(id)),
-        Heard::Malformed(_, _) => Ok(Case::Ignored),
+        Heard::Reset(id) => Ok(Case::Reset(id)),
+        Heard::Repeat(id) => Ok(Case::Repeated(id)),
+        Heard::Empty(kind, id) => Ok(Case::Empty(kind, id)),
         Heard::Message(message) => message_case(alloc, open_scope, message),
     }
 }

@@ -1,35 +1,43 @@
 //! The server.
-ghost use Rattle.std.specs.Prelude.{◌≡◌, ◌≤◌, ◌<◌, [], ◌∷◌, length, IfOk, OnErr};
+ghost use Rattle.std.specs.Prelude.{◌≡◌, ◌≤◌, ◌<◌, ◌^◌, [], ◌∷◌, None, length, IfOk, OnErr};
 ghost use Rattle.std.specs.List.{All};
-ghost use Rattle.osc_coap.specs.Message.{Message, Spells, HasSpelling};
+ghost use Rattle.osc_coap.specs.Message.{Message, Spells};
+ghost use Rattle.osc_message.specs.declared.handling.Handling.TheVariants.{Dropped};
+ghost use Rattle.osc_message.specs.declared.heard.Heard.TheVariants as heard;
+ghost use Rattle.osc_message.specs.Endpoint.{settled};
+ghost use Rattle.osc_message.specs.Heard.{heard as heard_as, noted_reply as noted_reply_of};
+ghost use Rattle.osc_message.specs.Received.{Receives};
+ghost use Rattle.osc_message.specs.declared.received.Received.{Received as AnyReceived};
 ghost use Rattle.osc_model.specs.Apply.{apply, MayReply};
 ghost use Rattle.osc_model.specs.Reply.{bare};
 ghost use Rattle.osc_model.specs.Step.{sends};
-ghost use Rattle.osc_server.specs.Heard.{Hears};
 ghost use Rattle.osc_server.specs.Case.{IsAnswered, case_of as case_in};
-ghost use Rattle.osc_server.specs.Parts.{AsksGet, IsShort, SendsTo};
-ghost use Rattle.osc_server.specs.Table.{Answers, datagram, piggybacked as piggybacked_message};
-ghost use Rattle.osc_server.specs.declared.heard.Heard.{Heard as WhatIsHeard};
+ghost use Rattle.osc_server.specs.Parts.{AsksGet, IsShort, SendsTo, KeepsMessages};
+ghost use Rattle.osc_server.specs.Table.{Answers, Replies, again};
 
-use crate::answer::{piggybacked, reset, sending};
+use crate::answer::{next_id_after, reply_to, reset, sending, sending_and_noted, sending_bytes};
 use crate::case::{Case, case_of};
-use crate::heard::hear;
-use osc_coap::MessageRef;
+use osc_coap::{Kind, MessageRef};
+use osc_message::{Endpoint, Handling, Heard};
 use osc_model::{Code, Datagrams, Draw, Moment, Peer, Reply, Request, Step};
 use osc_scope::Scope;
 use osc_tree::Tree;
 use std::alloc::{AllocError, Global};
 use std::marker::Model;
 
-/// A server: its resources, and the scope of what needs no protection, of which GETs alone count.
-#[derive(Debug, Drop)]
+/// A server: its resources, the scope of what needs no protection, of which GETs alone count, and its message layer.
+#[derive(Drop)]
 pub struct Server {
     tree: Tree,
     open_scope: Scope,
+    endpoint: Endpoint,
+    // The message ID of the next message of its own, once it has sent one.
+    next_id: Option<u16>,
 }
 
 impl Model for Server {
     ghost use Rattle.osc_server.specs.State.{State};
+    ghost use Rattle.osc_server.specs.Parts.{KeepsMessages};
     ghost use Rattle.std.specs.Coded.{codes};
     ghost use Rattle.osc_model.specs.Scope.{coded_scope};
     ghost use Rattle.osc_model.specs.Tree.{coded_tree};
@@ -38,15 +46,24 @@ impl Model for Server {
 
     ghost coded = { Prim.hlevel (codes, coded_scope, coded_tree) };
 
-    ghost view = { λ s. record { tree = s.tree; open_scope = s.open_scope } };
+    ghost view = { λ s. record { tree = s.tree; open_scope = s.open_scope; endpoint = s.endpoint; next_id = s.next_id } };
+
+    ghost invariant = { λ s. KeepsMessages s.endpoint.seen };
 }
 
 impl Server {
-    /// A server of these resources, on which the open scope's GETs need no protection.
-    pub fn new(tree: Tree, open_scope: Scope) -> Server
-        ensures { result ≡ record { tree = tree; open_scope = open_scope } }
+    /// A server of these resources, on which the open scope's GETs need no protection. It has heard nothing yet; the room
+    /// for what it hears is taken here.
+    pub fn new(alloc: Global, tree: Tree, open_scope: Scope) -> Result<Server, AllocError>
+        ensures { IfOk result (λ server. server ≡ record { tree = tree; open_scope = open_scope; endpoint = record { seen = []; sending = []; room = 0 }; next_id = None }) }
     {
-        Server { tree, open_scope }
+        let endpoint = Endpoint::new(alloc)?;
+        Ok(Server {
+            tree,
+            open_scope,
+            endpoint,
+            next_id: None,
+        })
     }
 
     /// The resources.
@@ -56,30 +73,160 @@ impl Server {
         &self.tree
     }
 
-    /// These bytes came from this peer as one datagram: the step that answers them. What is sent is at most one
-    /// datagram, to that peer: a Reset, or an acknowledgement with the reply. Nothing is kept, so a repeat is answered
-    /// anew, and neither the moment nor the draw matters.
+    /// These bytes came from this peer at this moment as one datagram: the step that answers them. What is sent is at most
+    /// one datagram, to that peer: a Reset, an acknowledgement with the reply, or a reply to a request that isn't
+    /// confirmable. A request that is answered is noted, so that a repeat is answered by the same bytes. The draw gives the
+    /// first message ID of the server's own.
     ///
-    /// Without memory for it an `AllocError`, but for a GET on an open path, whose own want of memory is answered by 5.00.
+    /// Without memory for it an `AllocError`, but for a GET on an open path, whose own want of memory is answered by 5.00;
+    /// then nothing has changed.
     pub fn on_datagram(
         &mut self,
         alloc: Global,
-        _now: Moment,
+        now: Moment,
         from: Peer,
         bytes: &[u8],
-        _draw: &Draw,
+        draw: &Draw,
     ) -> Result<Step, AllocError>
-        ensures answered { IfOk result (λ step. (heard : WhatIsHeard) × Hears bytes.now heard × Answers self.old from (case_in self.old.open_scope heard) step) }
+        requires { now.0 < 2 ^ 63 }
+        ensures answered { IfOk result (λ step. (received : AnyReceived) × Receives bytes.now received
+            × Answers self.old now from draw.now (case_in self.old.open_scope (heard_as self.old.endpoint.seen now from received)) step self.new) }
         ensures one { IfOk result (λ step. length step.out ≤ 1) }
         ensures messages { IfOk result (λ step. All (λ d. (m : Message) × Spells d.bytes m) step.out) }
         ensures addressed { IfOk result (λ step. All (λ d. d.to ≡ from) step.out) }
-        ensures same { self.new ≡ self.old }
+        ensures same { (self.new.tree ≡ self.old.tree) × (self.new.open_scope ≡ self.old.open_scope) }
+        ensures err { OnErr result (self.new ≡ self.old) }
 
         // What isn't answered takes no memory.
-        ensures needs_memory { OnErr result ((heard : WhatIsHeard) × Hears bytes.now heard × IsAnswered (case_in self.old.open_scope heard)) }
+        ensures needs_memory { OnErr result ((received : AnyReceived) × Receives bytes.now received
+            × IsAnswered (case_in self.old.open_scope (heard_as self.old.endpoint.seen now from received))) }
     {
-        let case = case_of(alloc, &self.open_scope, hear(bytes))?;
-        answer(alloc, &mut self.tree, &self.open_scope, from, case)
+        let heard = self.endpoint.on_datagram(now, from, bytes);
+        let case = case_of(alloc, &self.open_scope, heard)?;
+        self.answer(alloc, now, from, draw, case)
+    }
+
+    /// What is sent in this case.
+    fn answer(
+        &mut self,
+        alloc: Global,
+        now: Moment,
+        from: Peer,
+        draw: &Draw,
+        case: Case<'_>,
+    ) -> Result<Step, AllocError>
+        requires moment { now.0 < 2 ^ 63 }
+        requires get { AsksGet case }
+        ensures answered { IfOk result (λ step. Answers self.old now from draw.now case.entry step self.new) }
+        ensures sent { IfOk result (λ step. SendsTo from step.out) }
+        ensures same { (self.new.tree ≡ self.old.tree) × (self.new.open_scope ≡ self.old.open_scope) }
+        ensures err { OnErr result (self.new ≡ self.old) }
+        ensures needs_memory { OnErr result (IsAnswered case.entry) }
+    {
+        match case {
+            Case::Ignored => Ok(Step::sending(Datagrams::new(alloc))),
+            Case::Reset(id) => sending(alloc, from, &reset(id)),
+            Case::Repeated(id) => self.repeat(alloc, now, from, id),
+            Case::Empty(kind, id) => {
+                self.settle_empty(now, from, kind, id);
+                Ok(Step::sending(Datagrams::new(alloc)))
+            }
+            Case::BadOption(request) => {
+                self.refuse(alloc, now, from, draw, request, Code::BAD_OPTION)
+            }
+            Case::ProxyAsked(request) => self.refuse(
+                alloc,
+                now,
+                from,
+                draw,
+                request,
+                Code::PROXYING_NOT_SUPPORTED,
+            ),
+            Case::OpenGet(message, request) => {
+                let reply = self.read(alloc, &request);
+                self.reply(alloc, now, from, draw, message, &reply)
+            }
+            Case::Unauthorised(request) => {
+                self.refuse(alloc, now, from, draw, request, Code::UNAUTHORIZED)
+            }
+        }
+    }
+
+    /// What an empty acknowledgement or Reset names is acknowledged.
+    fn settle_empty(&mut self, now: Moment, from: Peer, kind: Kind, id: u16)
+        requires { now.0 < 2 ^ 63 }
+        ensures { self.new ≡ record self.old { endpoint = settled self.old.endpoint now from (heard.Empty kind id) Dropped } }
+    {
+        self.endpoint
+            .settle(now, from, &Heard::Empty(kind, id), Handling::Dropped);
+    }
+
+    /// The reply to a GET on an open path; the server stays as it is.
+    fn read(&mut self, alloc: Global, request: &Request) -> Reply
+        requires { request.now.code.0 ≡ 1 }
+        ensures reply { MayReply (apply self.old.tree self.old.open_scope request.now) result }
+        ensures short { IsShort result }
+        ensures same { self.new ≡ self.old }
+    {
+        open_reply(alloc, &mut self.tree, &self.open_scope, request)
+    }
+
+    /// Sends again what answered the message of this ID, if anything did.
+    fn repeat(&self, alloc: Global, now: Moment, from: Peer, id: u16) -> Result<Step, AllocError>
+        ensures again { IfOk result (λ step. step ≡ sends (again from (noted_reply_of self.now.endpoint.seen now from id))) }
+        ensures sent { IfOk result (λ step. SendsTo from step.out) }
+    {
+        match self.endpoint.noted_reply(now, from, id) {
+            Some(bytes) => sending_bytes(alloc, from, bytes.clone()?),
+            None => Ok(Step::sending(Datagrams::new(alloc))),
+        }
+    }
+
+    /// Answers the request with a reply of this code alone.
+    fn refuse(
+        &mut self,
+        alloc: Global,
+        now: Moment,
+        from: Peer,
+        draw: &Draw,
+        request: MessageRef<'_>,
+        code: Code,
+    ) -> Result<Step, AllocError>
+        requires moment { now.0 < 2 ^ 63 }
+        requires code { 0 < code.0 }
+        ensures replied { IfOk result (λ step. Replies self.old now from draw.now request.entry (bare code) step self.new) }
+        ensures sent { IfOk result (λ step. SendsTo from step.out) }
+        ensures err { OnErr result (self.new ≡ self.old) }
+    {
+        self.reply(alloc, now, from, draw, request, &Reply::bare(alloc, code))
+    }
+
+    /// Answers the request, and notes the answer for a repeat.
+    fn reply(
+        &mut self,
+        alloc: Global,
+        now: Moment,
+        from: Peer,
+        draw: &Draw,
+        request: MessageRef<'_>,
+        reply: &Reply,
+    ) -> Result<Step, AllocError>
+        requires moment { now.0 < 2 ^ 63 }
+        requires short { IsShort reply.now }
+        ensures replied { IfOk result (λ step. Replies self.old now from draw.now request.entry reply.now step self.new) }
+        ensures sent { IfOk result (λ step. SendsTo from step.out) }
+        ensures err { OnErr result (self.new ≡ self.old) }
+    {
+        let message = reply_to(self.next_id, draw, &request, reply);
+        let (step, noted) = sending_and_noted(alloc, from, &message)?;
+        self.next_id = next_id_after(self.next_id, draw, &request);
+        self.endpoint.settle(
+            now,
+            from,
+            &Heard::Message(request),
+            Handling::Answered(Some(noted)),
+        );
+        Ok(step)
     }
 }
 
@@ -95,46 +242,5 @@ fn open_reply(alloc: Global, tree: &mut Tree, open_scope: &Scope, request: &Requ
     match tree.apply(alloc, open_scope, request) {
         Ok(reply) => reply,
         Err(_) => Reply::bare(alloc, Code::INTERNAL_SERVER_ERROR),
-    }
-}
-
-/// Acknowledges the request with a reply of this code alone.
-fn refusal(
-    alloc: Global,
-    to: Peer,
-    request: &MessageRef<'_>,
-    code: Code,
-) -> Result<Step, AllocError>
-    requires { 0 < code.0 }
-    ensures sent { IfOk result (λ step. step ≡ sends (datagram to (piggybacked_message request.now (bare code)) ∷ [])) }
-    ensures lawful { IfOk result (λ _. HasSpelling (piggybacked_message request.now (bare code))) }
-{
-    sending(alloc, to, &piggybacked(request, &Reply::bare(alloc, code)))
-}
-
-/// What is sent in this case.
-fn answer(
-    alloc: Global,
-    tree: &mut Tree,
-    open_scope: &Scope,
-    from: Peer,
-    case: Case<'_>,
-) -> Result<Step, AllocError>
-    requires { AsksGet case }
-    ensures answered { IfOk result (λ step. Answers (record { tree = tree.old; open_scope = open_scope.now }) from case.entry step) }
-    ensures sent { IfOk result (λ step. SendsTo from step.out) }
-    ensures same { tree.new ≡ tree.old }
-    ensures needs_memory { OnErr result (IsAnswered case.entry) }
-{
-    match case {
-        Case::Ignored => Ok(Step::sending(Datagrams::new(alloc))),
-        Case::Reset(id) => sending(alloc, from, &reset(id)),
-        Case::BadOption(request) => refusal(alloc, from, &request, Code::BAD_OPTION),
-        Case::ProxyAsked(request) => refusal(alloc, from, &request, Code::PROXYING_NOT_SUPPORTED),
-        Case::OpenGet(message, request) => {
-            let reply = open_reply(alloc, tree, open_scope, &request);
-            sending(alloc, from, &piggybacked(&message, &reply))
-        }
-        Case::Unauthorised(request) => refusal(alloc, from, &request, Code::UNAUTHORIZED),
     }
 }

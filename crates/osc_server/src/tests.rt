@@ -12,6 +12,11 @@ const PEER: Peer = Peer {
     port: 5683,
 };
 
+const OTHER_PORT: Peer = Peer {
+    address: [192, 0, 2, 1],
+    port: 5684,
+};
+
 /// A scope of this method on `/e` and `/t`.
 fn scope_of(alloc: Global, method: Method) -> Result<Scope, AllocError> {
     let mut scope = Scope::new(alloc);
@@ -42,7 +47,7 @@ fn server(alloc: Global) -> Result<Server, AllocError> {
     let mut tree = Tree::new(alloc);
     put(alloc, &mut tree, b"/e", b"")?;
     put(alloc, &mut tree, b"/t", &[0; 31])?;
-    Ok(Server::new(tree, scope_of(alloc, Method::Get)?))
+    Server::new(alloc, tree, scope_of(alloc, Method::Get)?)
 }
 
 /// The bytes of the one datagram that is sent, or no bytes.
@@ -53,14 +58,45 @@ fn sent(step: &Step) -> &[u8] {
     }
 }
 
-/// Each datagram is answered so, and the tree stays as it was.
+/// A draw whose bytes 18 and 19 are these, the others zeros.
+fn draw_of(high: u8, low: u8) -> Draw {
+    let mut bytes = [0; 32];
+    bytes[18] = high;
+    bytes[19] = low;
+    Draw(bytes)
+}
+
+/// Each datagram is answered so by a server of its own, and the tree stays as it was.
 fn check(rt: &impl Abort, alloc: Global, rows: &[(&[u8], &[u8])]) -> Result<(), Fail> {
-    let mut server = server(alloc)?;
     for (datagram, reply) in rows {
-        let step = server.on_datagram(alloc, Moment(0), PEER, datagram, &Draw([0; 32]))?;
+        let mut server = server(alloc)?;
+        let step = server.on_datagram(alloc, Moment(0), PEER, datagram, &draw_of(1, 0))?;
+        assert_eq!(rt; sent(&step), *reply);
+        assert_eq!(rt; server.tree().len(), 2);
+    }
+    Ok(())
+}
+
+/// A datagram that comes at this moment from this peer, with the bytes of the draw, and what answers it.
+type Row<'a> = (u32, Peer, &'a [u8], (u8, u8), &'a [u8]);
+
+/// One server answers the datagrams so, one after another.
+fn check_in_turn(
+    rt: &impl Abort,
+    alloc: Global,
+    server: &mut Server,
+    rows: &[Row<'_>],
+) -> Result<(), Fail> {
+    for (now, from, datagram, (high, low), reply) in rows {
+        let step = server.on_datagram(
+            alloc,
+            Moment(*now as u64),
+            *from,
+            datagram,
+            &draw_of(*high, *low),
+        )?;
         assert_eq!(rt; sent(&step), *reply);
     }
-    assert_eq!(rt; server.tree().len(), 2);
     Ok(())
 }
 
@@ -74,6 +110,8 @@ fn messages_that_are_no_requests(rt: HostRuntime) -> Result<(), Fail> {
             (b"\x40\x01\x00", b""),
             (b"\x80\x01\x00\x06", b""),
             (b"\x50\x01\x00\x0d\xff", b""),
+            (b"\x60\x00\x00\x05", b""),
+            (b"\x70\x00\x00\x05", b""),
             (b"\x40\x00\x00\x05", b"\x70\x00\x00\x05"),
             (
                 b"\x49\x01\x00\x07\x00\x01\x02\x03\x04\x05\x06\x07\x08",
@@ -121,6 +159,113 @@ fn unprotected_requests(rt: HostRuntime) -> Result<(), Fail> {
             (
                 b"\x40\x01\x00\x1c\xb1e\xd9\x0bcoap://s/",
                 b"\x60\xa5\x00\x1c",
+            ),
+            // Not confirmable, with Block2, and of a path that isn't open.
+            (b"\x50\x01\x00\x1d\xb1e\xc0", b""),
+            (b"\x51\x01\x00\x1ea\xb1u", b"\x51\x81\x01\x00a"),
+        ],
+    )
+}
+
+#[test]
+fn requests_that_are_not_confirmable(rt: HostRuntime) -> Result<(), Fail> {
+    check_in_turn(
+        &rt,
+        rt.alloc(),
+        &mut server(rt.alloc())?,
+        &[
+            (
+                0,
+                PEER,
+                b"\x50\x01\x00\x20\xb1e",
+                (1, 0),
+                b"\x50\x45\x01\x00\x48\x6e\x34\x0b\x9c\xff\xb3\x7a\x98",
+            ),
+            (0, PEER, b"\x50\x01\x00\x20\xb1e", (1, 0), b""),
+            (
+                0,
+                PEER,
+                b"\x50\x01\x00\x21\xb1e",
+                (2, 0),
+                b"\x50\x45\x01\x01\x48\x6e\x34\x0b\x9c\xff\xb3\x7a\x98",
+            ),
+            (
+                145_000,
+                PEER,
+                b"\x50\x01\x00\x20\xb1e",
+                (3, 0),
+                b"\x50\x45\x01\x02\x48\x6e\x34\x0b\x9c\xff\xb3\x7a\x98",
+            ),
+            // A confirmable one of a message ID that was noted is its repeat.
+            (
+                145_000,
+                PEER,
+                b"\x40\x01\x00\x20\xb1u",
+                (4, 0),
+                b"\x50\x45\x01\x02\x48\x6e\x34\x0b\x9c\xff\xb3\x7a\x98",
+            ),
+        ],
+    )
+}
+
+#[test]
+fn message_ids_wrap(rt: HostRuntime) -> Result<(), Fail> {
+    check_in_turn(
+        &rt,
+        rt.alloc(),
+        &mut server(rt.alloc())?,
+        &[
+            (
+                0,
+                PEER,
+                b"\x50\x01\x00\x20\xb1u",
+                (255, 255),
+                b"\x50\x81\xff\xff",
+            ),
+            (
+                0,
+                PEER,
+                b"\x50\x01\x00\x21\xb1u",
+                (255, 255),
+                b"\x50\x81\x00\x00",
+            ),
+        ],
+    )
+}
+
+#[test]
+fn repeats(rt: HostRuntime) -> Result<(), Fail> {
+    let get = b"\x40\x01\x00\x02\xb1e".as_slice();
+    let reply = b"\x60\x45\x00\x02\x48\x6e\x34\x0b\x9c\xff\xb3\x7a\x98".as_slice();
+    let draw = (0, 0);
+    check_in_turn(
+        &rt,
+        rt.alloc(),
+        &mut server(rt.alloc())?,
+        &[
+            (0, PEER, get, draw, reply),
+            (0, PEER, get, draw, reply),
+            // Of the same message ID, but another request.
+            (0, PEER, b"\x40\x01\x00\x02\xb1u", draw, reply),
+            (
+                0,
+                OTHER_PORT,
+                b"\x40\x01\x00\x02\xb1u",
+                draw,
+                b"\x60\x81\x00\x02",
+            ),
+            // It isn't confirmable.
+            (0, PEER, b"\x50\x01\x00\x02\xb1e", draw, b""),
+            // It is rejected each time.
+            (0, PEER, b"\x40\x01\x00\x08\xff", draw, b"\x70\x00\x00\x08"),
+            (0, PEER, b"\x40\x01\x00\x08\xff", draw, b"\x70\x00\x00\x08"),
+            (246_999, PEER, b"\x40\x01\x00\x02\xb1u", draw, reply),
+            (
+                247_000,
+                PEER,
+                b"\x40\x01\x00\x02\xb1u",
+                draw,
+                b"\x60\x81\x00\x02",
             ),
         ],
     )

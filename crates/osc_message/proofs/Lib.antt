@@ -1,0 +1,5 @@
+pub mod Limits
+pub mod Peers
+pub mod Schedule
+pub mod Sound
+pub mod Walk

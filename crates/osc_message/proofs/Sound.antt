@@ -1,0 +1,89 @@
+-- What holds of the open messages at all times.
+use Rattle.std.proofs.Common.{◌≡◌, ℕ, ◌<◌, ◌≤◌, ◌^◌, Bool, true, false, cond, ltb, List, [], ◌∷◌, ◌++◌, length, filter, refl, ap, sym, subst, ◌∙◌, Option, Some, None, arith}
+use Rattle.std.specs.List.{All, filter_map, zip, cons_option}
+use Rattle.std.proofs.lemmas.Bool.{ltb-true}
+use Rattle.std.proofs.lemmas.List.Elements.{All-nil, All-cons, All-head, All-tail, All-push, All-filter}
+use Rattle.osc_model.specs.declared.bytes.Bytes.{Bytes}
+use Rattle.osc_model.specs.declared.node.Moment.{Moment}
+use Rattle.osc_model.specs.declared.node.Peer.{Peer}
+use Rattle.osc_message.specs.declared.due.Due.{Due}
+use Rattle.osc_message.specs.declared.due.Due.TheVariants.{Keep, Send, GiveUp}
+use Rattle.osc_message.specs.Confirmables.{Sent, Open, has_open, takes, sent_at, with_open}
+use Rattle.osc_message.specs.Ticks.{due_at, due_of, dues, dues_of, sent_again, after, ticked}
+use Rattle.osc_message.specs.Bounds.{IsBoundedSent, IsBounded, IsSound}
+use Rattle.osc_message.proofs.Limits.{limits_nil, limits_filter, limits_push, limits_ticked}
+
+-- ---- what is due of each, beside the messages
+
+pub length_dues : (now : Moment) (all earlier later : List Open) → length (filter_map (λ pair. Some pair.1) (dues now all earlier later)) ≡ length later
+length_dues now all earlier [] = refl
+length_dues now all earlier (message ∷ later) = omega (arith, length_dues now all (earlier ++ message ∷ []) later)
+
+pub zip_dues : (now : Moment) (all earlier later : List Open) → zip later (filter_map (λ pair. Some pair.1) (dues now all earlier later)) ≡ dues now all earlier later
+zip_dues now all earlier [] = refl
+zip_dues now all earlier (message ∷ later) =
+    ap (λ rest. (message, due_of now all earlier message message.sent) ∷ rest) (zip_dues now all (earlier ++ message ∷ []) later)
+
+-- the dues alone
+abbrev pub due_part : List (Open × Due) → List Due
+due_part pairs = filter_map (λ pair. Some pair.1) pairs
+
+pub each_due : (now : Moment) (all : List Open) (ds : List Due) → ds ≡ due_part (dues_of now all) → length ds ≡ length all
+each_due now all ds planned = ap length planned ∙ length_dues now all [] all
+
+pub done_ticked : (now : Moment) (all : List Open) (ds : List Due) (ys : List Open) → ds ≡ due_part (dues_of now all) → ys ≡ filter_map (after now) (zip all ds) → ys ≡ ticked now all
+done_ticked now all ds ys planned done =
+    done ∙ ap (λ d. filter_map (after now) (zip all d)) planned ∙ ap (λ pairs. filter_map (after now) pairs) (zip_dues now all [] all)
+
+-- ---- bounds
+
+bounded_waiting : (now : Moment) → now.0 < 2 ^ 63 → (message : Open) → message.timeout ≤ 3000 → (b : Bool) (later : List Open) → message.sent ≡ None
+    → All IsBounded later → All IsBounded (cons_option (after now (message, cond b Keep Send)) later)
+bounded_waiting now early message timeout true later waits all = let bound : IsBoundedSent message.sent = rw waits tt in All-cons IsBounded message later (timeout, bound) all
+bounded_waiting now early message timeout false later waits all =
+    let bound : IsBoundedSent (Some (sent_again now message.sent)) = subst (λ s. IsBoundedSent (Some (sent_again now s))) (sym waits) (early, omega arith) in
+    All-cons IsBounded _ later (timeout, bound) all
+
+bounded_outstanding : (now : Moment) (message : Open) (sent : Sent) → message.timeout ≤ 3000 → IsBoundedSent (Some sent) → (early few : Bool) (later : List Open)
+    → message.sent ≡ Some sent → ltb sent.repeats 4 ≡ few
+    → All IsBounded later → All IsBounded (cons_option (after now (message, cond early Keep (cond few Send GiveUp))) later)
+bounded_outstanding now message sent timeout bound true few later went e all = let kept : IsBoundedSent message.sent = rw went bound in All-cons IsBounded message later (timeout, kept) all
+bounded_outstanding now message sent timeout bound false true later went e all =
+    let bound : IsBoundedSent (Some (sent_again now message.sent)) = subst (λ s. IsBoundedSent (Some (sent_again now s))) (sym went) (bound.0, omega (arith, ltb-true sent.repeats 4 e)) in
+    All-cons IsBounded _ later (timeout, bound) all
+bounded_outstanding now message sent timeout bound false false later went e all = all
+
+bounded_after : (now : Moment) → now.0 < 2 ^ 63 → (all earlier : List Open) (message : Open) (sent : Option Sent) (later : List Open) → message.sent ≡ sent → message.timeout ≤ 3000 → IsBoundedSent sent
+    → All IsBounded later → All IsBounded (cons_option (after now (message, due_of now all earlier message sent)) later)
+bounded_after now early all earlier message None later is timeout bound rest = bounded_waiting now early message timeout _ later is rest
+bounded_after now early all earlier message (Some sent) later is timeout bound rest =
+    bounded_outstanding now message sent timeout bound (ltb now.0 (due_at message sent)) (ltb sent.repeats 4) later is refl rest
+
+bounded_ticked : (now : Moment) → now.0 < 2 ^ 63 → (all earlier later : List Open) → All IsBounded later → All IsBounded (filter_map (after now) (dues now all earlier later))
+bounded_ticked now early all earlier [] bounded = All-nil IsBounded
+bounded_ticked now early all earlier (message ∷ later) bounded =
+    let head = All-head IsBounded message later bounded in
+    bounded_after now early all earlier message message.sent _ refl head.0 head.1
+    (bounded_ticked now early all (earlier ++ message ∷ []) later (All-tail IsBounded message later bounded))
+
+bounded_sent_at : (now : Moment) → now.0 < 2 ^ 63 → (waits : Bool) → IsBoundedSent (sent_at now waits)
+bounded_sent_at now early true = tt
+bounded_sent_at now early false = (early, omega arith)
+
+-- ---- what holds at all times
+
+pub sound_nil : IsSound []
+sound_nil = record { bounded = All-nil IsBounded; limits = limits_nil }
+
+pub sound_filter : (p : Open → Bool) (all : List Open) → IsSound all → IsSound (filter p all)
+sound_filter p all sound = record { bounded = All-filter p IsBounded all sound.bounded; limits = limits_filter p all sound.limits }
+
+pub sound_push : (now : Moment) (to : Peer) (id timeout : ℕ) (bytes : Bytes) (all : List Open) → now.0 < 2 ^ 63 → timeout ≤ 3000 → takes to all ≡ true → IsSound all
+    → IsSound (with_open now to id timeout bytes all)
+sound_push now to id timeout bytes all early bound taken sound = record {
+  bounded = All-push IsBounded all _ sound.bounded (bound, bounded_sent_at now early (has_open to all));
+  limits = limits_push now to id timeout bytes all taken sound.limits;
+}
+
+pub sound_ticked : (now : Moment) (all : List Open) → now.0 < 2 ^ 63 → IsSound all → IsSound (ticked now all)
+sound_ticked now all early sound = record { bounded = bounded_ticked now early all [] all sound.bounded; limits = limits_ticked now all sound.limits }

@@ -1,0 +1,55 @@
+-- A walk over a list, one place after another.
+use Rattle.std.proofs.Common.{◌≡◌, ℕ, ◌+◌, ◌<◌, List, [], ◌∷◌, ◌++◌, length, take, drop, get_or, refl, ap, ap₂, sym, ◌∙◌, append_assoc, Option, Some, None, arith}
+use Rattle.std.proofs.lemmas.List.{take_more, drop_more, length-drop}
+use Rattle.std.proofs.lemmas.List.Elements.{All-tail}
+use Rattle.std.specs.List.{All, filter_map, zip, cons_option}
+use Rattle.std.specs.Option.{option_to_list}
+use Rattle.osc_model.specs.declared.node.Moment.{Moment}
+use Rattle.osc_message.specs.Confirmables.{Open}
+use Rattle.osc_message.specs.Bounds.{IsBounded}
+use Rattle.osc_message.specs.Ticks.{after}
+use Rattle.osc_message.specs.declared.due.Due.{Due}
+
+-- the member at a place, and those behind it
+pub taken_at : {X : Type 0} (xs : List X) (p : ℕ) (x : X) (later : List X) → p < length xs → drop p xs ≡ x ∷ later → take (p + 1) xs ≡ take p xs ++ x ∷ []
+taken_at xs p x later inside split =
+    let at : get_or xs p x ∷ drop (p + 1) xs ≡ x ∷ later = sym (drop_more xs p x inside) ∙ split in
+    let same : get_or xs p x ≡ x = cc in
+    take_more xs p x inside ∙ ap (λ y. take p xs ++ y ∷ []) same
+
+pub dropped_at : {X : Type 0} (xs : List X) (p : ℕ) (x : X) (later : List X) → p < length xs → drop p xs ≡ x ∷ later → drop (p + 1) xs ≡ later
+dropped_at xs p x later inside split =
+    let at : get_or xs p x ∷ drop (p + 1) xs ≡ x ∷ later = sym (drop_more xs p x inside) ∙ split in
+    cc
+
+pub cons_option_is : {X : Type 0} (o : Option X) (xs : List X) → cons_option o xs ≡ option_to_list o ++ xs
+cons_option_is None xs = refl
+cons_option_is (Some x) xs = refl
+
+-- one message's change, and what it leaves for the walk
+pub changed : (now : Moment) (whole xs ys : List Open) (ds : List Due) (p q i : ℕ) (due : Due) → p < length xs → i < length ds → due ≡ get_or ds i due
+    → take p xs ++ filter_map (after now) (zip (drop p xs) (drop i ds)) ≡ whole
+    → ((message : Open) (later : List Open) → drop p xs ≡ message ∷ later → take q ys ≡ take p xs ++ option_to_list (after now (message, due)))
+    → ((message : Open) (later : List Open) → drop p xs ≡ message ∷ later → drop q ys ≡ later)
+    → take q ys ++ filter_map (after now) (zip (drop q ys) (drop (i + 1) ds)) ≡ whole
+changed now whole xs ys ds p q i due inside more is before front back = by (drop p xs) refl
+  where
+    by : (rest : List Open) → drop p xs ≡ rest → take q ys ++ filter_map (after now) (zip (drop q ys) (drop (i + 1) ds)) ≡ whole
+    by [] split = absurd (omega (arith, length-drop p xs, ap length split))
+    by (message ∷ later) split =
+        let others = drop (i + 1) ds in
+        let rest = filter_map (after now) (zip later others) in
+        let next : drop i ds ≡ due ∷ others = drop_more ds i due more ∙ ap (λ d. d ∷ others) (sym is) in
+        ap₂ (λ a b. a ++ filter_map (after now) (zip b others)) (front message later split) (back message later split)
+        ∙ append_assoc (take p xs) (option_to_list (after now (message, due))) rest
+        ∙ ap (λ zs. take p xs ++ zs) (sym (cons_option_is (after now (message, due)) rest))
+        ∙ ap₂ (λ a b. take p xs ++ filter_map (after now) (zip a b)) (sym split) (sym next)
+        ∙ before
+
+pub still_bounded : (xs ys : List Open) (p q : ℕ) → p < length xs → All IsBounded (drop p xs)
+    → ((message : Open) (later : List Open) → drop p xs ≡ message ∷ later → drop q ys ≡ later) → All IsBounded (drop q ys)
+still_bounded xs ys p q inside all back = by (drop p xs) refl all
+  where
+    by : (rest : List Open) → drop p xs ≡ rest → All IsBounded rest → All IsBounded (drop q ys)
+    by [] split all = absurd (omega (arith, length-drop p xs, ap length split))
+    by (message ∷ later) split all = rw (back message later split) (All-tail IsBounded message later all)

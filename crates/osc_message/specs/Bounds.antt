@@ -1,0 +1,24 @@
+-- Bounds on open messages, so that moments can be reckoned from them: no public contract names them.
+use Rattle.std.specs.Prelude.{◌≤◌, ◌<◌, ◌^◌, Bool, false, nat_le, List, Option, Some, None}
+use Rattle.std.specs.List.{All}
+use Rattle.osc_model.specs.declared.node.Moment.{Moment}
+use Rattle.osc_message.specs.Confirmables.{Sent, Open}
+use Rattle.osc_message.specs.Limits.{IsWithinLimits}
+use Rattle.osc_message.specs.Ticks.{most_repeats}
+
+abbrev pub IsBoundedSent : Option Sent → Type 0
+IsBoundedSent None = Unit {0}
+IsBoundedSent (Some sent) = (sent.at.0 < 2 ^ 63) × (sent.repeats ≤ most_repeats)
+
+abbrev pub IsBounded : Open → Type 0
+IsBounded message = (message.timeout ≤ 3000) × IsBoundedSent message.sent
+
+-- what holds of the open messages at all times
+pub record IsSound (all : List Open) : Type 0 where
+  pub bounded : All IsBounded all
+  pub limits : IsWithinLimits all
+
+-- whether a deadline is reached
+abbrev pub is_reached : Moment → Option Moment → Bool
+is_reached now None = false
+is_reached now (Some deadline) = nat_le deadline.0 now.0

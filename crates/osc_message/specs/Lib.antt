@@ -1,0 +1,11 @@
+-- Definitions that the contracts cite.
+pub mod Received
+pub mod Heard
+pub mod Confirmables
+pub mod Ticks
+pub mod Endpoint
+pub mod Steps
+pub mod Bounds
+pub mod Limits
+pub mod Timeout
+pub mod Schedule

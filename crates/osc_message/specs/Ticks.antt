@@ -1,0 +1,77 @@
+-- What a tick does to the open confirmable messages (RFC 7252 sections 4.2 and 4.8), and when the next one has to come.
+use Rattle.std.specs.Prelude.{ℕ, ◌+◌, ◌-◌, ◌*◌, ◌^◌, Bool, true, false, ◌||◌, not, nat_lt, if◌then◌else◌, List, [], ◌∷◌, ◌++◌, Option, Some, None}
+use Rattle.std.specs.List.{list_any, filter_map}
+use Rattle.osc_model.specs.declared.node.Moment.{Moment}
+use Rattle.osc_model.specs.declared.step.Datagram.{Datagram}
+use Rattle.osc_message.specs.declared.due.Due.{Due}
+use Rattle.osc_message.specs.declared.due.Due.TheVariants.{Keep, Send, GiveUp}
+use Rattle.osc_message.specs.declared.given_up.GivenUp.{GivenUp}
+use Rattle.osc_message.specs.Confirmables.{Sent, Open, has_open, has_outstanding}
+
+-- MAX_RETRANSMIT (section 4.8)
+abbrev pub most_repeats : ℕ
+most_repeats = 4
+
+-- when what comes next of an outstanding message is due: the timeout doubles with each retransmission, so retransmission k is
+-- due (2^k - 1) times the timeout after it first went out, and after the last one the message is given up likewise
+abbrev pub due_at : Open → Sent → ℕ
+due_at message sent = sent.at.0 + (2 ^ (sent.repeats + 1) - 1) * message.timeout
+
+-- One thing at most is due: a retransmission, or the giving up after the last one.
+abbrev pub outstanding_due : Moment → Open → Sent → Due
+outstanding_due now message sent =
+    if nat_lt now.0 (due_at message sent) then Keep else if nat_lt sent.repeats most_repeats then Send else GiveUp
+
+-- A waiting message goes out where none is outstanding to its peer and none was made before it.
+abbrev pub waiting_due : List Open → List Open → Open → Due
+waiting_due all earlier message = if has_outstanding message.to all || has_open message.to earlier then Keep else Send
+
+abbrev pub due_of : Moment → List Open → List Open → Open → Option Sent → Due
+due_of now all earlier message None = waiting_due all earlier message
+due_of now all earlier message (Some sent) = outstanding_due now message sent
+
+-- each message with what is due, where `earlier` were made before and `all` stood there when the tick came
+abbrev pub dues : Moment → List Open → List Open → List Open → List (Open × Due)
+dues now all earlier [] = []
+dues now all earlier (message ∷ later) = (message, due_of now all earlier message message.sent) ∷ dues now all (earlier ++ message ∷ []) later
+
+abbrev pub dues_of : Moment → List Open → List (Open × Due)
+dues_of now all = dues now all [] all
+
+-- ---- what is sent, what stays, what is given up
+
+abbrev pub datagram_of : Open × Due → Option Datagram
+datagram_of (message, Send) = Some (record { to = message.to; bytes = message.bytes })
+datagram_of (message, due) = None
+
+-- the first time it goes out, or one more
+abbrev pub sent_again : Moment → Option Sent → Sent
+sent_again now None = record { at = now; repeats = 0 }
+sent_again now (Some sent) = record sent { repeats = sent.repeats + 1 }
+
+abbrev pub after : Moment → Open × Due → Option Open
+after now (message, Keep) = Some message
+after now (message, Send) = Some (record message { sent = Some (sent_again now message.sent) })
+after now (message, GiveUp) = None
+
+abbrev pub given_up_of : Open × Due → Option GivenUp
+given_up_of (message, GiveUp) = Some (record { peer = message.to; id = message.id })
+given_up_of (message, due) = None
+
+abbrev pub ticked : Moment → List Open → List Open
+ticked now all = filter_map (after now) (dues_of now all)
+
+abbrev pub tick_sends : Moment → List Open → List Datagram
+tick_sends now all = filter_map datagram_of (dues_of now all)
+
+abbrev pub tick_gives_up : Moment → List Open → List GivenUp
+tick_gives_up now all = filter_map given_up_of (dues_of now all)
+
+-- ---- whether a tick does anything
+
+abbrev pub is_kept : Due → Bool
+is_kept Keep = true
+is_kept due = false
+
+abbrev pub acts : Moment → List Open → Bool
+acts now all = list_any (λ pair. not (is_kept pair.1)) (dues_of now all)

@@ -1,0 +1,92 @@
+//! What a node made of a message, and what that changes.
+ghost use Rattle.std.specs.Prelude.{◌≡◌, ◌≤◌, ◌<◌, ◌^◌, vec_len, vec_capacity};
+ghost use Rattle.osc_message.specs.Bounds.{IsSound};
+ghost use Rattle.osc_message.specs.Endpoint.{lifetime as lifetime_of};
+ghost use Rattle.osc_message.specs.Steps.{noted_in, acknowledged_by, handled_seen, handled_sending};
+
+use crate::confirmable::{Open, acknowledge};
+use osc_coap::Kind;
+use osc_dedup::{Duplicates, Noted};
+use osc_model::{Bytes, Moment, Peer};
+
+/// What a node made of a message that was new.
+#[derive(Clone, Debug, PartialEq, Eq, Drop)]
+pub enum Handling {
+    /// It was ignored, or rejected by a Reset: nothing is noted, and it is new again when it comes again.
+    Dropped,
+    /// It was answered by these bytes, or by none, and is noted with them.
+    Answered(Option<Bytes>),
+    /// It is a response that answers the request of this message ID, was itself answered by these bytes or by none, and is
+    /// noted with them.
+    Counted(u16, Option<Bytes>),
+}
+
+/// How long a note of a message of this kind lives, in ms (RFC 7252 section 4.8.2).
+fn lifetime(kind: Kind) -> u64
+    ensures value { result ≡ lifetime_of kind }
+    ensures small { result ≤ 247000 }
+{
+    match kind {
+        Kind::Confirmable => 247_000,
+        _ => 145_000,
+    }
+}
+
+/// Notes a message that can be repeated, with what answered it.
+fn note(seen: &mut Duplicates, now: Moment, from: Peer, kind: Kind, id: u16, reply: Option<Bytes>)
+    requires { now.0 < 2 ^ 63 }
+    ensures { seen.new ≡ noted_in now from kind id reply seen.old }
+{
+    match kind {
+        Kind::Acknowledgement | Kind::Reset => {}
+        _ => seen.note(
+            now,
+            from,
+            id,
+            Noted {
+                until: Moment(now.0 + lifetime(kind)),
+                reply,
+            },
+        ),
+    }
+}
+
+/// Ends the repeats of the message that an acknowledgement or a Reset names.
+pub(crate) fn acknowledge_by(sending: &mut Vec<Open>, from: Peer, kind: Kind, id: u16)
+    ensures items { sending.new.items ≡ acknowledged_by from kind id sending.old.items }
+    ensures sound { IsSound sending.old.items → IsSound sending.new.items }
+    ensures len { vec_len sending.new ≤ vec_len sending.old }
+    ensures capacity { vec_capacity sending.new ≡ vec_capacity sending.old }
+{
+    match kind {
+        Kind::Acknowledgement | Kind::Reset => acknowledge(sending, from, id),
+        _ => {}
+    }
+}
+
+/// Makes the changes of what the node made of a message.
+pub(crate) fn handle(
+    seen: &mut Duplicates,
+    sending: &mut Vec<Open>,
+    now: Moment,
+    from: Peer,
+    kind: Kind,
+    id: u16,
+    handling: Handling,
+)
+    requires { now.0 < 2 ^ 63 }
+    ensures seen { seen.new ≡ handled_seen now from kind id handling seen.old }
+    ensures items { sending.new.items ≡ handled_sending from handling sending.old.items }
+    ensures sound { IsSound sending.old.items → IsSound sending.new.items }
+    ensures len { vec_len sending.new ≤ vec_len sending.old }
+    ensures capacity { vec_capacity sending.new ≡ vec_capacity sending.old }
+{
+    match handling {
+        Handling::Dropped => {}
+        Handling::Answered(reply) => note(seen, now, from, kind, id, reply),
+        Handling::Counted(request, reply) => {
+            acknowledge(sending, from, request);
+            note(seen, now, from, kind, id, reply);
+        }
+    }
+}

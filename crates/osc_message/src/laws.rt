@@ -1,0 +1,38 @@
+//! Laws of the definitions, for the crates above. These functions do nothing: whoever calls one has its clauses for a proof.
+ghost use Rattle.std.specs.Prelude.{◌≡◌, ◌≤◌, ℕ, true, List, length, filter};
+ghost use Rattle.osc_model.specs.declared.bytes.Bytes.{Bytes as AnyBytes};
+ghost use Rattle.osc_model.specs.declared.node.Moment.{Moment as AnyMoment};
+ghost use Rattle.osc_model.specs.declared.node.Peer.{Peer as AnyPeer};
+ghost use Rattle.osc_message.specs.Confirmables.{Open as AnyOpen, takes, with_open, acknowledged};
+ghost use Rattle.osc_message.specs.Limits.{IsWithinLimits};
+ghost use Rattle.osc_message.specs.Received.{Receives};
+ghost use Rattle.osc_message.specs.Schedule.{done_over, schedule, is_sending};
+ghost use Rattle.osc_message.specs.Ticks.{ticked};
+ghost use Rattle.osc_message.specs.declared.received.Received.{Received as AnyReceived};
+
+use osc_coap::laws::{one_message, one_spelling};
+
+/// No datagram is received in two ways.
+pub fn one_reception()
+    ensures { (bytes : List ℕ) (a b : AnyReceived) → Receives bytes a → Receives bytes b → a ≡ b }
+{
+    one_message();
+    one_spelling();
+}
+
+/// Whatever happens to them, the open messages stay within their limits.
+pub fn within_limits()
+    ensures sent { (now : AnyMoment) (to : AnyPeer) (id timeout : ℕ) (bytes : AnyBytes) (all : List AnyOpen)
+        → takes to all ≡ true → IsWithinLimits all → IsWithinLimits (with_open now to id timeout bytes all) }
+    ensures acknowledged { (peer : AnyPeer) (id : ℕ) (all : List AnyOpen) → IsWithinLimits all → IsWithinLimits (acknowledged peer id all) }
+    ensures ticked { (now : AnyMoment) (all : List AnyOpen) → IsWithinLimits all → IsWithinLimits (ticked now all) }
+{}
+
+/// A message that went out is retransmitted, and given up, on the first ticks at or after its moments, as long as nobody
+/// acknowledges it; so it goes out five times at most.
+pub fn retransmissions()
+    ensures schedule { (message : AnyOpen) (went : AnyMoment) (ticks : List AnyMoment)
+        → done_over message (record { at = went; repeats = 0 }) ticks ≡ schedule went message.timeout ticks }
+    ensures most { (message : AnyOpen) (went : AnyMoment) (ticks : List AnyMoment)
+        → length (filter is_sending (done_over message (record { at = went; repeats = 0 }) ticks)) ≤ 4 }
+{}

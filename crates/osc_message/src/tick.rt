@@ -1,0 +1,161 @@
+//! What a tick does to the open messages (RFC 7252 sections 4.2 and 4.8): first what takes memory, then the changes.
+ghost use Rattle.std.specs.Prelude.{◌≡◌, ◌≤◌, ◌<◌, ◌+◌, ◌^◌, ◌∷◌, ◌++◌, List, length, take, drop, map, Some, IfOk, OnOk, OnErr, vec_len, vec_capacity};
+ghost use Rattle.std.specs.List.{All, filter_map, zip};
+ghost use Rattle.std.specs.Option.{option_to_list};
+ghost use Rattle.osc_message.specs.Bounds.{IsBounded, IsSound};
+ghost use Rattle.osc_message.specs.Ticks.{datagram_of, given_up_of, sent_again, after, dues_of, ticked, tick_sends, tick_gives_up};
+ghost use Rattle.osc_message.specs.declared.confirmable.Open.{Open as AnyOpen};
+
+use crate::confirmable::{Open, Sent};
+use crate::due::{Due, due_of};
+use crate::given_up::{GivenUp, GivenUps};
+use osc_model::{Datagram, Datagrams, Moment};
+use std::alloc::{AllocError, Global};
+
+/// What a tick does, before it is done.
+#[derive(Drop)]
+pub(crate) struct Plan {
+    /// What is due of each open message, in order.
+    pub dues: Vec<Due>,
+    /// What is sent, in order.
+    pub out: Datagrams,
+    /// What is given up, in order.
+    pub given_up: GivenUps,
+}
+
+fn add_copy(out: &mut Datagrams, message: &Open, due: Due) -> Result<(), AllocError>
+    ensures { OnOk result (out.new ≡ out.old ++ option_to_list (datagram_of (message.now, due))) }
+{
+    if let Due::Send = due {
+        out.push(Datagram {
+            to: message.to,
+            bytes: message.bytes.clone()?,
+        })?;
+    }
+    Ok(())
+}
+
+fn add_given_up(given_up: &mut GivenUps, message: &Open, due: Due) -> Result<(), AllocError>
+    ensures { OnOk result (given_up.new ≡ given_up.old ++ option_to_list (given_up_of (message.now, due))) }
+{
+    if let Due::GiveUp = due {
+        given_up.push(GivenUp {
+            peer: message.to,
+            id: message.id,
+        })?;
+    }
+    Ok(())
+}
+
+/// What a tick does; the work grows with the square of the number of open messages.
+pub(crate) fn make_plan(alloc: Global, now: Moment, all: &[Open]) -> Result<Plan, AllocError>
+    requires { All IsBounded all.now }
+    ensures dues { IfOk result (λ plan. plan.dues.items ≡ filter_map (λ pair. Some pair.1) (dues_of now all.now)) }
+    ensures out { IfOk result (λ plan. plan.out ≡ tick_sends now all.now) }
+    ensures given_up { IfOk result (λ plan. plan.given_up ≡ tick_gives_up now all.now) }
+{
+    let mut dues = Vec::with_capacity(alloc, all.len())?;
+    let mut out = Datagrams::new(alloc);
+    let mut given_up = GivenUps::new(alloc);
+    for index in 0..all.len() {
+        let message = &all[index];
+        let due = due_of(now, all, &all[..index], message);
+        dues.push(due)?;
+        add_copy(&mut out, message, due)?;
+        add_given_up(&mut given_up, message, due)?;
+    }
+    Ok(Plan {
+        dues,
+        out,
+        given_up,
+    })
+}
+
+/// It goes out: for the first time, or once more.
+fn mark(message: &mut Open, now: Moment)
+    requires { IsBounded message.old }
+    ensures { message.new ≡ record message.old { sent = Some (sent_again now message.old.sent) } }
+{
+    message.sent = Some(match message.sent {
+        None => Sent {
+            at: now,
+            repeats: 0,
+        },
+        Some(sent) => Sent {
+            at: sent.at,
+            repeats: sent.repeats + 1,
+        },
+    });
+}
+
+/// Makes what is due of the message at this place, and answers the place of the next one.
+fn change(sending: &mut Vec<Open>, place: usize, due: Due, now: Moment) -> usize
+    requires place { place < vec_len sending.old }
+    requires bounded { All IsBounded (drop place sending.old.items) }
+    ensures front { (message : AnyOpen) (later : List AnyOpen) → drop place sending.old.items ≡ message ∷ later
+        → take result sending.new.items ≡ take place sending.old.items ++ option_to_list (after now (message, due)) }
+    ensures back { (message : AnyOpen) (later : List AnyOpen) → drop place sending.old.items ≡ message ∷ later → drop result sending.new.items ≡ later }
+    ensures moved { vec_len sending.old + result ≡ vec_len sending.new + place + 1 }
+    ensures len { vec_len sending.new ≤ vec_len sending.old }
+    ensures capacity { vec_capacity sending.new ≡ vec_capacity sending.old }
+{
+    match due {
+        Due::Keep => place + 1,
+        Due::Send => {
+            mark(&mut sending[place], now);
+            place + 1
+        }
+        Due::GiveUp => {
+            let _given_up = sending.remove(place);
+            place
+        }
+    }
+}
+
+/// Makes what is due of each message.
+pub(crate) fn apply(sending: &mut Vec<Open>, dues: &[Due], now: Moment)
+    requires bounded { All IsBounded sending.old.items }
+    requires each { length dues.now ≡ vec_len sending.old }
+    ensures items { sending.new.items ≡ filter_map (after now) (zip sending.old.items dues.now) }
+    ensures len { vec_len sending.new ≤ vec_len sending.old }
+    ensures capacity { vec_capacity sending.new ≡ vec_capacity sending.old }
+{
+    let mut place = 0;
+    for due in dues {
+        place = change(sending, place, *due, now);
+    }
+}
+
+/// What a tick did.
+#[derive(Debug, Drop)]
+pub struct Ticked {
+    /// What is sent, in order.
+    pub out: Datagrams,
+    /// What was given up, in order.
+    pub given_up: GivenUps,
+}
+
+/// Does what is due; without memory all stays as it was.
+pub(crate) fn tick(
+    sending: &mut Vec<Open>,
+    alloc: Global,
+    now: Moment,
+) -> Result<Ticked, AllocError>
+    requires moment { now.0 < 2 ^ 63 }
+    requires sound { IsSound sending.old.items }
+    ensures out { IfOk result (λ done. done.out ≡ tick_sends now sending.old.items) }
+    ensures given_up { IfOk result (λ done. done.given_up ≡ tick_gives_up now sending.old.items) }
+    ensures items { OnOk result (sending.new.items ≡ ticked now sending.old.items) }
+    ensures sound { IsSound sending.new.items }
+    ensures len { vec_len sending.new ≤ vec_len sending.old }
+    ensures capacity { vec_capacity sending.new ≡ vec_capacity sending.old }
+    ensures err { OnErr result (sending.new ≡ sending.old) }
+{
+    let Plan {
+        dues,
+        out,
+        given_up,
+    } = make_plan(alloc, now, sending)?;
+    apply(sending, &dues, now);
+    Ok(Ticked { out, given_up })
+}
