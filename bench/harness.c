@@ -13,6 +13,10 @@
 
 uint64_t osc_bench_parse(const uint8_t *datagram, size_t length);
 uint64_t osc_bench_serve(uint16_t resources, const uint8_t *datagram, size_t length, uint64_t rounds);
+uint64_t osc_bench_repeat(const uint8_t *datagram, size_t length, uint64_t rounds);
+uint64_t osc_bench_read_item(const uint8_t *bytes, size_t length, uint64_t rounds);
+uint64_t osc_bench_protect(const uint8_t *request, size_t length, uint64_t rounds);
+uint64_t osc_bench_unprotect(const uint8_t *request, size_t length, uint64_t rounds);
 uint8_t osc_bench_encrypt(uint64_t rounds);
 uint64_t osc_bench_seal(const uint8_t *text, size_t length, uint8_t *out, size_t room, uint64_t rounds);
 uint64_t osc_bench_open(const uint8_t *sealed, size_t length, uint8_t *out, size_t room, uint64_t rounds);
@@ -72,6 +76,84 @@ static void serve(const char *name, uint16_t resources, const uint8_t *datagram,
         if (taken < best) best = taken;
     }
     row(name, CALLS, best);
+}
+
+static void repeat(const char *name, const uint8_t *datagram, size_t length) {
+    enum { CALLS = 200000 };
+    double best = 1e9;
+    for (int run = 0; run < RUNS; run++) {
+        double start = seconds();
+        sink = osc_bench_repeat(datagram, length, 0);
+        double set_up = seconds() - start;
+        start = seconds();
+        sink = osc_bench_repeat(datagram, length, CALLS);
+        double taken = seconds() - start - set_up;
+        if (taken < best) best = taken;
+    }
+    row(name, CALLS, best);
+}
+
+/* ---- CBOR */
+
+/* The claims of a token: audience, confirmation with input material, scope; 13 items. */
+static const uint8_t CLAIMS[] = {
+    0xa3, 0x03, 0x61, 's', 0x08, 0xa1, 0x04, 0xa2, 0x00, 0x41, 1, 0x02, 0x50, 0, 0, 0, 0, 0, 0, 0, 0, 0, 0, 0, 0, 0, 0, 0, 1,
+    0x09, 0x48, 0x81, 0x82, 0x64, '/', 'l', 'o', 'g', 0x03};
+
+static void items(const char *name, const uint8_t *bytes, size_t length, uint64_t count, uint64_t rounds) {
+    double best = 1e9;
+    for (int run = 0; run < RUNS; run++) {
+        double start = seconds();
+        sink = osc_bench_read_item(bytes, length, rounds);
+        double taken = seconds() - start;
+        if (taken < best) best = taken;
+    }
+    printf("%-44s %12.0f /s %9.1f ns\n", name, (double)(rounds * count) / best, 1e9 * best / (double)(rounds * count));
+}
+
+static int cbor(void) {
+    static uint8_t numbers[1003] = {0x99, 0x03, 0xe8};
+    if (osc_bench_read_item(CLAIMS, sizeof CLAIMS, 1) != sizeof CLAIMS
+        || osc_bench_read_item(numbers, sizeof numbers, 1) != sizeof numbers) {
+        fprintf(stderr, "bench: an item was not read\n");
+        return 1;
+    }
+    items("osc_cbor::read, items of a token's claims", CLAIMS, sizeof CLAIMS, 13, 200000);
+    items("osc_cbor::read, items of an array of 1,000", numbers, sizeof numbers, 1001, 5000);
+    return 0;
+}
+
+/* ---- OSCORE: a PUT with a token of 4 bytes, a segment of Uri-Path and 64 bytes, under IDs of one byte */
+
+static const uint8_t PUT_64[] = {
+    0x44, 0x03, 0x00, 0x01, 1, 2, 3, 4, 0xb3, 'l', 'o', 'g', 0xff,
+    'p', 'p', 'p', 'p', 'p', 'p', 'p', 'p', 'p', 'p', 'p', 'p', 'p', 'p', 'p', 'p',
+    'p', 'p', 'p', 'p', 'p', 'p', 'p', 'p', 'p', 'p', 'p', 'p', 'p', 'p', 'p', 'p',
+    'p', 'p', 'p', 'p', 'p', 'p', 'p', 'p', 'p', 'p', 'p', 'p', 'p', 'p', 'p', 'p',
+    'p', 'p', 'p', 'p', 'p', 'p', 'p', 'p', 'p', 'p', 'p', 'p', 'p', 'p', 'p', 'p'};
+
+typedef uint64_t (*protection_run)(const uint8_t *request, size_t length, uint64_t rounds);
+
+static void protection(const char *name, protection_run run) {
+    enum { ROUNDS = 20000 };
+    double best = 1e9;
+    for (int i = 0; i < RUNS; i++) {
+        double start = seconds();
+        sink = run(PUT_64, sizeof PUT_64, ROUNDS);
+        double taken = seconds() - start;
+        if (taken < best) best = taken;
+    }
+    row(name, ROUNDS, best);
+}
+
+static int oscore(void) {
+    if (osc_bench_protect(PUT_64, sizeof PUT_64, 1) == 0 || osc_bench_unprotect(PUT_64, sizeof PUT_64, 1) != 70) {
+        fprintf(stderr, "bench: a request was not protected or not opened\n");
+        return 1;
+    }
+    protection("protect_request, 64 bytes", osc_bench_protect);
+    protection("unprotect_request, 64 bytes", osc_bench_unprotect);
+    return 0;
 }
 
 /* ---- ciphers: the same key, nonce, 8 bytes of associated data and tag of 8 bytes on both sides */
@@ -187,7 +269,8 @@ static int ciphers(void) {
 }
 
 int main(void) {
-    if (osc_bench_serve(1, GET_R000, sizeof GET_R000, 1) == 0 || osc_bench_parse(POST_MANY, sizeof POST_MANY) != 6) {
+    if (osc_bench_serve(1, GET_R000, sizeof GET_R000, 1) == 0 || osc_bench_repeat(GET_R000, sizeof GET_R000, 1) == 0
+        || osc_bench_parse(POST_MANY, sizeof POST_MANY) != 6) {
         fprintf(stderr, "bench: a datagram was not served or not read\n");
         return 1;
     }
@@ -196,5 +279,7 @@ int main(void) {
     serve("Server::on_datagram, GET, 1 resource", 1, GET_R000, sizeof GET_R000);
     serve("Server::on_datagram, GET, 1st of 1,024", 1024, GET_R000, sizeof GET_R000);
     serve("Server::on_datagram, GET, 1,000th of 1,024", 1024, GET_R999, sizeof GET_R999);
+    repeat("Server::on_datagram, a repeat", GET_R000, sizeof GET_R000);
+    if (cbor() != 0 || oscore() != 0) return 1;
     return ciphers();
 }

@@ -1,5 +1,7 @@
-//! What a harness in C times: messages read, datagrams served, and ciphers.
+//! What a harness in C times: messages read, datagrams served, items read, requests protected and opened, and ciphers.
 #![tactic(auto)]
 
 mod cipher;
 mod messages;
+mod objects;
+mod protection;

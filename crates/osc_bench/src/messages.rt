@@ -1,6 +1,6 @@
 //! Messages read, and datagrams served.
 
-ghost use Rattle.std.specs.Prelude.{◌≡◌, length};
+ghost use Rattle.std.specs.Prelude.{◌≡◌, ◌≤◌, ◌<◌, ◌^◌, length, IsTrue};
 ghost use Rattle.osc_coap.specs.Message.{Message, Spells};
 
 use osc_coap::MessageRef;
@@ -21,8 +21,9 @@ pub extern "C" fn osc_bench_parse(datagram: &[u8]) -> u64
     }
 }
 
-/// Serves the datagram so many times by a server of so many resources, `/r000` and so on up to 1024 of them, each open,
-/// and answers how many bytes it sent in all; 0 for want of memory.
+/// Serves the datagram so many times, each time with a message ID of its own, so that each is new, by a server of so many
+/// resources, `/r000` and so on up to 1024 of them, each open, and answers how many bytes it sent in all; 0 for want of
+/// memory, and for a datagram that isn't 4 to 64 bytes long. From the 64th round on the duplicate table is full.
 #[unsafe(no_mangle)]
 pub extern "C" fn osc_bench_serve(
     alloc: Global,
@@ -30,10 +31,39 @@ pub extern "C" fn osc_bench_serve(
     datagram: &[u8],
     rounds: u64,
 ) -> u64 {
+    if !fits(datagram) {
+        return 0;
+    }
     match server_of(alloc, resources) {
-        Ok(mut server) => bytes_sent(alloc, &mut server, datagram, rounds).unwrap_or(0),
+        Ok(mut server) => serve_new(alloc, &mut server, datagram, rounds).unwrap_or(0),
         Err(_) => 0,
     }
+}
+
+/// Serves the datagram so many times by a server of one resource, `/r000`, which served it before, and 63 others before
+/// that: each time the full duplicate table answers. Answers how many bytes it sent in all; 0 for want of memory, and for a
+/// datagram that isn't 4 to 64 bytes long.
+#[unsafe(no_mangle)]
+pub extern "C" fn osc_bench_repeat(alloc: Global, datagram: &[u8], rounds: u64) -> u64 {
+    if !fits(datagram) {
+        return 0;
+    }
+    match server_of(alloc, 1) {
+        Ok(mut server) => serve_again(alloc, &mut server, datagram, rounds).unwrap_or(0),
+        Err(_) => 0,
+    }
+}
+
+// The most bytes that a datagram has here.
+const ROOM: usize = 64;
+
+// The most rounds, each a millisecond later than the one before.
+const MOST_ROUNDS: u64 = 1 << 32;
+
+fn fits(datagram: &[u8]) -> bool
+    ensures { IsTrue result → (4 ≤ length datagram.now) × (length datagram.now ≤ ROOM) }
+{
+    4 <= datagram.len() && datagram.len() <= ROOM
 }
 
 // A server of so many resources, each with four bytes and open.
@@ -57,25 +87,70 @@ fn server_of(alloc: Global, resources: u16) -> Result<Server, AllocError> {
             )?;
         }
     }
-    Ok(Server::new(tree, open_scope))
+    Server::new(alloc, tree, open_scope)
 }
 
-fn bytes_sent(
+// Serves so many datagrams, which are this one but for their message IDs: those that come behind its own.
+fn serve_new(
     alloc: Global,
     server: &mut Server,
     datagram: &[u8],
     rounds: u64,
-) -> Result<u64, AllocError> {
+) -> Result<u64, AllocError>
+    requires long { 4 ≤ length datagram.now }
+    requires short { length datagram.now ≤ ROOM }
+{
+    let own_id = u16::from_be_bytes([datagram[2], datagram[3]]);
+    let mut buffer = [0; ROOM];
+    let copy = &mut buffer[..datagram.len()];
+    copy.copy_from_slice(datagram);
+    let mut sent = 0u64;
+    for round in 0..rounds.min(MOST_ROUNDS) {
+        let id = own_id.wrapping_add((round % 65536) as u16).wrapping_add(1);
+        copy[2..4].copy_from_slice(&id.to_be_bytes());
+        let bytes = bytes_sent(alloc, server, Moment(round), copy)?;
+        sent = sent.wrapping_add(bytes);
+    }
+    Ok(sent)
+}
+
+// Serves 63 other datagrams and this one, and then this one so many times again.
+fn serve_again(
+    alloc: Global,
+    server: &mut Server,
+    datagram: &[u8],
+    rounds: u64,
+) -> Result<u64, AllocError>
+    requires long { 4 ≤ length datagram.now }
+    requires short { length datagram.now ≤ ROOM }
+{
+    serve_new(alloc, server, datagram, 63)?;
+    bytes_sent(alloc, server, Moment(63), datagram)?;
+    let mut sent = 0u64;
+    for round in 0..rounds.min(MOST_ROUNDS) {
+        let bytes = bytes_sent(alloc, server, Moment(64 + round), datagram)?;
+        sent = sent.wrapping_add(bytes);
+    }
+    Ok(sent)
+}
+
+// How many bytes answer the datagram.
+fn bytes_sent(
+    alloc: Global,
+    server: &mut Server,
+    now: Moment,
+    datagram: &[u8],
+) -> Result<u64, AllocError>
+    requires { now.0 < 2 ^ 63 }
+{
     let from = Peer {
         address: [127, 0, 0, 1],
         port: 9000,
     };
+    let step = server.on_datagram(alloc, now, from, datagram, &Draw([0; 32]))?;
     let mut sent = 0u64;
-    for round in 0..rounds {
-        let step = server.on_datagram(alloc, Moment(round), from, datagram, &Draw([0; 32]))?;
-        for datagram in step.out.as_slice() {
-            sent = sent.wrapping_add(datagram.bytes.len() as u64);
-        }
+    for datagram in step.out.as_slice() {
+        sent = sent.wrapping_add(datagram.bytes.len() as u64);
     }
     Ok(sent)
 }
