@@ -158,3 +158,20 @@ fn seals_and_opens(rt: HostRuntime) -> Result<(), Fail> {
     }
     Ok(())
 }
+
+/// A whole object with tag 16, IV and a text of 20 bytes (RFC 9052 appendix C.4.1), and the key of its examples.
+const EXAMPLE: &[u8] =
+    b"\xd0\x83\x43\xa1\x01\x0a\xa1\x05\x4d\x89\xf5\x2f\x65\xa1\xc5\x80\x93\x3b\x52\x61\xa7\x8c\x58\x1c\x59\x74\xe1\xb9\x9a\x3a\x4c\xc0\x9a\x65\x9a\xa2\xe9\xe7\xff\xf1\x61\xd3\x8c\xe7\x1c\xb4\x5c\xe4\x60\xff\xb5\x69";
+
+const EXAMPLE_KEY: [u8; 16] = *b"\x84\x9b\x57\x86\x45\x7c\x14\x91\xbe\x3a\x76\xdc\xea\x6c\x42\x71";
+
+const EXAMPLE_IV: [u8; 13] = *b"\x89\xf5\x2f\x65\xa1\xc5\x80\x93\x3b\x52\x61\xa7\x8c";
+
+#[test]
+fn the_example_opens(rt: HostRuntime) -> Result<(), Fail> {
+    let object = parse0(rt.alloc(), EXAMPLE)?;
+    assert_eq!(rt; slice_of(&object.iv), Some(EXAMPLE_IV.as_slice()));
+    let text = open0::<Ccm<8>>(rt.alloc(), &object, &EXAMPLE_KEY, &EXAMPLE_IV, b"")?;
+    assert_eq!(rt; text.as_slice(), b"This is the content.".as_slice());
+    Ok(())
+}

@@ -14,7 +14,7 @@ mod room;
 mod sealing;
 mod value;
 
-pub use error::{RequestError, RequestTooLong, ResponseError, ResponseTooLong};
+pub use error::{RequestError, RequestTooLong, ResponseError, ResponseTooLong, TOO_LONG};
 pub use request::{ProtectedRequest, fits, protect_request, unprotect_request};
 pub use response::{ProtectedResponse, protect_response, unprotect_response};
 pub use room::Room;
