@@ -1,13 +1,9 @@
 -- The parts of an object, taken out of its item. No public contract rests on this.
 use Rattle.std.specs.Prelude.{ℕ, List, Option, Some, None, option_and_then}
-use Rattle.osc_cbor.specs.Data.{DataItem, byte_string, array, map, Items, no_items, item, Pairs}
+use Rattle.osc_cbor.specs.Data.{DataItem, Items, no_items, item}
 use Rattle.osc_cbor.specs.Parts.{as_bytes, as_array, as_map}
 
--- the array of an object
-abbrev pub whole_array : List ℕ → Pairs → List ℕ → DataItem
-whole_array protected unprotected ciphertext =
-    array (item (byte_string protected) (item (map unprotected) (item (byte_string ciphertext) no_items)))
-
+-- the items of an array of three
 abbrev pub three_of : Items → Option (DataItem × (DataItem × DataItem))
 three_of (item a (item b (item c no_items))) = Some (a, (b, c))
 three_of _ = None

@@ -27,7 +27,7 @@ pub fn aad_tells_the_number()
 /// is as it was.
 pub fn unprotecting_a_protected_request<A: Aead>()
     ensures asked { (name : AnyName) (number : ℕ) (m p : Message) → HasShortContext name → number ≤ greatest_number
-        → HasSpelling m → has_oscore m.options ≡ false → IsProtectedRequest A.is_sealing name number m p
+        → IsProtectedRequest A.is_sealing name number m p
         → (asked : Asked) × IsRequest p asked × (asked.number ≡ number) × IsFor name asked
         × ((text : List ℕ) → A.is_sealing (key_of name Client) (request_nonce name number) (aad_of name number) text asked.sealed → text ≡ plain_bytes m) }
     ensures again { (name : AnyName) (number : ℕ) (m p : Message)
@@ -42,8 +42,7 @@ pub fn unprotecting_a_protected_request<A: Aead>()
 /// The same of a protected response.
 pub fn unprotecting_a_protected_response<A: Aead>()
     ensures answered { (name : AnyName) (number : ℕ) (own : Option ℕ) (m p : Message)
-        → IfSome own (λ n. n ≤ greatest_number)
-        → HasSpelling m → has_oscore m.options ≡ false → IsProtectedResponse A.is_sealing name number own m p
+        → IfSome own (λ n. n ≤ greatest_number) → IsProtectedResponse A.is_sealing name number own m p
         → (answered : Answered) × IsResponse p answered × (answered.own ≡ own)
         × ((text : List ℕ) → A.is_sealing (key_of name Server) (response_nonce name number own) (aad_of name number) text answered.sealed → text ≡ plain_bytes m) }
     ensures again { (name : AnyName) (number : ℕ) (own : Option ℕ) (m p : Message)

@@ -187,9 +187,6 @@ fn requests(rt: HostRuntime) -> Result<(), Fail> {
         assert!(rt; note.aad == made.note.aad);
         assert!(rt; !window.is_fresh(20));
     }
-    laws::aad_tells_the_number();
-    laws::unprotecting_a_protected_request::<Ccm<8>>();
-    laws::unprotecting_a_protected_response::<Ccm<8>>();
     Ok(())
 }
 

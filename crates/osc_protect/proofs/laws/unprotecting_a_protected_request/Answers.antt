@@ -6,7 +6,7 @@ use Rattle.osc_protect.proofs.LawMessages.{request_says}
 use Rattle.osc_protect.proofs.laws.unprotecting_a_protected_request.Goals as goal
 
 pub returns-clause-asked : goal.returns-clause-asked
-returns-clause-asked g c = λ name number m p short fits lawful none made.
+returns-clause-asked g c = λ name number m p short fits made.
     request_says g.A.Aead.is_sealing g.A.Aead.TAG g.met.A.Aead.one_text g.met.A.Aead.sealed_length name number m p short fits made
 
 pub returns-clause-again : goal.returns-clause-again
