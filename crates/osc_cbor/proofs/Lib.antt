@@ -10,3 +10,4 @@ pub mod RefuseLaws
 pub mod FailLaws
 pub mod ReadLaws
 pub mod OneItem
+pub mod WholeLemmas

@@ -45,6 +45,11 @@ pub record Begins (bytes : List ℕ) (d : DataItem) (count : ℕ) : Type 0 where
   pub spelled : Spells (take count bytes) d
   pub shallow : nesting d ≤ most_nesting
 
+-- the bytes are this one item, all of them, and it isn't nested too deep
+pub record IsWhole (bytes : List ℕ) (d : DataItem) : Type 0 where
+  pub spelled : Spells bytes d
+  pub shallow : nesting d ≤ most_nesting
+
 -- ---- the spelling with the shortest heads (section 4.1)
 
 abbrev mutual

@@ -10,12 +10,14 @@ mod item;
 pub mod laws;
 mod reader;
 mod same;
+mod whole;
 mod writer;
 
 pub use error::ReadError;
 pub use heads::{HEAD_LIMIT, Major, head};
 pub use item::Item;
 pub use reader::read;
+pub use whole::read_whole;
 pub use writer::write;
 
 #[cfg(test)]

@@ -1,6 +1,6 @@
 -- Lemmas.
-mod WholeLemmas
 mod ProtectedLemmas
 mod StructureLemmas
 mod PartsLemmas
 mod OpenLemmas
+mod WritingLemmas

@@ -4,7 +4,8 @@ use Rattle.std.specs.Option.{is_some, option_map}
 use Rattle.std.proofs.lemmas.Bool.{false≢true}
 use Rattle.osc_cbor.specs.Data.{DataItem, unsigned, negative, byte_string, text_string, array, map, tag, bool, null}
 use Rattle.osc_cbor.specs.Parts.{as_map, value}
-use Rattle.osc_cose.specs.Encrypt0.{IsWhole, IsProtected, NamesAlgorithm}
+use Rattle.osc_cbor.specs.Spelling.{IsWhole}
+use Rattle.osc_cose.specs.Encrypt0.{IsProtected, NamesAlgorithm}
 
 pub protected_from_map : (bytes : List ℕ) (d : DataItem) → IsWhole bytes d → is_some (as_map d) ≡ true → IsProtected bytes
 protected_from_map bytes (map ps) w e = IsProtected.holds ps w

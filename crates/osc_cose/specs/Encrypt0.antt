@@ -1,15 +1,10 @@
 -- COSE_Encrypt0 objects (RFC 9052 section 5.2), with the header parameters kid and IV.
-use Rattle.std.specs.Prelude.{◌≡◌, ℕ, ◌≤◌, ◌==◌, if◌then◌else◌, List, [], Some, option_map, codes}
-use Rattle.osc_cbor.specs.Data.{DataItem, unsigned, byte_string, text_string, array, map, tag, no_items, item, Pairs, value_under, nesting, most_nesting}
-use Rattle.osc_cbor.specs.Spelling.{Spells, spelling}
+use Rattle.std.specs.Prelude.{◌≡◌, ℕ, ◌≤◌, ◌==◌, if◌then◌else◌, List, [], Option, Some, None, option_map, codes}
+use Rattle.osc_cbor.specs.Data.{DataItem, unsigned, byte_string, text_string, array, map, tag, no_items, item, Pairs, no_pairs, pair, value_under}
+use Rattle.osc_cbor.specs.Spelling.{IsWhole, spelling}
 use Rattle.osc_cose.specs.declared.encrypt0.Encrypt0.{Encrypt0}
 
 -- ---- which bytes are which object
-
--- the bytes are one whole item
-pub record IsWhole (bytes : List ℕ) (d : DataItem) : Type 0 where
-  pub spelled : Spells bytes d
-  pub shallow : nesting d ≤ most_nesting
 
 -- the protected header: empty, or a map (section 3)
 pub data IsProtected (bytes : List ℕ) : Type 0 where
@@ -28,6 +23,15 @@ pub record IsObject (d : DataItem) (object : Encrypt0) : Type 0 where
   pub protected : IsProtected object.protected
   pub kid : value_under 4 unprotected ≡ option_map byte_string object.kid
   pub iv : value_under 5 unprotected ≡ option_map byte_string object.iv
+
+-- a parameter of a header, where it is there, before the others
+abbrev pub parameter : ℕ → Option (List ℕ) → Pairs → Pairs
+parameter label None others = others
+parameter label (Some bytes) others = pair (unsigned label) (byte_string bytes) others
+
+-- the item of an object, without a tag and with no other parameters than kid and IV
+abbrev pub object_item : Encrypt0 → DataItem
+object_item object = array (item (byte_string object.protected) (item (map (parameter 4 object.kid (parameter 5 object.iv no_pairs))) (item (byte_string object.ciphertext) no_items)))
 
 -- ---- how it is encrypted
 

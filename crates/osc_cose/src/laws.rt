@@ -1,7 +1,7 @@
 //! Laws of the definitions. These functions do nothing: whoever calls one has its clauses for a proof.
 
 ghost use Rattle.std.specs.Prelude.{◌≡◌, ℕ, List};
-ghost use Rattle.osc_cose.specs.Encrypt0.{enc_structure as structure};
+ghost use Rattle.osc_cose.specs.Encrypt0.{IsObject, IsProtected, object_item, enc_structure as structure};
 ghost use Rattle.osc_cose.specs.declared.encrypt0.Encrypt0.{Encrypt0 as AnyObject};
 
 use osc_ccm::Aead;
@@ -13,4 +13,9 @@ pub fn one_text<A: Aead>()
         → A.is_sealing key nonce (structure object.protected external_aad) text object.ciphertext
         → A.is_sealing key nonce (structure object.protected external_aad) other object.ciphertext
         → text ≡ other }
+{}
+
+/// The item of an object is the item of this object, so what is written is read again.
+pub fn what_is_written()
+    ensures { (object : AnyObject) → IsProtected object.protected → IsObject (object_item object) object }
 {}

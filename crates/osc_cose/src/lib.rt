@@ -12,15 +12,16 @@ mod parts;
 mod protected;
 mod sealing;
 mod structure;
-mod whole;
+mod writing;
 
 pub use encrypt0::Encrypt0;
 pub use error::{OpenError, ParseError, SealError};
-pub use laws::one_text;
+pub use laws::{one_text, what_is_written};
 pub use opening::open0;
-pub use parsing::parse0;
+pub use parsing::{object_of, parse0};
 pub use sealing::seal0;
 pub use structure::enc_structure;
+pub use writing::write0;
 
 #[cfg(test)]
 mod tests;

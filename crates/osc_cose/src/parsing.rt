@@ -4,27 +4,25 @@ ghost use Rattle.std.specs.Prelude.{◌≡◌, ◌⊎◌, ℕ, List, Option, opt
 ghost use Rattle.osc_cbor.specs.Data.{DataItem, byte_string};
 ghost use Rattle.osc_cbor.specs.Parts as part;
 ghost use Rattle.osc_cbor.specs.View.{view};
-ghost use Rattle.osc_cose.specs.Encrypt0.{IsWhole, IsObject};
+ghost use Rattle.osc_cbor.specs.Spelling.{IsWhole};
+ghost use Rattle.osc_cose.specs.Encrypt0.{IsObject};
 ghost use Rattle.osc_cose.specs.declared.encrypt0.Encrypt0.{Encrypt0 as AnyObject};
 
 use crate::encrypt0::Encrypt0;
 use crate::error::ParseError;
 use crate::parts::parts;
 use crate::protected::is_protected;
-use crate::whole::whole;
-use osc_cbor::Item;
+use osc_cbor::{Item, read_whole};
 use osc_model::Bytes;
 use std::alloc::Global;
 
 /// The label of the key identifier in a header (RFC 9052 section 3.1).
-const KID: u64 = 4;
+pub(crate) const KID: u64 = 4;
 
 /// The label of the initialisation vector in a header (RFC 9052 section 3.1).
-const IV: u64 = 5;
+pub(crate) const IV: u64 = 5;
 
-/// The object that the bytes are, all of them: `[protected, unprotected, ciphertext]`, with or without the tag 16. The
-/// protected header is a byte string that is empty or holds a map, the unprotected one a map; kid and IV are byte strings
-/// where they are there; other header parameters are ignored.
+/// The object that the bytes are, all of them, as [`object_of`] finds it in their item.
 ///
 /// # Errors
 ///
@@ -36,15 +34,23 @@ pub fn parse0(alloc: Global, bytes: &[u8]) -> Result<Encrypt0, ParseError>
     ensures only { (d : DataItem) (object : AnyObject) → IsWhole bytes.now d → IsObject d object
         → (result ≡ Ok object) ⊎ (result ≡ Err ParseError.Memory) }
 {
-    match whole(alloc, bytes)? {
+    match read_whole(alloc, bytes)? {
         Some(item) => object_of(alloc, &item),
         None => Err(ParseError::Shape),
     }
 }
 
-/// The object that the item is.
-fn object_of(alloc: Global, item: &Item) -> Result<Encrypt0, ParseError>
+/// The object that the item is: `[protected, unprotected, ciphertext]`, with or without the tag 16. The protected header is a
+/// byte string that is empty or holds a map, the unprotected one a map; kid and IV are byte strings where they are there;
+/// other header parameters are ignored.
+///
+/// # Errors
+///
+/// `Shape` where the item is none, `Memory` for want of memory.
+pub fn object_of(alloc: Global, item: &Item) -> Result<Encrypt0, ParseError>
+    // What is found is such an object ..
     ensures found { IfOk result (λ object. IsObject (view item.now) object) }
+    // .. and each such object is found.
     ensures only { (object : AnyObject) → IsObject (view item.now) object
         → (result ≡ Ok object) ⊎ (result ≡ Err ParseError.Memory) }
 {

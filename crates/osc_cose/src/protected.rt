@@ -6,8 +6,7 @@ ghost use Rattle.osc_cbor.specs.Parts as part;
 ghost use Rattle.osc_cbor.specs.View.{view};
 ghost use Rattle.osc_cose.specs.Encrypt0.{IsProtected, NamesAlgorithm};
 
-use crate::whole::whole;
-use osc_cbor::Item;
+use osc_cbor::{Item, read_whole};
 use std::alloc::{AllocError, Global};
 
 /// The algorithm AES-CCM-16-64-128 (RFC 9053 section 4.2).
@@ -23,7 +22,7 @@ pub(crate) fn is_protected(alloc: Global, bytes: &[u8]) -> Result<bool, AllocErr
     if bytes.is_empty() {
         return Ok(true);
     }
-    Ok(match whole(alloc, bytes)? {
+    Ok(match read_whole(alloc, bytes)? {
         Some(item) => item.as_map().is_some(),
         None => false,
     })
@@ -36,7 +35,7 @@ pub(crate) fn names_algorithm(alloc: Global, bytes: &[u8]) -> Result<bool, Alloc
     if bytes.is_empty() {
         return Ok(true);
     }
-    Ok(match whole(alloc, bytes)? {
+    Ok(match read_whole(alloc, bytes)? {
         Some(item) => has_algorithm(&item),
         None => false,
     })

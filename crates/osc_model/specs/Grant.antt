@@ -17,10 +17,17 @@ pub record Grant : Type 0 where
   pub expires : Option ℕ
   pub holder : ℕ
 
--- the moment is in the grant's time; an absent bound sets none
+-- A token's dates are whole seconds, and moments are milliseconds. An absent date sets no bound.
+abbrev pub HasBegun : Option ℕ → Moment → Type 0
+HasBegun not_before moment = ForSome not_before (λ seconds. seconds ≤ moment.0 / 1000)
+
+abbrev pub IsNotOver : Option ℕ → Moment → Type 0
+IsNotOver expires moment = ForSome expires (λ seconds. moment.0 / 1000 < seconds)
+
+-- the moment is in the grant's time
 pub record IsTimely (grant : Grant) (moment : Moment) : Type 0 where
-  pub begun : ForSome grant.not_before (λ seconds. seconds ≤ moment.0 / 1000)
-  pub not_over : ForSome grant.expires (λ seconds. moment.0 / 1000 < seconds)
+  pub begun : HasBegun grant.not_before moment
+  pub not_over : IsNotOver grant.expires moment
 
 -- a context belongs to the grant with its secret
 abbrev pub grant_of : List Grant → ContextName → Option Grant

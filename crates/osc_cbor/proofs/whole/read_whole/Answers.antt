@@ -1,6 +1,6 @@
 use Rattle.std.proofs.Common.{Ok, Err}
-use Rattle.osc_cose.proofs.WholeLemmas.{whole_found, whole_is_given}
-use Rattle.osc_cose.proofs.whole.whole.Goals as goal
+use Rattle.osc_cbor.proofs.WholeLemmas.{whole_found, whole_is_given}
+use Rattle.osc_cbor.proofs.whole.read_whole.Goals as goal
 
 pub returns-in-Ok : goal.returns-in-Ok
 returns-in-Ok c =

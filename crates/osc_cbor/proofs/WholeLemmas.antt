@@ -5,12 +5,11 @@ use Rattle.std.specs.Bool.{then_some}
 use Rattle.std.proofs.lemmas.List.{append-nil, take_all}
 use Rattle.std.proofs.lemmas.Bool.{false≢true}
 use Rattle.osc_cbor.specs.Data.{DataItem, nesting, most_nesting}
-use Rattle.osc_cbor.specs.Spelling.{Spells, Begins}
+use Rattle.osc_cbor.specs.Spelling.{Spells, Begins, IsWhole}
 use Rattle.osc_cbor.specs.Errors.{GivesItem}
 use Rattle.osc_cbor.specs.View.{view}
 use Rattle.osc_cbor.specs.declared.item.Item.{Item}
 use Rattle.osc_cbor.specs.declared.error.ReadError.{ReadError}
-use Rattle.osc_cose.specs.Encrypt0.{IsWhole}
 
 -- What begins the bytes, and takes all of them, is the whole.
 pub whole_from_begins : (bytes : List ℕ) (d : DataItem) (n : ℕ) → Begins bytes d n → n ≡ length bytes → IsWhole bytes d
