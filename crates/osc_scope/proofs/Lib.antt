@@ -1,1 +1,9 @@
 pub mod Sets
+mod EntryLemmas
+mod PathLemmas
+mod Parting
+mod MethodLemmas
+mod NameLemmas
+mod TextLemmas
+mod SameScope
+mod Spelled

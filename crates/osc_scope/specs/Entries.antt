@@ -1,0 +1,54 @@
+-- Scopes as bytes: authorization information in the form of RFC 9237, an array of pairs of a path and a set of methods.
+use Rattle.std.specs.Prelude.{ℕ, ◌/◌, ◌%◌, ◌≤◌, ◌==◌, Bool, List, [], ◌∷◌, map, filter, flat_map}
+use Rattle.std.specs.List.{All}
+use Rattle.std.specs.FinSet as set
+use Rattle.osc_model.specs.Path.{IsPath}
+use Rattle.osc_model.specs.Scope.{Scope}
+use Rattle.osc_model.specs.declared.code.Method.{Method}
+use Rattle.osc_model.specs.declared.code.Method.TheVariants.{Get, Post, Put, Delete}
+use Rattle.osc_cbor.specs.Data.{DataItem, Items, no_items, item, array, text_string, unsigned}
+use Rattle.osc_cbor.specs.Spelling.{IsWhole}
+
+-- the text of a path, and a set of methods as a number
+pub record Entry : Type 0 where
+  pub path : List ℕ
+  pub mask : ℕ
+
+-- the bit of a method in the set (RFC 9237 section 3)
+abbrev pub bit_of : Method → ℕ
+bit_of Get = 1
+bit_of Post = 2
+bit_of Put = 4
+bit_of Delete = 8
+
+abbrev pub has : ℕ → Method → Bool
+has mask method = mask / bit_of method % 2 == 1
+
+abbrev pub methods : List Method
+methods = Get ∷ Post ∷ Put ∷ Delete ∷ []
+
+-- the pairs that an entry stands for: its path with each method of its set
+abbrev pub permissions : Entry → List (List ℕ × Method)
+permissions entry = map (λ method. (entry.path, method)) (filter (has entry.mask) methods)
+
+-- the scope has the pairs of all entries: those of one path are joined
+abbrev pub scope_of : List Entry → Scope
+scope_of entries = set.from_list (flat_map permissions entries)
+
+-- a path, and one method or more of the four
+pub record IsLawful (entry : Entry) : Type 0 where
+  pub is_path : IsPath entry.path
+  pub some : 1 ≤ entry.mask
+  pub known : entry.mask ≤ 15
+
+abbrev pub entry_item : Entry → DataItem
+entry_item entry = array (item (text_string entry.path) (item (unsigned entry.mask) no_items))
+
+abbrev pub entry_items : List Entry → Items
+entry_items [] = no_items
+entry_items (entry ∷ entries) = item (entry_item entry) (entry_items entries)
+
+-- the bytes are a scope of these entries
+pub record IsScope (bytes : List ℕ) (entries : List Entry) : Type 0 where
+  pub whole : IsWhole bytes (array (entry_items entries))
+  pub lawful : All IsLawful entries

@@ -1,0 +1,8 @@
+-- The numbers of the refusals.
+use Rattle.std.specs.Prelude.{ℕ}
+use Rattle.osc_scope.specs.declared.error.ScopeError.{ScopeError}
+use Rattle.osc_scope.specs.declared.error.ScopeError.TheVariants.{BadScope, Memory}
+
+abbrev pub number_of : ScopeError → ℕ
+number_of BadScope = 24
+number_of Memory = 9

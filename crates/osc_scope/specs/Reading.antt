@@ -1,0 +1,63 @@
+-- Reading entries, one after another. No public contract rests on this.
+use Rattle.std.specs.Prelude.{◌≡◌, ◌≢◌, ℕ, List, [], ◌∷◌, map, Option, Some, None, option_and_then, option_map}
+use Rattle.std.specs.List.{All, sum_by}
+use Rattle.std.specs.FinSet as set
+use Rattle.osc_model.specs.Path.{IsPath}
+use Rattle.osc_model.specs.Scope.{Scope}
+use Rattle.osc_model.specs.declared.code.Method.{Method}
+use Rattle.osc_cbor.specs.Data.{DataItem, Items, no_items, item}
+use Rattle.osc_cbor.specs.Parts.{as_array, as_text, as_unsigned}
+use Rattle.osc_scope.specs.Entries.{Entry, IsLawful, bit_of, entry_items, scope_of}
+use Rattle.osc_scope.specs.Text.{Written, AreApart, name_of, entry_text, entry_of}
+
+-- ---- bytes
+
+-- the items of an array of two
+abbrev pub two_of : Items → Option (DataItem × DataItem)
+two_of (item a (item b no_items)) = Some (a, b)
+two_of _ = None
+
+-- a text and an unsigned number
+abbrev pub typed : DataItem × DataItem → Option (List ℕ × ℕ)
+typed (a, b) = option_and_then (λ text. option_map (λ mask. (text, mask)) (as_unsigned b)) (as_text a)
+
+abbrev pub pair_of : DataItem → Option (List ℕ × ℕ)
+pair_of d = option_and_then typed (option_and_then two_of (as_array d))
+
+abbrev pub entry_with : List ℕ × ℕ → Entry
+entry_with pair = record { path = pair.0; mask = pair.1 }
+
+-- the scope with these pairs too
+abbrev pub with_all : Scope → List (List ℕ × Method) → Scope
+with_all scope [] = scope
+with_all scope (pair ∷ pairs) = with_all (set.insert scope pair) pairs
+
+-- the items are those of entries, and the scope is that of them
+pub record Grants (items : Items) (scope : Scope) : Type 0 where
+  pub entries : List Entry
+  pub lawful : All IsLawful entries
+  pub spelled : items ≡ entry_items entries
+  pub granted : scope ≡ scope_of entries
+
+-- ---- text
+
+-- an entry that was cut out of a scope's text: that its path is without `,` is known from the cut
+pub record IsEntry (entry : Written) : Type 0 where
+  pub is_path : IsPath entry.path
+  pub no_colon : All (λ byte. byte ≢ 58) entry.path
+  pub some : entry.methods ≢ []
+  pub apart : AreApart entry.methods
+
+-- the texts are those of entries, and the items too
+pub record Says (texts : List (List ℕ)) (items : Items) : Type 0 where
+  pub entries : List Written
+  pub lawful : All IsEntry entries
+  pub spelled : texts ≡ map entry_text entries
+  pub written : items ≡ entry_items (map entry_of entries)
+
+-- the texts are the names of methods, none twice, and the number is their set
+pub record Names (names : List (List ℕ)) (mask : ℕ) : Type 0 where
+  pub methods : List Method
+  pub apart : AreApart methods
+  pub spelled : names ≡ map name_of methods
+  pub counted : mask ≡ sum_by bit_of methods

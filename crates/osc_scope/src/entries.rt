@@ -1,0 +1,113 @@
+//! Scopes as bytes (RFC 9237): an array of pairs of a path and a set of methods.
+
+ghost use Rattle.std.specs.Prelude.{◌≡◌, ◌⊎◌, List, IfOk, OnOk, Ok, Err, option_map};
+ghost use Rattle.std.specs.List.{All};
+ghost use Rattle.osc_cbor.specs.Data.{array};
+ghost use Rattle.osc_cbor.specs.View.{view, items_view};
+ghost use Rattle.osc_scope.specs.Entries.{Entry, IsLawful, IsScope, scope_of, permissions, entry_item, entry_items};
+ghost use Rattle.osc_scope.specs.Reading.{two_of, pair_of, entry_with, with_all, Grants};
+
+use crate::error::ScopeError;
+use crate::methods::{ALL_METHODS, has};
+use crate::scope::Scope;
+use osc_cbor::{Item, read_whole};
+use osc_model::{Method, Path};
+use std::alloc::{AllocError, Global};
+
+impl Scope {
+    /// The scope that the bytes are, all of them: a CBOR array of arrays of two, the text of a path and the set of methods
+    /// on it, as a number whose bits are 1 GET, 2 POST, 4 PUT and 8 DELETE. Entries of one path are joined; no entries
+    /// grant nothing.
+    ///
+    /// # Errors
+    ///
+    /// `BadScope` where the bytes are none: a text that is no path, or a set that is empty or has another bit, too.
+    pub fn from_cbor(alloc: Global, bytes: &[u8]) -> Result<Scope, ScopeError>
+        // What is read is the scope of its entries ..
+        ensures found { IfOk result (λ scope. (entries : List Entry) × IsScope bytes.now entries × (scope ≡ scope_of entries)) }
+        // .. and each scope's bytes are read.
+        ensures only { (entries : List Entry) → IsScope bytes.now entries
+            → (result ≡ Ok (scope_of entries)) ⊎ (result ≡ Err ScopeError.Memory) }
+    {
+        match read_whole(alloc, bytes)? {
+            Some(item) => scope_in(alloc, &item),
+            None => Err(ScopeError::BadScope),
+        }
+    }
+}
+
+/// The scope of the entries that the item is an array of.
+fn scope_in(alloc: Global, item: &Item) -> Result<Scope, ScopeError>
+    ensures found { IfOk result (λ scope. (entries : List Entry) × All IsLawful entries
+        × (view item.now ≡ array (entry_items entries)) × (scope ≡ scope_of entries)) }
+    ensures bad { result ≡ Err ScopeError.BadScope
+        → (entries : List Entry) → All IsLawful entries → ¬ (view item.now ≡ array (entry_items entries)) }
+{
+    match item.as_array() {
+        Some(items) => granted(alloc, items),
+        None => Err(ScopeError::BadScope),
+    }
+}
+
+/// The scope of the entries that the items are.
+fn granted(alloc: Global, items: &[Item]) -> Result<Scope, ScopeError>
+    ensures found { IfOk result (λ scope. Grants (items_view items.now) scope) }
+    ensures bad { result ≡ Err ScopeError.BadScope
+        → (entries : List Entry) → All IsLawful entries → ¬ (items_view items.now ≡ entry_items entries) }
+{
+    let mut scope = Scope::new(alloc);
+    for item in items {
+        let (path, mask) = entry(alloc, item)?;
+        allow_each(&mut scope, &path, mask)?;
+    }
+    Ok(scope)
+}
+
+/// The path and the set of methods of the entry that the item is.
+fn entry(alloc: Global, item: &Item) -> Result<(Path, u64), ScopeError>
+    ensures lawful { IfOk result (λ found. IsLawful (entry_with found)) }
+    ensures found { IfOk result (λ found. view item.now ≡ entry_item (entry_with found)) }
+    ensures bad { result ≡ Err ScopeError.BadScope
+        → (entry : Entry) → IsLawful entry → ¬ (view item.now ≡ entry_item entry) }
+{
+    let Some((text, mask)) = text_and_number(item) else {
+        return Err(ScopeError::BadScope);
+    };
+    if mask == 0 || mask > ALL_METHODS {
+        return Err(ScopeError::BadScope);
+    }
+    match Path::from_text(alloc, text.as_bytes())? {
+        Some(path) => Ok((path, mask)),
+        None => Err(ScopeError::BadScope),
+    }
+}
+
+/// The text and the number, where the item is an array of these two.
+fn text_and_number(item: &Item) -> Option<(&str, u64)>
+    ensures { option_map (λ found. (found.0.now, found.1)) result ≡ pair_of (view item.now) }
+{
+    let (text, number) = two(item.as_array()?)?;
+    Some((text.as_text()?, number.as_unsigned()?))
+}
+
+/// The items, where they are two.
+fn two(items: &[Item]) -> Option<(&Item, &Item)>
+    ensures { option_map (λ found. (view found.0.now, view found.1.now)) result ≡ two_of (items_view items.now) }
+{
+    match items {
+        [first, second] => Some((first, second)),
+        _ => None,
+    }
+}
+
+/// Adds each method of the set on the path.
+fn allow_each(scope: &mut Scope, path: &Path, mask: u64) -> Result<(), AllocError>
+    ensures { OnOk result (scope.new ≡ with_all scope.old (permissions (entry_with (path.now, mask)))) }
+{
+    for method in [Method::Get, Method::Post, Method::Put, Method::Delete] {
+        if has(mask, method) {
+            scope.allow(path.clone()?, method)?;
+        }
+    }
+    Ok(())
+}

@@ -1,0 +1,37 @@
+//! Laws of the definitions, for the crates above. These functions do nothing: whoever calls one has its clauses for a proof.
+
+ghost use Rattle.std.specs.Prelude.{◌≡◌, ◌<◌, ◌^◌, ◌||◌, ◌&&◌, ℕ, List, map, length, bytes_eq};
+ghost use Rattle.std.specs.FinSet as set;
+ghost use Rattle.std.specs.List.{list_any};
+ghost use Rattle.osc_cbor.specs.Data.{array};
+ghost use Rattle.osc_cbor.specs.Spelling.{spelling};
+ghost use Rattle.osc_model.specs.declared.code.Method.{Method as AnyMethod};
+ghost use Rattle.osc_scope.specs.Entries.{Entry, IsScope, scope_of, has, entry_items};
+ghost use Rattle.osc_scope.specs.Text.{Written, IsScopeText, scope_written, entry_of};
+
+/// What a text says is what the bytes stand for that are written for it.
+pub fn text_and_bytes()
+    // They are bytes of a scope, ..
+    ensures bytes { (text : List ℕ) (entries : List Written) → IsScopeText text entries → length text < 2 ^ 64
+        → IsScope (spelling (array (entry_items (map entry_of entries)))) (map entry_of entries) }
+    // .. and of the same one.
+    ensures scope { (text : List ℕ) (entries : List Written) → IsScopeText text entries
+        → scope_of (map entry_of entries) ≡ scope_written entries }
+{
+    osc_cbor::laws::what_is_written();
+}
+
+/// A scope of entries has a method on a path exactly where one of the entries has the path and the method.
+pub fn one_of_the_entries()
+    ensures { (entries : List Entry) (path : List ℕ) (method : AnyMethod)
+        → set.contains (scope_of entries) (path, method)
+        ≡ list_any (λ entry. bytes_eq path entry.path && has entry.mask method) entries }
+{}
+
+/// Bytes are a scope of one list of entries at most.
+pub fn one_scope()
+    ensures { (bytes : List ℕ) (entries others : List Entry)
+        → IsScope bytes entries → IsScope bytes others → entries ≡ others }
+{
+    osc_cbor::laws::one_item();
+}
