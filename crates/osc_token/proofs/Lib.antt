@@ -1,0 +1,9 @@
+-- Lemmas.
+mod OpeningLemmas
+mod MintingLemmas
+mod TokenLaws
+mod ReadingLemmas
+mod JudgingLemmas
+mod OutcomeLemmas
+mod FieldLemmas
+mod MintedLemmas

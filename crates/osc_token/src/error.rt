@@ -1,0 +1,92 @@
+//! Why a token is refused or not minted.
+
+ghost use Rattle.std.specs.Prelude.{◌≡◌};
+ghost use Rattle.osc_token.specs.Errors.{token_number, mint_number};
+ghost use Rattle.osc_token.specs.declared.error.TokenError.TheVariants as token_variants;
+ghost use Rattle.osc_token.specs.declared.error.MintError.TheVariants as mint_variants;
+
+use std::alloc::AllocError;
+use thiserror::Error;
+
+/// Why a token is refused: the first of these that stands, in this order, but for `BadClaims`, which answers in the place
+/// of the claims and in that of their input material, and for `Memory`.
+#[derive(Clone, Copy, Debug, PartialEq, Eq, Error)]
+pub enum TokenError {
+    /// It isn't of the form of a token, or doesn't open under the key.
+    #[error("not a genuine token")]
+    NotGenuine,
+    /// Its text is no map, or has a date of another type; or it has no input material for a security context.
+    #[error("the claims can't be read")]
+    BadClaims,
+    /// The moment is before its first second.
+    #[error("the token is not valid yet")]
+    NotYet,
+    /// The moment is at the second at which it expires, or later.
+    #[error("the token has expired")]
+    Expired,
+    /// It is for another audience, or names none.
+    #[error("the token is for another audience")]
+    Audience,
+    /// Its scope is missing, or is none.
+    #[error("the scope can't be read")]
+    BadScope,
+    /// There was no memory.
+    #[error("out of memory")]
+    Memory,
+}
+
+impl TokenError {
+    /// The number by which programs name the refusal.
+    pub fn number(self) -> u8
+        ensures { result ≡ token_number self }
+    {
+        match self {
+            TokenError::NotGenuine => 25,
+            TokenError::BadClaims => 29,
+            TokenError::NotYet => 27,
+            TokenError::Expired => 26,
+            TokenError::Audience => 28,
+            TokenError::BadScope => 24,
+            TokenError::Memory => 9,
+        }
+    }
+}
+
+impl From<AllocError> for TokenError {
+    ghost from_gives = { λ _ e. e ≡ token_variants.Memory };
+
+    fn from(_error: AllocError) -> TokenError {
+        TokenError::Memory
+    }
+}
+
+/// Why no token is minted.
+#[derive(Clone, Copy, Debug, PartialEq, Eq, Error)]
+pub enum MintError {
+    /// The claims have more than 65535 bytes.
+    #[error("the claims are too long")]
+    TooLong,
+    /// There was no memory.
+    #[error("out of memory")]
+    Memory,
+}
+
+impl MintError {
+    /// The number by which programs name the refusal.
+    pub fn number(self) -> u8
+        ensures { result ≡ mint_number self }
+    {
+        match self {
+            MintError::TooLong => 1,
+            MintError::Memory => 9,
+        }
+    }
+}
+
+impl From<AllocError> for MintError {
+    ghost from_gives = { λ _ e. e ≡ mint_variants.Memory };
+
+    fn from(_error: AllocError) -> MintError {
+        MintError::Memory
+    }
+}

@@ -1,0 +1,157 @@
+//! The input material of claims.
+
+ghost use Rattle.std.specs.Prelude.{◌≡◌, IfOk, option_map, option_copied};
+ghost use Rattle.osc_cbor.specs.Parts as part;
+ghost use Rattle.osc_cbor.specs.View.{view};
+ghost use Rattle.osc_token.specs.Reading as spec;
+
+use crate::claims::InputMaterial;
+use crate::labels::{
+    ALGORITHM, CONFIRMATION, HKDF, ID, ID_CONTEXT, MATERIAL, SALT, SECRET, VERSION,
+};
+use osc_cbor::Item;
+use osc_model::Bytes;
+use std::alloc::{AllocError, Global};
+use std::marker::Model;
+
+/// The version of OSCORE that RFC 8613 is.
+const OSCORE_1: u64 = 1;
+
+/// HKDF with SHA-256 by its HMAC, HMAC 256/256 (RFC 9053 section 3.1).
+const HMAC_256: u64 = 5;
+
+/// HKDF with SHA-256 by direct+HKDF-SHA-256 (RFC 9053 section 6.1.2): the argument of -10.
+const HKDF_SHA_256: u64 = 9;
+
+/// The algorithm AES-CCM-16-64-128 (RFC 9053 section 4.2).
+const AES_CCM: u64 = 10;
+
+/// The most bytes of a field.
+const LONGEST: usize = 64;
+
+/// Input material, lent by the claims.
+#[derive(Clone, Debug, Drop)]
+pub(crate) struct MaterialRef<'a> {
+    id: &'a [u8],
+    secret: &'a [u8],
+    salt: &'a [u8],
+    id_context: Option<&'a [u8]>,
+}
+
+impl<'a> Model for MaterialRef<'a> {
+    ghost use Rattle.std.specs.Prelude.{option_copied};
+    ghost use Rattle.osc_token.specs.declared.claims.InputMaterial.{InputMaterial as AnyMaterial};
+
+    ghost Value = { AnyMaterial };
+
+    ghost view = { λ m. record { id = m.id.now; secret = m.secret.now; salt = m.salt.now; id_context = option_copied m.id_context } };
+}
+
+impl<'a> MaterialRef<'a> {
+    /// A copy that owns its bytes.
+    pub(crate) fn to_owned(&self, alloc: Global) -> Result<InputMaterial, AllocError>
+        ensures { IfOk result (λ material. material ≡ self.now) }
+    {
+        let id_context = match self.id_context {
+            Some(bytes) => Some(Bytes::from_slice(alloc, bytes)?),
+            None => None,
+        };
+        Ok(InputMaterial {
+            id: Bytes::from_slice(alloc, self.id)?,
+            secret: Bytes::from_slice(alloc, self.secret)?,
+            salt: Bytes::from_slice(alloc, self.salt)?,
+            id_context,
+        })
+    }
+}
+
+/// The input material of the claims, where they have it.
+pub(crate) fn material_in(claims: &Item) -> Option<MaterialRef<'_>>
+    ensures { result ≡ spec.material_in (view claims.now) }
+{
+    material_of(claims.value(CONFIRMATION)?.value(MATERIAL)?)
+}
+
+/// The input material of these fields, where they name what is supported.
+fn material_of(fields: &Item) -> Option<MaterialRef<'_>>
+    ensures { result ≡ spec.material_of (view fields.now) }
+{
+    if are_known(fields) {
+        parts_of(fields)
+    } else {
+        None
+    }
+}
+
+/// The input material of these fields, whatever version and algorithms they name.
+fn parts_of(fields: &Item) -> Option<MaterialRef<'_>>
+    ensures { result ≡ spec.parts_of (view fields.now) }
+{
+    Some(MaterialRef {
+        id: sized(fields.value(ID)?, 0)?,
+        secret: sized(fields.value(SECRET)?, 1)?,
+        salt: salt(fields)?,
+        id_context: id_context(fields)?,
+    })
+}
+
+/// The salt, empty where there is none.
+fn salt(fields: &Item) -> Option<&[u8]>
+    ensures { option_copied result ≡ spec.salt_of (part.value 5 (view fields.now)) }
+{
+    match fields.value(SALT) {
+        Some(value) => sized(value, 0),
+        None => Some(&[]),
+    }
+}
+
+/// The id context, where there is one; none where it is no such field.
+fn id_context(fields: &Item) -> Option<Option<&[u8]>>
+    ensures { option_map option_copied result ≡ spec.id_context_of (part.value 6 (view fields.now)) }
+{
+    match fields.value(ID_CONTEXT) {
+        Some(value) => Some(Some(sized(value, 0)?)),
+        None => Some(None),
+    }
+}
+
+/// The bytes of a field, if it is a byte string of at least so many and at most [`LONGEST`].
+fn sized(value: &Item, least: usize) -> Option<&[u8]>
+    ensures { option_copied result ≡ spec.sized least (view value.now) }
+{
+    let bytes = value.as_bytes()?;
+    if bytes.len() < least || bytes.len() > LONGEST {
+        None
+    } else {
+        Some(bytes)
+    }
+}
+
+/// Whether version, HKDF and algorithm are those that are supported, where they are named.
+fn are_known(fields: &Item) -> bool
+    ensures { result ≡ spec.are_known (view fields.now) }
+{
+    is_absent_or(fields.value(VERSION), OSCORE_1)
+        && is_hkdf(fields.value(HKDF))
+        && is_absent_or(fields.value(ALGORITHM), AES_CCM)
+}
+
+/// Whether the value is this number, where there is one.
+fn is_absent_or(value: Option<&Item>, number: u64) -> bool
+    ensures { result ≡ spec.is_absent_or number (option_map (λ item. view item.now) value.entry) }
+{
+    match value {
+        Some(item) => item.as_unsigned() == Some(number),
+        None => true,
+    }
+}
+
+/// Whether the value is HKDF with SHA-256, where there is one.
+fn is_hkdf(value: Option<&Item>) -> bool
+    ensures { result ≡ spec.is_hkdf (option_map (λ item. view item.now) value.entry) }
+{
+    match value {
+        Some(Item::Negative(argument)) => *argument == HKDF_SHA_256,
+        _ => is_absent_or(value, HMAC_256),
+    }
+}
