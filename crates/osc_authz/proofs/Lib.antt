@@ -1,0 +1,12 @@
+-- Lemmas that the proofs cite.
+pub mod Parts
+pub mod Pigeon
+pub mod TableLaws
+pub mod Lookups
+mod PayloadLemmas
+mod AnswerLemmas
+mod FinishLemmas
+mod PostLemmas
+mod OutcomeLemmas
+mod ExchangeLemmas
+mod AgreementLemmas

@@ -1,0 +1,150 @@
+-- A post comes to one outcome.
+use Rattle.std.proofs.Common.{◌≡◌, ℕ, List, Some, None, Result, Ok, Err, refl, sym, ap, ap₂, subst, ◌∙◌, arith, inl, inr}
+use Rattle.std.proofs.lemmas.Bool.{cases_lt}
+use Rattle.osc_model.specs.Scope.{Scope}
+use Rattle.osc_model.specs.declared.node.Draw.{Draw}
+use Rattle.osc_model.specs.declared.node.Moment.{Moment}
+use Rattle.osc_model.specs.declared.step.Note.{Note}
+use Rattle.osc_token.specs.Claims.{ComesTo}
+use Rattle.osc_token.specs.Token.{IsToken, token_note}
+use Rattle.osc_token.specs.declared.claims.Claims.{Claims}
+use Rattle.osc_token.specs.declared.error.TokenError.{TokenError}
+use Rattle.osc_authz.specs.Agreement.{new_context, Agrees, Answers, refused, full, agreed}
+use Rattle.osc_authz.specs.Desk.{DeskState}
+use Rattle.osc_authz.specs.Exchange.{IsPost}
+use Rattle.osc_authz.specs.Post.{nonce_drawn, IsOpened, Posts}
+use Rattle.osc_authz.specs.Table.{IsFull, IsLeastFree, alive, with_pending}
+use Rattle.osc_authz.specs.declared.error.PostError.{PostError}
+use Rattle.osc_authz.specs.declared.error.PostError.TheVariants as post_error
+use Rattle.osc_authz.specs.declared.post.Post.{Post}
+use Rattle.osc_authz.specs.declared.post.PostAnswer.{PostAnswer}
+
+-- ---- what is answered, once the text is known
+
+abbrev pub IsOneResult : Type 0
+IsOneResult = (text audience : List ℕ) (now : Moment) (one other : Result (Claims × Scope) TokenError)
+    → ComesTo text audience now one → ComesTo text audience now other → one ≡ other
+
+least_once : (taken : List (List ℕ)) (a b : ℕ) → IsLeastFree taken a → IsLeastFree taken b → a ≡ b
+least_once taken a b p q =
+    elim (cases_lt a b) [
+      | inl below ↦ absurd (p.free (q.least a below))
+      | inr above ↦ elim (cases_lt b a) [
+        | inl below ↦ absurd (q.free (p.least b below))
+        | inr under ↦ omega arith
+      ]
+    ]
+
+made_of : List ℕ → ℕ → PostAnswer
+made_of nonce2 byte = record { nonce2 = nonce2; recipient_id = byte }
+
+granted_is : (one other : Claims × Scope) → ◌≡◌ {A = Result (Claims × Scope) TokenError} (Ok one) (Ok other) → one ≡ other
+granted_is one other e = cc
+
+module _ (before : DeskState) (now : Moment) (nonce1 client_id : List ℕ) (draw : Draw) where
+  agrees_once : (claims : Claims) (scope : Scope) (one other : PostAnswer) (after afters : DeskState)
+      → Agrees before now nonce1 client_id claims scope draw one after → Agrees before now nonce1 client_id claims scope draw other afters
+      → (one ≡ other) × (after ≡ afters)
+  unfolding made_of
+  agrees_once claims scope one other after afters p q =
+      let id = least_once _ one.recipient_id other.recipient_id p.free q.free in
+      let nonce : one.nonce2 ≡ other.nonce2 = p.drawn ∙ sym q.drawn in
+      let same : one ≡ other = ap₂ made_of nonce id in
+      (same, p.added ∙ ap (λ m. let d : DeskState = record before { table = with_pending claims.material.id (new_context claims scope nonce1 client_id m) (alive now before.table) } in d) same ∙ sym q.added)
+
+  pub answers_once : IsOneResult → (text : List ℕ) (one other : Result PostAnswer PostError) (after afters : DeskState)
+      → Answers before now nonce1 client_id text draw one after → Answers before now nonce1 client_id text draw other afters
+      → (one ≡ other) × (after ≡ afters)
+  answers_once law text one other after afters (refused e comes is same) (refused f comes2 is2 same2) =
+      let r = law text before.audience now (Err e) (Err f) comes comes2 in
+      let g : e ≡ f = cc in (is ∙ ap (λ x. Err (post_error.Token x)) g ∙ sym is2, same ∙ sym same2)
+  answers_once law text one other after afters (refused e comes is same) (full claims scope comes2 many is2 same2) =
+      let r = law text before.audience now (Err e) (Ok (claims, scope)) comes comes2 in cc
+  answers_once law text one other after afters (refused e comes is same) (agreed claims scope made comes2 room agrees is2) =
+      let r = law text before.audience now (Err e) (Ok (claims, scope)) comes comes2 in cc
+  answers_once law text one other after afters (full claims scope comes many is same) (refused e comes2 is2 same2) =
+      let r = law text before.audience now (Err e) (Ok (claims, scope)) comes2 comes in cc
+  answers_once law text one other after afters (full claims scope comes many is same) (full claims2 scope2 comes2 many2 is2 same2) =
+      (is ∙ sym is2, same ∙ sym same2)
+  answers_once law text one other after afters (full claims scope comes many is same) (agreed claims2 scope2 made comes2 room agrees is2) =
+      let r = granted_is (claims, scope) (claims2, scope2) (law text before.audience now (Ok (claims, scope)) (Ok (claims2, scope2)) comes comes2) in
+      absurd (room (subst (λ x. IsFull x.0.material.id (alive now before.table)) r many))
+  answers_once law text one other after afters (agreed claims scope made comes room agrees is) (refused e comes2 is2 same2) =
+      let r = law text before.audience now (Err e) (Ok (claims, scope)) comes2 comes in cc
+  answers_once law text one other after afters (agreed claims scope made comes room agrees is) (full claims2 scope2 comes2 many is2 same2) =
+      let r = granted_is (claims2, scope2) (claims, scope) (law text before.audience now (Ok (claims2, scope2)) (Ok (claims, scope)) comes2 comes) in
+      absurd (room (subst (λ x. IsFull x.0.material.id (alive now before.table)) r many))
+  answers_once law text one other after afters (agreed claims scope made comes room agrees is) (agreed claims2 scope2 made2 comes2 room2 agrees2 is2) =
+      let r = granted_is (claims2, scope2) (claims, scope) (law text before.audience now (Ok (claims2, scope2)) (Ok (claims, scope)) comes2 comes) in
+      let own = subst (λ x. Agrees before now nonce1 client_id x.0 x.1 draw made2 afters) r agrees2 in
+      let once = agrees_once claims scope made made2 after afters agrees own in
+      (is ∙ ap Ok once.0 ∙ sym is2, once.1)
+
+-- ---- what a post comes to
+
+abbrev pub IsOnePost : Type 0
+IsOnePost = (body token nonce1 client_id others nonces ids : List ℕ) → IsPost body token nonce1 client_id → IsPost body others nonces ids
+    → (token ≡ others) × (nonce1 ≡ nonces) × (client_id ≡ ids)
+
+abbrev pub IsOneToken : (List ℕ → List ℕ → List ℕ → List ℕ → List ℕ → Type 0) → Type 0
+IsOneToken IsSealing = (key bytes protected iv text others ivs other : List ℕ)
+    → IsToken IsSealing key bytes protected iv text → IsToken IsSealing key bytes others ivs other
+    → (protected ≡ others) × (iv ≡ ivs) × (text ≡ other)
+
+module _ (IsSealing : List ℕ → List ℕ → List ℕ → List ℕ → List ℕ → Type 0) (before : DeskState) (now : Moment) (body : List ℕ) (draw : Draw) where
+  answered : Note → Result PostAnswer PostError → Post
+  answered note answer = record { opened = Some note; answer = answer }
+
+  -- the five cases in three
+  data Outcome (post : Post) (after : DeskState) : Type 0 where
+    unread : ((token nonce1 client_id : List ℕ) → ¬ IsPost body token nonce1 client_id)
+        → post ≡ record { opened = None; answer = Err post_error.Fields } → after ≡ before → Outcome post after
+    unopened : (token nonce1 client_id : List ℕ) → IsPost body token nonce1 client_id
+        → ((protected iv text : List ℕ) → ¬ IsToken IsSealing before.key token protected iv text)
+        → post ≡ record { opened = None; answer = Err (post_error.Token TokenError.NotGenuine) } → after ≡ before → Outcome post after
+    opened : (nonce1 client_id protected iv text : List ℕ) (answer : Result PostAnswer PostError)
+        → IsOpened IsSealing before.key body nonce1 client_id protected iv text → Answers before now nonce1 client_id text draw answer after
+        → post ≡ answered (token_note before.key protected iv text) answer → Outcome post after
+
+  outcome : (post : Post) (after : DeskState) → Posts IsSealing before now body draw post after → Outcome post after
+  unfolding answered made_of
+  outcome post after (Posts.no_post none is same) = unread none is same
+  outcome post after (Posts.not_genuine token nonce1 client_id p none is same) = unopened token nonce1 client_id p none is same
+  outcome post after (Posts.refused nonce1 client_id protected iv text error o comes is same) =
+      opened nonce1 client_id protected iv text (Err (post_error.Token error)) o (refused error comes refl same) is
+  outcome post after (Posts.full nonce1 client_id protected iv text claims scope o comes many is same) =
+      opened nonce1 client_id protected iv text (Err post_error.Full) o (full claims scope comes many refl same) is
+  outcome post after (Posts.agreed nonce1 client_id protected iv text claims scope byte o comes room free is same) =
+      opened nonce1 client_id protected iv text (Ok (made_of (nonce_drawn draw) byte)) o
+      (agreed claims scope (made_of (nonce_drawn draw) byte) comes room (record { free = free; drawn = refl; added = same }) refl) is
+
+  module _ (one_post : IsOnePost) (one_token : IsOneToken IsSealing) (one_result : IsOneResult) where
+    outcome_once : (post posts : Post) (after afters : DeskState) → Outcome post after → Outcome posts afters → (post ≡ posts) × (after ≡ afters)
+    outcome_once post posts after afters (unread none is same) (unread none2 is2 same2) = (is ∙ sym is2, same ∙ sym same2)
+    outcome_once post posts after afters (unread none is same) (unopened token nonce1 client_id p none2 is2 same2) = absurd (none token nonce1 client_id p)
+    outcome_once post posts after afters (unread none is same) (opened nonce1 client_id protected iv text answer o answers is2) = absurd (none o.token nonce1 client_id o.is_post)
+    outcome_once post posts after afters (unopened token nonce1 client_id p none is same) (unread none2 is2 same2) = absurd (none2 token nonce1 client_id p)
+    outcome_once post posts after afters (unopened token nonce1 client_id p none is same) (unopened token2 nonces ids p2 none2 is2 same2) = (is ∙ sym is2, same ∙ sym same2)
+    outcome_once post posts after afters (unopened token nonce1 client_id p none is same) (opened nonces ids protected iv text answer o answers is2) =
+        let t = one_post body o.token nonces ids token nonce1 client_id o.is_post p in
+        absurd (none protected iv text (subst (λ x. IsToken IsSealing before.key x protected iv text) t.0 o.is_token))
+    outcome_once post posts after afters (opened nonce1 client_id protected iv text answer o answers is) (unread none2 is2 same2) = absurd (none2 o.token nonce1 client_id o.is_post)
+    outcome_once post posts after afters (opened nonces ids protected iv text answer o answers is) (unopened token nonce1 client_id p none is2 same2) =
+        let t = one_post body o.token nonces ids token nonce1 client_id o.is_post p in
+        absurd (none protected iv text (subst (λ x. IsToken IsSealing before.key x protected iv text) t.0 o.is_token))
+    outcome_once post posts after afters (opened nonce1 client_id protected iv text answer o answers is) (opened nonces ids protected2 ivs text2 answer2 o2 answers2 is2) =
+        let t = one_post body o.token nonce1 client_id o2.token nonces ids o.is_post o2.is_post in
+        let own = subst (λ x. IsToken IsSealing before.key x protected iv text) t.0 o.is_token in
+        let u = one_token before.key o2.token protected iv text protected2 ivs text2 own o2.is_token in
+        let found = subst (λ x. Answers before now nonces ids x draw answer after) u.2 (subst (λ x. Answers before now nonces x text draw answer after) t.2
+        (subst (λ x. Answers before now x client_id text draw answer after) t.1 answers)) in
+        let once = answers_once before now nonces ids draw one_result text2 answer answer2 after afters found answers2 in
+        let note : token_note before.key protected iv text ≡ token_note before.key protected2 ivs text2 =
+        subst (λ x. token_note before.key protected iv text ≡ token_note before.key x ivs text2) u.0
+        (subst (λ x. token_note before.key protected iv text ≡ token_note before.key protected x text2) u.1
+        (ap (token_note before.key protected iv) u.2)) in
+        (is ∙ ap₂ answered note once.0 ∙ sym is2, once.1)
+
+    pub posts_once : (post posts : Post) (after afters : DeskState)
+        → Posts IsSealing before now body draw post after → Posts IsSealing before now body draw posts afters → (post ≡ posts) × (after ≡ afters)
+    posts_once post posts after afters p q = outcome_once post posts after afters (outcome post after p) (outcome posts afters q)

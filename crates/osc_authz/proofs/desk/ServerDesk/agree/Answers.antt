@@ -1,0 +1,15 @@
+use Rattle.std.proofs.Common.{ap, subst, ◌∙◌}
+use Rattle.osc_authz.specs.Table.{IsTable}
+use Rattle.osc_authz.proofs.AgreementLemmas.{agreed_is_table}
+use Rattle.osc_authz.proofs.desk.ServerDesk.agree.Goals as goal
+
+pub invariant_of-self-2 : goal.invariant_of-self-2
+invariant_of-self-2 c =
+    let table = ap (λ desk. desk.table) c.self.view_is in
+    let fields = c.args.fields.now in
+    agreed_is_table c.args.now c.args.claims c.args.scope fields.nonce1.now fields.client_id.now
+    (record { nonce2 = c.nonce_drawn.result; recipient_id = c.free_id.result })
+    c.args.self.now.table c.deref.result.now c.reserve.new.self.items c.add_pending.new.table.items c.as_slice-token.result.now
+    c.in_ok-token.token c.in_ok-token.context (subst IsTable table c.self.invariant) c.requires.room
+    c.as_slice-token.ensures (c.deref.ensures.value ∙ table) c.free_id.ensures
+    c.in_ok-token.ensures.id c.in_ok-token.ensures.context (c.in_ok-reserve.ensures.items ∙ table) c.add_pending.ensures

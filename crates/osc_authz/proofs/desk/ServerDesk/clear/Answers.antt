@@ -1,0 +1,5 @@
+use Rattle.osc_authz.proofs.TableLaws.{empty_table}
+use Rattle.osc_authz.proofs.desk.ServerDesk.clear.Goals as goal
+
+pub invariant_of-self : goal.invariant_of-self
+invariant_of-self c = rw c.clear.ensures.items empty_table

@@ -1,0 +1,31 @@
+use Rattle.std.proofs.Common.{rules, ◌≢◌, refl, sym, ap}
+use Rattle.osc_cbor.specs.View.{view}
+use Rattle.osc_token.specs.declared.error.TokenError.{TokenError}
+use Rattle.osc_authz.specs.Post.{Posts}
+use Rattle.osc_authz.proofs.PayloadLemmas.{no_post, post_from_fields}
+use Rattle.osc_authz.proofs.PostLemmas.{opened_post, unopened_post}
+use Rattle.osc_authz.proofs.desk.ServerDesk.post_item.Goals as goal
+
+pub returns-in_default-clause-posted : goal.returns-in_default-clause-posted
+returns-in_default-clause-posted g c = λ body item.
+    Posts.no_post (no_post body (view c.args.item.now) item.1 (sym c.in_default.ensures)) c.refused.ensures refl
+
+pub returns-in_ok-answer-in-Ok-clause-posted : goal.returns-in_ok-answer-in-Ok-clause-posted
+returns-in_ok-answer-in-Ok-clause-posted g c = λ body item.
+    let fields = c.in-Some.fields in
+    let is_post = post_from_fields body (view c.args.item.now) fields.token.now fields.nonce1.now fields.client_id.now item.0 (sym c.in-Some.ensures) in
+    let found = c.in-Ok.ensures.opened in
+    opened_post g.A.Aead.is_sealing c.args.self.now c.answer.new.self c.args.now body c.args.draw.now
+    fields.token.now fields.nonce1.now fields.client_id.now c.self.inside.key (ap (λ desk. desk.key) c.self.view_is) is_post
+    found.0 found.1 found.2 c.in-Ok.note c.in_ok-answer-in-Ok.answer found.3 found.4
+    (rw (← c.as_slice.ensures) c.in_ok-answer-in-Ok.ensures.answers)
+
+pub returns-in_ok-of_token-in-Err-clause-posted : goal.returns-in_ok-of_token-in-Err-clause-posted
+returns-in_ok-of_token-in-Err-clause-posted g c = λ body item.
+    let fields = c.in-Some.fields in
+    let is_post = post_from_fields body (view c.args.item.now) fields.token.now fields.nonce1.now fields.client_id.now item.0 (sym c.in-Some.ensures) in
+    let apart : c.in-Err.error ≢ TokenError.Memory = search rules in
+    unopened_post g.A.Aead.is_sealing c.args.self.now c.args.self.now c.args.now body c.args.draw.now
+    fields.token.now fields.nonce1.now fields.client_id.now c.self.inside.key (ap (λ desk. desk.key) c.self.view_is) is_post
+    c.in-Err.error _ c.in-Err.ensures.only c.in-Err.ensures.refused apart
+    (cc (c.refused-in-Err.ensures, c.in_ok-of_token-in-Err.ensures.refusal)) refl

@@ -1,0 +1,23 @@
+use Rattle.std.proofs.Common.{◌≡◌, ℕ, List, Some, None, ap₂, sym, ◌∙◌, position}
+use Rattle.std.specs.Str.{bytes_eq}
+use Rattle.osc_authz.specs.declared.holding.Holding.{Holding}
+use Rattle.osc_authz.proofs.Lookups.{put_here, put_last}
+use Rattle.osc_authz.proofs.table.put_pending.Goals as goal
+
+pub returns-in-Some : goal.returns-in-Some
+returns-in-Some c =
+    let place : position (λ holding. bytes_eq c.args.token holding.id) c.args.table.now.items ≡ Some c.in-Some.index =
+    ap₂ (λ (token : List ℕ) (table : List Holding). position (λ holding. bytes_eq token holding.id) table) (sym c.as_slice.ensures) (sym c.deref.ensures.value)
+    ∙ sym c.place_of.ensures
+    ∙ c.in-Some.is
+    in
+    put_here c.args.token c.args.context c.args.table.now.items c.in-Some.index c.index_mut.result.now place c.index_mut.ensures.value
+
+pub returns-in-None : goal.returns-in-None
+returns-in-None c =
+    let place : position (λ holding. bytes_eq c.args.token holding.id) c.args.table.now.items ≡ None =
+    ap₂ (λ (token : List ℕ) (table : List Holding). position (λ holding. bytes_eq token holding.id) table) (sym c.as_slice.ensures) (sym c.deref.ensures.value)
+    ∙ sym c.place_of.ensures
+    ∙ c.in-None.is
+    in
+    c.push_reserved.ensures.items ∙ put_last c.args.token c.args.context c.args.table.now.items place

@@ -1,0 +1,43 @@
+-- What a post whose token opened comes to. No public contract rests on this.
+use Rattle.std.specs.Prelude.{◌≡◌, ℕ, List, [], ◌∷◌, Result, Ok, Err}
+use Rattle.osc_model.specs.Scope.{Scope}
+use Rattle.osc_model.specs.declared.node.Draw.{Draw}
+use Rattle.osc_model.specs.declared.node.Moment.{Moment}
+use Rattle.osc_token.specs.Claims.{ComesTo}
+use Rattle.osc_token.specs.declared.claims.Claims.{Claims}
+use Rattle.osc_token.specs.declared.error.TokenError.{TokenError}
+use Rattle.osc_authz.specs.Desk.{DeskState}
+use Rattle.osc_authz.specs.Held.{Held}
+use Rattle.osc_authz.specs.Post.{exchanged_name, nonce_drawn}
+use Rattle.osc_authz.specs.Table.{alive, ids, IsFull, without_pending, with_pending, IsLeastFree}
+use Rattle.osc_authz.specs.declared.error.PostError.{PostError}
+use Rattle.osc_authz.specs.declared.error.PostError.TheVariants.{Token, Full}
+use Rattle.osc_authz.specs.declared.post.PostAnswer.{PostAnswer}
+
+-- the context of these claims and both ends' nonces and IDs
+abbrev pub new_context : Claims → Scope → List ℕ → List ℕ → PostAnswer → Held
+new_context claims scope nonce1 client_id answer = record {
+  name = exchanged_name claims.material nonce1 answer.nonce2 (answer.recipient_id ∷ []) client_id;
+  scope = scope;
+  not_before = claims.not_before;
+  expires = claims.expires;
+  window = [];
+}
+
+-- one more context, with the least free ID and the nonce of the draw
+pub record Agrees (before : DeskState) (now : Moment) (nonce1 client_id : List ℕ) (claims : Claims) (scope : Scope) (draw : Draw) (answer : PostAnswer) (after : DeskState) : Type 0 where
+  pub free : IsLeastFree (client_id ∷ ids (without_pending claims.material.id (alive now before.table))) answer.recipient_id
+  pub drawn : answer.nonce2 ≡ nonce_drawn draw
+  pub added : after ≡ record before { table = with_pending claims.material.id (new_context claims scope nonce1 client_id answer) (alive now before.table) }
+
+-- the cases of a post whose token opened to this text
+pub data Answers (before : DeskState) (now : Moment) (nonce1 client_id text : List ℕ) (draw : Draw) (answer : Result PostAnswer PostError) (after : DeskState) : Type 0 where
+  refused : (error : TokenError) → ComesTo text before.audience now (Err error)
+      → answer ≡ Err (Token error) → after ≡ before → Answers before now nonce1 client_id text draw answer after
+  full : (claims : Claims) (scope : Scope) → ComesTo text before.audience now (Ok (claims, scope))
+      → IsFull claims.material.id (alive now before.table)
+      → answer ≡ Err Full → after ≡ before → Answers before now nonce1 client_id text draw answer after
+  agreed : (claims : Claims) (scope : Scope) (made : PostAnswer) → ComesTo text before.audience now (Ok (claims, scope))
+      → ¬ IsFull claims.material.id (alive now before.table)
+      → Agrees before now nonce1 client_id claims scope draw made after
+      → answer ≡ Ok made → Answers before now nonce1 client_id text draw answer after

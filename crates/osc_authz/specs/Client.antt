@@ -1,0 +1,37 @@
+-- The client's end of an exchange.
+use Rattle.std.specs.Prelude.{◌≡◌, ◌≢◌, ◌⊎◌, ℕ, if◌then◌else◌, List, [], ◌∷◌, bytes_eq, Option, Some, None, Result, Ok, Err}
+use Rattle.osc_model.specs.Code.{code}
+use Rattle.osc_model.specs.declared.code.Code.{Code}
+use Rattle.osc_model.specs.declared.context.ContextName.{ContextName}
+use Rattle.osc_context.specs.MasterSalt.{master_salt}
+use Rattle.osc_authz.specs.Exchange.{IsAnswer}
+use Rattle.osc_authz.specs.declared.client.ClientDesk.{ClientDesk}
+use Rattle.osc_authz.specs.Begun.{Begun, Made}
+use Rattle.osc_authz.specs.declared.error.FinishError.{FinishError}
+use Rattle.osc_authz.specs.declared.error.FinishError.TheVariants.{Fields, EqualIds}
+
+-- The recipient ID that the client offers is 00, or 01 where its context has that already.
+abbrev pub offered_id : Option Made → ℕ
+offered_id None = 0
+offered_id (Some made) = if bytes_eq made.name.server_id (0 ∷ []) then 1 else 0
+
+-- the name of the context that an answer makes (RFC 9203 section 4.3)
+abbrev pub made_name : ClientDesk → Begun → List ℕ → List ℕ → ContextName
+made_name desk begun nonce2 server_id = record {
+  secret = desk.secret;
+  salt = master_salt desk.salt begun.nonce1 nonce2;
+  id_context = desk.id_context;
+  client_id = server_id;
+  server_id = begun.recipient_id ∷ [];
+}
+
+-- what an exchange comes to by an answer of this code and payload
+pub data Finishes (desk : ClientDesk) (begun : Begun) (answered : Code) (payload : List ℕ) (result : Result Made FinishError) : Type 0 where
+  another_code : answered ≢ code 2 1 → result ≡ Err Fields → Finishes desk begun answered payload result
+  no_answer : answered ≡ code 2 1 → ((nonce2 server_id : List ℕ) → ¬ IsAnswer payload nonce2 server_id)
+      → result ≡ Err Fields → Finishes desk begun answered payload result
+  equal_ids : (nonce2 : List ℕ) → answered ≡ code 2 1 → IsAnswer payload nonce2 (begun.recipient_id ∷ [])
+      → result ≡ Err EqualIds → Finishes desk begun answered payload result
+  made : (nonce2 server_id : List ℕ) → answered ≡ code 2 1 → IsAnswer payload nonce2 server_id
+      → server_id ≢ begun.recipient_id ∷ []
+      → result ≡ Ok (record { name = made_name desk begun nonce2 server_id; next = 0 }) → Finishes desk begun answered payload result

@@ -1,0 +1,12 @@
+-- Definitions that the contracts cite.
+pub mod Exchange
+pub mod Held
+pub mod Table
+pub mod InUse
+pub mod Desk
+pub mod Post
+pub mod Begun
+pub mod Client
+pub mod Errors
+pub mod Payload
+pub mod Agreement

@@ -1,0 +1,114 @@
+//! The security contexts of a server.
+
+ghost use Rattle.std.specs.Prelude.{◌≡◌, option_map};
+ghost use Rattle.osc_model.specs.declared.context.Side.TheVariants.{Server};
+ghost use Rattle.osc_context.specs.Derivation.{sender_of, recipient_of};
+ghost use Rattle.osc_window.specs.Window.{IsFresh};
+ghost use Rattle.osc_authz.specs.Table.{is_live as is_live_of, has_id as has_id_of, is_named as is_named_of, taking};
+
+use osc_context::{RecipientContext, SenderContext};
+use osc_model::{ContextName, Moment};
+use osc_scope::Scope;
+use osc_window::Window;
+use std::marker::Model;
+
+/// A security context of a server, with the rights of the token that made it.
+#[derive(Drop)]
+pub struct ServerContext {
+    pub(crate) name: ContextName,
+    pub(crate) sender: SenderContext,
+    pub(crate) recipient: RecipientContext,
+    pub(crate) scope: Scope,
+    pub(crate) not_before: Option<u64>,
+    pub(crate) expires: Option<u64>,
+    pub(crate) window: Window,
+}
+
+impl Model for ServerContext {
+    ghost use Rattle.std.specs.Prelude.{◌≡◌};
+    ghost use Rattle.osc_model.specs.declared.context.Side.TheVariants.{Server};
+    ghost use Rattle.osc_context.specs.Derivation.{sender_of, recipient_of};
+    ghost use Rattle.std.specs.Coded.{codes};
+    ghost use Rattle.osc_model.specs.Scope.{coded_scope};
+    ghost use Rattle.osc_authz.specs.Held.{Held};
+
+    ghost Value = { Held };
+
+    ghost coded = { Prim.hlevel (codes, coded_scope) };
+
+    ghost view = { λ context. record { name = context.name; scope = context.scope; not_before = context.not_before; expires = context.expires; window = context.window } };
+
+    ghost invariant = { λ context. (context.sender ≡ sender_of context.name Server 0) × (context.recipient ≡ recipient_of context.name Server) };
+}
+
+impl ServerContext {
+    /// The name.
+    pub fn name(&self) -> &ContextName
+        ensures { result.now ≡ self.now.name }
+    {
+        &self.name
+    }
+
+    /// What the server seals with. It takes no numbers: its responses use the nonces of their requests.
+    pub fn sender(&self) -> &SenderContext
+        ensures { result.now ≡ sender_of self.now.name Server 0 }
+    {
+        &self.sender
+    }
+
+    /// What the server opens with.
+    pub fn recipient(&self) -> &RecipientContext
+        ensures { result.now ≡ recipient_of self.now.name Server }
+    {
+        &self.recipient
+    }
+
+    /// What the holder may do.
+    pub fn scope(&self) -> &Scope
+        ensures { result.now ≡ self.now.scope }
+    {
+        &self.scope
+    }
+
+    /// Which of the holder's numbers are fresh.
+    pub fn window(&self) -> &Window
+        ensures { result.now ≡ self.now.window }
+    {
+        &self.window
+    }
+
+    /// Whether its token is in its time.
+    pub(crate) fn is_live(&self, now: Moment) -> bool
+        ensures { result ≡ is_live_of now self.now }
+    {
+        let seconds = now.0 / 1000;
+        self.not_before.is_none_or(|first| first <= seconds)
+            && self.expires.is_none_or(|end| seconds < end)
+    }
+
+    /// Whether this is its recipient ID.
+    pub(crate) fn has_id(&self, id: &[u8]) -> bool
+        ensures { result ≡ has_id_of id.now self.now }
+    {
+        id == self.name.client_id.as_slice()
+    }
+
+    /// Whether a request's kid context, where it has one, names its id context.
+    pub(crate) fn is_named(&self, kid_context: Option<&[u8]>) -> bool
+        ensures { result ≡ is_named_of (option_map (λ bytes. bytes.now) kid_context.entry) self.now }
+    {
+        match (kid_context, &self.name.id_context) {
+            (None, _) => true,
+            (Some(kid_context), Some(id_context)) => kid_context == id_context.as_slice(),
+            (Some(_), None) => false,
+        }
+    }
+
+    /// Its window takes this fresh number.
+    pub(crate) fn take_number(&mut self, number: u64)
+        requires { IsFresh self.old.window number }
+        ensures { self.new ≡ taking number self.old }
+    {
+        self.window.accept(number);
+    }
+}

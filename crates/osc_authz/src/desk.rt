@@ -1,0 +1,224 @@
+//! The server's end of exchanges.
+
+ghost use Rattle.std.specs.Prelude.{◌≡◌, ◌≤◌, ℕ, List, [], length, IfOk, OnErr, Some, option_map};
+ghost use Rattle.osc_window.specs.Window.{IsFresh};
+ghost use Rattle.osc_cbor.specs.View.{view};
+ghost use Rattle.osc_authz.specs.Agreement.{Agrees, Answers};
+ghost use Rattle.osc_authz.specs.Held.{Held};
+ghost use Rattle.osc_authz.specs.Payload.{IsItem};
+ghost use Rattle.osc_authz.specs.Table.{IsTable, IsFull, accepted, alive, meant, with_id};
+ghost use Rattle.osc_authz.specs.Post.{Posts};
+
+use crate::agreement::context_of;
+use crate::context::ServerContext;
+use crate::error::PostError;
+use crate::holding::Holding;
+use crate::payload::{PostFields, post_fields};
+use crate::post::{Post, PostAnswer, nonce_drawn};
+use crate::table;
+use osc_cbor::{Item, read_whole};
+use osc_ccm::Aead;
+use osc_model::{Draw, Moment};
+use osc_scope::Scope;
+use osc_token::{Audience, Claims, judge, open_token};
+use std::alloc::{AllocError, Global};
+use std::marker::Model;
+
+/// The desk at authz-info: it judges tokens, and keeps the contexts that they made. For each token id it has at most one
+/// context that a request has opened under, and one of the newest post; at most 64 token ids have one. A look-up goes over
+/// the contexts, at most 128, and takes no memory.
+#[derive(Drop)]
+pub struct ServerDesk {
+    key: [u8; 16],
+    audience: Audience,
+    table: Vec<Holding>,
+}
+
+impl Model for ServerDesk {
+    ghost use Rattle.osc_authz.specs.Desk.{DeskState};
+    ghost use Rattle.osc_authz.specs.Table.{IsTable};
+    ghost use Rattle.std.specs.Coded.{codes};
+    ghost use Rattle.osc_model.specs.Scope.{coded_scope};
+
+    ghost Value = { DeskState };
+
+    ghost coded = { Prim.hlevel (codes, coded_scope) };
+
+    ghost view = { λ desk. record { key = desk.key; audience = desk.audience; table = desk.table.items } };
+
+    ghost invariant = { λ desk. IsTable desk.table.items };
+}
+
+impl ServerDesk {
+    /// The desk of a server that shares this key with the issuer of tokens for this audience. It has no contexts, and takes
+    /// no memory.
+    pub fn new(alloc: Global, key: [u8; 16], audience: Audience) -> ServerDesk
+        ensures { result ≡ record { key = key; audience = audience; table = [] } }
+    {
+        ServerDesk {
+            key,
+            audience,
+            table: Vec::new(alloc),
+        }
+    }
+
+    /// What a POST to authz-info with this payload does. Where the desk refuses nothing, it adds one pending context, whose
+    /// name has the nonce of the draw (its first 8 bytes), in the place of the one that is pending for the token's id, after
+    /// the token ids that have no live context have left the table. Its recipient ID is the least byte that no other
+    /// context has and that isn't the client's own. Else nothing is changed.
+    ///
+    /// Without memory nothing is changed.
+    pub fn post<A: Aead>(
+        &mut self,
+        alloc: Global,
+        now: Moment,
+        body: &[u8],
+        draw: &Draw,
+    ) -> Result<Post, AllocError>
+        ensures posted { IfOk result (λ post. Posts A.is_sealing self.old now body.now draw.now post self.new) }
+        ensures err { OnErr result (self.new ≡ self.old) }
+        ensures table { IsTable self.new.table }
+    {
+        let posted = self.post_bytes::<A>(alloc, now, body, draw);
+        // The clause `table` is the desk's invariant after the post.
+        let _ = &self.table;
+        posted
+    }
+
+    /// What a post of this payload comes to. Without memory nothing is changed.
+    fn post_bytes<A: Aead>(
+        &mut self,
+        alloc: Global,
+        now: Moment,
+        body: &[u8],
+        draw: &Draw,
+    ) -> Result<Post, AllocError>
+        ensures posted { IfOk result (λ post. Posts A.is_sealing self.old now body.now draw.now post self.new) }
+        ensures err { OnErr result (self.new ≡ self.old) }
+    {
+        match read_whole(alloc, body)? {
+            Some(item) => self.post_item::<A>(alloc, now, &item, draw),
+            None => Ok(Post::refused(PostError::Fields)),
+        }
+    }
+
+    /// What a post of this item comes to. Without memory nothing is changed.
+    fn post_item<A: Aead>(
+        &mut self,
+        alloc: Global,
+        now: Moment,
+        item: &Item,
+        draw: &Draw,
+    ) -> Result<Post, AllocError>
+        ensures posted { (body : List ℕ) → IsItem body (view item.now)
+            → IfOk result (λ post. Posts A.is_sealing self.old now body draw.now post self.new) }
+        ensures err { OnErr result (self.new ≡ self.old) }
+    {
+        let Some(fields) = post_fields(item) else {
+            return Ok(Post::refused(PostError::Fields));
+        };
+        match open_token::<A>(alloc, fields.token, &self.key) {
+            Ok(note) => {
+                let answer = self.answer(alloc, now, &fields, note.plaintext.as_slice(), draw)?;
+                Ok(Post {
+                    opened: Some(note),
+                    answer,
+                })
+            }
+            Err(error) => Ok(Post::refused(PostError::of_token(error)?)),
+        }
+    }
+
+    /// What is answered to a post whose token opened to this text. Without memory nothing is changed.
+    fn answer(
+        &mut self,
+        alloc: Global,
+        now: Moment,
+        fields: &PostFields<'_>,
+        text: &[u8],
+        draw: &Draw,
+    ) -> Result<Result<PostAnswer, PostError>, AllocError>
+        requires { length fields.now.client_id.now ≤ 7 }
+        ensures answers { IfOk result (λ answer.
+            Answers self.old now fields.now.nonce1.now fields.now.client_id.now text.now draw.now answer self.new) }
+        ensures err { OnErr result (self.new ≡ self.old) }
+    {
+        match judge(alloc, text, &self.audience, now) {
+            Ok((claims, scope)) => {
+                if table::is_full(&self.table, now, claims.material.id.as_slice()) {
+                    return Ok(Err(PostError::Full));
+                }
+                Ok(Ok(self.agree(alloc, now, fields, claims, scope, draw)?))
+            }
+            Err(error) => Ok(Err(PostError::of_token(error)?)),
+        }
+    }
+
+    /// Adds the context of these claims, and answers the nonce and the recipient ID of the server. All memory is taken
+    /// before the first change.
+    fn agree(
+        &mut self,
+        alloc: Global,
+        now: Moment,
+        fields: &PostFields<'_>,
+        claims: Claims,
+        scope: Scope,
+        draw: &Draw,
+    ) -> Result<PostAnswer, AllocError>
+        requires short { length fields.now.client_id.now ≤ 7 }
+        requires room { ¬ IsFull claims.material.id (alive now self.old.table) }
+        ensures agreed { IfOk result (λ answer.
+            Agrees self.old now fields.now.nonce1.now fields.now.client_id.now claims scope draw.now answer self.new) }
+        ensures err { OnErr result (self.new ≡ self.old) }
+    {
+        let token = claims.material.id.as_slice();
+        let answer = PostAnswer {
+            nonce2: nonce_drawn(draw),
+            recipient_id: table::free_id(&self.table, now, token, fields.client_id),
+        };
+        let (token, context) = context_of(alloc, claims, scope, fields, &answer)?;
+        self.table.reserve(1)?;
+        table::add_pending(&mut self.table, now, token, context);
+        Ok(answer)
+    }
+
+    /// The live context that a request's kid and kid context name.
+    pub fn find(
+        &self,
+        now: Moment,
+        kid: &[u8],
+        kid_context: Option<&[u8]>,
+    ) -> Option<&ServerContext>
+        ensures found { option_map (λ context. context.now) result ≡ meant now kid.now (option_map (λ bytes. bytes.now) kid_context.entry) self.now.table }
+        ensures table { IsTable self.now.table }
+    {
+        match table::with_id(&self.table, kid) {
+            Some(context) if context.is_live(now) && context.is_named(kid_context) => Some(context),
+            _ => None,
+        }
+    }
+
+    /// The context with this recipient ID, live or not.
+    pub fn get(&self, id: &[u8]) -> Option<&ServerContext>
+        ensures { option_map (λ context. context.now) result ≡ with_id id.now self.now.table }
+    {
+        table::with_id(&self.table, id)
+    }
+
+    /// A request with this fresh number opened under the context with this recipient ID: its window takes the number. If it
+    /// was pending, it is confirmed, and the older one of its token id goes. Takes no memory.
+    pub fn accept(&mut self, id: &[u8], number: u64)
+        requires { (held : Held) × (with_id id.now self.old.table ≡ Some held) × IsFresh held.window number }
+        ensures accepted { self.new ≡ record self.old { table = accepted id.now number self.old.table } }
+        ensures table { IsTable self.new.table }
+    {
+        table::accept(&mut self.table, id, number);
+    }
+
+    /// Forgets all contexts.
+    pub fn clear(&mut self)
+        ensures { self.new ≡ record self.old { table = [] } }
+    {
+        self.table.clear();
+    }
+}

@@ -1,0 +1,99 @@
+//! Why a post is refused, or an exchange makes no context.
+
+ghost use Rattle.std.specs.Prelude.{◌≡◌, ◌↔◌, IfOk, IsErr};
+ghost use Rattle.osc_authz.specs.Errors.{post_number, finish_number};
+ghost use Rattle.osc_authz.specs.Post.{code_of};
+
+use crate::client::OpenExchange;
+use osc_model::Code;
+use osc_token::TokenError;
+use std::alloc::AllocError;
+use thiserror::Error;
+
+/// Why a post to authz-info is refused: the first of these that stands.
+#[derive(Clone, Copy, Debug, PartialEq, Eq, Error)]
+pub enum PostError {
+    /// Its payload isn't one whole map, or lacks a field, or has one of another type or length.
+    #[error("a field is missing, or of another type or length")]
+    Fields,
+    /// Its token is refused, for another reason than want of memory.
+    #[error("the token is refused")]
+    Token(TokenError),
+    /// 64 other tokens have a live context.
+    #[error("too many tokens have a context")]
+    Full,
+}
+
+impl PostError {
+    /// The refusal of a post for its token; want of memory is none.
+    pub(crate) fn of_token(error: TokenError) -> Result<PostError, AllocError>
+        ensures refusal { IfOk result (λ refusal. refusal ≡ PostError.Token error) }
+        ensures memory { IsErr result ↔ error ≡ TokenError.Memory }
+    {
+        match error {
+            TokenError::Memory => Err(AllocError),
+            _ => Ok(PostError::Token(error)),
+        }
+    }
+
+    /// The number by which programs name the refusal.
+    pub fn number(self) -> u8
+        ensures { result ≡ post_number self }
+    {
+        match self {
+            PostError::Fields => 30,
+            PostError::Token(error) => error.number(),
+            PostError::Full => 31,
+        }
+    }
+
+    /// The code of the answer, which has no payload.
+    pub fn code(self) -> Code
+        ensures { result ≡ code_of self }
+    {
+        match self {
+            PostError::Fields => Code::BAD_REQUEST,
+            PostError::Token(error) => token_code(error),
+            PostError::Full => Code::SERVICE_UNAVAILABLE,
+        }
+    }
+}
+
+/// The code of the answer to a post whose token is refused.
+fn token_code(error: TokenError) -> Code
+    ensures { result ≡ code_of (PostError.Token error) }
+{
+    match error {
+        TokenError::NotGenuine | TokenError::NotYet | TokenError::Expired => Code::UNAUTHORIZED,
+        TokenError::Audience => Code::FORBIDDEN,
+        TokenError::BadClaims | TokenError::BadScope => Code::BAD_REQUEST,
+        TokenError::Memory => Code::INTERNAL_SERVER_ERROR,
+    }
+}
+
+/// Why an exchange makes no context. It is used up, but for want of memory.
+#[derive(Debug, Drop, Error)]
+pub enum FinishError {
+    /// The answer isn't 2.01 with a readable nonce and recipient ID.
+    #[error("the answer is not 2.01, or a field is missing or of another type or length")]
+    Fields,
+    /// The server answered the client's own ID.
+    #[error("both ends have the same ID")]
+    EqualIds,
+    /// There was no memory: the open exchange is handed back.
+    #[error("out of memory")]
+    Memory(OpenExchange),
+}
+
+impl FinishError {
+    /// The number by which programs name the refusal.
+    pub fn number(&self) -> u8
+        ensures { result ≡ finish_number self.now }
+    {
+        match self {
+            FinishError::Fields => 30,
+            FinishError::EqualIds => 20,
+            FinishError::Memory(_) => 9,
+        }
+    }
+}

@@ -1,0 +1,99 @@
+//! The contexts of one token id.
+
+ghost use Rattle.std.specs.Prelude.{◌≡◌, ◌++◌, true, false, find, option_map, bytes_eq};
+ghost use Rattle.std.specs.Option.{option_map_or, IfSome};
+ghost use Rattle.osc_window.specs.Window.{IsFresh};
+ghost use Rattle.osc_authz.specs.Table.{is_live as is_live_of, holds_live as holds_live_of, listed, has_id, taking, accepted_in};
+ghost use Rattle.osc_authz.specs.InUse.{keeps_id as keeps_id_of};
+
+use crate::context::ServerContext;
+use osc_model::{Bytes, Moment};
+
+/// The contexts of one token id: one that a request has opened under, and one of the newest post.
+#[derive(Drop)]
+pub struct Holding {
+    pub id: Bytes,
+    pub confirmed: Option<ServerContext>,
+    pub pending: Option<ServerContext>,
+}
+
+/// Whether a context is there, and its token is in its time.
+fn is_live(context: &Option<ServerContext>, now: Moment) -> bool
+    ensures { result ≡ option_map_or (is_live_of now) context.now false }
+{
+    match context {
+        Some(context) => context.is_live(now),
+        None => false,
+    }
+}
+
+/// Whether a context is there, and has this recipient ID.
+fn is_of(context: &Option<ServerContext>, id: &[u8]) -> bool
+    ensures { result ≡ option_map_or (has_id id.now) context.now false }
+{
+    match context {
+        Some(context) => context.has_id(id),
+        None => false,
+    }
+}
+
+/// The window of the context, where it is there, takes this fresh number.
+fn take_number(context: &mut Option<ServerContext>, number: u64)
+    requires { IfSome context.old (λ held. IsFresh held.window number) }
+    ensures { context.new ≡ option_map (taking number) context.old }
+{
+    if let Some(context) = context {
+        context.take_number(number);
+    }
+}
+
+impl Holding {
+    /// Whether one of the contexts is live.
+    pub fn holds_live(&self, now: Moment) -> bool
+        ensures { result ≡ holds_live_of now self.now }
+    {
+        is_live(&self.confirmed, now) || is_live(&self.pending, now)
+    }
+
+    /// Whether this is its token id.
+    pub fn is_of_token(&self, token: &[u8]) -> bool
+        ensures { result ≡ bytes_eq token.now self.now.id }
+    {
+        token == self.id.as_slice()
+    }
+
+    /// The context with this recipient ID.
+    pub fn with_id(&self, id: &[u8]) -> Option<&ServerContext>
+        ensures { option_map (λ context. context.now) result ≡ find (has_id id.now) (listed self.now.confirmed ++ listed self.now.pending) }
+    {
+        if is_of(&self.confirmed, id) {
+            self.confirmed.as_ref()
+        } else if is_of(&self.pending, id) {
+            self.pending.as_ref()
+        } else {
+            None
+        }
+    }
+
+    /// Whether a context has this recipient ID, once the pending one of this token id has gone.
+    pub fn keeps_id(&self, token: &[u8], id: &[u8]) -> bool
+        ensures { result ≡ keeps_id_of token.now id.now self.now }
+    {
+        is_of(&self.confirmed, id) || (!self.is_of_token(token) && is_of(&self.pending, id))
+    }
+
+    /// The window of the context with this recipient ID takes this fresh number. If it was pending, it is confirmed, and the
+    /// older one goes.
+    pub fn accept(&mut self, id: &[u8], number: u64)
+        requires confirmed { IfSome self.old.confirmed (λ held. has_id id.now held ≡ true → IsFresh held.window number) }
+        requires pending { IfSome self.old.pending (λ held. has_id id.now held ≡ true → IsFresh held.window number) }
+        ensures { self.new ≡ accepted_in id.now number self.old }
+    {
+        if is_of(&self.pending, id) {
+            self.confirmed = self.pending.take();
+            take_number(&mut self.confirmed, number);
+        } else if is_of(&self.confirmed, id) {
+            take_number(&mut self.confirmed, number);
+        }
+    }
+}

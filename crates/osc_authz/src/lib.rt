@@ -1,0 +1,26 @@
+//! The exchange by which a token becomes a security context, at both ends (RFC 9203 section 4): the server's desk, which
+//! judges what is posted to authz-info and keeps the contexts, and the client's.
+//!
+//! Generic over the cipher of tokens: all that is known of it is the law of `Aead`.
+#![tactic(auto)]
+
+mod agreement;
+mod client;
+mod context;
+mod derivation;
+mod desk;
+mod error;
+mod holding;
+pub mod laws;
+mod payload;
+mod post;
+mod table;
+
+pub use client::{ClientContext, ClientDesk, OpenExchange};
+pub use context::ServerContext;
+pub use desk::ServerDesk;
+pub use error::{FinishError, PostError};
+pub use post::{Post, PostAnswer};
+
+#[cfg(test)]
+mod tests;

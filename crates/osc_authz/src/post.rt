@@ -1,0 +1,74 @@
+//! What a post to authz-info comes to.
+
+ghost use Rattle.std.specs.Prelude.{◌≡◌, [], ◌∷◌, None, Err};
+ghost use Rattle.osc_authz.specs.Exchange.{answer_item};
+ghost use Rattle.osc_authz.specs.Post.{nonce_drawn as drawn};
+ghost use Rattle.osc_cbor.specs.Spelling.{spelling};
+
+use crate::error::PostError;
+use osc_model::{Draw, Note};
+
+/// What a post to authz-info came to.
+#[derive(Debug, Drop)]
+pub struct Post {
+    /// The note of the token's opening, if it opened; also where the post was refused for what the token says.
+    pub opened: Option<Note>,
+    /// What is answered: 2.01 with this payload, or the code of the refusal.
+    pub answer: Result<PostAnswer, PostError>,
+}
+
+impl Post {
+    /// A post that was refused before its token opened.
+    pub(crate) fn refused(error: PostError) -> Post
+        ensures { result ≡ record { opened = None; answer = Err error } }
+    {
+        Post {
+            opened: None,
+            answer: Err(error),
+        }
+    }
+}
+
+/// What the server answers to a post that makes a context (RFC 9203 section 4.2).
+#[derive(Clone, Copy, Debug, PartialEq, Eq)]
+pub struct PostAnswer {
+    /// The nonce that the server drew.
+    pub nonce2: [u8; 8],
+    /// The server's recipient ID.
+    pub recipient_id: u8,
+}
+
+impl PostAnswer {
+    /// The payload, whose Content-Format is 19, application/ace+cbor; takes no memory.
+    pub fn payload(&self) -> [u8; 16]
+        ensures { result ≡ spelling (answer_item self.now.nonce2 (self.now.recipient_id ∷ [])) }
+    {
+        let [a, b, c, d, e, f, g, h] = self.nonce2;
+        [
+            0xa2,
+            0x18,
+            42,
+            0x48,
+            a,
+            b,
+            c,
+            d,
+            e,
+            f,
+            g,
+            h,
+            0x18,
+            44,
+            0x41,
+            self.recipient_id,
+        ]
+    }
+}
+
+/// The nonce that a draw gives to an exchange: its first 8 bytes.
+pub(crate) fn nonce_drawn(draw: &Draw) -> [u8; 8]
+    ensures { result ≡ drawn draw.now }
+{
+    let [a, b, c, d, e, f, g, h, ..] = draw.0;
+    [a, b, c, d, e, f, g, h]
+}

@@ -1,0 +1,142 @@
+//! The table of a desk: look-ups, what is full, which recipient ID is free, and one more pending context.
+
+ghost use Rattle.std.specs.Prelude.{◌≡◌, ◌↔◌, ◌<◌, ◌≤◌, ◌∷◌, [], true, length, option_map, bytes_eq, position, IsTrue};
+ghost use Rattle.std.specs.List.{All, Contains, list_any};
+ghost use Rattle.std.specs.Vec.{vec_len, vec_capacity};
+ghost use Rattle.osc_window.specs.Window.{IsFresh};
+ghost use Rattle.osc_authz.specs.Table.{IsTable, IsFull, IsLeastFree, accepted, alive, contexts, has_id, has_token, ids, with_id as with_id_of, without_pending, with_pending};
+ghost use Rattle.osc_authz.specs.InUse.{keeps_id};
+
+use crate::context::ServerContext;
+use crate::holding::Holding;
+use osc_model::{Bytes, Moment};
+
+/// How many token ids have a context at most.
+const MOST: usize = 64;
+
+/// The context with this recipient ID.
+pub(crate) fn with_id<'a>(table: &'a [Holding], id: &[u8]) -> Option<&'a ServerContext>
+    ensures { option_map (λ context. context.now) result ≡ with_id_of id.now table.now }
+{
+    for holding in table {
+        if let Some(context) = holding.with_id(id) {
+            return Some(context);
+        }
+    }
+    None
+}
+
+/// The window of the context with this recipient ID takes this fresh number. If it was pending, it is confirmed, and the
+/// older one of its token id goes.
+pub(crate) fn accept(table: &mut [Holding], id: &[u8], number: u64)
+    requires { All (λ held. has_id id.now held ≡ true → IsFresh held.window number) (contexts table.old) }
+    ensures { table.new ≡ accepted id.now number table.old }
+{
+    for holding in table.iter_mut() {
+        holding.accept(id, number);
+    }
+}
+
+/// Whether 64 other token ids have a live context.
+pub(crate) fn is_full(table: &[Holding], now: Moment, token: &[u8]) -> bool
+    ensures { IsTrue result ↔ IsFull token.now (alive now table.now) }
+{
+    count_alive(table, now) >= MOST && !has_alive(table, now, token)
+}
+
+/// The least byte that is no recipient ID in use, once the dead and the pending context of this token id have gone, and
+/// isn't the client's ID.
+pub(crate) fn free_id(table: &[Holding], now: Moment, token: &[u8], client_id: &[u8]) -> u8
+    requires { IsTable table.now }
+    ensures { IsLeastFree (client_id.now ∷ ids (without_pending token.now (alive now table.now))) result }
+{
+    let mut byte = 0;
+    while is_taken(table, now, token, client_id, byte) {
+        byte += 1;
+    }
+    byte
+}
+
+/// Lets the token ids without a live context go, and adds this pending one, for which there is room.
+pub(crate) fn add_pending(
+    table: &mut Vec<Holding>,
+    now: Moment,
+    token: Bytes,
+    context: ServerContext,
+)
+    requires { vec_len table.old < vec_capacity table.old }
+    ensures { table.new.items ≡ with_pending token context (alive now table.old.items) }
+{
+    keep_alive(table, now);
+    put_pending(table, token, context);
+}
+
+/// How many token ids have a live context.
+fn count_alive(table: &[Holding], now: Moment) -> usize
+    ensures { result ≡ length (alive now table.now) }
+{
+    table
+        .iter()
+        .filter(|holding| holding.holds_live(now))
+        .count()
+}
+
+/// Whether this token id has a live context.
+fn has_alive(table: &[Holding], now: Moment, token: &[u8]) -> bool
+    ensures { result ≡ has_token token.now (alive now table.now) }
+{
+    table
+        .iter()
+        .filter(|holding| holding.holds_live(now))
+        .any(|holding| holding.is_of_token(token))
+}
+
+/// Whether the byte is a recipient ID in use, once the dead and the pending context of this token id have gone, or the
+/// client's ID.
+fn is_taken(table: &[Holding], now: Moment, token: &[u8], client_id: &[u8], byte: u8) -> bool
+    ensures { IsTrue result ↔ Contains (client_id.now ∷ ids (without_pending token.now (alive now table.now))) (byte ∷ []) }
+{
+    let id = [byte];
+    id.as_slice() == client_id || is_in_use(table, now, token, &id)
+}
+
+/// Whether a recipient ID is in use, once the dead and the pending context of this token id have gone.
+fn is_in_use(table: &[Holding], now: Moment, token: &[u8], id: &[u8]) -> bool
+    ensures { result ≡ list_any (keeps_id token.now id.now) (alive now table.now) }
+{
+    table
+        .iter()
+        .filter(|holding| holding.holds_live(now))
+        .any(|holding| holding.keeps_id(token, id))
+}
+
+/// Lets the token ids without a live context go.
+fn keep_alive(table: &mut Vec<Holding>, now: Moment)
+    ensures items { table.new.items ≡ alive now table.old.items }
+    ensures len { vec_len table.new ≤ vec_len table.old }
+    ensures capacity { vec_capacity table.new ≡ vec_capacity table.old }
+{
+    table.retain(|holding| holding.holds_live(now));
+}
+
+/// Makes this the pending context of its token id, in the room that there is.
+fn put_pending(table: &mut Vec<Holding>, token: Bytes, context: ServerContext)
+    requires { vec_len table.old < vec_capacity table.old }
+    ensures { table.new.items ≡ with_pending token context table.old.items }
+{
+    match place_of(table, token.as_slice()) {
+        Some(index) => table[index].pending = Some(context),
+        None => table.push_reserved(Holding {
+            id: token,
+            confirmed: None,
+            pending: Some(context),
+        }),
+    }
+}
+
+/// The place of a token id.
+fn place_of(table: &[Holding], token: &[u8]) -> Option<usize>
+    ensures { result ≡ position (λ holding. bytes_eq token.now holding.id) table.now }
+{
+    table.iter().position(|holding| holding.is_of_token(token))
+}

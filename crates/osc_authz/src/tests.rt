@@ -1,0 +1,329 @@
+//! Exchanges, and what the desk refuses.
+use super::*;
+use osc_ccm::Ccm;
+use osc_model::{Bytes, Code, Draw, Moment};
+use osc_token::{Audience, Claims, InputMaterial, MintError, TokenError, mint};
+use std::alloc::{AllocError, Global};
+use std::test::*;
+
+/// The key that the server shares with the issuer of tokens.
+const KEY: [u8; 16] = *b"@ABCDEFGHIJKLMNO";
+
+/// GET and POST on `/log`.
+const SCOPE: &[u8] = b"\x81\x82\x64/log\x03";
+
+/// A secret or an IV that ends in this byte.
+fn ending<const N: usize>(last: u8) -> [u8; N] {
+    let mut bytes = [0; N];
+    if let Some(end) = bytes.last_mut() {
+        *end = last;
+    }
+    bytes
+}
+
+/// A draw whose nonce ends in this byte.
+fn drawn(last: u8) -> Draw {
+    let mut bytes = [0; 32];
+    bytes[7] = last;
+    Draw(bytes)
+}
+
+/// What a token says beside its id.
+#[derive(Clone, Copy)]
+struct Said {
+    audience: &'static str,
+    not_before: Option<u64>,
+    expires: Option<u64>,
+    scope: &'static [u8],
+}
+
+const RIGHT: Said = Said {
+    audience: "s",
+    not_before: None,
+    expires: None,
+    scope: SCOPE,
+};
+
+/// The token of this id.
+fn token_of(alloc: Global, id: u8, said: Said) -> Result<Vec<u8>, AllocError> {
+    let claims = Claims {
+        audience: Audience::new(alloc, said.audience)?,
+        not_before: said.not_before,
+        expires: said.expires,
+        material: InputMaterial {
+            id: Bytes::from_slice(alloc, &[id])?,
+            secret: Bytes::from_slice(alloc, &ending::<16>(id))?,
+            salt: Bytes::new(alloc),
+            id_context: None,
+        },
+        scope: Bytes::from_slice(alloc, said.scope)?,
+    };
+    let mut token = Vec::new(alloc);
+    match mint::<Ccm<8>>(alloc, &claims, &KEY, &ending::<13>(id), &mut token) {
+        Err(MintError::Memory) => Err(AllocError),
+        _ => Ok(token),
+    }
+}
+
+/// A client that was granted this token.
+fn client_of(alloc: Global, id: u8, said: Said) -> Result<ClientDesk, AllocError> {
+    Ok(ClientDesk {
+        token: Bytes::from_vec(token_of(alloc, id, said)?),
+        secret: Bytes::from_slice(alloc, &ending::<16>(id))?,
+        salt: Bytes::new(alloc),
+        id_context: None,
+    })
+}
+
+/// A post of the token of this id.
+fn post_of(alloc: Global, id: u8, said: Said) -> Result<Vec<u8>, AllocError> {
+    let client = client_of(alloc, id, said)?;
+    let mut body = Vec::new(alloc);
+    client.write_post(alloc, &client.start(None, &drawn(1)), &mut body)?;
+    Ok(body)
+}
+
+fn desk_of(alloc: Global) -> Result<ServerDesk, AllocError> {
+    Ok(ServerDesk::new(alloc, KEY, Audience::new(alloc, "s")?))
+}
+
+/// What a post comes to: the server's recipient ID, or the number of the refusal, and whether the token opened.
+fn posted(
+    desk: &mut ServerDesk,
+    alloc: Global,
+    at: u64,
+    body: &[u8],
+) -> Result<(Result<u8, u8>, bool), AllocError> {
+    let post = desk.post::<Ccm<8>>(alloc, Moment(at), body, &drawn(2))?;
+    let answer = match post.answer {
+        Ok(answer) => Ok(answer.recipient_id),
+        Err(error) => Err(error.number()),
+    };
+    Ok((answer, post.opened.is_some()))
+}
+
+/// Whether a live context has this recipient ID.
+fn is_found(desk: &ServerDesk, at: u64, id: u8) -> bool {
+    desk.find(Moment(at), &[id], None).is_some()
+}
+
+/// A post of the token of id 1, with a nonce that ends in 1 and the ID 00. The token was sealed by another implementation.
+const POST: &[u8] =
+    b"\xa3\x01\x58\x46\x83\x43\xa1\x01\x0a\xa1\x05\x4d\0\0\0\0\0\0\0\0\0\0\0\0\x01\x58\x2f\x7a\x0e\xde\x21\x71\xa9\xef\x96\x11\xe8\xb2\x3a\xfd\x72\x3e\x78\x79\xca\xdf\xb8\x87\xe3\xcb\x88\x90\x1d\xd4\x04\x61\xe9\xf3\x01\x24\xce\xe0\x4d\x4a\x5e\x85\x93\x1d\x22\x4b\x7c\xe6\xb4\xe2\x18\x28\x48\0\0\0\0\0\0\0\x01\x18\x2b\x41\0";
+
+/// The payloads of an exchange, and the name that both ends give to its context.
+#[test]
+fn an_exchange_makes_one_context(rt: HostRuntime) -> Result<(), Fail> {
+    let alloc = rt.alloc();
+    let mut desk = desk_of(alloc)?;
+    let client = client_of(alloc, 1, RIGHT)?;
+    let exchange = client.start(None, &drawn(1));
+    let mut body = Vec::new(alloc);
+    client.write_post(alloc, &exchange, &mut body)?;
+    assert_eq!(rt; body.as_slice(), POST);
+    let post = desk.post::<Ccm<8>>(alloc, Moment(0), &body, &drawn(2))?;
+    let payload = post.answer?.payload();
+    assert_eq!(rt;
+        payload,
+        *b"\xa2\x18\x2a\x48\0\0\0\0\0\0\0\x02\x18\x2c\x41\x01"
+    );
+    let made = client
+        .finish(alloc, exchange, Code::CREATED, &payload)
+        .ok()
+        .ok_or("no context")?;
+    let held = desk.find(Moment(0), &[1], None).ok_or("not found")?;
+    assert!(rt; made.name() == held.name());
+    assert_eq!(rt; made.name().client_id.as_slice(), [1].as_slice());
+    assert_eq!(rt; made.name().server_id.as_slice(), [0].as_slice());
+    assert_eq!(rt;
+        made.name().salt.as_slice(),
+        b"\x40\x48\0\0\0\0\0\0\0\x01\x48\0\0\0\0\0\0\0\x02".as_slice()
+    );
+    assert!(rt; client.start(Some(&made), &drawn(3)).nonce1() == &drawn_nonce(3));
+    Ok(())
+}
+
+fn drawn_nonce(last: u8) -> [u8; 8] {
+    ending::<8>(last)
+}
+
+/// Codes and payloads that make no context, and the number of the refusal.
+const NO_CONTEXTS: [(Code, &[u8], u8); 9] = [
+    (Code::CREATED, b"\xa2\x18\x2a\x41\x02\x18\x2c\x41\0", 20),
+    (Code::CHANGED, b"\xa2\x18\x2a\x41\x02\x18\x2c\x41\x01", 30),
+    (Code::CREATED, b"\xa2\x18\x2a\x40\x18\x2c\x41\x01", 30),
+    (
+        Code::CREATED,
+        b"\xa2\x18\x2a\x41\x02\x18\x2c\x4812345678",
+        30,
+    ),
+    (Code::CREATED, b"\xa1\x18\x2a\x41\x02", 30),
+    (Code::CREATED, b"\xa2\x18\x2a\x61a\x18\x2c\x41\x01", 30),
+    (Code::CREATED, b"\xa2\x18\x2a\x41\x02\x18\x2a\x41\x01", 30),
+    (Code::CREATED, b"\x80", 30),
+    (Code::CREATED, b"", 30),
+];
+
+#[test]
+fn other_answers_make_none(rt: HostRuntime) -> Result<(), Fail> {
+    let client = client_of(rt.alloc(), 1, RIGHT)?;
+    for (code, payload, number) in NO_CONTEXTS {
+        let exchange = client.start(None, &drawn(1));
+        let refused = client.finish(rt.alloc(), exchange, code, payload).err();
+        assert_eq!(rt; refused.map(|error| error.number()), Some(number));
+    }
+    Ok(())
+}
+
+/// Three posts of one token: which contexts are found after each, and after each request.
+#[test]
+fn the_newest_post_waits_for_a_request(rt: HostRuntime) -> Result<(), Fail> {
+    let alloc = rt.alloc();
+    let mut desk = desk_of(alloc)?;
+    let body = post_of(alloc, 1, RIGHT)?;
+    assert_eq!(rt; posted(&mut desk, alloc, 0, &body)?, (Ok(1), true));
+    assert!(rt; accepted(&mut desk, 1));
+    assert_eq!(rt; posted(&mut desk, alloc, 0, &body)?, (Ok(2), true));
+    assert_eq!(rt; posted(&mut desk, alloc, 0, &body)?, (Ok(2), true));
+    assert!(rt; is_found(&desk, 0, 1) && is_found(&desk, 0, 2) && !is_found(&desk, 0, 3));
+    assert!(rt; accepted(&mut desk, 2));
+    assert!(rt; !is_found(&desk, 0, 1) && is_found(&desk, 0, 2));
+    desk.clear();
+    assert!(rt; !is_found(&desk, 0, 2));
+    Ok(())
+}
+
+/// A request of number 0 opens under this recipient ID, where there is such a context and the number is fresh.
+fn accepted(desk: &mut ServerDesk, id: u8) -> bool {
+    let fresh = match desk.get(&[id]) {
+        Some(context) => context.window().is_fresh(0),
+        None => false,
+    };
+    if fresh {
+        desk.accept(&[id], 0);
+    }
+    fresh
+}
+
+/// 64 token ids until 100 s: another one waits until then, and one of them doesn't.
+#[test]
+fn sixty_four_tokens_have_contexts(rt: HostRuntime) -> Result<(), Fail> {
+    let alloc = rt.alloc();
+    let mut desk = desk_of(alloc)?;
+    let until = Said {
+        expires: Some(100),
+        ..RIGHT
+    };
+    for id in 1..65u8 {
+        let body = post_of(alloc, id, until)?;
+        assert_eq!(rt; posted(&mut desk, alloc, 0, &body)?, (Ok(id), true));
+    }
+    let new = post_of(alloc, 65, RIGHT)?;
+    let known = post_of(alloc, 64, until)?;
+    assert_eq!(rt; posted(&mut desk, alloc, 99_999, &new)?, (Err(31), true));
+    assert_eq!(rt; posted(&mut desk, alloc, 99_999, &known)?, (Ok(64), true));
+    assert!(rt; is_found(&desk, 99_999, 1) && !is_found(&desk, 100_000, 1));
+    assert_eq!(rt; posted(&mut desk, alloc, 100_000, &new)?, (Ok(1), true));
+    Ok(())
+}
+
+/// Payloads that are no posts.
+const NO_POSTS: [&[u8]; 9] = [
+    b"",
+    b"\x80",
+    b"\xa0",
+    b"\xa3\x01\x40\x01\x40\x18\x2b\x40",
+    b"\xa3\x01\x60\x18\x28\x41\x01\x18\x2b\x40",
+    b"\xa3\x01\x40\x18\x28\x40\x18\x2b\x40",
+    b"\xa3\x01\x40\x18\x28\x41\x01\x18\x2b\x4812345678",
+    b"\xa2\x18\x28\x41\x01\x18\x2b\x40",
+    b"\xa3\x01\x40\x18\x28\x41\x01\x18\x2b\x40\0",
+];
+
+/// Tokens that say another thing, and the number of the refusal at 10 s.
+const REFUSED: [(Said, u8); 4] = [
+    (
+        Said {
+            not_before: Some(11),
+            ..RIGHT
+        },
+        27,
+    ),
+    (
+        Said {
+            expires: Some(10),
+            ..RIGHT
+        },
+        26,
+    ),
+    (
+        Said {
+            audience: "t",
+            ..RIGHT
+        },
+        28,
+    ),
+    (
+        Said {
+            scope: b"",
+            ..RIGHT
+        },
+        24,
+    ),
+];
+
+#[test]
+fn refused_posts_change_nothing(rt: HostRuntime) -> Result<(), Fail> {
+    let alloc = rt.alloc();
+    let mut desk = desk_of(alloc)?;
+    let first = post_of(alloc, 1, RIGHT)?;
+    assert_eq!(rt; posted(&mut desk, alloc, 0, &first)?, (Ok(1), true));
+    for body in NO_POSTS {
+        assert_eq!(rt; posted(&mut desk, alloc, 10_000, body)?, (Err(30), false));
+    }
+    let no_token = b"\xa3\x01\x40\x18\x28\x41\x01\x18\x2b\x40";
+    assert_eq!(rt;
+        posted(&mut desk, alloc, 10_000, no_token)?,
+        (Err(25), false)
+    );
+    for (said, number) in REFUSED {
+        let body = post_of(alloc, 2, said)?;
+        assert_eq!(rt;
+            posted(&mut desk, alloc, 10_000, &body)?,
+            (Err(number), true)
+        );
+    }
+    assert!(rt; is_found(&desk, 0, 1) && !is_found(&desk, 0, 2));
+    Ok(())
+}
+
+#[test]
+fn codes_of_refusals(rt: HostRuntime) {
+    let codes = [
+        (PostError::Fields, Code::BAD_REQUEST),
+        (PostError::Token(TokenError::NotGenuine), Code::UNAUTHORIZED),
+        (PostError::Token(TokenError::BadClaims), Code::BAD_REQUEST),
+        (PostError::Token(TokenError::NotYet), Code::UNAUTHORIZED),
+        (PostError::Token(TokenError::Expired), Code::UNAUTHORIZED),
+        (PostError::Token(TokenError::Audience), Code::FORBIDDEN),
+        (PostError::Token(TokenError::BadScope), Code::BAD_REQUEST),
+        (PostError::Full, Code::SERVICE_UNAVAILABLE),
+    ];
+    for (error, code) in codes {
+        assert_eq!(rt; error.code(), code);
+    }
+}
+
+/// Run with each allocation refused in turn: the desk is as before, and the same post makes a context after it.
+#[test]
+fn a_refused_allocation_leaves_the_desk(rt: HostRuntime) {
+    let alloc = rt.alloc();
+    let Ok(mut desk) = desk_of(alloc) else {
+        return;
+    };
+    if posted(&mut desk, alloc, 0, POST).is_err() {
+        assert!(rt; !is_found(&desk, 0, 1));
+        assert_eq!(rt; posted(&mut desk, alloc, 0, POST).ok(), Some((Ok(1), true)));
+    }
+    assert!(rt; is_found(&desk, 0, 1));
+}
