@@ -1,8 +1,10 @@
 //! `osc`: CoAP nodes that are protected by OSCORE. What its subcommands do stands in `osc_programs`.
 #![tactic(auto)]
 
-use clap::Error;
-use osc_programs::{Ended, Words, ended_by, read_words, sim, status};
+use osc_programs::{
+    Ended, TokenWords, Words, WordsError, drawn_iv, ended_by, fault_line, read_words, sim, status,
+    token,
+};
 use std::process::ExitCode;
 use std::{env, io};
 
@@ -21,20 +23,39 @@ fn run(rt: &HostRuntime) -> io::Result<Ended> {
     let words: Vec<&str> = arguments.iter().map(|word| word.as_str()).collect(alloc)?;
     match read_words(alloc, &words) {
         Ok(Words::Sim { bytes }) => Ok(sim(alloc, &mut rt.reader(), &mut io::writer(rt), bytes)),
+        Ok(Words::Token(words)) => print_token(rt, &words),
         Err(error) => explain(rt, &error),
     }
 }
 
-/// Help goes to the standard output, and the one line of a fault to the standard error.
-fn explain(rt: &HostRuntime, error: &Error) -> io::Result<Ended> {
-    let ended = ended_by(error);
+/// The token goes to the standard output, and the one line of a fault to the standard error.
+fn print_token(rt: &HostRuntime, words: &TokenWords) -> io::Result<Ended> {
+    let Ok(iv) = iv_of(rt, words) else {
+        return Ok(Ended::Failed);
+    };
+    let ended = token(rt.alloc(), words, &iv, &mut io::writer(rt));
     match ended {
-        Ended::Done => rt.print(error)?,
+        Ended::BadCommandLine => rt.eprintln("error: the claims have more than 65535 bytes")?,
         Ended::OutOfMemory => rt.eprintln("out of memory")?,
-        _ => {
-            let text = error.to_string(rt.alloc())?;
-            rt.eprintln(text.as_str().lines().next().unwrap_or(""))?;
-        }
+        _ => {}
+    }
+    Ok(ended)
+}
+
+/// The IV that was asked for, or a random one.
+fn iv_of(rt: &HostRuntime, words: &TokenWords) -> io::Result<[u8; 13]> {
+    match words.iv {
+        Some(iv) => Ok(iv),
+        None => drawn_iv(rt),
+    }
+}
+
+/// Help goes to the standard output, and the one line of a fault to the standard error.
+fn explain(rt: &HostRuntime, error: &WordsError) -> io::Result<Ended> {
+    let ended = ended_by(error);
+    match (ended, error) {
+        (Ended::Done, WordsError::Clap(help)) => rt.print(help)?,
+        _ => rt.eprintln(fault_line(rt.alloc(), error)?.as_str())?,
     }
     Ok(ended)
 }

@@ -1,4 +1,6 @@
-pub mod Entered
 pub mod Lines
 pub mod Runs
 pub mod Puts
+pub mod Entered
+pub mod Hexadecimal
+pub mod Parts

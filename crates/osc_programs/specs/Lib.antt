@@ -5,4 +5,9 @@ pub mod Text
 pub mod Trace
 pub mod Simulation
 pub mod SetUp
+pub mod Options
+pub mod Values
+pub mod TokenWords
 pub mod Command
+pub mod Reading
+pub mod TokenLine

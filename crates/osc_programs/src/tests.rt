@@ -1,5 +1,7 @@
-//! Whole scripts with the traces that are wanted of them, and inputs and outputs that fail.
-use crate::{Ended, Words, ended_by, read_words, sim, status};
+//! Whole scripts with the traces that are wanted of them, a token, inputs and outputs that fail, and command lines.
+use crate::{
+    Ended, Words, WordsError, drawn_iv, ended_by, fault_line, read_words, sim, status, token,
+};
 use std::alloc::{AllocError, Global};
 use std::io::{self, ErrorKind, Read, Write};
 use std::test::Fail;
@@ -149,18 +151,178 @@ fn words_name_a_subcommand(rt: HostRuntime) -> Result<(), Fail> {
     for (words, bytes) in good {
         assert_eq!(rt; read_words(alloc, words).ok(), Some(Words::Sim { bytes }));
     }
-    let bad: [(&[&str], Ended); 5] = [
-        (&["osc"], Ended::BadCommandLine),
-        (&["osc", "simulate"], Ended::BadCommandLine),
-        (&["osc", "sim", "--byte"], Ended::BadCommandLine),
-        (&["osc", "sim", "script"], Ended::BadCommandLine),
-        (&["osc", "--help"], Ended::Done),
+    let bad: [(&[&str], Ended, &str); 9] = [
+        (&["osc"], Ended::BadCommandLine, "subcommand"),
+        (&["osc", "simulate"], Ended::BadCommandLine, "simulate"),
+        (&["osc", "sim", "--byte"], Ended::BadCommandLine, "--byte"),
+        (&["osc", "sim", "script"], Ended::BadCommandLine, "script"),
+        (
+            &["osc", "token", "--aud", "s"],
+            Ended::BadCommandLine,
+            "--key <HEX> --id <HEX>",
+        ),
+        (
+            &["osc", "token", "--iv", "", "--iv", ""],
+            Ended::BadCommandLine,
+            "--iv",
+        ),
+        (
+            &["osc", "token", "--exp", "-1"],
+            Ended::BadCommandLine,
+            "-1",
+        ),
+        (&["osc", "--help"], Ended::Done, "sim"),
+        (&["osc", "token", "--help"], Ended::Done, "--nbf <N>"),
     ];
-    for (words, ended) in bad {
+    for (words, ended, part) in bad {
         match read_words(alloc, words) {
             Ok(_) => assert_eq!(rt; ended, Ended::OutOfMemory),
-            Err(error) => assert_eq!(rt; ended_by(&error), ended),
+            Err(error) => {
+                assert_eq!(rt; ended_by(&error), ended);
+                if let WordsError::Clap(told) = &error {
+                    let line = if ended == Ended::Done {
+                        told.to_string(alloc)?
+                    } else {
+                        fault_line(alloc, &error)?
+                    };
+                    assert!(rt; line.as_str().contains(part), "{line}");
+                }
+            }
         }
+    }
+    Ok(())
+}
+
+// The options of a token, which was computed by others.
+const OPTIONS: [(&str, &str); 6] = [
+    ("--key", "404142434445464748494a4b4c4D4E4F"),
+    ("--aud", "s"),
+    ("--id", "01"),
+    ("--secret", "00000000000000000000000000000001"),
+    ("--scope", "/log:GET+POST"),
+    ("--iv", "00000000000000000000000001"),
+];
+
+const TOKEN_LINE: &str =
+    "8343a1010aa1054d00000000000000000000000001582f7a0ede2171a9ef9611e8b23afd723e7879cadfb887e3cb88901dd40461e9f30124cee04d4a5e85931d224b7ce6b4e2\n";
+
+// `osc token` with these options, one of them with another value, or one more.
+fn token_command<'a>(
+    alloc: Global,
+    option: &'a str,
+    value: &'a str,
+) -> Result<Vec<&'a str>, AllocError> {
+    let mut words = vec![in alloc; "osc", "token", option, value]?;
+    for (name, usual) in OPTIONS {
+        if name != option {
+            words.push(name)?;
+            words.push(usual)?;
+        }
+    }
+    Ok(words)
+}
+
+fn repeated(alloc: Global, text: &str, count: usize) -> Result<String, AllocError> {
+    let mut whole = String::new(alloc);
+    for _ in 0..count {
+        whole.push_str(text)?;
+    }
+    Ok(whole)
+}
+
+// How `osc token` ends, and what it writes.
+fn run_token<W: Write>(
+    alloc: Global,
+    option: &str,
+    value: &str,
+    writer: &mut W,
+) -> Result<Ended, Fail> {
+    let words = token_command(alloc, option, value)?;
+    match read_words(alloc, &words) {
+        Ok(Words::Token(words)) => Ok(match words.iv {
+            Some(iv) => token(alloc, &words, &iv, writer),
+            None => Ended::Failed,
+        }),
+        _ => Ok(Ended::BadLine(0)),
+    }
+}
+
+#[test]
+fn a_token_is_printed(rt: HostRuntime) -> Result<(), Fail> {
+    let alloc = rt.alloc();
+    let long = repeated(alloc, "s", 65536)?;
+    for (audience, ended, line) in [
+        ("s", Ended::Done, TOKEN_LINE),
+        (long.as_str(), Ended::BadCommandLine, ""),
+    ] {
+        let mut written = Vec::new(alloc);
+        assert_eq!(rt; run_token(alloc, "--aud", audience, &mut written)?, ended);
+        assert_eq!(rt; written.as_slice(), line.as_bytes());
+    }
+    let mut writer = BrokenWriter { writes: 0 };
+    assert_eq!(rt; run_token(alloc, "--aud", "s", &mut writer)?, Ended::Failed);
+    assert!(rt; drawn_iv(&rt)? != drawn_iv(&rt)?);
+    Ok(())
+}
+
+// Values that an option may have: a text so many times.
+const GOOD: [(&str, &str, usize); 10] = [
+    ("--id", "", 0),
+    ("--id", "0a", 64),
+    ("--secret", "0B", 1),
+    ("--secret", "0b", 64),
+    ("--salt", "", 0),
+    ("--salt", "00", 64),
+    ("--context", "00", 64),
+    ("--exp", "18446744073709551615", 1),
+    ("--nbf", "007", 1),
+    ("--scope", "/t:GET,/t:PUT", 1),
+];
+
+// And values that it may not.
+const BAD: [(&str, &str, usize); 19] = [
+    ("--key", "40", 15),
+    ("--key", "40", 17),
+    ("--key", "4", 31),
+    ("--key", "4g", 16),
+    ("--iv", "00", 12),
+    ("--iv", "00", 14),
+    ("--id", "0a", 65),
+    ("--id", "0", 3),
+    ("--secret", "", 0),
+    ("--secret", "0b", 65),
+    ("--salt", "00", 65),
+    ("--context", "00", 65),
+    ("--context", "0x", 1),
+    ("--exp", "", 0),
+    ("--exp", "+1", 1),
+    ("--exp", "18446744073709551616", 1),
+    ("--nbf", "0x1", 1),
+    ("--scope", "/log", 1),
+    ("--scope", "", 0),
+];
+
+#[test]
+fn values_have_their_bounds(rt: HostRuntime) -> Result<(), Fail> {
+    let alloc = rt.alloc();
+    for (option, text, count) in GOOD {
+        let value = repeated(alloc, text, count)?;
+        let words = token_command(alloc, option, &value)?;
+        assert!(rt; read_words(alloc, &words).is_ok(), "{option} {value}");
+    }
+    for (option, text, count) in BAD {
+        let value = repeated(alloc, text, count)?;
+        let words = token_command(alloc, option, &value)?;
+        let Err(error) = read_words(alloc, &words) else {
+            return Err(Fail::from(AllocError));
+        };
+        assert_eq!(rt; ended_by(&error), Ended::BadCommandLine);
+        let line = fault_line(alloc, &error)?;
+        assert!(rt;
+            line.as_str()
+                .starts_with(format!(in alloc; "error: {option} is not ")?.as_str()),
+            "{line}"
+        );
     }
     Ok(())
 }

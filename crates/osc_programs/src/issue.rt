@@ -1,0 +1,73 @@
+//! A token's words in, the token out.
+ghost use Rattle.std.specs.Prelude.{◌≡◌, ◌≢◌, ◌⊎◌, ◌<◌, ◌≤◌, ℕ, List, [], IfOk, Err, length, string_bytes};
+ghost use Rattle.std.specs.Io.KnownBytes.{Appends};
+ghost use Rattle.rand_core.specs.Stream.{fill_bytes};
+ghost use Rattle.osc_cbor.specs.Spelling.{spelling};
+ghost use Rattle.osc_ccm.specs.declared.aead.TheConstants.{TEXT_LIMIT};
+ghost use Rattle.osc_token.specs.Token.{claims_item};
+ghost use Rattle.osc_programs.specs.TokenLine as spec;
+
+use crate::ended::Ended;
+use crate::token_words::TokenWords;
+use osc_ccm::Ccm;
+use osc_token::{MintError, mint};
+use rand::rngs::StdRng;
+use rand::{Rng, SeedableRng};
+use std::alloc::Global;
+use std::io::{self, Write};
+use std::random::RandomSource;
+
+/// Writes the token that the words ask for, sealed under this IV: its bytes in hexadecimal, and a line feed. It ends as on
+/// a bad command line where the claims have more than 65535 bytes; nothing is written then, nor for want of memory.
+///
+/// An IV is used for one token alone under a key.
+pub fn token<W: Write>(alloc: Global, words: &TokenWords, iv: &[u8; 13], writer: &mut W) -> Ended
+    ensures done { result ≡ Ended.Done → (text : List ℕ) × spec.IsTokenLine words.now.claims words.now.key iv.now text
+        × Appends (W.contents writer.old) (W.contents writer.new) text }
+    ensures too_long { result ≡ Ended.BadCommandLine → (TEXT_LIMIT < length (spelling (claims_item words.now.claims)))
+        × Appends (W.contents writer.old) (W.contents writer.new) [] }
+    ensures never_too_long { TEXT_LIMIT < length (spelling (claims_item words.now.claims))
+        → (result ≡ Ended.BadCommandLine) ⊎ (result ≡ Ended.OutOfMemory) }
+    ensures memory { result ≡ Ended.OutOfMemory → Appends (W.contents writer.old) (W.contents writer.new) [] }
+    ensures lines { (n : ℕ) → result ≢ Ended.BadLine n }
+{
+    match token_line(alloc, words, iv) {
+        Ok(line) => written(writer, line.as_bytes()),
+        Err(MintError::TooLong) => Ended::BadCommandLine,
+        Err(MintError::Memory) => Ended::OutOfMemory,
+    }
+}
+
+fn token_line(alloc: Global, words: &TokenWords, iv: &[u8; 13]) -> Result<String, MintError>
+    ensures line { IfOk result (λ line. spec.IsTokenLine words.now.claims words.now.key iv.now (string_bytes line)) }
+    ensures short { IfOk result (λ _. length (spelling (claims_item words.now.claims)) ≤ TEXT_LIMIT) }
+    ensures too_long { result ≡ Err MintError.TooLong → TEXT_LIMIT < length (spelling (claims_item words.now.claims)) }
+{
+    let mut bytes = Vec::new(alloc);
+    mint::<Ccm<8>>(alloc, &words.claims, &words.key, iv, &mut bytes)?;
+    let mut line = hex::encode(alloc, bytes.as_slice())?;
+    line.push('\n')?;
+    Ok(line)
+}
+
+/// An IV that is drawn at random: the first bytes of a generator whose seed comes from the source.
+pub fn drawn_iv<S: RandomSource>(source: &S) -> io::Result<[u8; 13]>
+    ensures { IfOk result (λ iv. (seed : List ℕ) × (length seed ≡ 32)
+        × (iv ≡ (fill_bytes 13 (⟦<StdRng as Rng>⟧.stream (⟦<StdRng as SeedableRng>⟧.of_seed seed))).0)) }
+{
+    let mut rng: StdRng = rand::make_rng(source)?;
+    let mut iv = [0; 13];
+    rng.fill_bytes(&mut iv);
+    Ok(iv)
+}
+
+// Writes all of it.
+fn written<W: Write>(writer: &mut W, text: &[u8]) -> Ended
+    ensures done { result ≡ Ended.Done → Appends (W.contents writer.old) (W.contents writer.new) text.now }
+    ensures cases { (result ≡ Ended.Done) ⊎ (result ≡ Ended.Failed) }
+{
+    if writer.write_all(text).is_err() || writer.flush().is_err() {
+        return Ended::Failed;
+    }
+    Ended::Done
+}
