@@ -17,6 +17,8 @@ uint64_t osc_bench_repeat(const uint8_t *datagram, size_t length, uint64_t round
 uint64_t osc_bench_read_item(const uint8_t *bytes, size_t length, uint64_t rounds);
 uint64_t osc_bench_protect(const uint8_t *request, size_t length, uint64_t rounds);
 uint64_t osc_bench_unprotect(const uint8_t *request, size_t length, uint64_t rounds);
+uint64_t osc_bench_read_token(uint64_t rounds);
+uint64_t osc_bench_post(uint8_t others, uint64_t rounds);
 uint8_t osc_bench_encrypt(uint64_t rounds);
 uint64_t osc_bench_seal(const uint8_t *text, size_t length, uint8_t *out, size_t room, uint64_t rounds);
 uint64_t osc_bench_open(const uint8_t *sealed, size_t length, uint8_t *out, size_t room, uint64_t rounds);
@@ -156,6 +158,43 @@ static int oscore(void) {
     return 0;
 }
 
+/* ---- tokens: 70 bytes and a date, with GET and POST on one path */
+
+static void tokens_read(void) {
+    enum { ROUNDS = 20000 };
+    double best = 1e9;
+    for (int run = 0; run < RUNS; run++) {
+        double start = seconds();
+        sink = osc_bench_read_token(ROUNDS);
+        double taken = seconds() - start;
+        if (taken < best) best = taken;
+    }
+    row("osc_token::read", ROUNDS, best);
+}
+
+static void posts(const char *name, uint8_t others) {
+    enum { ROUNDS = 5000 };
+    double best = 1e9;
+    for (int run = 0; run < RUNS; run++) {
+        double start = seconds();
+        sink = osc_bench_post(others, ROUNDS);
+        double taken = seconds() - start;
+        if (taken < best) best = taken;
+    }
+    row(name, ROUNDS, best);
+}
+
+static int tokens(void) {
+    if (osc_bench_read_token(1) != 1 || osc_bench_post(62, 1) != 1) {
+        fprintf(stderr, "bench: a token was not read or made no context\n");
+        return 1;
+    }
+    tokens_read();
+    posts("ServerDesk::post, 1 token id in the table", 0);
+    posts("ServerDesk::post, 63 token ids in the table", 62);
+    return 0;
+}
+
 /* ---- ciphers: the same key, nonce, 8 bytes of associated data and tag of 8 bytes on both sides */
 
 typedef uint64_t (*cipher_run)(const uint8_t *in, size_t length, uint8_t *out, size_t room, uint64_t rounds);
@@ -280,6 +319,6 @@ int main(void) {
     serve("Server::on_datagram, GET, 1st of 1,024", 1024, GET_R000, sizeof GET_R000);
     serve("Server::on_datagram, GET, 1,000th of 1,024", 1024, GET_R999, sizeof GET_R999);
     repeat("Server::on_datagram, a repeat", GET_R000, sizeof GET_R000);
-    if (cbor() != 0 || oscore() != 0) return 1;
+    if (cbor() != 0 || oscore() != 0 || tokens() != 0) return 1;
     return ciphers();
 }

@@ -1,7 +1,9 @@
-//! What a harness in C times: messages read, datagrams served, items read, requests protected and opened, and ciphers.
+//! What a harness in C times: messages read, datagrams served, items read, requests protected and opened,
+//! tokens read and posted, and ciphers.
 #![tactic(auto)]
 
 mod cipher;
 mod messages;
 mod objects;
 mod protection;
+mod tokens;

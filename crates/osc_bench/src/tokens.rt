@@ -1,0 +1,100 @@
+//! Tokens read, and posts to authz-info.
+
+use osc_authz::{ClientDesk, ServerDesk};
+use osc_ccm::Ccm;
+use osc_model::{Bytes, Draw, Moment};
+use osc_token::{Audience, Claims, InputMaterial, MintError, mint, read};
+use std::alloc::{AllocError, Global};
+
+const KEY: [u8; 16] = [7; 16];
+
+/// GET and POST on `/log`.
+const SCOPE: &[u8] = b"\x81\x82\x64/log\x03";
+
+/// Reads a token so many times, and answers how often it was granted; 0 for want of memory.
+#[unsafe(no_mangle)]
+pub extern "C" fn osc_bench_read_token(alloc: Global, rounds: u64) -> u64 {
+    tokens_read(alloc, rounds).unwrap_or(0)
+}
+
+/// Posts a token so many times to a desk that has contexts of so many other token ids, and answers how often that made a
+/// context; 0 for want of memory.
+#[unsafe(no_mangle)]
+pub extern "C" fn osc_bench_post(alloc: Global, others: u8, rounds: u64) -> u64 {
+    contexts_made(alloc, others, rounds).unwrap_or(0)
+}
+
+// The token of this id, for the audience `s`, with a date.
+fn token_of(alloc: Global, id: u8) -> Result<Vec<u8>, AllocError> {
+    let claims = Claims {
+        audience: Audience::new(alloc, "s")?,
+        not_before: None,
+        expires: Some(100),
+        material: InputMaterial {
+            id: Bytes::from_slice(alloc, &[id])?,
+            secret: Bytes::from_slice(alloc, &[id; 16])?,
+            salt: Bytes::new(alloc),
+            id_context: None,
+        },
+        scope: Bytes::from_slice(alloc, SCOPE)?,
+    };
+    let mut token = Vec::new(alloc);
+    match mint::<Ccm<8>>(alloc, &claims, &KEY, &[id; 13], &mut token) {
+        Err(MintError::Memory) => Err(AllocError),
+        _ => Ok(token),
+    }
+}
+
+fn tokens_read(alloc: Global, rounds: u64) -> Result<u64, AllocError> {
+    let token = token_of(alloc, 1)?;
+    let audience = Audience::new(alloc, "s")?;
+    let mut granted = 0u64;
+    for _ in 0..rounds {
+        if read::<Ccm<8>>(alloc, &token, &KEY, &audience, Moment(0)).is_ok() {
+            granted = granted.wrapping_add(1);
+        }
+    }
+    Ok(granted)
+}
+
+// The payload of a post of the token of this id.
+fn post_of(alloc: Global, id: u8) -> Result<Vec<u8>, AllocError> {
+    let token = token_of(alloc, id)?;
+    let client = ClientDesk {
+        token: Bytes::from_vec(token),
+        secret: Bytes::from_slice(alloc, &[id; 16])?,
+        salt: Bytes::new(alloc),
+        id_context: None,
+    };
+    let exchange = client.start(None, &Draw([id; 32]));
+    let mut body = Vec::new(alloc);
+    client.write_post(alloc, &exchange, &mut body)?;
+    Ok(body)
+}
+
+fn contexts_made(alloc: Global, others: u8, rounds: u64) -> Result<u64, AllocError> {
+    let mut desk = ServerDesk::new(alloc, KEY, Audience::new(alloc, "s")?);
+    for id in 0..others {
+        let body = post_of(alloc, id)?;
+        desk.post::<Ccm<8>>(alloc, Moment(0), &body, &Draw([id; 32]))?;
+    }
+    let body = post_of(alloc, 255)?;
+    posts_made(alloc, &mut desk, &body, rounds)
+}
+
+// How many of so many posts made a context.
+fn posts_made(
+    alloc: Global,
+    desk: &mut ServerDesk,
+    body: &[u8],
+    rounds: u64,
+) -> Result<u64, AllocError> {
+    let mut made = 0u64;
+    for _ in 0..rounds {
+        let post = desk.post::<Ccm<8>>(alloc, Moment(0), body, &Draw([255; 32]))?;
+        if post.answer.is_ok() {
+            made = made.wrapping_add(1);
+        }
+    }
+    Ok(made)
+}
