@@ -1,7 +1,7 @@
 //! Exchanges, and what the desk refuses.
 use super::*;
 use osc_ccm::Ccm;
-use osc_model::{Bytes, Code, Draw, Moment};
+use osc_model::{Bytes, Code, ContextName, Draw, Moment};
 use osc_token::{Audience, Claims, InputMaterial, MintError, TokenError, mint};
 use std::alloc::{AllocError, Global};
 use std::test::*;
@@ -111,40 +111,58 @@ fn is_found(desk: &ServerDesk, at: u64, id: u8) -> bool {
 const POST: &[u8] =
     b"\xa3\x01\x58\x46\x83\x43\xa1\x01\x0a\xa1\x05\x4d\0\0\0\0\0\0\0\0\0\0\0\0\x01\x58\x2f\x7a\x0e\xde\x21\x71\xa9\xef\x96\x11\xe8\xb2\x3a\xfd\x72\x3e\x78\x79\xca\xdf\xb8\x87\xe3\xcb\x88\x90\x1d\xd4\x04\x61\xe9\xf3\x01\x24\xce\xe0\x4d\x4a\x5e\x85\x93\x1d\x22\x4b\x7c\xe6\xb4\xe2\x18\x28\x48\0\0\0\0\0\0\0\x01\x18\x2b\x41\0";
 
-/// The payloads of an exchange, and the name that both ends give to its context.
 #[test]
-fn an_exchange_makes_one_context(rt: HostRuntime) -> Result<(), Fail> {
-    let alloc = rt.alloc();
-    let mut desk = desk_of(alloc)?;
-    let client = client_of(alloc, 1, RIGHT)?;
-    let exchange = client.start(None, &drawn(1));
-    let mut body = Vec::new(alloc);
-    client.write_post(alloc, &exchange, &mut body)?;
+fn what_is_posted(rt: HostRuntime) -> Result<(), Fail> {
+    let body = post_of(rt.alloc(), 1, RIGHT)?;
     assert_eq!(rt; body.as_slice(), POST);
-    let post = desk.post::<Ccm<8>>(alloc, Moment(0), &body, &drawn(2))?;
-    let payload = post.answer?.payload();
-    assert_eq!(rt;
-        payload,
-        *b"\xa2\x18\x2a\x48\0\0\0\0\0\0\0\x02\x18\x2c\x41\x01"
-    );
-    let made = client
-        .finish(alloc, exchange, Code::CREATED, &payload)
-        .ok()
-        .ok_or("no context")?;
-    let held = desk.find(Moment(0), &[1], None).ok_or("not found")?;
-    assert!(rt; made.name() == held.name());
-    assert_eq!(rt; made.name().client_id.as_slice(), [1].as_slice());
-    assert_eq!(rt; made.name().server_id.as_slice(), [0].as_slice());
-    assert_eq!(rt;
-        made.name().salt.as_slice(),
-        b"\x40\x48\0\0\0\0\0\0\0\x01\x48\0\0\0\0\0\0\0\x02".as_slice()
-    );
-    assert!(rt; client.start(Some(&made), &drawn(3)).nonce1() == &drawn_nonce(3));
     Ok(())
 }
 
-fn drawn_nonce(last: u8) -> [u8; 8] {
-    ending::<8>(last)
+/// What is answered to the post, where it isn't refused.
+fn answered(desk: &mut ServerDesk, alloc: Global) -> Result<Option<PostAnswer>, AllocError> {
+    let post = desk.post::<Ccm<8>>(alloc, Moment(0), POST, &drawn(2))?;
+    Ok(post.answer.ok())
+}
+
+#[test]
+fn what_is_answered(rt: HostRuntime) -> Result<(), Fail> {
+    let mut desk = desk_of(rt.alloc())?;
+    let answer = answered(&mut desk, rt.alloc())?.ok_or("refused")?;
+    assert_eq!(rt;
+        answer.payload(),
+        *b"\xa2\x18\x2a\x48\0\0\0\0\0\0\0\x02\x18\x2c\x41\x01"
+    );
+    Ok(())
+}
+
+/// The context that the client makes of an answer to the post.
+fn made_of(alloc: Global, answer: PostAnswer) -> Result<Option<ClientContext>, AllocError> {
+    let client = client_of(alloc, 1, RIGHT)?;
+    let exchange = client.start(None, &drawn(1));
+    Ok(
+        client
+            .finish(alloc, exchange, Code::CREATED, &answer.payload())
+            .ok(),
+    )
+}
+
+/// Whether this is the name of the exchange's context.
+fn is_exchanged(name: &ContextName) -> bool {
+    name.client_id.as_slice() == [1].as_slice()
+        && name.server_id.as_slice() == [0].as_slice()
+        && name.salt.as_slice() == b"\x40\x48\0\0\0\0\0\0\0\x01\x48\0\0\0\0\0\0\0\x02".as_slice()
+        && name.secret.as_slice() == ending::<16>(1).as_slice()
+}
+
+#[test]
+fn both_ends_have_one_name(rt: HostRuntime) -> Result<(), Fail> {
+    let mut desk = desk_of(rt.alloc())?;
+    let answer = answered(&mut desk, rt.alloc())?.ok_or("refused")?;
+    let made = made_of(rt.alloc(), answer)?.ok_or("no context")?;
+    assert!(rt; is_exchanged(made.name()));
+    let held = desk.find(Moment(0), &[1], None).ok_or("not found")?;
+    assert!(rt; is_exchanged(held.name()));
+    Ok(())
 }
 
 /// Codes and payloads that make no context, and the number of the refusal.
@@ -195,14 +213,13 @@ fn the_newest_post_waits_for_a_request(rt: HostRuntime) -> Result<(), Fail> {
 
 /// A request of number 0 opens under this recipient ID, where there is such a context and the number is fresh.
 fn accepted(desk: &mut ServerDesk, id: u8) -> bool {
-    let fresh = match desk.get(&[id]) {
-        Some(context) => context.window().is_fresh(0),
-        None => false,
-    };
-    if fresh {
+    if let Some(context) = desk.get(&[id])
+        && context.window().is_fresh(0)
+    {
         desk.accept(&[id], 0);
+        return true;
     }
-    fresh
+    false
 }
 
 /// 64 token ids until 100 s: another one waits until then, and one of them doesn't.
