@@ -51,6 +51,19 @@ static void row(const char *name, uint64_t calls, double best) {
     printf("%-44s %12.0f /s %9.1f ns\n", name, (double)calls / best, 1e9 * best / (double)calls);
 }
 
+typedef uint64_t (*rounds_run)(uint64_t rounds);
+
+static void timed(const char *name, rounds_run run, uint64_t rounds) {
+    double best = 1e9;
+    for (int i = 0; i < RUNS; i++) {
+        double start = seconds();
+        sink = run(rounds);
+        double taken = seconds() - start;
+        if (taken < best) best = taken;
+    }
+    row(name, rounds, best);
+}
+
 static void parse(const char *name, const uint8_t *datagram, size_t length) {
     enum { CALLS = 2000000 };
     double best = 1e9;
@@ -134,64 +147,34 @@ static const uint8_t PUT_64[] = {
     'p', 'p', 'p', 'p', 'p', 'p', 'p', 'p', 'p', 'p', 'p', 'p', 'p', 'p', 'p', 'p',
     'p', 'p', 'p', 'p', 'p', 'p', 'p', 'p', 'p', 'p', 'p', 'p', 'p', 'p', 'p', 'p'};
 
-typedef uint64_t (*protection_run)(const uint8_t *request, size_t length, uint64_t rounds);
+static uint64_t protect(uint64_t rounds) { return osc_bench_protect(PUT_64, sizeof PUT_64, rounds); }
 
-static void protection(const char *name, protection_run run) {
-    enum { ROUNDS = 20000 };
-    double best = 1e9;
-    for (int i = 0; i < RUNS; i++) {
-        double start = seconds();
-        sink = run(PUT_64, sizeof PUT_64, ROUNDS);
-        double taken = seconds() - start;
-        if (taken < best) best = taken;
-    }
-    row(name, ROUNDS, best);
-}
+static uint64_t unprotect(uint64_t rounds) { return osc_bench_unprotect(PUT_64, sizeof PUT_64, rounds); }
 
 static int oscore(void) {
-    if (osc_bench_protect(PUT_64, sizeof PUT_64, 1) == 0 || osc_bench_unprotect(PUT_64, sizeof PUT_64, 1) != 70) {
+    if (protect(1) == 0 || unprotect(1) != 70) {
         fprintf(stderr, "bench: a request was not protected or not opened\n");
         return 1;
     }
-    protection("protect_request, 64 bytes", osc_bench_protect);
-    protection("unprotect_request, 64 bytes", osc_bench_unprotect);
+    timed("protect_request, 64 bytes", protect, 20000);
+    timed("unprotect_request, 64 bytes", unprotect, 20000);
     return 0;
 }
 
-/* ---- tokens: 70 bytes and a date, with GET and POST on one path */
+/* ---- tokens: 73 bytes, with a date, and GET and POST on one path */
 
-static void tokens_read(void) {
-    enum { ROUNDS = 20000 };
-    double best = 1e9;
-    for (int run = 0; run < RUNS; run++) {
-        double start = seconds();
-        sink = osc_bench_read_token(ROUNDS);
-        double taken = seconds() - start;
-        if (taken < best) best = taken;
-    }
-    row("osc_token::read", ROUNDS, best);
-}
+static uint64_t post_alone(uint64_t rounds) { return osc_bench_post(0, rounds); }
 
-static void posts(const char *name, uint8_t others) {
-    enum { ROUNDS = 5000 };
-    double best = 1e9;
-    for (int run = 0; run < RUNS; run++) {
-        double start = seconds();
-        sink = osc_bench_post(others, ROUNDS);
-        double taken = seconds() - start;
-        if (taken < best) best = taken;
-    }
-    row(name, ROUNDS, best);
-}
+static uint64_t post_beside_62(uint64_t rounds) { return osc_bench_post(62, rounds); }
 
 static int tokens(void) {
-    if (osc_bench_read_token(1) != 1 || osc_bench_post(62, 1) != 1) {
+    if (osc_bench_read_token(1) != 1 || post_beside_62(1) != 1) {
         fprintf(stderr, "bench: a token was not read or made no context\n");
         return 1;
     }
-    tokens_read();
-    posts("ServerDesk::post, 1 token id in the table", 0);
-    posts("ServerDesk::post, 63 token ids in the table", 62);
+    timed("osc_token::read", osc_bench_read_token, 20000);
+    timed("ServerDesk::post, 1 token id in the table", post_alone, 5000);
+    timed("ServerDesk::post, 63 token ids in the table", post_beside_62, 5000);
     return 0;
 }
 
@@ -215,17 +198,7 @@ static void cipher(const char *name, cipher_run run, const uint8_t *in, size_t l
     printf("%-44s %12.0f /s %9.1f MiB/s\n", title, (double)rounds / best, (double)rounds * (double)text / best / 1048576.0);
 }
 
-static void encrypt(void) {
-    enum { ROUNDS = 200000 };
-    double best = 1e9;
-    for (int run = 0; run < RUNS; run++) {
-        double start = seconds();
-        sink = osc_bench_encrypt(ROUNDS);
-        double taken = seconds() - start;
-        if (taken < best) best = taken;
-    }
-    row("Aes128::encrypt", ROUNDS, best);
-}
+static uint64_t encrypt(uint64_t rounds) { return osc_bench_encrypt(rounds); }
 
 #ifdef WITH_MBEDTLS
 static const uint8_t KEY[16] = {7, 7, 7, 7, 7, 7, 7, 7, 7, 7, 7, 7, 7, 7, 7, 7};
@@ -280,7 +253,7 @@ static uint64_t mbedtls_open(const uint8_t *sealed, size_t length, uint8_t *out,
 
 static int ciphers(void) {
     static const size_t LENGTHS[] = {16, 64, 256, 1024};
-    encrypt();
+    timed("Aes128::encrypt", encrypt, 200000);
 #ifdef WITH_MBEDTLS
     mbedtls_encrypt();
 #endif
