@@ -12,13 +12,16 @@ const KEY: [u8; 16] = *b"@ABCDEFGHIJKLMNO";
 /// GET and POST on `/log`.
 const SCOPE: &[u8] = b"\x81\x82\x64/log\x03";
 
-/// A secret or an IV that ends in this byte.
-fn ending<const N: usize>(last: u8) -> [u8; N] {
-    let mut bytes = [0; N];
-    if let Some(end) = bytes.last_mut() {
-        *end = last;
-    }
-    bytes
+/// The secret of the token of this id.
+fn secret_of(id: u8) -> [u8; 16] {
+    u128::from(id).to_be_bytes()
+}
+
+/// The IV of the token of this id.
+fn iv_of(id: u8) -> [u8; 13] {
+    let mut iv = [0; 13];
+    iv[12] = id;
+    iv
 }
 
 /// A draw whose nonce ends in this byte.
@@ -44,6 +47,11 @@ const RIGHT: Said = Said {
     scope: SCOPE,
 };
 
+/// What is right, and counts until this second.
+fn until(expires: Option<u64>) -> Said {
+    Said { expires, ..RIGHT }
+}
+
 /// The token of this id.
 fn token_of(alloc: Global, id: u8, said: Said) -> Result<Vec<u8>, AllocError> {
     let claims = Claims {
@@ -52,14 +60,14 @@ fn token_of(alloc: Global, id: u8, said: Said) -> Result<Vec<u8>, AllocError> {
         expires: said.expires,
         material: InputMaterial {
             id: Bytes::from_slice(alloc, &[id])?,
-            secret: Bytes::from_slice(alloc, &ending::<16>(id))?,
+            secret: Bytes::from_slice(alloc, &secret_of(id))?,
             salt: Bytes::new(alloc),
             id_context: None,
         },
         scope: Bytes::from_slice(alloc, said.scope)?,
     };
     let mut token = Vec::new(alloc);
-    match mint::<Ccm<8>>(alloc, &claims, &KEY, &ending::<13>(id), &mut token) {
+    match mint::<Ccm<8>>(alloc, &claims, &KEY, &iv_of(id), &mut token) {
         Err(MintError::Memory) => Err(AllocError),
         _ => Ok(token),
     }
@@ -69,7 +77,7 @@ fn token_of(alloc: Global, id: u8, said: Said) -> Result<Vec<u8>, AllocError> {
 fn client_of(alloc: Global, id: u8, said: Said) -> Result<ClientDesk, AllocError> {
     Ok(ClientDesk {
         token: Bytes::from_vec(token_of(alloc, id, said)?),
-        secret: Bytes::from_slice(alloc, &ending::<16>(id))?,
+        secret: Bytes::from_slice(alloc, &secret_of(id))?,
         salt: Bytes::new(alloc),
         id_context: None,
     })
@@ -151,7 +159,7 @@ fn is_exchanged(name: &ContextName) -> bool {
     name.client_id.as_slice() == [1].as_slice()
         && name.server_id.as_slice() == [0].as_slice()
         && name.salt.as_slice() == b"\x40\x48\0\0\0\0\0\0\0\x01\x48\0\0\0\0\0\0\0\x02".as_slice()
-        && name.secret.as_slice() == ending::<16>(1).as_slice()
+        && name.secret.as_slice() == secret_of(1).as_slice()
 }
 
 #[test]
@@ -193,24 +201,6 @@ fn other_answers_make_none(rt: HostRuntime) -> Result<(), Fail> {
     Ok(())
 }
 
-/// Three posts of one token: which contexts are found after each, and after each request.
-#[test]
-fn the_newest_post_waits_for_a_request(rt: HostRuntime) -> Result<(), Fail> {
-    let alloc = rt.alloc();
-    let mut desk = desk_of(alloc)?;
-    let body = post_of(alloc, 1, RIGHT)?;
-    assert_eq!(rt; posted(&mut desk, alloc, 0, &body)?, (Ok(1), true));
-    assert!(rt; accepted(&mut desk, 1));
-    assert_eq!(rt; posted(&mut desk, alloc, 0, &body)?, (Ok(2), true));
-    assert_eq!(rt; posted(&mut desk, alloc, 0, &body)?, (Ok(2), true));
-    assert!(rt; is_found(&desk, 0, 1) && is_found(&desk, 0, 2) && !is_found(&desk, 0, 3));
-    assert!(rt; accepted(&mut desk, 2));
-    assert!(rt; !is_found(&desk, 0, 1) && is_found(&desk, 0, 2));
-    desk.clear();
-    assert!(rt; !is_found(&desk, 0, 2));
-    Ok(())
-}
-
 /// A request of number 0 opens under this recipient ID, where there is such a context and the number is fresh.
 fn accepted(desk: &mut ServerDesk, id: u8) -> bool {
     if let Some(context) = desk.get(&[id])
@@ -222,39 +212,82 @@ fn accepted(desk: &mut ServerDesk, id: u8) -> bool {
     false
 }
 
-/// 64 token ids until 100 s: another one waits until then, and one of them doesn't.
-#[test]
-fn sixty_four_tokens_have_contexts(rt: HostRuntime) -> Result<(), Fail> {
-    let alloc = rt.alloc();
-    let mut desk = desk_of(alloc)?;
-    let until = Said {
-        expires: Some(100),
-        ..RIGHT
-    };
-    for id in 1..65u8 {
-        let body = post_of(alloc, id, until)?;
-        assert_eq!(rt; posted(&mut desk, alloc, 0, &body)?, (Ok(id), true));
+/// The post again, or a request under this recipient ID: which ID has a context then that waits or was confirmed.
+fn step(
+    desk: &mut ServerDesk,
+    alloc: Global,
+    request: Option<u8>,
+) -> Result<Option<u8>, AllocError> {
+    match request {
+        Some(id) if accepted(desk, id) => Ok(Some(id)),
+        Some(_) => Ok(None),
+        None => Ok(posted(desk, alloc, 0, POST)?.0.ok()),
     }
-    let new = post_of(alloc, 65, RIGHT)?;
-    let known = post_of(alloc, 64, until)?;
-    assert_eq!(rt; posted(&mut desk, alloc, 99_999, &new)?, (Err(31), true));
-    assert_eq!(rt; posted(&mut desk, alloc, 99_999, &known)?, (Ok(64), true));
-    assert!(rt; is_found(&desk, 99_999, 1) && !is_found(&desk, 100_000, 1));
-    assert_eq!(rt; posted(&mut desk, alloc, 100_000, &new)?, (Ok(1), true));
+}
+
+/// Posts of one token and requests, the ID of each, and which of the IDs 1, 2 and 3 name a context after it.
+const STEPS: [(Option<u8>, u8, [bool; 3]); 5] = [
+    (None, 1, [true, false, false]),
+    (Some(1), 1, [true, false, false]),
+    (None, 2, [true, true, false]),
+    (None, 2, [true, true, false]),
+    (Some(2), 2, [false, true, false]),
+];
+
+#[test]
+fn the_newest_post_waits_for_a_request(rt: HostRuntime) -> Result<(), Fail> {
+    let mut desk = desk_of(rt.alloc())?;
+    for (request, id, found) in STEPS {
+        assert_eq!(rt; step(&mut desk, rt.alloc(), request)?, Some(id));
+        assert_eq!(rt; [1, 2, 3].map(|id| is_found(&desk, 0, id)), found);
+    }
+    desk.clear();
+    assert!(rt; !is_found(&desk, 0, 2));
     Ok(())
 }
 
-/// Payloads that are no posts.
-const NO_POSTS: [&[u8]; 9] = [
-    b"",
-    b"\x80",
-    b"\xa0",
-    b"\xa3\x01\x40\x01\x40\x18\x2b\x40",
-    b"\xa3\x01\x60\x18\x28\x41\x01\x18\x2b\x40",
-    b"\xa3\x01\x40\x18\x28\x40\x18\x2b\x40",
-    b"\xa3\x01\x40\x18\x28\x41\x01\x18\x2b\x4812345678",
-    b"\xa2\x18\x28\x41\x01\x18\x2b\x40",
-    b"\xa3\x01\x40\x18\x28\x41\x01\x18\x2b\x40\0",
+/// A desk at which 64 token ids have a context until 100 s.
+fn full_desk(alloc: Global) -> Result<ServerDesk, Fail> {
+    let mut desk = desk_of(alloc)?;
+    for id in 1..65u8 {
+        let body = post_of(alloc, id, until(Some(100)))?;
+        posted(&mut desk, alloc, 0, &body)?.0.ok().ok_or("refused")?;
+    }
+    Ok(desk)
+}
+
+/// Posts to the full desk: the token id, when it expires, the moment, and what the post comes to.
+const FURTHER: [(u8, Option<u64>, u64, Result<u8, u8>); 3] = [
+    (65, None, 99_999, Err(31)),
+    (64, Some(100), 99_999, Ok(64)),
+    (65, None, 100_000, Ok(1)),
+];
+
+#[test]
+fn sixty_four_tokens_have_contexts(rt: HostRuntime) -> Result<(), Fail> {
+    let mut desk = full_desk(rt.alloc())?;
+    for id in 1..65u8 {
+        assert!(rt; is_found(&desk, 99_999, id) && !is_found(&desk, 100_000, id));
+    }
+    for (id, expires, at, outcome) in FURTHER {
+        let body = post_of(rt.alloc(), id, until(expires))?;
+        assert_eq!(rt; posted(&mut desk, rt.alloc(), at, &body)?, (outcome, true));
+    }
+    Ok(())
+}
+
+/// Payloads that are no posts, and the post of an empty token, with the number of the refusal.
+const NO_POSTS: [(&[u8], u8); 10] = [
+    (b"", 30),
+    (b"\x80", 30),
+    (b"\xa0", 30),
+    (b"\xa3\x01\x40\x01\x40\x18\x2b\x40", 30),
+    (b"\xa3\x01\x60\x18\x28\x41\x01\x18\x2b\x40", 30),
+    (b"\xa3\x01\x40\x18\x28\x40\x18\x2b\x40", 30),
+    (b"\xa3\x01\x40\x18\x28\x41\x01\x18\x2b\x4812345678", 30),
+    (b"\xa2\x18\x28\x41\x01\x18\x2b\x40", 30),
+    (b"\xa3\x01\x40\x18\x28\x41\x01\x18\x2b\x40\0", 30),
+    (b"\xa3\x01\x40\x18\x28\x41\x01\x18\x2b\x40", 25),
 ];
 
 /// Tokens that say another thing, and the number of the refusal at 10 s.
@@ -289,28 +322,34 @@ const REFUSED: [(Said, u8); 4] = [
     ),
 ];
 
-#[test]
-fn refused_posts_change_nothing(rt: HostRuntime) -> Result<(), Fail> {
-    let alloc = rt.alloc();
+/// What a post comes to at 10 s where there is one context, and whether that alone is there after it.
+fn posted_beside_one(alloc: Global, body: &[u8]) -> Result<((Result<u8, u8>, bool), bool), Fail> {
     let mut desk = desk_of(alloc)?;
-    let first = post_of(alloc, 1, RIGHT)?;
-    assert_eq!(rt; posted(&mut desk, alloc, 0, &first)?, (Ok(1), true));
-    for body in NO_POSTS {
-        assert_eq!(rt; posted(&mut desk, alloc, 10_000, body)?, (Err(30), false));
-    }
-    let no_token = b"\xa3\x01\x40\x18\x28\x41\x01\x18\x2b\x40";
-    assert_eq!(rt;
-        posted(&mut desk, alloc, 10_000, no_token)?,
-        (Err(25), false)
-    );
-    for (said, number) in REFUSED {
-        let body = post_of(alloc, 2, said)?;
+    posted(&mut desk, alloc, 0, POST)?.0.ok().ok_or("refused")?;
+    let outcome = posted(&mut desk, alloc, 10_000, body)?;
+    Ok((outcome, is_found(&desk, 0, 1) && !is_found(&desk, 0, 2)))
+}
+
+#[test]
+fn no_posts_change_nothing(rt: HostRuntime) -> Result<(), Fail> {
+    for (body, number) in NO_POSTS {
         assert_eq!(rt;
-            posted(&mut desk, alloc, 10_000, &body)?,
-            (Err(number), true)
+            posted_beside_one(rt.alloc(), body)?,
+            ((Err(number), false), true)
         );
     }
-    assert!(rt; is_found(&desk, 0, 1) && !is_found(&desk, 0, 2));
+    Ok(())
+}
+
+#[test]
+fn refused_tokens_change_nothing(rt: HostRuntime) -> Result<(), Fail> {
+    for (said, number) in REFUSED {
+        let body = post_of(rt.alloc(), 2, said)?;
+        assert_eq!(rt;
+            posted_beside_one(rt.alloc(), &body)?,
+            ((Err(number), true), true)
+        );
+    }
     Ok(())
 }
 

@@ -1,10 +1,6 @@
 use super::*;
 use std::test::*;
 
-fn message(datagram: &[u8]) -> Result<MessageRef<'_>, &'static str> {
-    MessageRef::parse(datagram).ok().ok_or("a message")
-}
-
 /// A GET with the token 00003974 and the options Uri-Host "localhost" and Uri-Path "tv1".
 const REQUEST: [u8; 22] = [
     0x44, 0x01, 0x5d, 0x1f, 0x00, 0x00, 0x39, 0x74, 0x39, 0x6c, 0x6f, 0x63, 0x61, 0x6c, 0x68, 0x6f,
@@ -18,7 +14,7 @@ fn a_request(rt: HostRuntime) -> Result<(), Fail> {
     builder.option(11, b"tv1").ok().ok_or("room")?;
     assert_eq!(rt; builder.bytes(), REQUEST.as_slice());
 
-    let request = message(&REQUEST)?;
+    let request = MessageRef::parse(&REQUEST)?;
     assert_eq!(rt; request.kind(), Kind::Confirmable);
     assert_eq!(rt; request.code(), 1);
     assert_eq!(rt; request.id(), 0x5d1f);
@@ -47,23 +43,34 @@ fn a_reply(rt: HostRuntime) -> Result<(), Fail> {
     Ok(())
 }
 
-/// Deltas and lengths of 13 and 269 and more, and the largest number.
-#[test]
-fn wide_options(rt: HostRuntime) -> Result<(), Fail> {
+/// A message with deltas and lengths of 13 and 269 and more, and the largest number.
+fn with_wide_options() -> Result<MessageBuilder, &'static str> {
     let mut builder = MessageBuilder::start(Kind::NonConfirmable, 0x45, 7, b"");
     builder.option(60, &[7; 13]).ok().ok_or("room")?;
     builder.option(334, &[8; 300]).ok().ok_or("room")?;
     builder.option(65535, b"x").ok().ok_or("room")?;
     builder.payload(b"!").ok().ok_or("room")?;
+    Ok(builder)
+}
+
+/// Deltas 60, 274 and 65201, lengths 13, 300 and 1.
+#[test]
+fn wide_options_are_written(rt: HostRuntime) -> Result<(), Fail> {
+    let builder = with_wide_options()?;
     let datagram = builder.bytes();
-    // Deltas 60 and 274, lengths 13 and 300.
     assert!(rt; datagram.starts_with(b"\x50\x45\x00\x07\xdd\x2f\x00\x07"));
     assert_eq!(rt;
         datagram.get(20..25),
         Some(b"\xee\x00\x05\x00\x1f".as_slice())
     );
     assert_eq!(rt; datagram.get(325..), Some(b"\xe1\xfd\xa4x\xff!".as_slice()));
-    let mut options = message(datagram)?.options();
+    Ok(())
+}
+
+#[test]
+fn wide_options_are_read(rt: HostRuntime) -> Result<(), Fail> {
+    let builder = with_wide_options()?;
+    let mut options = MessageRef::parse(builder.bytes())?.options();
     assert_eq!(rt; options.next(), Some((60, [7; 13].as_slice())));
     assert_eq!(rt; options.next(), Some((334, [8; 300].as_slice())));
     assert_eq!(rt; options.next(), Some((65535, b"x".as_slice())));
@@ -161,9 +168,9 @@ fn printed(rt: HostRuntime) -> Result<(), Fail> {
     Ok(())
 }
 
-/// The plaintext of a GET with Uri-Path "tv1", and one of a 2.05 with a payload.
+/// The plaintext of a GET with Uri-Path "tv1".
 #[test]
-fn plaintexts(rt: HostRuntime) -> Result<(), Fail> {
+fn a_requests_plaintext(rt: HostRuntime) -> Result<(), Fail> {
     let mut builder = PlaintextBuilder::start(1);
     builder.option(11, b"tv1").ok().ok_or("room")?;
     assert_eq!(rt; builder.bytes(), b"\x01\xb3\x74\x76\x31".as_slice());
@@ -174,17 +181,26 @@ fn plaintexts(rt: HostRuntime) -> Result<(), Fail> {
     assert_eq!(rt; options.rest().next(), Some((11, b"tv1".as_slice())));
     assert_eq!(rt; options.next(), Some((11, b"tv1".as_slice())));
     assert_eq!(rt; options.next(), None);
+    Ok(())
+}
 
+/// The plaintext of a 2.05 with a payload.
+#[test]
+fn a_replys_plaintext(rt: HostRuntime) -> Result<(), Fail> {
     let mut builder = PlaintextBuilder::start(0x45);
     builder.payload(b"Hello World!").ok().ok_or("room")?;
     assert_eq!(rt; builder.bytes(), b"\x45\xffHello World!".as_slice());
     let reply = PlaintextRef::parse(builder.bytes()).ok_or("a plaintext")?;
     assert_eq!(rt; reply.payload(), Some(b"Hello World!".as_slice()));
+    Ok(())
+}
 
-    // No bytes, a marker with nothing behind it, a length of 15.
-    let refused: [&[u8]; 3] = [b"", b"\x01\xff", b"\x01\x0f"];
-    for bytes in refused {
+/// No bytes, a marker with nothing behind it, a length of 15.
+const NO_PLAINTEXTS: [&[u8]; 3] = [b"", b"\x01\xff", b"\x01\x0f"];
+
+#[test]
+fn no_plaintexts(rt: HostRuntime) {
+    for bytes in NO_PLAINTEXTS {
         assert!(rt; PlaintextRef::parse(bytes).is_none(), "at {bytes:?}");
     }
-    Ok(())
 }

@@ -95,6 +95,13 @@ const EXAMPLES: [Example; 3] = [
     },
 ];
 
+fn id_context_of(alloc: Global, bytes: Option<&[u8]>) -> Result<Option<Bytes>, AllocError> {
+    match bytes {
+        Some(bytes) => Ok(Some(Bytes::from_slice(alloc, bytes)?)),
+        None => Ok(None),
+    }
+}
+
 /// A name with the examples' master secret.
 fn name(
     alloc: Global,
@@ -103,14 +110,10 @@ fn name(
     client_id: &[u8],
     server_id: &[u8],
 ) -> Result<ContextName, AllocError> {
-    let id_context = match id_context {
-        None => None,
-        Some(bytes) => Some(Bytes::from_slice(alloc, bytes)?),
-    };
     Ok(ContextName {
         secret: Bytes::from_slice(alloc, &SECRET)?,
         salt: Bytes::from_slice(alloc, salt)?,
-        id_context,
+        id_context: id_context_of(alloc, id_context)?,
         client_id: Bytes::from_slice(alloc, client_id)?,
         server_id: Bytes::from_slice(alloc, server_id)?,
     })
@@ -171,72 +174,90 @@ fn examples(rt: HostRuntime) -> Result<(), Fail> {
     Ok(())
 }
 
-/// The infos of the first example.
+/// An info of the first example.
+fn first_info(alloc: Global, id: &[u8], label: &[u8], size: u64) -> Result<Vec<u8>, AllocError> {
+    info_of(alloc, &first_name(alloc, b"", b"\x01")?, id, label, size)
+}
+
+/// IDs, labels and sizes, and the infos of the first example.
+const INFOS: [(&[u8], &[u8], u64, &[u8]); 3] = [
+    (b"", b"Key", 16, b"\x85\x40\xf6\x0a\x63Key\x10"),
+    (b"\x01", b"Key", 16, b"\x85\x41\x01\xf6\x0a\x63Key\x10"),
+    (b"", b"IV", 13, b"\x85\x40\xf6\x0a\x62IV\x0d"),
+];
+
 #[test]
 fn infos(rt: HostRuntime) -> Result<(), Fail> {
-    let alloc = rt.alloc();
-    let name = first_name(alloc, b"", b"\x01")?;
-    let client = info_of(alloc, &name, b"", b"Key", 16)?;
-    assert_eq!(rt;
-        client.as_slice(),
-        b"\x85\x40\xf6\x0a\x63Key\x10".as_slice()
-    );
-    let server = info_of(alloc, &name, b"\x01", b"Key", 16)?;
-    assert_eq!(rt;
-        server.as_slice(),
-        b"\x85\x41\x01\xf6\x0a\x63Key\x10".as_slice()
-    );
-    let common_iv = info_of(alloc, &name, b"", b"IV", 13)?;
-    assert_eq!(rt;
-        common_iv.as_slice(),
-        b"\x85\x40\xf6\x0a\x62IV\x0d".as_slice()
-    );
+    for (id, label, size, info) in INFOS {
+        assert_eq!(rt; first_info(rt.alloc(), id, label, size)?.as_slice(), info);
+    }
+    Ok(())
+}
+
+/// Why there is no context with these IDs, at either end.
+fn refusals(
+    alloc: Global,
+    client_id: &[u8],
+    server_id: &[u8],
+) -> Result<[Option<DeriveError>; 2], AllocError> {
+    let name = first_name(alloc, client_id, server_id)?;
+    Ok([
+        derive(alloc, &name, Side::Client).err(),
+        derive(alloc, &name, Side::Server).err(),
+    ])
+}
+
+/// IDs of a client and of a server, and why there is no context with them.
+const IDS: [(&[u8], &[u8], Option<DeriveError>); 6] = [
+    (b"1234567", b"7654321", None),
+    (b"\x01", b"\x01", Some(DeriveError::EqualIds)),
+    (b"", b"", Some(DeriveError::EqualIds)),
+    (b"12345678", b"\x01", Some(DeriveError::IdTooLong)),
+    (b"\x01", b"12345678", Some(DeriveError::IdTooLong)),
+    (b"12345678", b"12345678", Some(DeriveError::IdTooLong)),
+];
+
+#[test]
+fn refused_ids(rt: HostRuntime) -> Result<(), Fail> {
+    for (client_id, server_id, refusal) in IDS {
+        assert_eq!(rt; refusals(rt.alloc(), client_id, server_id)?, [refusal; 2]);
+    }
     Ok(())
 }
 
 #[test]
-fn refused_ids(rt: HostRuntime) -> Result<(), Fail> {
-    let alloc = rt.alloc();
-    let too_long = DeriveError::IdTooLong;
-    let cases: [(&[u8], &[u8], DeriveError); 5] = [
-        (b"\x01", b"\x01", DeriveError::EqualIds),
-        (b"", b"", DeriveError::EqualIds),
-        (b"12345678", b"\x01", too_long),
-        (b"\x01", b"12345678", too_long),
-        (b"12345678", b"12345678", too_long),
-    ];
-    for (client_id, server_id, error) in cases {
-        let name = first_name(alloc, client_id, server_id)?;
-        assert_eq!(rt; derive(alloc, &name, Side::Client).err(), Some(error));
-        assert_eq!(rt; derive(alloc, &name, Side::Server).err(), Some(error));
-    }
-    let longest = first_name(alloc, b"1234567", b"7654321")?;
-    assert!(rt; derive(alloc, &longest, Side::Server).is_ok());
-    assert_eq!(rt; too_long.number(), 19);
+fn numbers_of_refusals(rt: HostRuntime) {
+    assert_eq!(rt; DeriveError::IdTooLong.number(), 19);
     assert_eq!(rt; DeriveError::EqualIds.number(), 20);
     assert_eq!(rt; DeriveError::Memory.number(), 9);
-    Ok(())
+}
+
+/// What the client of the first example seals with.
+fn first_sender(alloc: Global) -> Result<SenderContext, Fail> {
+    let (sender, _) = derive(alloc, &first_name(alloc, b"", b"\x01")?, Side::Client)?;
+    Ok(sender)
+}
+
+/// The number that is taken next, or the number of the refusal.
+fn taken(sender: &mut SenderContext) -> Result<u64, u8> {
+    match sender.take_number() {
+        Ok(number) => Ok(number.spend()),
+        Err(error) => Err(error.number()),
+    }
 }
 
 #[test]
 fn numbers(rt: HostRuntime) -> Result<(), Fail> {
-    let alloc = rt.alloc();
-    let name = first_name(alloc, b"", b"\x01")?;
-    let (mut sender, _) = derive(alloc, &name, Side::Client)?;
+    let mut sender = first_sender(rt.alloc())?;
     assert_eq!(rt; sender.next_number(), 0);
-    assert_eq!(rt; sender.take_number()?.spend(), 0);
-    assert_eq!(rt; sender.take_number()?.spend(), 1);
+    assert_eq!(rt; taken(&mut sender), Ok(0));
+    assert_eq!(rt; taken(&mut sender), Ok(1));
     sender.skip_to(20);
     sender.skip_to(7);
-    let number = sender.take_number()?;
-    assert_eq!(rt; number.get(), 20);
-    assert_eq!(rt; number.spend(), 20);
+    assert_eq!(rt; taken(&mut sender), Ok(20));
     sender.skip_to(NUMBER_LIMIT);
-    assert_eq!(rt; sender.take_number()?.spend(), 1_099_511_627_775);
-    match sender.take_number() {
-        Ok(number) => assert_eq!(rt; number.spend(), u64::MAX),
-        Err(error) => assert_eq!(rt; error.number(), 18),
-    }
+    assert_eq!(rt; taken(&mut sender), Ok(1_099_511_627_775));
+    assert_eq!(rt; taken(&mut sender), Err(18));
     assert_eq!(rt; sender.next_number(), 1_099_511_627_776);
     Ok(())
 }

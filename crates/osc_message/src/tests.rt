@@ -37,14 +37,19 @@ fn hear(endpoint: &Endpoint, at: u32, from: Peer, datagram: &[u8]) -> (Is, u16) 
     shape(&endpoint.on_datagram(Moment(u64::from(at)), from, datagram))
 }
 
+/// What was done with a message that nothing answers: it may count for a request.
+fn handling_of(request: Option<u16>) -> Handling {
+    match request {
+        Some(request) => Handling::Counted(request, None),
+        None => Handling::Answered(None),
+    }
+}
+
 /// Answers the datagram by nothing; it may count for a request.
 fn settle(endpoint: &mut Endpoint, at: u32, from: Peer, datagram: &[u8], request: Option<u16>) {
     let now = Moment(u64::from(at));
+    let handling = handling_of(request);
     let heard = endpoint.on_datagram(now, from, datagram);
-    let handling = match request {
-        Some(request) => Handling::Counted(request, None),
-        None => Handling::Answered(None),
-    };
     endpoint.settle(now, from, &heard, handling);
 }
 

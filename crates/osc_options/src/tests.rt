@@ -55,7 +55,7 @@ const DATAGRAMS: [(&[u8], Option<u16>); 9] = [
 #[test]
 fn what_is_not_recognised(rt: HostRuntime) -> Result<(), Fail> {
     for (datagram, expected) in DATAGRAMS {
-        let message = MessageRef::parse(datagram).ok().ok_or("a message")?;
+        let message = MessageRef::parse(datagram)?;
         assert_eq!(rt; unrecognised_critical(&message), expected);
     }
     Ok(())
@@ -64,7 +64,7 @@ fn what_is_not_recognised(rt: HostRuntime) -> Result<(), Fail> {
 #[test]
 fn a_request(rt: HostRuntime) -> Result<(), Fail> {
     let datagram = b"\x40\x03\x00\x01\x11e\x40\x61a\x01b\x12\x00\x2a\x01\x05\x50\xffhi";
-    let message = MessageRef::parse(datagram).ok().ok_or("a message")?;
+    let message = MessageRef::parse(datagram)?;
     assert!(rt; has_option(&message, numbers::ACCEPT));
     assert!(rt; !has_option(&message, numbers::OSCORE));
     let request = request_of_message(rt.alloc(), &message)?;
@@ -81,14 +81,14 @@ fn a_request(rt: HostRuntime) -> Result<(), Fail> {
 #[test]
 fn at_most_eight_segments(rt: HostRuntime) -> Result<(), Fail> {
     let eight = b"\x40\x01\x00\x01\xb1a\x01b\x01c\x01d\x01e\x01f\x01g\x01h";
-    let message = MessageRef::parse(eight).ok().ok_or("a message")?;
+    let message = MessageRef::parse(eight)?;
     let request = request_of_message(rt.alloc(), &message)?;
     assert_eq!(rt;
         request.path.ok_or("a path")?.text(),
         b"/a/b/c/d/e/f/g/h".as_slice()
     );
     let nine = b"\x40\x01\x00\x01\xb1a\x01b\x01c\x01d\x01e\x01f\x01g\x01h\x01i";
-    let message = MessageRef::parse(nine).ok().ok_or("a message")?;
+    let message = MessageRef::parse(nine)?;
     assert!(rt; request_of_message(rt.alloc(), &message)?.path.is_none());
     Ok(())
 }
@@ -119,10 +119,6 @@ fn replies(rt: HostRuntime) -> Result<(), Fail> {
     Ok(())
 }
 
-fn message(datagram: &[u8]) -> Result<MessageRef<'_>, &'static str> {
-    MessageRef::parse(datagram).ok().ok_or("a message")
-}
-
 /// A GET with the token 00003974, Uri-Host "localhost" and Uri-Path "tv1".
 const REQUEST: [u8; 22] = [
     0x44, 0x01, 0x5d, 0x1f, 0x00, 0x00, 0x39, 0x74, 0x39, 0x6c, 0x6f, 0x63, 0x61, 0x6c, 0x68, 0x6f,
@@ -138,7 +134,7 @@ const PROTECTED: [u8; 35] = [
 
 #[test]
 fn a_protected_request(rt: HostRuntime) -> Result<(), Fail> {
-    let request = message(&REQUEST)?;
+    let request = MessageRef::parse(&REQUEST)?;
     let mut parts = split(&request);
     assert_eq!(rt; parts.outer.next(), Some((3, b"localhost".as_slice())));
     assert_eq!(rt; parts.outer.next(), None);
@@ -167,8 +163,8 @@ fn a_protected_request(rt: HostRuntime) -> Result<(), Fail> {
 /// Outer and inner options take turns, and the outer one is first of two of one number.
 #[test]
 fn merged(rt: HostRuntime) -> Result<(), Fail> {
-    let outside = message(b"\x40\x01\x00\x01\x31a\x41b\xd1\x0fc")?;
-    let inside = message(b"\x40\x01\x00\x01\x51d\x61e\x01f")?;
+    let outside = MessageRef::parse(b"\x40\x01\x00\x01\x31a\x41b\xd1\x0fc")?;
+    let inside = MessageRef::parse(b"\x40\x01\x00\x01\x51d\x61e\x01f")?;
     let mut options = merge(split(&outside).outer, split(&inside).inner);
     let expected: [(u16, &[u8]); 6] = [
         (3, b"a"),

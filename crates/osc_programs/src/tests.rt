@@ -2,6 +2,7 @@
 use crate::{
     Ended, Words, WordsError, drawn_iv, ended_by, fault_line, read_words, sim, status, token,
 };
+use clap::error::ErrorKind::DisplayHelp;
 use std::alloc::{AllocError, Global};
 use std::io::{self, ErrorKind, Read, Write};
 use std::test::Fail;
@@ -144,51 +145,71 @@ fn a_broken_input_or_output_fails(rt: HostRuntime) -> Result<(), Fail> {
     Ok(())
 }
 
+// The value of the flag, where the words are those of `osc sim`.
+fn sim_asked(alloc: Global, words: &[&str]) -> Option<bool> {
+    match read_words(alloc, words) {
+        Ok(Words::Sim { bytes }) => Some(bytes),
+        _ => None,
+    }
+}
+
+// How the command ends on words that aren't heeded, and what it says: what help says, or the line of the fault.
+fn refused(alloc: Global, words: &[&str]) -> Result<Option<(Ended, String)>, AllocError> {
+    match read_words(alloc, words) {
+        Ok(_) => Ok(None),
+        Err(error) => Ok(Some((ended_by(&error), said(alloc, &error)?))),
+    }
+}
+
+fn said(alloc: Global, error: &WordsError) -> Result<String, AllocError> {
+    match error {
+        WordsError::Clap(help) if help.kind() == DisplayHelp => help.to_string(alloc),
+        _ => fault_line(alloc, error),
+    }
+}
+
+// Whether the command ends so on these words, and says this among other things.
+fn ends(alloc: Global, words: &[&str], ended: Ended, part: &str) -> Result<bool, AllocError> {
+    match refused(alloc, words)? {
+        Some((so, line)) => Ok(so == ended && line.as_str().contains(part)),
+        None => Ok(false),
+    }
+}
+
+// Words that aren't heeded, how the command ends, and a part of what it says.
+const WRONG_WORDS: [(&[&str], Ended, &str); 9] = [
+    (&["osc"], Ended::BadCommandLine, "subcommand"),
+    (&["osc", "simulate"], Ended::BadCommandLine, "simulate"),
+    (&["osc", "sim", "--byte"], Ended::BadCommandLine, "--byte"),
+    (&["osc", "sim", "script"], Ended::BadCommandLine, "script"),
+    (
+        &["osc", "token", "--aud", "s"],
+        Ended::BadCommandLine,
+        "--key <HEX> --id <HEX>",
+    ),
+    (
+        &["osc", "token", "--iv", "", "--iv", ""],
+        Ended::BadCommandLine,
+        "--iv",
+    ),
+    (
+        &["osc", "token", "--exp", "-1"],
+        Ended::BadCommandLine,
+        "-1",
+    ),
+    (&["osc", "--help"], Ended::Done, "sim"),
+    (&["osc", "token", "--help"], Ended::Done, "--nbf <N>"),
+];
+
 #[test]
 fn words_name_a_subcommand(rt: HostRuntime) -> Result<(), Fail> {
-    let alloc = rt.alloc();
-    let good: [(&[&str], bool); 2] = [(&["osc", "sim"], false), (&["osc", "sim", "--bytes"], true)];
-    for (words, bytes) in good {
-        assert_eq!(rt; read_words(alloc, words).ok(), Some(Words::Sim { bytes }));
-    }
-    let bad: [(&[&str], Ended, &str); 9] = [
-        (&["osc"], Ended::BadCommandLine, "subcommand"),
-        (&["osc", "simulate"], Ended::BadCommandLine, "simulate"),
-        (&["osc", "sim", "--byte"], Ended::BadCommandLine, "--byte"),
-        (&["osc", "sim", "script"], Ended::BadCommandLine, "script"),
-        (
-            &["osc", "token", "--aud", "s"],
-            Ended::BadCommandLine,
-            "--key <HEX> --id <HEX>",
-        ),
-        (
-            &["osc", "token", "--iv", "", "--iv", ""],
-            Ended::BadCommandLine,
-            "--iv",
-        ),
-        (
-            &["osc", "token", "--exp", "-1"],
-            Ended::BadCommandLine,
-            "-1",
-        ),
-        (&["osc", "--help"], Ended::Done, "sim"),
-        (&["osc", "token", "--help"], Ended::Done, "--nbf <N>"),
-    ];
-    for (words, ended, part) in bad {
-        match read_words(alloc, words) {
-            Ok(_) => assert_eq!(rt; ended, Ended::OutOfMemory),
-            Err(error) => {
-                assert_eq!(rt; ended_by(&error), ended);
-                if let WordsError::Clap(told) = &error {
-                    let line = if ended == Ended::Done {
-                        told.to_string(alloc)?
-                    } else {
-                        fault_line(alloc, &error)?
-                    };
-                    assert!(rt; line.as_str().contains(part), "{line}");
-                }
-            }
-        }
+    assert_eq!(rt; sim_asked(rt.alloc(), &["osc", "sim"]), Some(false));
+    assert_eq!(rt;
+        sim_asked(rt.alloc(), &["osc", "sim", "--bytes"]),
+        Some(true)
+    );
+    for (words, ended, part) in WRONG_WORDS {
+        assert!(rt; ends(rt.alloc(), words, ended, part)?, "{part}");
     }
     Ok(())
 }
@@ -222,22 +243,9 @@ fn token_command<'a>(
     Ok(words)
 }
 
-fn repeated(alloc: Global, text: &str, count: usize) -> Result<String, AllocError> {
-    let mut whole = String::new(alloc);
-    for _ in 0..count {
-        whole.push_str(text)?;
-    }
-    Ok(whole)
-}
-
-// How `osc token` ends, and what it writes.
-fn run_token<W: Write>(
-    alloc: Global,
-    option: &str,
-    value: &str,
-    writer: &mut W,
-) -> Result<Ended, Fail> {
-    let words = token_command(alloc, option, value)?;
+// How `osc token` ends for this audience, and what it writes.
+fn run_token<W: Write>(alloc: Global, audience: &str, writer: &mut W) -> Result<Ended, AllocError> {
+    let words = token_command(alloc, "--aud", audience)?;
     match read_words(alloc, &words) {
         Ok(Words::Token(words)) => Ok(match words.iv {
             Some(iv) => token(alloc, &words, &iv, writer),
@@ -249,18 +257,27 @@ fn run_token<W: Write>(
 
 #[test]
 fn a_token_is_printed(rt: HostRuntime) -> Result<(), Fail> {
-    let alloc = rt.alloc();
-    let long = repeated(alloc, "s", 65536)?;
+    let long = "s".repeat(rt.alloc(), 65536)?;
     for (audience, ended, line) in [
         ("s", Ended::Done, TOKEN_LINE),
         (long.as_str(), Ended::BadCommandLine, ""),
     ] {
-        let mut written = Vec::new(alloc);
-        assert_eq!(rt; run_token(alloc, "--aud", audience, &mut written)?, ended);
+        let mut written = Vec::new(rt.alloc());
+        assert_eq!(rt; run_token(rt.alloc(), audience, &mut written)?, ended);
         assert_eq!(rt; written.as_slice(), line.as_bytes());
     }
+    Ok(())
+}
+
+#[test]
+fn a_token_that_is_not_written_fails(rt: HostRuntime) -> Result<(), Fail> {
     let mut writer = BrokenWriter { writes: 0 };
-    assert_eq!(rt; run_token(alloc, "--aud", "s", &mut writer)?, Ended::Failed);
+    assert_eq!(rt; run_token(rt.alloc(), "s", &mut writer)?, Ended::Failed);
+    Ok(())
+}
+
+#[test]
+fn drawn_ivs_differ(rt: HostRuntime) -> Result<(), Fail> {
     assert!(rt; drawn_iv(&rt)? != drawn_iv(&rt)?);
     Ok(())
 }
@@ -302,26 +319,46 @@ const BAD: [(&str, &str, usize); 19] = [
     ("--scope", "", 0),
 ];
 
-#[test]
-fn values_have_their_bounds(rt: HostRuntime) -> Result<(), Fail> {
-    let alloc = rt.alloc();
-    for (option, text, count) in GOOD {
-        let value = repeated(alloc, text, count)?;
-        let words = token_command(alloc, option, &value)?;
-        assert!(rt; read_words(alloc, &words).is_ok(), "{option} {value}");
+// What is said of a text, so many times, as the value of an option, where it isn't one that the option may have.
+fn refused_value(
+    alloc: Global,
+    option: &str,
+    text: &str,
+    count: usize,
+) -> Result<Option<(Ended, String)>, AllocError> {
+    let value = text.repeat(alloc, count)?;
+    let words = token_command(alloc, option, &value)?;
+    refused(alloc, &words)
+}
+
+// Whether the value is refused as one that the option can't have.
+fn is_refused(alloc: Global, option: &str, text: &str, count: usize) -> Result<bool, AllocError> {
+    let beginning = format!(in alloc; "error: {option} is not ")?;
+    match refused_value(alloc, option, text, count)? {
+        Some((ended, line)) => Ok(
+            ended == Ended::BadCommandLine && line.as_str().starts_with(beginning.as_str()),
+        ),
+        None => Ok(false),
     }
-    for (option, text, count) in BAD {
-        let value = repeated(alloc, text, count)?;
-        let words = token_command(alloc, option, &value)?;
-        let Err(error) = read_words(alloc, &words) else {
-            return Err(Fail::from(AllocError));
-        };
-        assert_eq!(rt; ended_by(&error), Ended::BadCommandLine);
-        let line = fault_line(alloc, &error)?;
+}
+
+#[test]
+fn values_within_their_bounds(rt: HostRuntime) -> Result<(), Fail> {
+    for (option, text, count) in GOOD {
         assert!(rt;
-            line.as_str()
-                .starts_with(format!(in alloc; "error: {option} is not ")?.as_str()),
-            "{line}"
+            refused_value(rt.alloc(), option, text, count)?.is_none(),
+            "{option} {text}"
+        );
+    }
+    Ok(())
+}
+
+#[test]
+fn values_beyond_their_bounds(rt: HostRuntime) -> Result<(), Fail> {
+    for (option, text, count) in BAD {
+        assert!(rt;
+            is_refused(rt.alloc(), option, text, count)?,
+            "{option} {text}"
         );
     }
     Ok(())

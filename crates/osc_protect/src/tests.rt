@@ -1,5 +1,5 @@
 //! The published examples of protected messages, and each refusal.
-ghost use Rattle.std.specs.Prelude.{◌≡◌, ◌≤◌, IfOk};
+ghost use Rattle.std.specs.Prelude.{◌≡◌, ◌≤◌, IfOk, IfSome, length};
 ghost use Rattle.osc_model.specs.declared.context.Side.TheVariants.{Client};
 ghost use Rattle.osc_context.specs.Derivation.{sender_of};
 ghost use Rattle.osc_protect.specs.Protection.{HasShortContext};
@@ -7,7 +7,7 @@ ghost use Rattle.osc_protect.specs.Protection.{HasShortContext};
 use super::*;
 use crate::aad::{associated_data, external_aad};
 use osc_ccm::Ccm;
-use osc_coap::{Kind, MessageBuilder, MessageRef};
+use osc_coap::MessageRef;
 use osc_context::{ID_LIMIT, SendNumber, SenderContext, derive};
 use osc_model::{Bytes, ContextName, Note, Side};
 use osc_window::Window;
@@ -91,20 +91,24 @@ const RESPONSES: [Example; 2] = [
     },
 ];
 
-/// The name of a context; no bytes are no id context.
+/// An id context, of which no bytes are none.
+fn id_context_of(alloc: Global, bytes: &[u8]) -> Result<Option<Bytes>, AllocError>
+    ensures { IfOk result (λ id_context. IfSome id_context (λ bytes. length bytes ≤ 64)) }
+{
+    if bytes.is_empty() || bytes.len() > 64 {
+        return Ok(None);
+    }
+    Ok(Some(Bytes::from_slice(alloc, bytes)?))
+}
+
+/// The name of a context.
 fn name_of(alloc: Global, context: &Context) -> Result<ContextName, AllocError>
     ensures { IfOk result (λ name. HasShortContext name) }
 {
-    let bytes = context.id_context;
-    let id_context = if bytes.is_empty() || bytes.len() > 64 {
-        None
-    } else {
-        Some(Bytes::from_slice(alloc, bytes)?)
-    };
     Ok(ContextName {
         secret: Bytes::from_slice(alloc, &SECRET)?,
         salt: Bytes::from_slice(alloc, context.salt)?,
-        id_context,
+        id_context: id_context_of(alloc, context.id_context)?,
         client_id: Bytes::from_slice(alloc, context.client_id)?,
         server_id: Bytes::from_slice(alloc, b"\x01")?,
     })
@@ -168,24 +172,36 @@ fn refusal_of(
     Ok(open_request(alloc, name, window, datagram)?.err())
 }
 
+/// The plaintext of the requests.
+const ASKED: &[u8] = b"\x01\xb3tv1";
+
+/// Whether both ends noted the same of a request.
+fn are_alike(sealed: &Note, opened: &Note) -> bool {
+    sealed.side == Side::Client
+        && opened.side == Side::Server
+        && sealed.context == opened.context
+        && sealed.number == opened.number
+        && sealed.nonce == opened.nonce
+        && sealed.aad == opened.aad
+        && sealed.plaintext == opened.plaintext
+}
+
+/// What the client makes of an example's message, and the server's note of its request.
+fn exchanged(alloc: Global, example: Example) -> Result<(ProtectedRequest, Note), Fail> {
+    let name = name_of(alloc, &CONTEXTS[example.context.min(2)])?;
+    let made = protect_at(alloc, &name, 20, example.message)?;
+    let opened = open_request(alloc, &name, &mut Window::new(), example.protected)??;
+    Ok((made, opened))
+}
+
 #[test]
 fn requests(rt: HostRuntime) -> Result<(), Fail> {
-    let alloc = rt.alloc();
     for example in REQUESTS {
-        let name = name_of(alloc, &CONTEXTS[example.context.min(2)])?;
-        let made = protect_at(alloc, &name, 20, example.message)?;
+        let (made, opened) = exchanged(rt.alloc(), example)?;
         assert_eq!(rt; made.message.bytes(), example.protected);
-        assert_eq!(rt; made.note.plaintext.as_slice(), b"\x01\xb3tv1".as_slice());
-        assert_eq!(rt; made.note.number, 20);
-
-        let mut window = Window::new();
-        let note = open_request(alloc, &name, &mut window, example.protected)??;
-        assert!(rt; note.context == name);
-        assert_eq!(rt; note.side, Side::Server);
-        assert_eq!(rt; note.plaintext.as_slice(), b"\x01\xb3tv1".as_slice());
-        assert_eq!(rt; note.nonce, made.note.nonce);
-        assert!(rt; note.aad == made.note.aad);
-        assert!(rt; !window.is_fresh(20));
+        assert_eq!(rt; opened.plaintext.as_slice(), ASKED);
+        assert_eq!(rt; opened.number, 20);
+        assert!(rt; are_alike(&made.note, &opened));
     }
     Ok(())
 }
@@ -322,24 +338,38 @@ fn the_associated_data(rt: HostRuntime) -> Result<(), Fail> {
     Ok(())
 }
 
-/// Options and payloads that aren't those of appendix C.4, and why they aren't opened.
-const REFUSED: [(&[u8], RequestError); 11] = [
-    (b"", RequestError::Malformed),
-    (b"\xff\x61\x2f", RequestError::Malformed),
-    (b"\x92\x09\x14", RequestError::Malformed),
-    (b"\x90\xff\x61\x2f", RequestError::Malformed),
-    (b"\x92\x01\x14\xff\x61\x2f", RequestError::Malformed),
-    (b"\x91\x08\xff\x61\x2f", RequestError::Malformed),
-    (b"\x92\x89\x14\xff\x61\x2f", RequestError::Malformed),
-    (b"\x93\x09\x14\x07\xff\x61\x2f", RequestError::NoContext),
-    (b"\x94\x19\x14\x01\xaa\xff\x61\x2f", RequestError::NoContext),
+/// Options and payloads one after another, and why they aren't opened. The last two are those of appendix C.4.
+const ARRIVING: [(&[u8], Option<RequestError>); 13] = [
+    (b"", Some(RequestError::Malformed)),
+    (b"\xff\x61\x2f", Some(RequestError::Malformed)),
+    (b"\x92\x09\x14", Some(RequestError::Malformed)),
+    (b"\x90\xff\x61\x2f", Some(RequestError::Malformed)),
+    (b"\x92\x01\x14\xff\x61\x2f", Some(RequestError::Malformed)),
+    (b"\x91\x08\xff\x61\x2f", Some(RequestError::Malformed)),
+    (b"\x92\x89\x14\xff\x61\x2f", Some(RequestError::Malformed)),
+    (
+        b"\x93\x09\x14\x07\xff\x61\x2f",
+        Some(RequestError::NoContext),
+    ),
+    (
+        b"\x94\x19\x14\x01\xaa\xff\x61\x2f",
+        Some(RequestError::NoContext),
+    ),
     (
         b"\x92\x09\x14\xff\x61\x2f\x10\x92\xf1\x77\x6f\x1c\x16\x68\xb3\x82\x5f",
-        RequestError::NotGenuine,
+        Some(RequestError::NotGenuine),
     ),
     (
         b"\x92\x09\x14\xff\x61\x2f\x10\x92\xf1\x77\x6f",
-        RequestError::NotGenuine,
+        Some(RequestError::NotGenuine),
+    ),
+    (
+        b"\x92\x09\x14\xff\x61\x2f\x10\x92\xf1\x77\x6f\x1c\x16\x68\xb3\x82\x5e",
+        None,
+    ),
+    (
+        b"\x92\x09\x14\xff\x61\x2f\x10\x92\xf1\x77\x6f\x1c\x16\x68\xb3\x82\x5e",
+        Some(RequestError::Replay),
     ),
 ];
 
@@ -350,22 +380,15 @@ fn with_options(alloc: Global, options: &[u8]) -> Result<Vec<u8>, AllocError> {
     Ok(datagram)
 }
 
-/// The window is as before them: what is genuine is opened, once.
+/// What is refused leaves the window as before, so that what is genuine is opened, once.
 #[test]
 fn refusals(rt: HostRuntime) -> Result<(), Fail> {
     let alloc = rt.alloc();
     let name = name_of(alloc, &CONTEXTS[0])?;
     let mut window = Window::new();
-    for (options, refusal) in REFUSED {
+    for (options, refusal) in ARRIVING {
         let datagram = with_options(alloc, options)?;
-        assert_eq!(rt;
-            refusal_of(alloc, &name, &mut window, &datagram)?,
-            Some(refusal)
-        );
-    }
-    let genuine = REQUESTS[0].protected;
-    for refusal in [None, Some(RequestError::Replay)] {
-        assert_eq!(rt; refusal_of(alloc, &name, &mut window, genuine)?, refusal);
+        assert_eq!(rt; refusal_of(alloc, &name, &mut window, &datagram)?, refusal);
     }
     Ok(())
 }
@@ -415,13 +438,11 @@ fn numbers_of_refusals(rt: HostRuntime) {
     }
 }
 
-/// A message of so many bytes of payload.
-fn message_of(size: usize) -> Result<MessageBuilder, &'static str>
-    requires { size ≤ 1152 }
-{
-    let mut message = MessageBuilder::start(Kind::Confirmable, 1, 7, b"");
-    message.payload(&[7; 1152][..size]).ok().ok_or("room")?;
-    Ok(message)
+/// A POST with so many bytes of payload.
+fn post_of(alloc: Global, size: usize) -> Result<Vec<u8>, AllocError> {
+    let mut datagram = Vec::from_slice(alloc, b"\x40\x02\x00\x07\xff")?;
+    datagram.extend_from_slice("7".repeat(alloc, size)?.as_bytes())?;
+    Ok(datagram)
 }
 
 /// Room and number are handed back with a message that is too long, and serve another.
@@ -441,25 +462,36 @@ fn protect_instead(
     }
 }
 
+/// A request that is too long in this room, and then one that isn't; answers the length of what protects it.
+fn protected_length(
+    alloc: Global,
+    name: &ContextName,
+    too_long: &MessageRef<'_>,
+    message: &MessageRef<'_>,
+) -> Result<usize, Fail>
+    requires { HasShortContext name.now }
+{
+    let (mut sender, _) = derive(alloc, name, Side::Client)?;
+    let room = Room::new(alloc, name)?;
+    let number = sender.take_number()?;
+    let made = protect_instead(room, &sender, number, too_long, message)?;
+    Ok(made.message.bytes().len())
+}
+
 /// Protected as a request of number 0, a payload takes 18 bytes more: 4 of header, 3 of the option, the payload marker, the
 /// sealed code and inner marker, and the tag.
 #[test]
 fn long_requests(rt: HostRuntime) -> Result<(), Fail> {
     let alloc = rt.alloc();
     let name = name_of(alloc, &CONTEXTS[0])?;
-    let (mut sender, _) = derive(alloc, &name, Side::Client)?;
-    let room = Room::new(alloc, &name)?;
-    let longest = message_of(1134)?;
-    let too_long = message_of(1135)?;
-    let number = sender.take_number()?;
-    let made = protect_instead(
-        room,
-        &sender,
-        number,
-        &too_long.message(),
-        &longest.message(),
+    let (longest, too_long) = (post_of(alloc, 1134)?, post_of(alloc, 1135)?);
+    let length = protected_length(
+        alloc,
+        &name,
+        &MessageRef::parse(&too_long)?,
+        &MessageRef::parse(&longest)?,
     )?;
-    assert_eq!(rt; made.message.bytes().len(), 1152);
+    assert_eq!(rt; length, 1152);
     Ok(())
 }
 
@@ -468,9 +500,10 @@ fn what_fits(rt: HostRuntime) -> Result<(), Fail> {
     let alloc = rt.alloc();
     let name = name_of(alloc, &CONTEXTS[0])?;
     assert!(rt; name.client_id.len() <= ID_LIMIT);
-    for (size, fitting) in [(0, true), (1134, true), (1135, false), (1147, false)] {
-        let message = message_of(size)?;
-        assert_eq!(rt; fits::<Ccm<8>>(&name, 0, &message.message()), fitting);
+    for (size, fitting) in [(1, true), (1134, true), (1135, false), (1147, false)] {
+        let datagram = post_of(alloc, size)?;
+        let message = MessageRef::parse(&datagram)?;
+        assert_eq!(rt; fits::<Ccm<8>>(&name, 0, &message), fitting);
     }
     Ok(())
 }
@@ -480,7 +513,8 @@ fn what_fits(rt: HostRuntime) -> Result<(), Fail> {
 fn long_responses(rt: HostRuntime) -> Result<(), Fail> {
     let alloc = rt.alloc();
     let name = name_of(alloc, &CONTEXTS[0])?;
-    let made = respond(alloc, &name, None, &message_of(1136)?.message())?;
+    let datagram = post_of(alloc, 1136)?;
+    let made = respond(alloc, &name, None, &MessageRef::parse(&datagram)?)?;
     assert_eq!(rt; made.message.bytes().len(), 1152);
     Ok(())
 }

@@ -17,15 +17,15 @@ const OTHER_PORT: Peer = Peer {
     port: 5684,
 };
 
-/// A scope of this method on `/e` and `/t`.
-fn scope_of(alloc: Global, method: Method) -> Result<Scope, AllocError> {
-    let mut scope = Scope::new(alloc);
-    for text in [b"/e".as_slice(), b"/t".as_slice()] {
-        if let Some(path) = Path::from_text(alloc, text)? {
-            scope.allow(path, method)?;
-        }
-    }
-    Ok(scope)
+/// GET on `/e` and `/t`.
+const GETS: &[u8] = b"\x82\x82\x62/e\x01\x82\x62/t\x01";
+
+/// PUT on `/e` and `/t`.
+const PUTS: &[u8] = b"\x82\x82\x62/e\x04\x82\x62/t\x04";
+
+/// The scope of these entries.
+fn scope_of(alloc: Global, entries: &[u8]) -> Result<Scope, AllocError> {
+    Scope::from_cbor(alloc, entries).map_err(|_| AllocError)
 }
 
 fn put(alloc: Global, tree: &mut Tree, text: &[u8], payload: &[u8]) -> Result<(), AllocError> {
@@ -38,7 +38,7 @@ fn put(alloc: Global, tree: &mut Tree, text: &[u8], payload: &[u8]) -> Result<()
         if_none_match: false,
         payload: Bytes::from_slice(alloc, payload)?,
     };
-    tree.apply(alloc, &scope_of(alloc, Method::Put)?, &request)?;
+    tree.apply(alloc, &scope_of(alloc, PUTS)?, &request)?;
     Ok(())
 }
 
@@ -47,7 +47,7 @@ fn server(alloc: Global) -> Result<Server, AllocError> {
     let mut tree = Tree::new(alloc);
     put(alloc, &mut tree, b"/e", b"")?;
     put(alloc, &mut tree, b"/t", &[0; 31])?;
-    Server::new(alloc, tree, scope_of(alloc, Method::Get)?)
+    Server::new(alloc, tree, scope_of(alloc, GETS)?)
 }
 
 /// The bytes of the one datagram that is sent, or no bytes.

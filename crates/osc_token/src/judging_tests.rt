@@ -1,7 +1,8 @@
 //! What claims come to, text by text.
 use super::*;
 use osc_model::{Code, Moment, Path};
-use osc_scope::Verdict;
+use osc_scope::{Scope, Verdict};
+use std::alloc::Global;
 use std::test::Fail;
 
 /// {3: "s", 8: {4: {0: h'01', 2: SECRET}}, 9: h'8182642f6c6f6703'}, whose scope is [["/log", 3]].
@@ -10,24 +11,41 @@ const TEXT: &[u8] =
 
 const SECRET: [u8; 16] = *b"\0\0\0\0\0\0\0\0\0\0\0\0\0\0\0\x01";
 
+/// What the text comes to.
+fn judged(alloc: Global) -> Result<(Claims, Scope), TokenError> {
+    judge(alloc, TEXT, &Audience::new(alloc, "s")?, Moment(0))
+}
+
+/// Whether these are the claims of the text.
+fn are_said(claims: &Claims) -> bool {
+    claims.audience.as_str() == "s"
+        && claims.material.id.as_slice() == b"\x01".as_slice()
+        && claims.material.secret.as_slice() == SECRET.as_slice()
+        && claims.material.salt.is_empty()
+        && claims.scope.as_slice() == b"\x81\x82\x64/log\x03".as_slice()
+}
+
 #[test]
-fn claims_and_their_scope(rt: HostRuntime) -> Result<(), Fail> {
-    let alloc = rt.alloc();
-    let audience = Audience::new(alloc, "s")?;
-    let (claims, scope) = judge(alloc, TEXT, &audience, Moment(0))?;
-    assert_eq!(rt; claims.audience.as_str(), "s");
-    assert_eq!(rt; claims.material.id.as_slice(), b"\x01".as_slice());
-    assert_eq!(rt; claims.material.secret.as_slice(), SECRET.as_slice());
-    assert_eq!(rt; claims.material.salt.len(), 0);
-    assert_eq!(rt; claims.scope.as_slice(), b"\x81\x82\x64/log\x03".as_slice());
-    let path = Path::from_text(alloc, b"/log")?;
-    let verdicts = [
+fn what_a_text_claims(rt: HostRuntime) -> Result<(), Fail> {
+    let (claims, _) = judged(rt.alloc())?;
+    assert!(rt; are_said(&claims));
+    Ok(())
+}
+
+/// What the scope of the text says of a method on `/log`.
+fn verdict_of(alloc: Global, code: Code) -> Result<Verdict, TokenError> {
+    let (_, scope) = judged(alloc)?;
+    Ok(scope.verdict(Path::from_text(alloc, b"/log")?.as_ref(), code))
+}
+
+#[test]
+fn what_a_text_grants(rt: HostRuntime) -> Result<(), Fail> {
+    for (code, verdict) in [
         (1, Verdict::Granted),
         (2, Verdict::Granted),
         (3, Verdict::NoMethod),
-    ];
-    for (code, verdict) in verdicts {
-        assert_eq!(rt; scope.verdict(path.as_ref(), Code(code)), verdict);
+    ] {
+        assert_eq!(rt; verdict_of(rt.alloc(), Code(code))?, verdict);
     }
     Ok(())
 }

@@ -45,9 +45,16 @@ fn claims(
 }
 
 /// The token of these claims.
-fn minted(alloc: Global, claims: &Claims) -> Result<Vec<u8>, MintError> {
+fn minted(
+    alloc: Global,
+    not_before: Option<u64>,
+    expires: Option<u64>,
+    salt: &[u8],
+    id_context: Option<Bytes>,
+) -> Result<Vec<u8>, MintError> {
+    let claims = claims(alloc, not_before, expires, salt, id_context)?;
     let mut token = Vec::new(alloc);
-    mint::<Ccm<8>>(alloc, claims, &KEY, &IV, &mut token)?;
+    mint::<Ccm<8>>(alloc, &claims, &KEY, &IV, &mut token)?;
     Ok(token)
 }
 
@@ -152,12 +159,17 @@ const OTHER_FORMS: [Form; 5] = [
     },
 ];
 
+/// Whether the form opens to the note.
+fn is_opened(alloc: Global, form: &Form) -> Result<bool, AllocError> {
+    let bytes = form.bytes(alloc)?;
+    let noted = open_token::<Ccm<8>>(alloc, &bytes, &KEY).ok();
+    Ok(noted == Some(note(alloc)?))
+}
+
 #[test]
 fn opens_each_form(rt: HostRuntime) -> Result<(), Fail> {
-    let expected = note(rt.alloc())?;
     for form in &FORMS {
-        let bytes = form.bytes(rt.alloc())?;
-        assert_eq!(rt; open_token::<Ccm<8>>(rt.alloc(), &bytes, &KEY)?, expected);
+        assert!(rt; is_opened(rt.alloc(), form)?);
     }
     Ok(())
 }
@@ -220,22 +232,26 @@ fn asks_for_the_algorithm(rt: HostRuntime) -> Result<(), Fail> {
 
 #[test]
 fn mints(rt: HostRuntime) -> Result<(), Fail> {
-    let claims = claims(rt.alloc(), None, None, b"", None)?;
-    assert_eq!(rt; minted(rt.alloc(), &claims)?, FORMS[0].bytes(rt.alloc())?);
+    let token = minted(rt.alloc(), None, None, b"", None)?;
+    assert_eq!(rt; token.as_slice(), FORMS[0].bytes(rt.alloc())?.as_slice());
     Ok(())
+}
+
+/// A token with each part.
+fn minted_whole(alloc: Global) -> Result<Vec<u8>, MintError> {
+    let id_context = Bytes::from_slice(alloc, b"\x0c")?;
+    minted(
+        alloc,
+        Some(1700000000),
+        Some(1704067200),
+        b"\x0a\x0b",
+        Some(id_context),
+    )
 }
 
 #[test]
 fn mints_each_part(rt: HostRuntime) -> Result<(), Fail> {
-    let id_context = Some(Bytes::from_slice(rt.alloc(), b"\x0c")?);
-    let claims = claims(
-        rt.alloc(),
-        Some(1700000000),
-        Some(1704067200),
-        b"\x0a\x0b",
-        id_context,
-    )?;
-    let token = minted(rt.alloc(), &claims)?;
+    let token = minted_whole(rt.alloc())?;
     let text = opened(rt.alloc(), &token, &KEY).ok().ok_or("not opened")?;
     assert_eq!(rt; text.as_slice(), WHOLE_TEXT);
     Ok(())
@@ -244,7 +260,7 @@ fn mints_each_part(rt: HostRuntime) -> Result<(), Fail> {
 #[test]
 fn refuses_long_claims(rt: HostRuntime) -> Result<(), Fail> {
     let salt = vec![in rt.alloc(); 0; 65536]?;
-    let claims = claims(rt.alloc(), None, None, &salt, None)?;
-    assert_eq!(rt; minted(rt.alloc(), &claims).err(), Some(MintError::TooLong));
+    let refused = minted(rt.alloc(), None, None, &salt, None).err();
+    assert_eq!(rt; refused, Some(MintError::TooLong));
     Ok(())
 }

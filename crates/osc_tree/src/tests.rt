@@ -27,15 +27,9 @@ fn request(alloc: Global, code: Code, segment: u8, payload: &[u8]) -> Result<Req
 
 // Every method on `/e`, `/f` and `/n`.
 fn open_scope(alloc: Global) -> Result<Scope, AllocError> {
-    let mut scope = Scope::new(alloc);
-    for segment in *b"efn" {
-        for method in [Method::Get, Method::Post, Method::Put, Method::Delete] {
-            if let Some(path) = path(alloc, segment)? {
-                scope.allow(path, method)?;
-            }
-        }
-    }
-    Ok(scope)
+    Scope::from_cbor(alloc, b"\x83\x82\x62/e\x0f\x82\x62/f\x0f\x82\x62/n\x0f").map_err(
+        |_| AllocError,
+    )
 }
 
 // `/e` is empty without a format, and `/f` is empty with format 42.
@@ -113,30 +107,54 @@ fn accept_names_the_format(rt: HostRuntime) -> Result<(), Fail> {
     Ok(())
 }
 
+// Requests one after another with payloads of so many bytes, and the code, the payload's length and the format of each reply.
+const WRITES: [(Method, u8, usize, (Code, usize, Option<u16>)); 11] = [
+    (Method::Post, b'f', 500, (Code::CHANGED, 0, None)),
+    (Method::Post, b'f', 12, (Code::CHANGED, 0, None)),
+    (Method::Post, b'f', 0, (Code::CHANGED, 0, None)),
+    (
+        Method::Post,
+        b'f',
+        1,
+        (Code::REQUEST_ENTITY_TOO_LARGE, 0, None),
+    ),
+    (
+        Method::Put,
+        b'e',
+        513,
+        (Code::REQUEST_ENTITY_TOO_LARGE, 0, None),
+    ),
+    (Method::Put, b'e', 512, (Code::CHANGED, 0, None)),
+    (
+        Method::Post,
+        b'n',
+        513,
+        (Code::REQUEST_ENTITY_TOO_LARGE, 0, None),
+    ),
+    (Method::Post, b'n', 3, (Code::CREATED, 0, None)),
+    (Method::Get, b'e', 0, (Code::CONTENT, 512, None)),
+    (Method::Get, b'f', 0, (Code::CONTENT, 512, Some(42))),
+    (Method::Get, b'n', 0, (Code::CONTENT, 3, None)),
+];
+
+// A request with a payload of so many bytes.
+fn sized(alloc: Global, method: Method, segment: u8, size: usize) -> Result<Request, AllocError> {
+    request(
+        alloc,
+        method.code(),
+        segment,
+        "a".repeat(alloc, size)?.as_bytes(),
+    )
+}
+
 #[test]
 fn writes_have_a_limit(rt: HostRuntime) -> Result<(), Fail> {
     let alloc = rt.alloc();
     let scope = open_scope(alloc)?;
     let mut tree = small_tree(alloc, &scope)?;
-    for (method, segment, length, code) in [
-        (Method::Post, b'f', 500, Code::CHANGED),
-        (Method::Post, b'f', 12, Code::CHANGED),
-        (Method::Post, b'f', 0, Code::CHANGED),
-        (Method::Post, b'f', 1, Code::REQUEST_ENTITY_TOO_LARGE),
-        (Method::Put, b'e', 513, Code::REQUEST_ENTITY_TOO_LARGE),
-        (Method::Put, b'e', 512, Code::CHANGED),
-        (Method::Post, b'n', 513, Code::REQUEST_ENTITY_TOO_LARGE),
-        (Method::Post, b'n', 3, Code::CREATED),
-    ] {
-        let bytes = [0x61; 513];
-        let write = request(alloc, method.code(), segment, &bytes[..length])?;
-        assert_eq!(rt; tree.apply(alloc, &scope, &write)?.code, code);
-    }
-    for (segment, length, format) in [(b'e', 512, None), (b'f', 512, Some(42)), (b'n', 3, None)] {
-        let get = request(alloc, Method::Get.code(), segment, &[])?;
-        let reply = tree.apply(alloc, &scope, &get)?;
-        assert_eq!(rt; reply.payload.len(), length);
-        assert_eq!(rt; reply.format, format);
+    for (method, segment, size, answer) in WRITES {
+        let reply = tree.apply(alloc, &scope, &sized(alloc, method, segment, size)?)?;
+        assert_eq!(rt; (reply.code, reply.payload.len(), reply.format), answer);
     }
     Ok(())
 }
