@@ -246,12 +246,14 @@ fn the_newest_post_waits_for_a_request(rt: HostRuntime) -> Result<(), Fail> {
     Ok(())
 }
 
-/// A desk at which 64 token ids have a context until 100 s.
+/// A desk at which the token ids 1 to 64 have a context until 100 s, whose recipient IDs are 1 to 64 in this order.
 fn full_desk(alloc: Global) -> Result<ServerDesk, Fail> {
     let mut desk = desk_of(alloc)?;
     for id in 1..65u8 {
         let body = post_of(alloc, id, until(Some(100)))?;
-        posted(&mut desk, alloc, 0, &body)?.0.ok().ok_or("refused")?;
+        if posted(&mut desk, alloc, 0, &body)? != (Ok(id), true) {
+            return Err("another recipient ID".into());
+        }
     }
     Ok(desk)
 }

@@ -263,6 +263,16 @@ fn numbers(rt: HostRuntime) -> Result<(), Fail> {
 }
 
 #[test]
+fn a_number_is_seen_before_it_is_spent(rt: HostRuntime) -> Result<(), Fail> {
+    let mut sender = first_sender(rt.alloc())?;
+    sender.skip_to(20);
+    let number = sender.take_number()?;
+    assert_eq!(rt; number.get(), 20);
+    assert_eq!(rt; number.spend(), 20);
+    Ok(())
+}
+
+#[test]
 fn partial_ivs(rt: HostRuntime) {
     let cases: [(u64, &[u8]); 4] = [
         (0, b"\x00"),

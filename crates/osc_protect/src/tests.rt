@@ -190,7 +190,11 @@ fn are_alike(sealed: &Note, opened: &Note) -> bool {
 fn exchanged(alloc: Global, example: Example) -> Result<(ProtectedRequest, Note), Fail> {
     let name = name_of(alloc, &CONTEXTS[example.context.min(2)])?;
     let made = protect_at(alloc, &name, 20, example.message)?;
-    let opened = open_request(alloc, &name, &mut Window::new(), example.protected)??;
+    let mut window = Window::new();
+    let opened = open_request(alloc, &name, &mut window, example.protected)??;
+    if opened.context != name || window.is_fresh(20) {
+        return Err("another context, or the number is still fresh".into());
+    }
     Ok((made, opened))
 }
 
@@ -440,7 +444,10 @@ fn numbers_of_refusals(rt: HostRuntime) {
 
 /// A POST with so many bytes of payload.
 fn post_of(alloc: Global, size: usize) -> Result<Vec<u8>, AllocError> {
-    let mut datagram = Vec::from_slice(alloc, b"\x40\x02\x00\x07\xff")?;
+    let mut datagram = Vec::from_slice(alloc, b"\x40\x02\x00\x07")?;
+    if size > 0 {
+        datagram.push(0xff)?;
+    }
     datagram.extend_from_slice("7".repeat(alloc, size)?.as_bytes())?;
     Ok(datagram)
 }
@@ -500,7 +507,7 @@ fn what_fits(rt: HostRuntime) -> Result<(), Fail> {
     let alloc = rt.alloc();
     let name = name_of(alloc, &CONTEXTS[0])?;
     assert!(rt; name.client_id.len() <= ID_LIMIT);
-    for (size, fitting) in [(1, true), (1134, true), (1135, false), (1147, false)] {
+    for (size, fitting) in [(0, true), (1134, true), (1135, false), (1147, false)] {
         let datagram = post_of(alloc, size)?;
         let message = MessageRef::parse(&datagram)?;
         assert_eq!(rt; fits::<Ccm<8>>(&name, 0, &message), fitting);
