@@ -37,8 +37,8 @@ pub record IsTable (table : List Holding) : Type 0 where
 -- a token is in its time
 abbrev pub is_live : Moment → Held → Bool
 is_live now held =
-    option_map_or (λ seconds. nat_le seconds (now.0 / 1000)) held.not_before true
-    && option_map_or (λ seconds. nat_lt (now.0 / 1000) seconds) held.expires true
+    option_map_or (λ seconds. nat_le seconds (now.ms / 1000)) held.not_before true
+    && option_map_or (λ seconds. nat_lt (now.ms / 1000) seconds) held.expires true
 
 abbrev pub holds_live : Moment → Holding → Bool
 holds_live now holding = option_map_or (is_live now) holding.confirmed false || option_map_or (is_live now) holding.pending false

@@ -81,7 +81,7 @@ impl ServerContext {
     pub(crate) fn is_live(&self, now: Moment) -> bool
         ensures { result ≡ is_live_of now self.now }
     {
-        let seconds = now.0 / 1000;
+        let seconds = now.ms / 1000;
         self.not_before.is_none_or(|first| first <= seconds)
             && self.expires.is_none_or(|end| seconds < end)
     }

@@ -102,7 +102,7 @@ fn posted(
     at: u64,
     body: &[u8],
 ) -> Result<(Result<u8, u8>, bool), AllocError> {
-    let post = desk.post::<Ccm<8>>(alloc, Moment(at), body, &drawn(2))?;
+    let post = desk.post::<Ccm<8>>(alloc, Moment { ms: at }, body, &drawn(2))?;
     let answer = match post.answer {
         Ok(answer) => Ok(answer.recipient_id),
         Err(error) => Err(error.number()),
@@ -112,7 +112,7 @@ fn posted(
 
 /// Whether a live context has this recipient ID.
 fn is_found(desk: &ServerDesk, at: u64, id: u8) -> bool {
-    desk.find(Moment(at), &[id], None).is_some()
+    desk.find(Moment { ms: at }, &[id], None).is_some()
 }
 
 /// A post of the token of id 1, with a nonce that ends in 1 and the ID 00. The token was sealed by another implementation.
@@ -128,7 +128,7 @@ fn what_is_posted(rt: HostRuntime) -> Result<(), Fail> {
 
 /// What is answered to the post, where it isn't refused.
 fn answered(desk: &mut ServerDesk, alloc: Global) -> Result<Option<PostAnswer>, AllocError> {
-    let post = desk.post::<Ccm<8>>(alloc, Moment(0), POST, &drawn(2))?;
+    let post = desk.post::<Ccm<8>>(alloc, Moment { ms: 0 }, POST, &drawn(2))?;
     Ok(post.answer.ok())
 }
 
@@ -168,7 +168,7 @@ fn both_ends_have_one_name(rt: HostRuntime) -> Result<(), Fail> {
     let answer = answered(&mut desk, rt.alloc())?.ok_or("refused")?;
     let made = made_of(rt.alloc(), answer)?.ok_or("no context")?;
     assert!(rt; is_exchanged(made.name()));
-    let held = desk.find(Moment(0), &[1], None).ok_or("not found")?;
+    let held = desk.find(Moment { ms: 0 }, &[1], None).ok_or("not found")?;
     assert!(rt; is_exchanged(held.name()));
     Ok(())
 }

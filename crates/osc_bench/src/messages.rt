@@ -108,7 +108,7 @@ fn serve_new(
     for round in 0..rounds.min(MOST_ROUNDS) {
         let id = own_id.wrapping_add((round % 65536) as u16).wrapping_add(1);
         copy[2..4].copy_from_slice(&id.to_be_bytes());
-        let bytes = bytes_sent(alloc, server, Moment(round), copy)?;
+        let bytes = bytes_sent(alloc, server, Moment { ms: round }, copy)?;
         sent = sent.wrapping_add(bytes);
     }
     Ok(sent)
@@ -125,10 +125,10 @@ fn serve_again(
     requires short { length datagram.now ≤ ROOM }
 {
     serve_new(alloc, server, datagram, 63)?;
-    bytes_sent(alloc, server, Moment(63), datagram)?;
+    bytes_sent(alloc, server, Moment { ms: 63 }, datagram)?;
     let mut sent = 0u64;
     for round in 0..rounds.min(MOST_ROUNDS) {
-        let bytes = bytes_sent(alloc, server, Moment(64 + round), datagram)?;
+        let bytes = bytes_sent(alloc, server, Moment { ms: 64 + round }, datagram)?;
         sent = sent.wrapping_add(bytes);
     }
     Ok(sent)
@@ -141,7 +141,7 @@ fn bytes_sent(
     now: Moment,
     datagram: &[u8],
 ) -> Result<u64, AllocError>
-    requires { now.0 < 2 ^ 63 }
+    requires { now.ms < 2 ^ 63 }
 {
     let from = Peer {
         address: [127, 0, 0, 1],

@@ -50,7 +50,7 @@ fn tokens_read(alloc: Global, rounds: u64) -> Result<u64, AllocError> {
     let audience = Audience::new(alloc, "s")?;
     let mut granted = 0u64;
     for _ in 0..rounds {
-        if read::<Ccm<8>>(alloc, &token, &KEY, &audience, Moment(0)).is_ok() {
+        if read::<Ccm<8>>(alloc, &token, &KEY, &audience, Moment { ms: 0 }).is_ok() {
             granted = granted.wrapping_add(1);
         }
     }
@@ -76,7 +76,7 @@ fn contexts_made(alloc: Global, others: u8, rounds: u64) -> Result<u64, AllocErr
     let mut desk = ServerDesk::new(alloc, KEY, Audience::new(alloc, "s")?);
     for id in 0..others {
         let body = post_of(alloc, id)?;
-        desk.post::<Ccm<8>>(alloc, Moment(0), &body, &Draw([id; 32]))?;
+        desk.post::<Ccm<8>>(alloc, Moment { ms: 0 }, &body, &Draw([id; 32]))?;
     }
     let body = post_of(alloc, 255)?;
     posts_made(alloc, &mut desk, &body, rounds)
@@ -91,7 +91,7 @@ fn posts_made(
 ) -> Result<u64, AllocError> {
     let mut made = 0u64;
     for _ in 0..rounds {
-        let post = desk.post::<Ccm<8>>(alloc, Moment(0), body, &Draw([255; 32]))?;
+        let post = desk.post::<Ccm<8>>(alloc, Moment { ms: 0 }, body, &Draw([255; 32]))?;
         if post.answer.is_ok() {
             made = made.wrapping_add(1);
         }

@@ -46,8 +46,8 @@ pub record Stands (notes : List Note) (e : Entry) (behind : List Entry) : Type 0
   pub agrees : (t : Moment) → AreInOrder t notes → filter (is_alive t) behind ≡ filter (is_alive t) (unreplaced younger)
 
 -- what lives later lived before
-lived : (early late : Moment) → early.0 ≤ late.0 → (e : Entry) → is_alive late e ≡ true → is_alive early e ≡ true
-lived early late order e alive = lt-ltb early.0 e.noted.until.0 (omega (arith, order, ltb-true late.0 e.noted.until.0 alive))
+lived : (early late : Moment) → early.ms ≤ late.ms → (e : Entry) → is_alive late e ≡ true → is_alive early e ≡ true
+lived early late order e alive = lt-ltb early.ms e.noted.until (omega (arith, order, ltb-true late.ms e.noted.until alive))
 
 -- what stays of the entries behind one is what stays of those noted after it
 staying_agrees : (now : Moment) (peer : Peer) (id : ℕ) (xs ys : List Entry) → filter (is_alive now) xs ≡ filter (is_alive now) ys → staying now peer id xs ≡ staying now peer id ys
@@ -70,7 +70,7 @@ staying_agrees now peer id xs ys agree = one xs ∙ ap (filter other) agree ∙ 
     one zs = sym (twice zs) ∙ filter_both (is_alive now) (is_alive now) other (λ z alive. alive) zs
 
 -- one note more, behind both
-agrees_more : (t : Moment) (k : Note) (xs : List Entry) (younger : List Note) → k.moment.0 ≤ t.0 → filter (is_alive t) xs ≡ filter (is_alive t) (unreplaced younger)
+agrees_more : (t : Moment) (k : Note) (xs : List Entry) (younger : List Note) → k.moment.ms ≤ t.ms → filter (is_alive t) xs ≡ filter (is_alive t) (unreplaced younger)
     → filter (is_alive t) (staying k.moment k.entry.peer k.entry.id xs ++ k.entry ∷ []) ≡ filter (is_alive t) (unreplaced (k ∷ younger))
 agrees_more t k xs younger order agree =
     let other : Entry → Bool = λ e. not (is_of k.entry.peer k.entry.id e) in
@@ -89,7 +89,7 @@ place_more k younger here before [] between note split =
     rw (← same, ← rest) here
 place_more k younger here before (n ∷ newer) between note split = let rest : younger ≡ newer ++ note ∷ between = cc in before newer between note rest
 
-in_order_later : (early late : Moment) → early.0 ≤ late.0 → (notes : List Note) → AreInOrder early notes → AreInOrder late notes
+in_order_later : (early late : Moment) → early.ms ≤ late.ms → (notes : List Note) → AreInOrder early notes → AreInOrder late notes
 in_order_later early late order [] done = tt
 in_order_later early late order (note ∷ earlier) done = (omega (arith, order, done.0), done.1)
 
@@ -152,7 +152,7 @@ stands (k ∷ earlier) now order before e behind split =
 
 -- ---- what was noted and had its place stands in the table
 
-pub stood : (notes : List Note) (now : Moment) → AreInOrder now notes → (e : Entry) → now.0 < e.noted.until.0
+pub stood : (notes : List Note) (now : Moment) → AreInOrder now notes → (e : Entry) → now.ms < e.noted.until
     → (younger older : List Note) (moment : Moment) → notes ≡ younger ++ (record { moment = moment; entry = e }) ∷ older
     → All (λ note. is_of e.peer e.id note.entry ≡ false) younger
     → ((newer between : List Note) (note : Note) → younger ≡ newer ++ note ∷ between → length (staying note.moment note.entry.peer note.entry.id (unreplaced between)) + 1 < 64)
@@ -199,7 +199,7 @@ stood (k ∷ earlier) now order e lives (j ∷ younger) older moment is_noted la
     step same up =
         let apart : is_of e.peer e.id k.entry ≡ false = rw same (All-head (λ note. is_of e.peer e.id note.entry ≡ false) j younger latest) in
         let room : length (staying k.moment k.entry.peer k.entry.id (unreplaced younger)) + 1 < 64 = rw same (had_place [] younger j refl) in
-        let stays : stay e ≡ true = and_from (is_alive k.moment e) (not (is_of k.entry.peer k.entry.id e)) (lt-ltb k.moment.0 e.noted.until.0 (omega (arith, order.0, lives)))
+        let stays : stay e ≡ true = and_from (is_alive k.moment e) (not (is_of k.entry.peer k.entry.id e)) (lt-ltb k.moment.ms e.noted.until (omega (arith, order.0, lives)))
         (not_from_false (is_of k.entry.peer k.entry.id e) (of_each_other k.entry e ∙ apart)) in
         let ends : filter stay (e ∷ up.1) ≡ e ∷ filter stay up.1 = rw stays refl in
         let split : others ≡ filter stay up.0 ++ e ∷ filter stay up.1 =
@@ -241,7 +241,7 @@ there_from notes now peer id noted order says =
       older = up.older;
       moment = up.moment;
       is_noted = up.is_noted;
-      lives = ltb-true now.0 found.0.noted.until.0 place.4;
+      lives = ltb-true now.ms found.0.noted.until place.4;
       latest = up.latest;
       had_place = up.had_place;
     })
@@ -251,7 +251,7 @@ looked_from : (notes : List Note) (now : Moment) (peer : Peer) (id : ℕ) (noted
 looked_from notes now peer id noted order there =
     let e : Entry = record { peer = peer; id = id; noted = noted } in
     let at = stood notes now order e there.lives there.younger there.older there.moment there.is_noted there.latest there.had_place in
-    let lives : is_alive now e ≡ true = lt-ltb now.0 noted.until.0 there.lives in
+    let lives : is_alive now e ≡ true = lt-ltb now.ms noted.until there.lives in
     let ends : alive now (e ∷ at.1) ≡ e ∷ alive now at.1 = rw lives refl in
     let split : alive now (table_of notes) ≡ alive now at.0 ++ e ∷ alive now at.1 =
     ap (alive now) at.2 ∙ filter-append (is_alive now) at.0 (e ∷ at.1) ∙ ap (λ xs. alive now at.0 ++ xs) ends in
@@ -265,7 +265,7 @@ looked_there notes now peer id noted order = (there_from notes now peer id noted
 
 -- ---- what is dead is not missed later
 
-alive_later : (now later : Moment) (entries : List Entry) → now.0 ≤ later.0 → alive later (alive now entries) ≡ alive later entries
+alive_later : (now later : Moment) (entries : List Entry) → now.ms ≤ later.ms → alive later (alive now entries) ≡ alive later entries
 alive_later now later entries order = ap (filter (is_alive later)) (sym (filter_agree (λ e. is_alive now e && true) (is_alive now) (λ e. both_true (is_alive now e)) entries))
     ∙ filter_both (is_alive later) (is_alive now) (λ e. true) (lived now later order) entries ∙ filter_all (filter (is_alive later) entries)
   where
@@ -277,10 +277,10 @@ alive_later now later entries order = ap (filter (is_alive later)) (sym (filter_
     filter_all [] = refl
     filter_all (x ∷ xs) = ap (λ ys. x ∷ ys) (filter_all xs)
 
-pub looked_later : (now later : Moment) (peer : Peer) (id : ℕ) (entries : List Entry) → now.0 ≤ later.0 → looked later peer id (alive now entries) ≡ looked later peer id entries
+pub looked_later : (now later : Moment) (peer : Peer) (id : ℕ) (entries : List Entry) → now.ms ≤ later.ms → looked later peer id (alive now entries) ≡ looked later peer id entries
 looked_later now later peer id entries order = ap (λ xs. option_map (λ entry. entry.noted) (find (is_of peer id) xs)) (alive_later now later entries order)
 
-pub noted_later : (now later : Moment) (peer : Peer) (id : ℕ) (noted : Noted) (entries : List Entry) → now.0 ≤ later.0
+pub noted_later : (now later : Moment) (peer : Peer) (id : ℕ) (noted : Noted) (entries : List Entry) → now.ms ≤ later.ms
     → with_note later peer id noted (alive now entries) ≡ with_note later peer id noted entries
 noted_later now later peer id noted entries order =
     ap (λ xs. drop (length xs + 1 - 64) xs ++ (record { peer = peer; id = id; noted = noted }) ∷ [])

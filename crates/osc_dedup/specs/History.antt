@@ -13,7 +13,7 @@ pub record Note : Type 0 where
 -- no moment is before an earlier one, and none is after now
 abbrev pub AreInOrder : Moment → List Note → Type 0
 AreInOrder now [] = Unit {0}
-AreInOrder now (note ∷ earlier) = (note.moment.0 ≤ now.0) × AreInOrder note.moment earlier
+AreInOrder now (note ∷ earlier) = (note.moment.ms ≤ now.ms) × AreInOrder note.moment earlier
 
 -- the table that they make
 abbrev pub table_of : List Note → List Entry
@@ -32,7 +32,7 @@ pub record IsThere (notes : List Note) (now : Moment) (entry : Entry) : Type 0 w
   pub older : List Note
   pub moment : Moment
   pub is_noted : notes ≡ younger ++ (record { moment = moment; entry = entry }) ∷ older
-  pub lives : now.0 < entry.noted.until.0
+  pub lives : now.ms < entry.noted.until
   pub latest : All (λ note. is_of entry.peer entry.id note.entry ≡ false) younger
   pub had_place : (newer between : List Note) (note : Note) → younger ≡ newer ++ note ∷ between
       → length (staying note.moment note.entry.peer note.entry.id (unreplaced between)) + 1 < MOST

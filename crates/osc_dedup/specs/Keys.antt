@@ -27,9 +27,9 @@ is_other None key = true
 is_other (Some replaced) key = not (same_key replaced key)
 
 abbrev pub stays : Moment → Option Key → Key × Noted → Bool
-stays now replaced e = nat_lt now.0 e.1.until.0 && is_other replaced e.0
+stays now replaced e = nat_lt now.ms e.1.until && is_other replaced e.0
 
 -- a note that lives
 abbrev pub while_alive : Moment → Option Noted → Option Noted
 while_alive now None = None
-while_alive now (Some noted) = if nat_lt now.0 noted.until.0 then Some noted else None
+while_alive now (Some noted) = if nat_lt now.ms noted.until then Some noted else None

@@ -18,7 +18,7 @@ is_of peer id entry = (bytes_eq peer.address entry.peer.address && nat_eq peer.p
 
 -- an entry lives before its end
 abbrev pub is_alive : Moment → Entry → Bool
-is_alive now entry = nat_lt now.0 entry.noted.until.0
+is_alive now entry = nat_lt now.ms entry.noted.until
 
 abbrev pub alive : Moment → List Entry → List Entry
 alive now entries = filter (is_alive now) entries

@@ -16,8 +16,8 @@ pub fn one_table()
 
 /// Letting the dead go changes nothing for what comes later.
 pub fn expiring()
-    ensures look { (now later : Moment) (peer : Peer) (id : ℕ) (entries : List Entry) → now.0 ≤ later.0
+    ensures look { (now later : Moment) (peer : Peer) (id : ℕ) (entries : List Entry) → now.ms ≤ later.ms
         → looked later peer id (alive now entries) ≡ looked later peer id entries }
-    ensures note { (now later : Moment) (peer : Peer) (id : ℕ) (noted : AnyNoted) (entries : List Entry) → now.0 ≤ later.0
+    ensures note { (now later : Moment) (peer : Peer) (id : ℕ) (noted : AnyNoted) (entries : List Entry) → now.ms ≤ later.ms
         → with_note later peer id noted (alive now entries) ≡ with_note later peer id noted entries }
 {}

@@ -20,8 +20,8 @@ type Key = ([u8; 4], u16, u16);
 /// What is noted of a message.
 #[derive(Clone, Debug, PartialEq, Eq, Drop)]
 pub struct Noted {
-    /// When its lifetime ends: an entry lives before this moment (RFC 7252 section 4.8.2).
-    pub until: Moment,
+    /// When its lifetime ends: an entry lives before this moment, in ms (RFC 7252 section 4.8.2).
+    pub until: u64,
     /// The bytes that answered the message, or none where nothing was sent.
     pub reply: Option<Bytes>,
 }
@@ -47,7 +47,7 @@ fn is_other(replaced: Option<Key>, key: Key) -> bool
 fn stays(now: Moment, replaced: Option<Key>, key: Key, noted: &Noted) -> bool
     ensures { result ≡ stays_of now replaced (key, noted.now) }
 {
-    now.0 < noted.until.0 && is_other(replaced, key)
+    now.ms < noted.until && is_other(replaced, key)
 }
 
 /// What was noted, while it lives.
@@ -55,7 +55,7 @@ fn while_alive(now: Moment, noted: Option<&Noted>) -> Option<&Noted>
     ensures { option_copied result ≡ living now (option_copied noted.entry) }
 {
     match noted {
-        Some(noted) if now.0 < noted.until.0 => Some(noted),
+        Some(noted) if now.ms < noted.until => Some(noted),
         _ => None,
     }
 }

@@ -20,7 +20,7 @@ const OTHER_PORT: Peer = Peer {
 
 fn answered(alloc: Global, until: u64) -> Result<Noted, AllocError> {
     Ok(Noted {
-        until: Moment(until),
+        until,
         reply: Some(Bytes::from_slice(alloc, b"reply")?),
     })
 }
@@ -29,14 +29,14 @@ fn answered(alloc: Global, until: u64) -> Result<Noted, AllocError> {
 fn the_oldest_of_65_is_gone(rt: HostRuntime) -> Result<(), Fail> {
     let mut table = Duplicates::new(rt.alloc())?;
     for id in 1..66u16 {
-        table.note(Moment(0), PEER, id, answered(rt.alloc(), 247_000)?);
+        table.note(Moment { ms: 0 }, PEER, id, answered(rt.alloc(), 247_000)?);
     }
-    assert!(rt; table.look(Moment(0), PEER, 1).is_none());
-    assert!(rt; table.look(Moment(0), PEER, 2).is_some());
-    assert!(rt; table.look(Moment(246_999), PEER, 65).is_some());
-    assert!(rt; table.look(Moment(247_000), PEER, 65).is_none());
-    assert!(rt; table.look(Moment(0), OTHER_ADDRESS, 65).is_none());
-    assert!(rt; table.look(Moment(0), OTHER_PORT, 65).is_none());
+    assert!(rt; table.look(Moment { ms: 0 }, PEER, 1).is_none());
+    assert!(rt; table.look(Moment { ms: 0 }, PEER, 2).is_some());
+    assert!(rt; table.look(Moment { ms: 246_999 }, PEER, 65).is_some());
+    assert!(rt; table.look(Moment { ms: 247_000 }, PEER, 65).is_none());
+    assert!(rt; table.look(Moment { ms: 0 }, OTHER_ADDRESS, 65).is_none());
+    assert!(rt; table.look(Moment { ms: 0 }, OTHER_PORT, 65).is_none());
     Ok(())
 }
 
@@ -81,17 +81,17 @@ fn the_table_is_a_plain_list(rt: HostRuntime) -> Result<(), Fail> {
         let peer = peers[(round % 3) as usize];
         let id = (round * 7 % 50) as u16;
         let until = now + round * 37 % 500;
-        table.note(Moment(now), peer, id, answered(rt.alloc(), until)?);
+        table.note(Moment { ms: now }, peer, id, answered(rt.alloc(), until)?);
         plain.note(now, peer, id, until)?;
         if round % 29 == 0 {
-            table.expire(Moment(now + 1));
+            table.expire(Moment { ms: now + 1 });
             plain.expire(now + 1);
         }
         for other in peers {
             for id in 0..50u16 {
-                let found = table.look(Moment(now + 2), other, id);
+                let found = table.look(Moment { ms: now + 2 }, other, id);
                 assert_eq!(rt;
-                    found.map(|noted| noted.until.0),
+                    found.map(|noted| noted.until),
                     plain.look(now + 2, other, id)
                 );
             }

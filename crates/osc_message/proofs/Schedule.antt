@@ -12,7 +12,7 @@ sends : (message : Open) (sent : Sent) → ltb sent.repeats 4 ≡ true → (does
     → ((now : Moment) (later : List Moment) → does now later ≡ (now, Send) ∷ done_over message (sent_again now (Some sent)) later)
     → (ticks : List Moment) → done_over message sent ticks ≡ on_first (due_at message sent) does ticks
 sends message sent few does same [] = refl
-sends message sent few does same (now ∷ later) = by (ltb now.0 (due_at message sent)) (ltb sent.repeats 4) few (sends message sent few does same later)
+sends message sent few does same (now ∷ later) = by (ltb now.ms (due_at message sent)) (ltb sent.repeats 4) few (sends message sent few does same later)
   where
     by : (early more : Bool) → more ≡ true → done_over message sent later ≡ on_first (due_at message sent) does later
         → done_at (cond early Keep (cond more Send GiveUp)) now (done_over message sent later) (done_over message (sent_again now (Some sent)) later)
@@ -24,7 +24,7 @@ sends message sent few does same (now ∷ later) = by (ltb now.0 (due_at message
 ends : (message : Open) (sent : Sent) → ltb sent.repeats 4 ≡ false → (ticks : List Moment)
     → done_over message sent ticks ≡ on_first (due_at message sent) (λ now later. (now, GiveUp) ∷ []) ticks
 ends message sent none [] = refl
-ends message sent none (now ∷ later) = by (ltb now.0 (due_at message sent)) (ltb sent.repeats 4) none (ends message sent none later)
+ends message sent none (now ∷ later) = by (ltb now.ms (due_at message sent)) (ltb sent.repeats 4) none (ends message sent none later)
   where
     by : (early more : Bool) → more ≡ false → done_over message sent later ≡ on_first (due_at message sent) (λ now later. (now, GiveUp) ∷ []) later
         → done_at (cond early Keep (cond more Send GiveUp)) now (done_over message sent later) (done_over message (sent_again now (Some sent)) later)
@@ -52,7 +52,7 @@ on_schedule message went ticks =
 first_few : (n moment : ℕ) (does : Moment → List Moment → List (Moment × Due)) → ((now : Moment) (later : List Moment) → length (filter is_sending (does now later)) ≤ n)
     → (ticks : List Moment) → length (filter is_sending (on_first moment does ticks)) ≤ n
 first_few n moment does few [] = omega arith
-first_few n moment does few (now ∷ later) = by (ltb now.0 moment) (first_few n moment does few later)
+first_few n moment does few (now ∷ later) = by (ltb now.ms moment) (first_few n moment does few later)
   where
     by : (early : Bool) → length (filter is_sending (on_first moment does later)) ≤ n → length (filter is_sending (cond early (on_first moment does later) (does now later))) ≤ n
     by true up = up

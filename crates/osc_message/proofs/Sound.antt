@@ -37,7 +37,7 @@ done_ticked now all ds ys planned done =
 
 -- ---- bounds
 
-bounded_waiting : (now : Moment) → now.0 < 2 ^ 63 → (message : Open) → message.timeout ≤ 3000 → (b : Bool) (later : List Open) → message.sent ≡ None
+bounded_waiting : (now : Moment) → now.ms < 2 ^ 63 → (message : Open) → message.timeout ≤ 3000 → (b : Bool) (later : List Open) → message.sent ≡ None
     → All IsBounded later → All IsBounded (cons_option (after now (message, cond b Keep Send)) later)
 bounded_waiting now early message timeout true later waits all = let bound : IsBoundedSent message.sent = rw waits tt in All-cons IsBounded message later (timeout, bound) all
 bounded_waiting now early message timeout false later waits all =
@@ -53,20 +53,20 @@ bounded_outstanding now message sent timeout bound false true later went e all =
     All-cons IsBounded _ later (timeout, bound) all
 bounded_outstanding now message sent timeout bound false false later went e all = all
 
-bounded_after : (now : Moment) → now.0 < 2 ^ 63 → (all earlier : List Open) (message : Open) (sent : Option Sent) (later : List Open) → message.sent ≡ sent → message.timeout ≤ 3000 → IsBoundedSent sent
+bounded_after : (now : Moment) → now.ms < 2 ^ 63 → (all earlier : List Open) (message : Open) (sent : Option Sent) (later : List Open) → message.sent ≡ sent → message.timeout ≤ 3000 → IsBoundedSent sent
     → All IsBounded later → All IsBounded (cons_option (after now (message, due_of now all earlier message sent)) later)
 bounded_after now early all earlier message None later is timeout bound rest = bounded_waiting now early message timeout _ later is rest
 bounded_after now early all earlier message (Some sent) later is timeout bound rest =
-    bounded_outstanding now message sent timeout bound (ltb now.0 (due_at message sent)) (ltb sent.repeats 4) later is refl rest
+    bounded_outstanding now message sent timeout bound (ltb now.ms (due_at message sent)) (ltb sent.repeats 4) later is refl rest
 
-bounded_ticked : (now : Moment) → now.0 < 2 ^ 63 → (all earlier later : List Open) → All IsBounded later → All IsBounded (filter_map (after now) (dues now all earlier later))
+bounded_ticked : (now : Moment) → now.ms < 2 ^ 63 → (all earlier later : List Open) → All IsBounded later → All IsBounded (filter_map (after now) (dues now all earlier later))
 bounded_ticked now early all earlier [] bounded = All-nil IsBounded
 bounded_ticked now early all earlier (message ∷ later) bounded =
     let head = All-head IsBounded message later bounded in
     bounded_after now early all earlier message message.sent _ refl head.0 head.1
     (bounded_ticked now early all (earlier ++ message ∷ []) later (All-tail IsBounded message later bounded))
 
-bounded_sent_at : (now : Moment) → now.0 < 2 ^ 63 → (waits : Bool) → IsBoundedSent (sent_at now waits)
+bounded_sent_at : (now : Moment) → now.ms < 2 ^ 63 → (waits : Bool) → IsBoundedSent (sent_at now waits)
 bounded_sent_at now early true = tt
 bounded_sent_at now early false = (early, omega arith)
 
@@ -78,12 +78,12 @@ sound_nil = record { bounded = All-nil IsBounded; limits = limits_nil }
 pub sound_filter : (p : Open → Bool) (all : List Open) → IsSound all → IsSound (filter p all)
 sound_filter p all sound = record { bounded = All-filter p IsBounded all sound.bounded; limits = limits_filter p all sound.limits }
 
-pub sound_push : (now : Moment) (to : Peer) (id timeout : ℕ) (bytes : Bytes) (all : List Open) → now.0 < 2 ^ 63 → timeout ≤ 3000 → takes to all ≡ true → IsSound all
+pub sound_push : (now : Moment) (to : Peer) (id timeout : ℕ) (bytes : Bytes) (all : List Open) → now.ms < 2 ^ 63 → timeout ≤ 3000 → takes to all ≡ true → IsSound all
     → IsSound (with_open now to id timeout bytes all)
 sound_push now to id timeout bytes all early bound taken sound = record {
   bounded = All-push IsBounded all _ sound.bounded (bound, bounded_sent_at now early (has_open to all));
   limits = limits_push now to id timeout bytes all taken sound.limits;
 }
 
-pub sound_ticked : (now : Moment) (all : List Open) → now.0 < 2 ^ 63 → IsSound all → IsSound (ticked now all)
+pub sound_ticked : (now : Moment) (all : List Open) → now.ms < 2 ^ 63 → IsSound all → IsSound (ticked now all)
 sound_ticked now all early sound = record { bounded = bounded_ticked now early all [] all sound.bounded; limits = limits_ticked now all sound.limits }

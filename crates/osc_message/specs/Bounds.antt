@@ -1,5 +1,5 @@
 -- Bounds on open messages, so that moments can be reckoned from them: no public contract names them.
-use Rattle.std.specs.Prelude.{◌≤◌, ◌<◌, ◌^◌, Bool, false, nat_le, List, Option, Some, None}
+use Rattle.std.specs.Prelude.{ℕ, ◌≤◌, ◌<◌, ◌^◌, Bool, false, nat_le, List, Option, Some, None}
 use Rattle.std.specs.List.{All}
 use Rattle.osc_model.specs.declared.node.Moment.{Moment}
 use Rattle.osc_message.specs.Confirmables.{Sent, Open}
@@ -8,7 +8,7 @@ use Rattle.osc_message.specs.Ticks.{most_repeats}
 
 abbrev pub IsBoundedSent : Option Sent → Type 0
 IsBoundedSent None = Unit {0}
-IsBoundedSent (Some sent) = (sent.at.0 < 2 ^ 63) × (sent.repeats ≤ most_repeats)
+IsBoundedSent (Some sent) = (sent.at.ms < 2 ^ 63) × (sent.repeats ≤ most_repeats)
 
 abbrev pub IsBounded : Open → Type 0
 IsBounded message = (message.timeout ≤ 3000) × IsBoundedSent message.sent
@@ -19,6 +19,6 @@ pub record IsSound (all : List Open) : Type 0 where
   pub limits : IsWithinLimits all
 
 -- whether a deadline is reached
-abbrev pub is_reached : Moment → Option Moment → Bool
+abbrev pub is_reached : Moment → Option ℕ → Bool
 is_reached now None = false
-is_reached now (Some deadline) = nat_le deadline.0 now.0
+is_reached now (Some deadline) = nat_le deadline now.ms

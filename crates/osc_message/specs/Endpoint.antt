@@ -29,7 +29,7 @@ abbrev pub noted : EndpointState → Moment → Peer → Kind → ℕ → Option
 noted state now from Acknowledgement id reply = state
 noted state now from ResetKind id reply = state
 noted state now from kind id reply =
-    record state { seen = with_note now from id (record { until = record { 0 = now.0 + lifetime kind }; reply = reply }) state.seen }
+    record state { seen = with_note now from id (record { until = now.ms + lifetime kind; reply = reply }) state.seen }
 
 abbrev pub acknowledging : EndpointState → Peer → ℕ → EndpointState
 acknowledging state from id = record state { sending = acknowledged from id state.sending }

@@ -23,7 +23,7 @@ done_over message sent (now ∷ later) =
 -- what is done on the first tick at or after this moment, and on those behind it
 abbrev pub on_first : ℕ → (Moment → List Moment → List (Moment × Due)) → List Moment → List (Moment × Due)
 on_first moment does [] = []
-on_first moment does (now ∷ later) = if nat_lt now.0 moment then on_first moment does later else does now later
+on_first moment does (now ∷ later) = if nat_lt now.ms moment then on_first moment does later else does now later
 
 -- A message that went out at a moment goes out again on the first tick at or after (2^1 - 1) times its timeout later, and
 -- so on behind that one, up to (2^4 - 1) times; on the first tick behind these at or after (2^5 - 1) times it is given up.

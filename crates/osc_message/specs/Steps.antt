@@ -14,7 +14,7 @@ use Rattle.osc_message.specs.Endpoint.{lifetime}
 abbrev pub noted_in : Moment → Peer → Kind → ℕ → Option Bytes → List Entry → List Entry
 noted_in now from Acknowledgement id reply seen = seen
 noted_in now from Reset id reply seen = seen
-noted_in now from kind id reply seen = with_note now from id (record { until = record { 0 = now.0 + lifetime kind }; reply = reply }) seen
+noted_in now from kind id reply seen = with_note now from id (record { until = now.ms + lifetime kind; reply = reply }) seen
 
 abbrev pub acknowledged_by : Peer → Kind → ℕ → List Open → List Open
 acknowledged_by from Acknowledgement id sending = acknowledged from id sending

@@ -15,12 +15,12 @@ most_repeats = 4
 -- when what comes next of an outstanding message is due: the timeout doubles with each retransmission, so retransmission k is
 -- due (2^k - 1) times the timeout after it first went out, and after the last one the message is given up likewise
 abbrev pub due_at : Open → Sent → ℕ
-due_at message sent = sent.at.0 + (2 ^ (sent.repeats + 1) - 1) * message.timeout
+due_at message sent = sent.at.ms + (2 ^ (sent.repeats + 1) - 1) * message.timeout
 
 -- One thing at most is due: a retransmission, or the giving up after the last one.
 abbrev pub outstanding_due : Moment → Open → Sent → Due
 outstanding_due now message sent =
-    if nat_lt now.0 (due_at message sent) then Keep else if nat_lt sent.repeats most_repeats then Send else GiveUp
+    if nat_lt now.ms (due_at message sent) then Keep else if nat_lt sent.repeats most_repeats then Send else GiveUp
 
 -- A waiting message goes out where none is outstanding to its peer and none was made before it.
 abbrev pub waiting_due : List Open → List Open → Open → Due

@@ -7,34 +7,33 @@ ghost use Rattle.osc_message.specs.Ticks.{due_of as due_of_spec, is_kept, acts};
 
 use crate::confirmable::Open;
 use crate::due::{Due, due_at, due_of_waiting};
-use osc_model::Moment;
 
-/// When something is due of a message, or none where nothing will be as things stand.
-fn deadline_of(all: &[Open], earlier: &[Open], message: &Open) -> Option<Moment>
+/// When something is due of a message, in ms, or none where nothing will be as things stand.
+fn deadline_of(all: &[Open], earlier: &[Open], message: &Open) -> Option<u64>
     requires { IsBounded message.now }
     ensures { (now : AnyMoment) → is_reached now result ≡ not (is_kept (due_of_spec now all.now earlier.now message.now message.now.sent)) }
 {
     match message.sent {
         None => match due_of_waiting(all, earlier, message) {
             Due::Keep => None,
-            _ => Some(Moment(0)),
+            _ => Some(0),
         },
-        Some(sent) => Some(Moment(due_at(message, sent))),
+        Some(sent) => Some(due_at(message, sent)),
     }
 }
 
-fn first_of(a: Option<Moment>, b: Option<Moment>) -> Option<Moment>
+fn first_of(a: Option<u64>, b: Option<u64>) -> Option<u64>
     ensures { (now : AnyMoment) → is_reached now result ≡ (is_reached now a || is_reached now b) }
 {
     match (a, b) {
         (None, _) => b,
         (_, None) => a,
-        (Some(first), Some(second)) => Some(Moment(first.0.min(second.0))),
+        (Some(first), Some(second)) => Some(first.min(second)),
     }
 }
 
-/// The first moment at which a tick does anything, or none; the work grows with the square of the number of open messages.
-pub(crate) fn deadline(all: &[Open]) -> Option<Moment>
+/// The first moment at which a tick does anything, in ms, or none; the work grows with the square of the number of open messages.
+pub(crate) fn deadline(all: &[Open]) -> Option<u64>
     requires { All IsBounded all.now }
     ensures { (now : AnyMoment) → is_reached now result ≡ acts now all.now }
 {

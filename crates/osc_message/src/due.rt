@@ -39,20 +39,20 @@ fn timeouts_until_next(repeats: u32) -> u64
 /// When what comes next of an outstanding message is due, in ms.
 pub(crate) fn due_at(message: &Open, sent: Sent) -> u64
     requires timeout { message.now.timeout ≤ 3000 }
-    requires moment { sent.at.0 < 2 ^ 63 }
+    requires moment { sent.at.ms < 2 ^ 63 }
     requires repeats { sent.repeats ≤ 4 }
     ensures { result ≡ due_at_of message.now sent }
 {
-    sent.at.0 + timeouts_until_next(sent.repeats) * message.timeout
+    sent.at.ms + timeouts_until_next(sent.repeats) * message.timeout
 }
 
 fn due_of_outstanding(now: Moment, message: &Open, sent: Sent) -> Due
     requires timeout { message.now.timeout ≤ 3000 }
-    requires moment { sent.at.0 < 2 ^ 63 }
+    requires moment { sent.at.ms < 2 ^ 63 }
     requires repeats { sent.repeats ≤ 4 }
     ensures { result ≡ outstanding_due now message.now sent }
 {
-    if now.0 < due_at(message, sent) {
+    if now.ms < due_at(message, sent) {
         Due::Keep
     } else if sent.repeats < MOST_REPEATS {
         Due::Send

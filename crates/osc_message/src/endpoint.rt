@@ -86,7 +86,7 @@ impl Endpoint {
 
     /// Makes the changes of what was heard: a message is noted, a confirmable one acknowledged. Takes no memory.
     pub fn settle(&mut self, now: Moment, from: Peer, heard: &Heard<'_>, handling: Handling)
-        requires { now.0 < 2 ^ 63 }
+        requires { now.ms < 2 ^ 63 }
         ensures { self.new ≡ settled self.old now from heard.now handling }
     {
         match heard {
@@ -143,7 +143,7 @@ impl Endpoint {
         timeout: u64,
         bytes: Bytes,
     ) -> Result<bool, QueueFull>
-        requires moment { now.0 < 2 ^ 63 }
+        requires moment { now.ms < 2 ^ 63 }
         requires timeout { timeout ≤ TIMEOUT_LIMIT }
         requires room { 0 < self.old.room }
         ensures taken { IsOk result ↔ (takes_of to self.old.sending ≡ true) }
@@ -166,7 +166,7 @@ impl Endpoint {
     ///
     /// The work grows with the square of the number of open messages.
     pub fn on_tick(&mut self, alloc: Global, now: Moment) -> Result<Ticked, AllocError>
-        requires { now.0 < 2 ^ 63 }
+        requires { now.ms < 2 ^ 63 }
         ensures sent { IfOk result (λ done. done.out ≡ tick_sends now self.old.sending) }
         ensures given_up { IfOk result (λ done. done.given_up ≡ tick_gives_up now self.old.sending) }
         ensures ok { OnOk result ((self.new.seen ≡ self.old.seen) × (self.new.sending ≡ ticked now self.old.sending) × (self.old.room ≤ self.new.room)) }
@@ -175,11 +175,11 @@ impl Endpoint {
         tick(&mut self.sending, alloc, now)
     }
 
-    /// The first moment at which a tick does anything, or none where no tick would.
+    /// The first moment at which a tick does anything, in ms, or none where no tick would.
     ///
     /// The work grows with the square of the number of open messages.
-    pub fn next_deadline(&self) -> Option<Moment>
-        ensures some { IfSome result (λ deadline. (now : AnyMoment) → (acts now self.now.sending ≡ true) ↔ (deadline.0 ≤ now.0)) }
+    pub fn next_deadline(&self) -> Option<u64>
+        ensures some { IfSome result (λ deadline. (now : AnyMoment) → (acts now self.now.sending ≡ true) ↔ (deadline ≤ now.ms)) }
         ensures none { IfNone result ((now : AnyMoment) → acts now self.now.sending ≡ false) }
     {
         deadline(&self.sending)

@@ -34,7 +34,7 @@ fn lifetime(kind: Kind) -> u64
 
 /// Notes a message that can be repeated, with what answered it.
 fn note(seen: &mut Duplicates, now: Moment, from: Peer, kind: Kind, id: u16, reply: Option<Bytes>)
-    requires { now.0 < 2 ^ 63 }
+    requires { now.ms < 2 ^ 63 }
     ensures { seen.new ≡ noted_in now from kind id reply seen.old }
 {
     match kind {
@@ -44,7 +44,7 @@ fn note(seen: &mut Duplicates, now: Moment, from: Peer, kind: Kind, id: u16, rep
             from,
             id,
             Noted {
-                until: Moment(now.0 + lifetime(kind)),
+                until: now.ms + lifetime(kind),
                 reply,
             },
         ),
@@ -74,7 +74,7 @@ pub(crate) fn handle(
     id: u16,
     handling: Handling,
 )
-    requires { now.0 < 2 ^ 63 }
+    requires { now.ms < 2 ^ 63 }
     ensures seen { seen.new ≡ handled_seen now from kind id handling seen.old }
     ensures items { sending.new.items ≡ handled_sending from handling sending.old.items }
     ensures sound { IsSound sending.old.items → IsSound sending.new.items }

@@ -102,7 +102,7 @@ pub(crate) fn push(
     waits: bool,
 )
     requires room { vec_len sending.old < vec_capacity sending.old }
-    requires moment { now.0 < 2 ^ 63 }
+    requires moment { now.ms < 2 ^ 63 }
     requires timeout { timeout ≤ TIMEOUT_LIMIT }
     requires waits { waits ≡ has_open_of to sending.old.items }
     ensures items { sending.new.items ≡ with_open now to id timeout bytes sending.old.items }

@@ -34,7 +34,7 @@ fn shape(heard: &Heard<'_>) -> (Is, u16) {
 }
 
 fn hear(endpoint: &Endpoint, at: u32, from: Peer, datagram: &[u8]) -> (Is, u16) {
-    shape(&endpoint.on_datagram(Moment(u64::from(at)), from, datagram))
+    shape(&endpoint.on_datagram(Moment { ms: u64::from(at) }, from, datagram))
 }
 
 /// What was done with a message that nothing answers: it may count for a request.
@@ -47,7 +47,7 @@ fn handling_of(request: Option<u16>) -> Handling {
 
 /// Answers the datagram by nothing; it may count for a request.
 fn settle(endpoint: &mut Endpoint, at: u32, from: Peer, datagram: &[u8], request: Option<u16>) {
-    let now = Moment(u64::from(at));
+    let now = Moment { ms: u64::from(at) };
     let handling = handling_of(request);
     let heard = endpoint.on_datagram(now, from, datagram);
     endpoint.settle(now, from, &heard, handling);
@@ -158,15 +158,24 @@ fn what_is_noted_and_how_long(rt: HostRuntime) -> Result<(), Fail> {
 
 /// How many bytes were noted of the message of ID 7.
 fn noted_bytes(endpoint: &Endpoint, at: u32, from: Peer) -> Option<usize> {
-    Some(endpoint.noted_reply(Moment(u64::from(at)), from, 7)?.len())
+    Some(
+        endpoint
+            .noted_reply(Moment { ms: u64::from(at) }, from, 7)?
+            .len(),
+    )
 }
 
 #[test]
 fn what_answered_is_noted(rt: HostRuntime) -> Result<(), Fail> {
     let mut endpoint = Endpoint::new(rt.alloc())?;
     let reply = Bytes::from_slice(rt.alloc(), b"reply")?;
-    let heard = endpoint.on_datagram(Moment(0), PEER, b"\x50\x01\x00\x07");
-    endpoint.settle(Moment(0), PEER, &heard, Handling::Answered(Some(reply)));
+    let heard = endpoint.on_datagram(Moment { ms: 0 }, PEER, b"\x50\x01\x00\x07");
+    endpoint.settle(
+        Moment { ms: 0 },
+        PEER,
+        &heard,
+        Handling::Answered(Some(reply)),
+    );
     assert_eq!(rt; noted_bytes(&endpoint, 144_999, PEER), Some(5));
     assert_eq!(rt; noted_bytes(&endpoint, 145_000, PEER), None);
     assert_eq!(rt; noted_bytes(&endpoint, 0, OTHER), None);
@@ -183,7 +192,7 @@ fn send(
 ) -> Result<u8, AllocError> {
     endpoint.reserve(1)?;
     let bytes = Bytes::from_slice(alloc, b"message")?;
-    match endpoint.send(Moment(0), to, id, initial_timeout(draw), bytes) {
+    match endpoint.send(Moment { ms: 0 }, to, id, initial_timeout(draw), bytes) {
         Ok(goes) => Ok(u8::from(goes)),
         Err(full) => Ok(full.number()),
     }
@@ -195,8 +204,8 @@ fn tick(
     alloc: Global,
     at: u32,
 ) -> Result<(usize, usize, Option<u64>), AllocError> {
-    let done = endpoint.on_tick(alloc, Moment(u64::from(at)))?;
-    let next = endpoint.next_deadline().map(|moment| moment.0);
+    let done = endpoint.on_tick(alloc, Moment { ms: u64::from(at) })?;
+    let next = endpoint.next_deadline();
     Ok((
         done.out.as_slice().len(),
         done.given_up.as_slice().len(),

@@ -141,7 +141,7 @@ pub(crate) fn tick(
     alloc: Global,
     now: Moment,
 ) -> Result<Ticked, AllocError>
-    requires moment { now.0 < 2 ^ 63 }
+    requires moment { now.ms < 2 ^ 63 }
     requires sound { IsSound sending.old.items }
     ensures out { IfOk result (λ done. done.out ≡ tick_sends now sending.old.items) }
     ensures given_up { IfOk result (λ done. done.given_up ≡ tick_gives_up now sending.old.items) }

@@ -19,10 +19,10 @@ pub record Grant : Type 0 where
 
 -- A token's dates are whole seconds, and moments are milliseconds. An absent date sets no bound.
 abbrev pub HasBegun : Option ℕ → Moment → Type 0
-HasBegun not_before moment = ForSome not_before (λ seconds. seconds ≤ moment.0 / 1000)
+HasBegun not_before moment = ForSome not_before (λ seconds. seconds ≤ moment.ms / 1000)
 
 abbrev pub IsNotOver : Option ℕ → Moment → Type 0
-IsNotOver expires moment = ForSome expires (λ seconds. moment.0 / 1000 < seconds)
+IsNotOver expires moment = ForSome expires (λ seconds. moment.ms / 1000 < seconds)
 
 -- the moment is in the grant's time
 pub record IsTimely (grant : Grant) (moment : Moment) : Type 0 where

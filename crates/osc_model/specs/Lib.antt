@@ -8,3 +8,4 @@ pub mod Apply
 pub mod Grant
 pub mod History
 pub mod Step
+pub mod Draw

@@ -1,9 +1,10 @@
 //! Names of security contexts (RFC 8613 section 3).
 
 use crate::bytes::Bytes;
+use std::fmt;
 
 /// What a security context is derived from. Two contexts are the same exactly where their names are equal.
-#[derive(Debug, PartialEq, Eq, Clone, Drop)]
+#[derive(PartialEq, Eq, Clone, Drop)]
 pub struct ContextName {
     /// The master secret.
     pub secret: Bytes,
@@ -15,6 +16,13 @@ pub struct ContextName {
     pub client_id: Bytes,
     /// The server's sender ID, 0 to 7 bytes.
     pub server_id: Bytes,
+}
+
+// The secret isn't printed.
+impl fmt::Debug for ContextName {
+    fn fmt<W: fmt::Write>(&self, f: &mut fmt::Formatter<W>) -> fmt::Result {
+        f.write_str("ContextName")
+    }
 }
 
 /// One of the two ends of a security context.

@@ -3,11 +3,14 @@ ghost use Rattle.std.specs.Prelude.{◌≡◌, ℕ, List, [], ◌∷◌, ◌++�
 ghost use Rattle.osc_model.specs.Tree.{Tree};
 ghost use Rattle.osc_model.specs.Scope.{Scope};
 ghost use Rattle.osc_model.specs.Apply.{apply};
+ghost use Rattle.osc_model.specs.Code.{code};
 ghost use Rattle.osc_model.specs.Grant.{Grant};
 ghost use Rattle.osc_model.specs.History.{effect, tree_after, IsLegal, MayFollow};
 ghost use Rattle.osc_model.specs.declared.code.Code.{Code as MessageCode};
 ghost use Rattle.osc_model.specs.declared.request.Request.{Request as Asked};
 ghost use Rattle.osc_model.specs.declared.step.Entry.{Entry as Served};
+
+use crate::code::Code;
 
 /// The machine itself never answers 5.00: that code tells that memory was wanting.
 pub fn never_out_of_memory()
@@ -21,4 +24,26 @@ pub fn one_more_entry()
         IsLegal read grants first history → MayFollow read grants first history entry → IsLegal read grants first (history ++ entry ∷ []) }
     ensures effects { (read : List ℕ → Result Asked MessageCode) (grants : List Grant) (first : Tree) (history : List Served) (entry : Served) →
         effect read grants first (history ++ entry ∷ []) ≡ tree_after read grants (effect read grants first history) entry }
+{}
+
+/// The constants of `Code` are the codes of responses (RFC 7252 section 12.1.2).
+pub fn codes_of_responses()
+    ensures created { Code.CREATED ≡ code 2 1 }
+    ensures deleted { Code.DELETED ≡ code 2 2 }
+    ensures changed { Code.CHANGED ≡ code 2 4 }
+    ensures content { Code.CONTENT ≡ code 2 5 }
+    ensures bad_request { Code.BAD_REQUEST ≡ code 4 0 }
+    ensures unauthorized { Code.UNAUTHORIZED ≡ code 4 1 }
+    ensures bad_option { Code.BAD_OPTION ≡ code 4 2 }
+    ensures forbidden { Code.FORBIDDEN ≡ code 4 3 }
+    ensures not_found { Code.NOT_FOUND ≡ code 4 4 }
+    ensures method_not_allowed { Code.METHOD_NOT_ALLOWED ≡ code 4 5 }
+    ensures not_acceptable { Code.NOT_ACCEPTABLE ≡ code 4 6 }
+    ensures precondition_failed { Code.PRECONDITION_FAILED ≡ code 4 12 }
+    ensures request_entity_too_large { Code.REQUEST_ENTITY_TOO_LARGE ≡ code 4 13 }
+    ensures internal_server_error { Code.INTERNAL_SERVER_ERROR ≡ code 5 0 }
+    ensures bad_gateway { Code.BAD_GATEWAY ≡ code 5 2 }
+    ensures service_unavailable { Code.SERVICE_UNAVAILABLE ≡ code 5 3 }
+    ensures gateway_timeout { Code.GATEWAY_TIMEOUT ≡ code 5 4 }
+    ensures proxying_not_supported { Code.PROXYING_NOT_SUPPORTED ≡ code 5 5 }
 {}

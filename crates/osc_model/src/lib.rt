@@ -16,7 +16,7 @@ mod step;
 pub use bytes::Bytes;
 pub use code::{Code, Method};
 pub use context::{ContextName, Side};
-pub use laws::{never_out_of_memory, one_more_entry};
+pub use laws::{codes_of_responses, never_out_of_memory, one_more_entry};
 pub use node::{Draw, Moment, Peer};
 pub use path::Path;
 pub use reply::Reply;

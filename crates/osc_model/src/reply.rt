@@ -15,7 +15,7 @@ pub struct Reply {
     pub etag: Option<[u8; 8]>,
     /// The Content-Format option (section 5.10.3).
     pub format: Option<u16>,
-    /// The payload, of 0 to 512 bytes.
+    /// The payload; what a tree answers has 0 to 512 bytes, what a peer sends may have more.
     pub payload: Bytes,
 }
 

@@ -8,10 +8,11 @@ use crate::context::{ContextName, Side};
 use crate::node::{Moment, Peer};
 use crate::reply::Reply;
 use std::alloc::{AllocError, Global};
+use std::fmt;
 use std::marker::Model;
 
 /// One use of a key: what was sealed or opened, and under which name.
-#[derive(Clone, Debug, PartialEq, Eq, Drop)]
+#[derive(Clone, PartialEq, Eq, Drop)]
 pub struct Note {
     /// The name of the security context.
     pub context: ContextName,
@@ -27,8 +28,15 @@ pub struct Note {
     pub plaintext: Bytes,
 }
 
+// What was sealed or opened isn't printed.
+impl fmt::Debug for Note {
+    fn fmt<W: fmt::Write>(&self, f: &mut fmt::Formatter<W>) -> fmt::Result {
+        f.write_str("Note")
+    }
+}
+
 /// A protected request that was served.
-#[derive(Clone, Debug, PartialEq, Eq, Drop)]
+#[derive(Clone, PartialEq, Eq, Drop)]
 pub struct Entry {
     /// The name of the context that opened it.
     pub context: ContextName,
@@ -40,6 +48,13 @@ pub struct Entry {
     pub moment: Moment,
     /// What it was answered.
     pub reply: Reply,
+}
+
+// What was opened isn't printed.
+impl fmt::Debug for Entry {
+    fn fmt<W: fmt::Write>(&self, f: &mut fmt::Formatter<W>) -> fmt::Result {
+        f.write_str("Entry")
+    }
 }
 
 /// How something that a client began went on.

@@ -50,7 +50,7 @@ puts_fit above (t ∷ ts) (Inject bytes ∷ lines) tree h s =
     let count = count_put above (Inject bytes) in
     (tt, puts_fit (above ++ Inject bytes ∷ []) ts lines tree (omega arith) s.1)
 
-at_in_time : (text : List ℕ) (moment : Moment) → Says text (At moment) → moment.0 < 2 ^ 63
+at_in_time : (text : List ℕ) (moment : Moment) → Says text (At moment) → moment.ms < 2 ^ 63
 at_in_time text moment says = elim says.1 [
   | inl skipped ↦ let no : At moment ≡ Skipped = skipped.1 in cc
   | inr said ↦ said.1.3

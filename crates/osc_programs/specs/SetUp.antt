@@ -17,7 +17,7 @@ CanPutAll tree (line ∷ lines) = CanPut tree line × CanPutAll (tree_after tree
 
 -- moments are below 2^63
 abbrev pub IsInTime : Line → Type 0
-IsInTime (At moment) = moment.0 < 2 ^ 63
+IsInTime (At moment) = moment.ms < 2 ^ 63
 IsInTime line = Unit {0}
 
 abbrev pub AreInTime : List Line → Type 0

@@ -127,7 +127,7 @@ fn run_events<W: Write>(
 {
     let mut progress = Progress {
         server,
-        now: Moment(0),
+        now: Moment { ms: 0 },
         events: 0,
         sent: 0,
     };
@@ -156,12 +156,12 @@ fn line_text(
     line: &Line,
     with_bytes: bool,
 ) -> Result<Vec<u8>, AllocError>
-    requires now { progress.old.now.0 < 2 ^ 63 }
+    requires now { progress.old.now.ms < 2 ^ 63 }
     requires moment { IsInTime line.now }
     requires events { progress.old.events + 1 < 2 ^ 64 }
     requires sent { progress.old.sent + 1 < 2 ^ 64 }
     ensures prints { IfOk result (λ text. spec.PrintsLine with_bytes progress.old line.now text.items progress.new) }
-    ensures now { progress.new.now.0 < 2 ^ 63 }
+    ensures now { progress.new.now.ms < 2 ^ 63 }
     ensures events { progress.new.events ≤ progress.old.events + 1 }
     ensures sent { progress.new.sent ≤ progress.old.sent + 1 }
 {
@@ -182,7 +182,7 @@ fn inject(
     bytes: &[u8],
     with_bytes: bool,
 ) -> Result<Vec<u8>, AllocError>
-    requires now { progress.old.now.0 < 2 ^ 63 }
+    requires now { progress.old.now.ms < 2 ^ 63 }
     requires events { progress.old.events + 1 < 2 ^ 64 }
     requires sent { progress.old.sent + 1 < 2 ^ 64 }
     ensures happens { IfOk result (λ text. spec.Happens with_bytes progress.old bytes.now text.items progress.new) }

@@ -116,7 +116,7 @@ say_again words (Put path resource) s =
     let short : nat_le (length resource.payload) longest_payload ≡ true = le-leb (length resource.payload) longest_payload s.6 in
     (ap line_in s.2 ∙ rw (format_again s.0 resource.format s.4, bytes_again s.1 resource.payload s.5, short) refl, s.3)
 say_again words (Open path) s = (ap line_in s.0, s.1)
-say_again words (At moment) s = (ap line_in s.1 ∙ rw (number_again s.0 moment.0 s.2, lt-ltb moment.0 (2 ^ 63) s.3) refl, tt)
+say_again words (At moment) s = (ap line_in s.1 ∙ rw (number_again s.0 moment.ms s.2, lt-ltb moment.ms (2 ^ 63) s.3) refl, tt)
 say_again words (Inject bytes) s = (ap line_in s.1 ∙ rw (bytes_again s.0 bytes s.2) refl, tt)
 
 -- words that begin no line

@@ -21,7 +21,7 @@ Say words (Put path resource) = (format bytes : List ℕ) × (words ≡ codes "p
 -- open PATH: a GET on the path needs no protection
 Say words (Open path) = (words ≡ codes "open" ∷ path ∷ []) × IsPath path
 -- at MS: the moment from here on
-Say words (At moment) = (number : List ℕ) × (words ≡ codes "at" ∷ number ∷ []) × SpellsNumber number moment.0 × (moment.0 < 2 ^ 63)
+Say words (At moment) = (number : List ℕ) × (words ≡ codes "at" ∷ number ∷ []) × SpellsNumber number moment.ms × (moment.ms < 2 ^ 63)
 -- inject x s BYTES: a datagram of these bytes from the stranger to the server
 Say words (Inject bytes) = (spelled : List ℕ) × (words ≡ codes "inject" ∷ codes "x" ∷ codes "s" ∷ spelled ∷ []) × SpellsBytes spelled bytes
 
@@ -46,7 +46,7 @@ is_put line = false
 -- the last moment that a line set, or 0
 abbrev pub moment_after : ℕ → List Line → ℕ
 moment_after moment [] = moment
-moment_after moment (At later ∷ lines) = moment_after later.0 lines
+moment_after moment (At later ∷ lines) = moment_after later.ms lines
 moment_after moment (line ∷ lines) = moment_after moment lines
 
 -- Set-up lines stand before the first event, a path is put once, and the moment doesn't fall.
@@ -54,7 +54,7 @@ abbrev pub MayFollow : List Line → Line → Type 0
 MayFollow above Skipped = Unit {0}
 MayFollow above (Put path resource) = (list_any is_event above ≡ false) × (list_any (puts path) above ≡ false) × (count_by is_put above < most_resources)
 MayFollow above (Open path) = list_any is_event above ≡ false
-MayFollow above (At moment) = moment_after 0 above ≤ moment.0
+MayFollow above (At moment) = moment_after 0 above ≤ moment.ms
 MayFollow above (Inject bytes) = Unit {0}
 
 -- the text of a line, with the lines above it, stands for this

@@ -84,7 +84,7 @@ put_in path format bytes = do
 unfoldable pub at_in : List ℕ → Option Line
 at_in number = do
   moment ← number_in number
-  if nat_lt moment (2 ^ 63) then Some (At (record { 0 = moment })) else None
+  if nat_lt moment (2 ^ 63) then Some (At (record { ms = moment })) else None
 
 unfoldable pub inject_in : List ℕ → List ℕ → List ℕ → Option Line
 inject_in from to spelled = if bytes_eq from (codes "x") && bytes_eq to (codes "s") then (do

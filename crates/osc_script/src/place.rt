@@ -65,9 +65,9 @@ fn is_put(line: &Line) -> bool
 
 // The last moment that a line set.
 fn moment_after(lines: &[Line]) -> Moment
-    ensures { result.0 ≡ moment_after 0 lines.now }
+    ensures { result.ms ≡ moment_after 0 lines.now }
 {
-    let mut moment = Moment(0);
+    let mut moment = Moment { ms: 0 };
     for line in lines {
         if let Line::At { moment: later } = line {
             moment = *later;

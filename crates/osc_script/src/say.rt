@@ -79,7 +79,7 @@ fn at(args: &[&str]) -> Option<Line>
         return None;
     }
     Some(Line::At {
-        moment: Moment(moment),
+        moment: Moment { ms: moment },
     })
 }
 

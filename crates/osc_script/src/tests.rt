@@ -29,7 +29,7 @@ fn each_kind_of_line(rt: HostRuntime) -> Result<(), Fail> {
     assert_eq!(rt; nothing.format, None);
     assert!(rt; nothing.payload.is_empty());
     assert_eq!(rt; open.text(), b"/a/b".as_slice());
-    assert_eq!(rt; *moment, Moment(7));
+    assert_eq!(rt; *moment, Moment { ms: 7 });
     assert_eq!(rt; bytes.as_slice(), b"\xff".as_slice());
     Ok(())
 }

@@ -88,7 +88,7 @@ impl Server {
         bytes: &[u8],
         draw: &Draw,
     ) -> Result<Step, AllocError>
-        requires { now.0 < 2 ^ 63 }
+        requires { now.ms < 2 ^ 63 }
         ensures answered { IfOk result (λ step. (received : AnyReceived) × Receives bytes.now received
             × Answers self.old now from draw.now (case_in self.old.open_scope (heard_as self.old.endpoint.seen now from received)) step self.new) }
         ensures one { IfOk result (λ step. length step.out ≤ 1) }
@@ -115,7 +115,7 @@ impl Server {
         draw: &Draw,
         case: Case<'_>,
     ) -> Result<Step, AllocError>
-        requires moment { now.0 < 2 ^ 63 }
+        requires moment { now.ms < 2 ^ 63 }
         requires get { AsksGet case }
         ensures answered { IfOk result (λ step. Answers self.old now from draw.now case.entry step self.new) }
         ensures sent { IfOk result (λ step. SendsTo from step.out) }
@@ -154,7 +154,7 @@ impl Server {
 
     /// What an empty acknowledgement or Reset names is acknowledged.
     fn settle_empty(&mut self, now: Moment, from: Peer, kind: Kind, id: u16)
-        requires { now.0 < 2 ^ 63 }
+        requires { now.ms < 2 ^ 63 }
         ensures { self.new ≡ record self.old { endpoint = settled self.old.endpoint now from (heard.Empty kind id) Dropped } }
     {
         self.endpoint
@@ -192,7 +192,7 @@ impl Server {
         request: MessageRef<'_>,
         code: Code,
     ) -> Result<Step, AllocError>
-        requires moment { now.0 < 2 ^ 63 }
+        requires moment { now.ms < 2 ^ 63 }
         requires code { 0 < code.0 }
         ensures replied { IfOk result (λ step. Replies self.old now from draw.now request.entry (bare code) step self.new) }
         ensures sent { IfOk result (λ step. SendsTo from step.out) }
@@ -211,7 +211,7 @@ impl Server {
         request: MessageRef<'_>,
         reply: &Reply,
     ) -> Result<Step, AllocError>
-        requires moment { now.0 < 2 ^ 63 }
+        requires moment { now.ms < 2 ^ 63 }
         requires short { IsShort reply.now }
         ensures replied { IfOk result (λ step. Replies self.old now from draw.now request.entry reply.now step self.new) }
         ensures sent { IfOk result (λ step. SendsTo from step.out) }

@@ -70,7 +70,7 @@ fn draw_of(high: u8, low: u8) -> Draw {
 fn check(rt: &impl Abort, alloc: Global, rows: &[(&[u8], &[u8])]) -> Result<(), Fail> {
     for (datagram, reply) in rows {
         let mut server = server(alloc)?;
-        let step = server.on_datagram(alloc, Moment(0), PEER, datagram, &draw_of(1, 0))?;
+        let step = server.on_datagram(alloc, Moment { ms: 0 }, PEER, datagram, &draw_of(1, 0))?;
         assert_eq!(rt; sent(&step), *reply);
         assert_eq!(rt; server.tree().len(), 2);
     }
@@ -90,7 +90,7 @@ fn check_in_turn(
     for (now, from, datagram, (high, low), reply) in rows {
         let step = server.on_datagram(
             alloc,
-            Moment(*now as u64),
+            Moment { ms: *now as u64 },
             *from,
             datagram,
             &draw_of(*high, *low),

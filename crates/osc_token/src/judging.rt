@@ -110,7 +110,7 @@ fn has_begun(not_before: Option<u64>, now: Moment) -> bool
     ensures { IsTrue result ↔ HasBegun not_before now }
 {
     match not_before {
-        Some(seconds) => seconds <= now.0 / 1000,
+        Some(seconds) => seconds <= now.ms / 1000,
         None => true,
     }
 }
@@ -120,7 +120,7 @@ fn is_over(expires: Option<u64>, now: Moment) -> bool
     ensures { IsFalse result ↔ IsNotOver expires now }
 {
     match expires {
-        Some(seconds) => now.0 / 1000 >= seconds,
+        Some(seconds) => now.ms / 1000 >= seconds,
         None => false,
     }
 }

@@ -13,7 +13,7 @@ const SECRET: [u8; 16] = *b"\0\0\0\0\0\0\0\0\0\0\0\0\0\0\0\x01";
 
 /// What the text comes to.
 fn judged(alloc: Global) -> Result<(Claims, Scope), TokenError> {
-    judge(alloc, TEXT, &Audience::new(alloc, "s")?, Moment(0))
+    judge(alloc, TEXT, &Audience::new(alloc, "s")?, Moment { ms: 0 })
 }
 
 /// Whether these are the claims of the text.
@@ -171,7 +171,7 @@ fn the_first_fault_answers(rt: HostRuntime) -> Result<(), Fail> {
     let audience = Audience::new(alloc, "s")?;
     for (number, now, texts) in CASES {
         for text in texts {
-            let answer = judge(alloc, text, &audience, Moment(now));
+            let answer = judge(alloc, text, &audience, Moment { ms: now });
             let refusal = answer.map_err(|error| error.number()).err();
             assert_eq!(rt; refusal.unwrap_or(0), number);
         }

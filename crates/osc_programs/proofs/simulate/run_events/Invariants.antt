@@ -13,7 +13,7 @@ invariant-loop-line g l = record {
   prints : (rest : List ℕ) (last : Progress) → Prints l.with_bytes l.progress (drop l.line-index l.lines) rest last
       → Prints l.with_bytes (beginning l.fn.server) l.lines (text ++ rest) last;
   times : AreInTime (drop l.line-index l.lines);
-  now : l.progress.now.0 < 2 ^ 63;
+  now : l.progress.now.ms < 2 ^ 63;
   events : l.progress.events ≤ l.line-index;
   sent : l.progress.sent ≤ l.line-index;
 }

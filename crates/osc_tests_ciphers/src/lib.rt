@@ -1,0 +1,10 @@
+//! Tests of the ciphers, by what callers see: a module for each crate. They stand apart, so that a test that changes has no
+//! crate below proved anew.
+#![tactic(auto)]
+
+#[cfg(test)]
+mod aes;
+#[cfg(test)]
+mod ccm;
+#[cfg(test)]
+mod hkdf;

@@ -1,0 +1,12 @@
+//! Tests of resources, nodes and programs, by what callers see: a module for each crate. They stand apart, so that a test that changes has no
+//! crate below proved anew.
+#![tactic(auto)]
+
+#[cfg(test)]
+mod programs;
+#[cfg(test)]
+mod script;
+#[cfg(test)]
+mod server;
+#[cfg(test)]
+mod tree;
