@@ -1,7 +1,8 @@
 -- A path's text has one way to be cut into segments: at each `/`.
-use Rattle.std.proofs.Common.{◌≡◌, ℕ, ◌<◌, Bool, true, false, cond, not, ◌&&◌, ◌||◌, ◌==◌, nat_lt, List, [], ◌∷◌, ◌++◌, ◌≢◌, ◌≤◌, get_or, subst, length, drop, append-nil, arith, refl, sym, ap, ◌∙◌}
+use Rattle.std.proofs.Common.{◌≡◌, ℕ, ◌<◌, Bool, true, false, cond, not, ◌&&◌, ◌||◌, ◌==◌, nat_lt, List, [], ◌∷◌, ◌++◌, ◌≢◌, ◌≤◌, ◌+◌, ◌*◌, map, Bor, get_or, subst, length, drop, append-nil, length-append, leb-true, arith, refl, sym, ap, ◌∙◌}
 use Rattle.std.specs.List.{All, slice_split, onto_first, list_any, list_all, count_by}
 use Rattle.std.proofs.lemmas.Bool.Decides.{nat_tests}
+use Rattle.std.proofs.lemmas.List.{drop_more}
 use Rattle.std.proofs.lemmas.List.Elements.{All-nil, All-cons}
 use Rattle.std.proofs.lemmas.List.Splits.{slice_split_none, slice_split_at, length-slice_split}
 use Rattle.osc_model.specs.Path.{is_segment, are_segments, path_text, IsPath}
@@ -83,3 +84,30 @@ false_is_not A e = cc
 pub decides_empty : (text : List ℕ) → length text ≡ 0 → (false ≡ true → IsPath text) × (IsPath text → false ≡ true)
 decides_empty [] e = (false_is_not (IsPath []), (λ path. let first : 0 ≡ 47 = ap (λ l. get_or l 0 0) (parts_from_is_path [] path).0 in cc))
 decides_empty (b ∷ text) e = absurd (omega arith)
+
+-- a path's text is short
+short_segment : (segment : List ℕ) → is_segment segment ≡ true → length segment ≤ 32
+short_segment segment lawful = leb-true (length segment) 32 (both _ _ (both _ _ (both _ _ lawful).0).0).1
+
+short_text : (segments : List (List ℕ)) → list_all is_segment segments ≡ true → length (path_text segments) ≤ 33 * length segments
+short_text [] lawful = omega arith
+short_text (segment ∷ segments) lawful =
+    let each : (is_segment segment ≡ true) × (list_all is_segment segments ≡ true) = both _ _ lawful in
+    omega (arith, length-append segment (path_text segments), short_segment segment each.0, short_text segments each.1)
+
+path_is_short : (segments : List (List ℕ)) → are_segments segments ≡ true → length (path_text segments) ≤ 264
+path_is_short segments lawful =
+    omega (arith, leb-true (length segments) 8 (both _ _ (both _ _ lawful).0).1, short_text segments (both _ _ lawful).1)
+
+abbrev lent : List (Bor (List ℕ)) → List (List ℕ)
+lent segments = map (λ s. s.now) segments
+
+-- so is the text of some of its segments
+pub length_stays : (segments : List (Bor (List ℕ))) (i : ℕ) (d : Bor (List ℕ)) (n : ℕ) → are_segments (lent segments) ≡ true → i < length segments
+    → n + length (path_text (lent (drop i segments))) ≡ length (path_text (lent segments)) → n + (1 + length (get_or segments i d).now) ≤ 264
+length_stays segments i d n lawful more sum =
+    let next = get_or segments i d in
+    let rest = path_text (lent (drop (i + 1) segments)) in
+    let cut : length (path_text (lent (drop i segments))) ≡ length (47 ∷ (next.now ++ rest)) = ap (λ l. length (path_text (lent l))) (drop_more segments i d more) in
+    let whole = path_is_short (lent segments) lawful in
+    omega (arith, length-append next.now rest)

@@ -1,16 +1,64 @@
-//! Laws of the definitions.
-ghost use Rattle.std.specs.Prelude.{◌≡◌, ℕ, List, [], ◌∷◌, ◌++◌, Result, false, ◌==◌};
-ghost use Rattle.osc_model.specs.Tree.{Tree};
-ghost use Rattle.osc_model.specs.Scope.{Scope};
+//! Laws of the definitions, for the crates above. These functions do nothing: whoever calls one has its clauses for a proof.
+ghost use Rattle.std.specs.Prelude.{◌≡◌, ◌≤◌, ◌<◌, ℕ, List, [], ◌∷◌, ◌++◌, length, Option, None, Result, true, false, ◌==◌, ◌&&◌, bytes_eq};
+ghost use Rattle.std.specs.Cmp.{IsTotalOrder};
+ghost use Rattle.std.specs.FinMap as map;
+ghost use Rattle.std.specs.FinMap.{IsAntisymmetric};
+ghost use Rattle.std.specs.Ordering.{eq_by_cmp};
+ghost use Rattle.osc_model.specs.Path.{path_cmp};
+ghost use Rattle.osc_model.specs.Tree.{Tree, IsWithinLimits, longest_payload, most_resources};
+ghost use Rattle.osc_model.specs.Scope.{Scope, permission_cmp, allows, names};
+ghost use Rattle.osc_model.specs.Checks.{AllowsWrite, refusal};
 ghost use Rattle.osc_model.specs.Apply.{apply};
-ghost use Rattle.osc_model.specs.Code.{code};
+ghost use Rattle.osc_model.specs.Code.{code, method_number};
 ghost use Rattle.osc_model.specs.Grant.{Grant};
 ghost use Rattle.osc_model.specs.History.{effect, tree_after, IsLegal, MayFollow};
 ghost use Rattle.osc_model.specs.declared.code.Code.{Code as MessageCode};
+ghost use Rattle.osc_model.specs.declared.code.Method.{Method as AnyMethod};
 ghost use Rattle.osc_model.specs.declared.request.Request.{Request as Asked};
+ghost use Rattle.osc_model.specs.declared.resource.Resource.{Resource as AnyResource};
 ghost use Rattle.osc_model.specs.declared.step.Entry.{Entry as Served};
 
 use crate::code::Code;
+
+/// Paths are in a total order, in which no two tie.
+pub fn paths_are_ordered()
+    ensures total { IsTotalOrder path_cmp }
+    ensures exact { IsAntisymmetric path_cmp }
+{}
+
+/// Pairs of a path and a method are in a total order, in which no two tie.
+pub fn permissions_are_ordered()
+    ensures total { IsTotalOrder permission_cmp }
+    ensures exact { IsAntisymmetric permission_cmp }
+    ensures same { (a b : List ℕ × AnyMethod)
+        → eq_by_cmp permission_cmp a b ≡ (bytes_eq a.0 b.0 && (method_number a.1 == method_number b.1)) }
+{}
+
+/// A scope that has a method on a path has the path.
+pub fn allowed_is_named()
+    ensures { (scope : Scope) (path : List ℕ) (method : Option AnyMethod) → allows scope path method ≡ true → names scope path ≡ true }
+{}
+
+/// Which changes keep a tree within its limits.
+pub fn trees_stay_within_limits()
+    ensures empty { IsWithinLimits map.empty }
+    ensures insert { (tree : Tree) (path : List ℕ) (resource : AnyResource) → IsWithinLimits tree
+        → length resource.payload ≤ longest_payload → (map.contains_key tree path ≡ false → map.len tree < most_resources)
+        → IsWithinLimits (map.insert tree path resource) }
+    ensures remove { (tree : Tree) (path : List ℕ) → IsWithinLimits tree → IsWithinLimits (map.remove tree path) }
+{}
+
+/// What no check refuses keeps a tree within its limits.
+pub fn what_passes_can_be_written()
+    ensures { (tree : Tree) (scope : Scope) (path : List ℕ) (request : Asked)
+        → refusal tree scope path request ≡ None → AllowsWrite tree path request }
+{}
+
+/// The machine answers with codes of responses: their class is 2 to 5 (RFC 7252 section 3).
+pub fn replies_are_responses()
+    ensures least { (tree : Tree) (scope : Scope) (request : Asked) → 64 ≤ (apply tree scope request).reply.code.0 }
+    ensures most { (tree : Tree) (scope : Scope) (request : Asked) → (apply tree scope request).reply.code.0 < 192 }
+{}
 
 /// The machine itself never answers 5.00: that code tells that memory was wanting.
 pub fn never_out_of_memory()

@@ -5,7 +5,7 @@
 mod bytes;
 mod code;
 mod context;
-mod laws;
+pub mod laws;
 mod node;
 mod path;
 mod reply;
@@ -16,7 +16,6 @@ mod step;
 pub use bytes::Bytes;
 pub use code::{Code, Method};
 pub use context::{ContextName, Side};
-pub use laws::{codes_of_responses, never_out_of_memory, one_more_entry};
 pub use node::{Draw, Moment, Peer};
 pub use path::Path;
 pub use reply::Reply;

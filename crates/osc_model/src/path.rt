@@ -1,10 +1,10 @@
 //! The path of a resource.
-ghost use Rattle.std.specs.Prelude.{◌≡◌, ◌↔◌, [], ◌++◌, length, map, Some, refl, IfOk, IfSome, IfNone, IsTrue, nat_eq, ◌==◌};
+ghost use Rattle.std.specs.Prelude.{◌≡◌, ◌↔◌, length, map, Some, refl, IfOk, OnErr, IfSome, IfNone, IsTrue, nat_eq, ◌==◌};
 ghost use Rattle.std.specs.List.{slice_split, count_by, list_all};
 ghost use Rattle.std.specs.Cmp.{partial_equiv_from_equiv};
 ghost use Rattle.std.specs.Cmp.Lexicographic.{pointwise, nat_list_eq_equiv, nat_list_cmp_total, texts_ties, texts_po};
 ghost use Rattle.std.specs.Str.{is_utf8};
-ghost use Rattle.osc_model.specs.Path.{path_cmp, path_of, is_segment, are_segments, IsPath};
+ghost use Rattle.osc_model.specs.Path.{path_cmp, path_of, path_text, is_segment, are_segments, IsPath};
 
 use std::alloc::{AllocError, Global};
 use std::cmp::Ordering;
@@ -35,37 +35,47 @@ impl Model for Path {
 }
 
 impl Path {
-    /// The path of these segments, where they make one. Without memory an `AllocError`.
+    /// The path of these segments, where they make one. Without memory for it an `AllocError`; segments that make none
+    /// take none.
     pub fn from_segments(alloc: Global, segments: &[&[u8]]) -> Result<Option<Path>, AllocError>
-        ensures { IfOk result (λ path. path ≡ path_of (map (λ s. s.now) segments.now)) }
+        ensures path { IfOk result (λ path. path ≡ path_of (map (λ s. s.now) segments.now)) }
+        ensures needs_memory { OnErr result (IsTrue (are_segments (map (λ s. s.now) segments.now))) }
     {
-        if segments.is_empty() || segments.len() > 8 {
+        if !make_a_path(segments) {
             return Ok(None);
         }
-        let mut text = Vec::new(alloc);
+        let mut text = Vec::with_capacity(alloc, text_length(segments))?;
         for segment in segments {
-            if !is_segment(segment) {
-                return Ok(None);
-            }
             text.push(b'/')?;
             text.extend_from_slice(segment)?;
         }
         Ok(Some(Path { text }))
     }
 
-    /// The path of this text, where it is one: with a `/` before each segment, as in `/a/b`. Without memory an
-    /// `AllocError`.
+    /// The path of this text, where it is one: with a `/` before each segment, as in `/a/b`. Without memory for it an
+    /// `AllocError`; a text that is none takes none.
     pub fn from_text(alloc: Global, text: &[u8]) -> Result<Option<Path>, AllocError>
         ensures found { IfOk result (λ found. IfSome found (λ path. path ≡ text.now)) }
         ensures path { IfOk result (λ found. IfSome found (λ path. IsPath path)) }
         ensures none { IfOk result (λ found. IfNone found (¬ IsPath text.now)) }
+        ensures needs_memory { OnErr result (IsPath text.now) }
     {
-        if !is_path(text) {
+        if !Path::is_text(text) {
             return Ok(None);
         }
         Ok(Some(Path {
             text: Vec::from_slice(alloc, text)?,
         }))
+    }
+
+    /// Whether this text is a path's; takes no memory.
+    pub fn is_text(text: &[u8]) -> bool
+        ensures { IsTrue result ↔ IsPath text.now }
+    {
+        match text.split_first() {
+            Some((first, rest)) => *first == b'/' && are_segments(rest),
+            None => false,
+        }
     }
 
     /// The text, with a `/` before each segment.
@@ -77,14 +87,34 @@ impl Path {
     }
 }
 
-// Whether this text is a path's.
-fn is_path(text: &[u8]) -> bool
-    ensures { IsTrue result ↔ IsPath text.now }
+// Whether these are the segments of a path.
+fn make_a_path(segments: &[&[u8]]) -> bool
+    ensures { result ≡ are_segments (map (λ s. s.now) segments.now) }
 {
-    match text.split_first() {
-        Some((first, rest)) => *first == b'/' && are_segments(rest),
-        None => false,
+    !segments.is_empty() && segments.len() <= 8 && all_lawful(segments)
+}
+
+fn all_lawful(segments: &[&[u8]]) -> bool
+    ensures { result ≡ list_all is_segment (map (λ s. s.now) segments.now) }
+{
+    for segment in segments {
+        if !is_segment(segment) {
+            return false;
+        }
     }
+    true
+}
+
+// How long the text of these segments is.
+fn text_length(segments: &[&[u8]]) -> usize
+    requires { IsTrue (are_segments (map (λ s. s.now) segments.now)) }
+    ensures { result ≡ length (path_text (map (λ s. s.now) segments.now)) }
+{
+    let mut length = 0;
+    for segment in segments {
+        length += 1 + segment.len();
+    }
+    length
 }
 
 // Whether a path's text goes on so behind its first `/`.

@@ -5,9 +5,10 @@ ghost use Rattle.osc_model.specs.Reply.{bare};
 use crate::bytes::Bytes;
 use crate::code::Code;
 use std::alloc::Global;
+use std::fmt;
 
 /// What a request is answered (RFC 7252 section 5.9).
-#[derive(Clone, Debug, PartialEq, Eq, Drop)]
+#[derive(Clone, PartialEq, Eq, Drop)]
 pub struct Reply {
     /// The response code.
     pub code: Code,
@@ -30,5 +31,12 @@ impl Reply {
             format: None,
             payload: Bytes::new(alloc),
         }
+    }
+}
+
+// What was answered under a security context isn't printed.
+impl fmt::Debug for Reply {
+    fn fmt<W: fmt::Write>(&self, f: &mut fmt::Formatter<W>) -> fmt::Result {
+        f.write_str("Reply")
     }
 }

@@ -7,6 +7,7 @@ use crate::bytes::Bytes;
 use crate::code::Code;
 use crate::path::Path;
 use std::alloc::{AllocError, Global};
+use std::fmt;
 use std::marker::Model;
 
 /// The values of a request's If-Match options, in their order (RFC 7252 section 5.10.8.1). Contracts see the list.
@@ -37,7 +38,7 @@ impl ETags {
     }
 
     /// Adds the value of a further option; without memory all stays as it was.
-    pub fn push(&mut self, tag: Bytes) -> Result<(), AllocError>
+    pub fn push(&mut self, _alloc: Global, tag: Bytes) -> Result<(), AllocError>
         ensures ok { OnOk result (self.new ≡ self.old ++ tag ∷ []) }
         ensures err { OnErr result (self.new ≡ self.old) }
     {
@@ -77,7 +78,7 @@ impl Eq for ETags {
 }
 
 /// A request on one resource (RFC 7252 section 5.8).
-#[derive(Clone, Debug, PartialEq, Eq, Drop)]
+#[derive(Clone, PartialEq, Eq, Drop)]
 pub struct Request {
     /// The request code, of a method or of none that is known.
     pub code: Code,
@@ -93,4 +94,11 @@ pub struct Request {
     pub if_none_match: bool,
     /// The payload.
     pub payload: Bytes,
+}
+
+// What was asked under a security context isn't printed.
+impl fmt::Debug for Request {
+    fn fmt<W: fmt::Write>(&self, f: &mut fmt::Formatter<W>) -> fmt::Result {
+        f.write_str("Request")
+    }
 }

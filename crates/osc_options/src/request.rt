@@ -61,7 +61,7 @@ fn if_match(alloc: Global, options: &Options<'_>) -> Result<ETags, AllocError>
     let mut tags = ETags::new(alloc);
     for (number, value) in recognised_options(options.rest()) {
         if number == IF_MATCH {
-            tags.push(Bytes::from_slice(alloc, value)?)?;
+            tags.push(alloc, Bytes::from_slice(alloc, value)?)?;
         }
     }
     Ok(tags)
