@@ -4,8 +4,8 @@ use Rattle.std.specs.Prelude.{IfSome}
 use Rattle.std.proofs.lemmas.Bool.{cases_Bool, eqb-true, eqb-false, ne_eqb}
 use Rattle.std.proofs.lemmas.Option.{same_Some}
 use Rattle.osc_coap.specs.Message.{NumberAndValue, option_spelling, options_spelling, payload_spelling, AreOptions}
-use Rattle.osc_coap.specs.Reading.{◌>>=◌, Body, option_at, payload_at, body_within, body_at}
-use Rattle.osc_coap.proofs.Steps.{AreBytes, bind_some}
+use Rattle.osc_coap.specs.Reading.{AreBytes, ◌>>=◌, Body, option_at, payload_at, body_within, body_at}
+use Rattle.osc_coap.proofs.Steps.{bind_some}
 use Rattle.osc_coap.proofs.OptionLaws.{IsOptionRead, first_byte, option_spelling-cons, first_byte_below, option_again, option_takes, option_left}
 
 -- the options and the payload behind one option

@@ -1,6 +1,6 @@
 -- What a message's bytes become as it grows.
 use Rattle.std.proofs.Common.{◌≡◌, ℕ, ◌+◌, ◌-◌, ◌*◌, ◌/◌, ◌%◌, ◌^◌, ◌<◌, ◌≤◌, List, [], ◌∷◌, ◌++◌, length, Option, None, Result, Ok, Err, refl, sym, ap, subst, ◌∙◌, append_assoc, arith}
-use Rattle.std.specs.Prelude.{IfSome, OnOk, OnErr}
+use Rattle.std.specs.Prelude.{IfSome, IsOk, OnOk, OnErr}
 use Rattle.std.proofs.lemmas.List.{append-nil, length-append}
 use Rattle.osc_coap.specs.declared.kind.Kind.{Kind}
 use Rattle.osc_coap.specs.Kind.{kind_bits}
@@ -109,11 +109,11 @@ pub message_in-spelling : (bytes : List ℕ) (m : Message) → Spells bytes m �
 message_in-spelling bytes m spells = ap message_in spells.whole ∙ ap found (message_again m spells.lawful)
 
 -- a builder keeps what bytes that spell a message give
-pub kept : (b : Inside) (m : Message) → Spells b.bytes.items m → b.last ≡ last_number 0 m.options → IsKept b
+pub kept : (b : Inside) (m : Message) → Spells b.written.bytes.items m → b.written.last ≡ last_number 0 m.options → IsKept b
 kept b m spells last =
-    let is : m ≡ message_in b.bytes.items = sym (message_in-spelling b.bytes.items m spells) in
+    let is : m ≡ message_in b.written.bytes.items = sym (message_in-spelling b.written.bytes.items m spells) in
     record {
-      spelled = subst (λ (x : Message). Spells b.bytes.items x) is spells;
+      spelled = subst (λ (x : Message). Spells b.written.bytes.items x) is spells;
       last = last ∙ ap (λ (x : Message). last_number 0 x.options) is;
     }
 
@@ -124,9 +124,9 @@ pub record IsOpen (bytes : List ℕ) (last : ℕ) (m : Message) : Type 0 where
   pub none : m.payload ≡ None
 
 -- what a builder keeps, of the message that it shows
-pub opened : (b : Inside) (m : Message) → IsKept b → message_in b.bytes.items ≡ m → m.payload ≡ None → IsOpen b.bytes.items b.last m
+pub opened : (b : Inside) (m : Message) → IsKept b → message_in b.written.bytes.items ≡ m → m.payload ≡ None → IsOpen b.written.bytes.items b.written.last m
 opened b m is e none = record {
-  spells = subst (λ (x : Message). Spells b.bytes.items x) e is.spelled;
+  spells = subst (λ (x : Message). Spells b.written.bytes.items x) e is.spelled;
   last_is = is.last ∙ ap (λ (x : Message). last_number 0 x.options) e;
   none = none;
 }
@@ -157,6 +157,11 @@ payload_spells bytes new last m payload is code e = record {
 }
 
 -- what holds on either outcome
-pub either : {T E P Q R : Type 0} (r : Result T E) → OnOk r P → OnErr r Q → (P → R) → (Q → R) → R
-either (Ok x) p q f g = f p
+pub either : {T E P Q R : Type 0} (r : Result T E) → OnOk r P → OnErr r Q → (IsOk r → P → R) → (Q → R) → R
+either (Ok x) p q f g = f refl p
 either (Err e) p q f g = g q
+
+-- what follows on success
+pub on_ok : {T E P Q : Type 0} (r : Result T E) → (IsOk r → P → Q) → OnOk r P → OnOk r Q
+on_ok (Ok x) f p = f refl p
+on_ok (Err e) f p = p

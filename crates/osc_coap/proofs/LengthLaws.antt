@@ -116,6 +116,11 @@ length-spelling m =
     let options = options_spelling 0 m.options in
     omega (arith, length-append (start ++ m.token ++ options) (payload_spelling m.payload), length-append (start ++ m.token) options, length-append start m.token, length-options_spelling 0 m.options, length-payload_spelling m.payload)
 
+-- the length of a header, a token and what follows
+pub length-of_parts : (m : Message) (body : List ℕ) → body ≡ options_spelling 0 m.options ++ payload_spelling m.payload → 4 + length m.token + length body ≡ length (spelling m)
+length-of_parts m body e =
+    omega (arith, length-spelling m, ap length e, length-append (options_spelling 0 m.options) (payload_spelling m.payload), length-options_spelling 0 m.options, length-payload_spelling m.payload)
+
 -- at most, by the lengths of its parts alone
 pub length-spelling_most : (m : Message) → length (spelling m) ≤ 4 + length m.token + sum_by (λ option. 5 + length option.1) m.options + payload_length m.payload
 length-spelling_most m = omega (arith, length-spelling m, options_length_most 0 m.options)

@@ -12,8 +12,8 @@ use Rattle.osc_coap.specs.declared.error.ParseError.TheVariants.{Version, Format
 use Rattle.osc_coap.specs.Kind.{kind_bits}
 use Rattle.osc_coap.specs.Message.{Message, header, options_spelling, payload_spelling, spelling, IsBare, HasSpelling, Spells}
 use Rattle.osc_coap.specs.Header.{HasOtherVersion}
-use Rattle.osc_coap.specs.Reading.{Body, body_at, kind_of, options_in, payload_in, with_body, fields_at, message_at}
-use Rattle.osc_coap.proofs.Steps.{AreBytes, AreBytes-rest, AreBytes-drop}
+use Rattle.osc_coap.specs.Reading.{AreBytes, Body, body_at, kind_of, options_in, payload_in, with_body, fields_at, message_at}
+use Rattle.osc_coap.proofs.Steps.{AreBytes-rest, AreBytes-drop}
 use Rattle.osc_coap.proofs.OptionLaws.{pair_bytes}
 use Rattle.osc_coap.proofs.HeaderLaws.{kind_again, kind_below, kind_takes}
 use Rattle.osc_coap.proofs.BodyLaws.{body_spelling, body_nil, body_again, body_takes}
@@ -272,6 +272,13 @@ pub kept_lawful : (datagram rest : List ℕ) (first code id : ℕ) (token behind
 kept_lawful datagram rest first code id token behind body bytes rest_is id_fits fields token_is behind_is e =
     let rest_bytes : AreBytes rest = subst AreBytes (sym (rest_is ∙ take_rest datagram 4)) (AreBytes-drop 4 datagram bytes) in
     subst (λ (t : List ℕ). HasSpelling (message_of first code id t body)) (sym token_is) (fields_lawful first code id rest body rest_bytes id_fits fields (ap (body_at 0) (sym behind_is) ∙ e))
+
+-- what follows the token is spelled so
+pub kept_spelled : (datagram rest : List ℕ) (size : ℕ) (behind : List ℕ) (body : Body) → AreBytes datagram → rest ≡ take (length datagram - 4) (drop 4 datagram)
+    → behind ≡ drop size rest → body_at 0 behind ≡ Some body → behind ≡ body_spelling 0 body
+kept_spelled datagram rest size behind body bytes rest_is behind_is e =
+    let rest_bytes : AreBytes rest = subst AreBytes (sym (rest_is ∙ take_rest datagram 4)) (AreBytes-drop 4 datagram bytes) in
+    (body_takes 0 behind body (subst AreBytes (sym behind_is) (AreBytes-drop size rest rest_bytes)) e).whole
 
 -- bytes that spell two messages: they are one
 pub same_message : (bytes : List ℕ) (m n : Message) → Spells bytes m → Spells bytes n → m ≡ n

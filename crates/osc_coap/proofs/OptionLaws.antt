@@ -6,8 +6,8 @@ use Rattle.std.proofs.lemmas.List.{take_at, drop_at, take-append-drop, length-ap
 use Rattle.std.proofs.lemmas.Option.{some_pair_parts}
 use Rattle.std.specs.Option.{option_map}
 use Rattle.osc_coap.specs.Message.{NumberAndValue, nibble, extension, option_spelling, IsOptionBehind}
-use Rattle.osc_coap.specs.Reading.{◌>>=◌, above, byte_at, two_bytes_at, extended_at, option_at}
-use Rattle.osc_coap.proofs.Steps.{AreBytes, AreBytes-rest, AreBytes-drop, bind_some, goes_on, Takes, Takes-then}
+use Rattle.osc_coap.specs.Reading.{AreBytes, ◌>>=◌, above, byte_at, two_bytes_at, extended_at, option_at}
+use Rattle.osc_coap.proofs.Steps.{AreBytes-rest, AreBytes-drop, bind_some, goes_on, Takes, Takes-then}
 
 -- the three forms of a number
 pub nibble_small : (n : ℕ) → n < 13 → (nibble n ≡ n) × (extension n ≡ [])

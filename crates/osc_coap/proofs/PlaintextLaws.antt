@@ -1,5 +1,5 @@
 -- A plaintext that is read is spelled so, what is spelled so is read, and what its bytes become as it grows.
-use Rattle.std.proofs.Common.{◌≡◌, ℕ, ◌^◌, ◌<◌, ◌≤◌, List, [], ◌∷◌, ◌++◌, length, Option, Some, None, refl, sym, ap, subst, ◌∙◌, arith}
+use Rattle.std.proofs.Common.{◌≡◌, ℕ, ◌+◌, ◌^◌, ◌<◌, ◌≤◌, List, [], ◌∷◌, ◌++◌, length, Option, Some, None, refl, sym, ap, subst, ◌∙◌, arith}
 use Rattle.std.specs.Prelude.{IfSome}
 use Rattle.std.specs.Option.{option_map}
 use Rattle.std.proofs.lemmas.List.{append-nil, length-append}
@@ -8,11 +8,11 @@ use Rattle.osc_coap.specs.Message.{IsOptionBehind, option_spelling, options_spel
 use Rattle.osc_coap.specs.Plaintext.{Plaintext, plaintext_spelling, HasPlaintextSpelling, SpellsPlaintext}
 use Rattle.osc_coap.specs.Length.{plaintext_length}
 use Rattle.osc_coap.specs.Building.{last_number, bare_plaintext, payload_of, with_inner_option, with_inner_payload}
-use Rattle.osc_coap.specs.Reading.{Body, body_at, options_in, payload_in, plaintext_with, plaintext_at}
+use Rattle.osc_coap.specs.Reading.{AreBytes, Body, body_at, options_in, payload_in, plaintext_with, plaintext_at}
 use Rattle.osc_coap.specs.PlaintextBuilder.{IsKept, found, plaintext_in}
 use Rattle.osc_coap.specs.declared.plaintext.PlaintextBuilder.TheInside.{Inside}
-use Rattle.osc_coap.proofs.Steps.{AreBytes, AreBytes-rest}
-use Rattle.osc_coap.proofs.BodyLaws.{body_again, body_takes}
+use Rattle.osc_coap.proofs.Steps.{AreBytes-rest}
+use Rattle.osc_coap.proofs.BodyLaws.{body_spelling, body_again, body_takes}
 use Rattle.osc_coap.proofs.LengthLaws.{length-option_spelling, length-options_spelling, length-payload_spelling}
 use Rattle.osc_coap.proofs.MessageLaws.{parts_read}
 use Rattle.osc_coap.proofs.BuildLaws.{options-push, AreOptions-push, nonempty}
@@ -84,11 +84,11 @@ pub plaintext_in-spelling : (bytes : List ℕ) (p : Plaintext) → SpellsPlainte
 plaintext_in-spelling bytes p spells = ap plaintext_in spells.whole ∙ ap found (plaintext_again p spells.lawful)
 
 -- a builder keeps what bytes that spell a plaintext give
-pub kept : (b : Inside) (p : Plaintext) → SpellsPlaintext b.bytes.items p → b.last ≡ last_number 0 p.options → IsKept b
+pub kept : (b : Inside) (p : Plaintext) → SpellsPlaintext b.written.bytes.items p → b.written.last ≡ last_number 0 p.options → IsKept b
 kept b p spells last =
-    let is : p ≡ plaintext_in b.bytes.items = sym (plaintext_in-spelling b.bytes.items p spells) in
+    let is : p ≡ plaintext_in b.written.bytes.items = sym (plaintext_in-spelling b.written.bytes.items p spells) in
     record {
-      spelled = subst (λ (x : Plaintext). SpellsPlaintext b.bytes.items x) is spells;
+      spelled = subst (λ (x : Plaintext). SpellsPlaintext b.written.bytes.items x) is spells;
       last = last ∙ ap (λ (x : Plaintext). last_number 0 x.options) is;
     }
 
@@ -104,9 +104,9 @@ pub record IsOpen (bytes : List ℕ) (last : ℕ) (p : Plaintext) : Type 0 where
   pub none : p.payload ≡ None
 
 -- what a builder keeps, of the plaintext that it shows
-pub opened : (b : Inside) (p : Plaintext) → IsKept b → plaintext_in b.bytes.items ≡ p → p.payload ≡ None → IsOpen b.bytes.items b.last p
+pub opened : (b : Inside) (p : Plaintext) → IsKept b → plaintext_in b.written.bytes.items ≡ p → p.payload ≡ None → IsOpen b.written.bytes.items b.written.last p
 opened b p is e none = record {
-  spells = subst (λ (x : Plaintext). SpellsPlaintext b.bytes.items x) e is.spelled;
+  spells = subst (λ (x : Plaintext). SpellsPlaintext b.written.bytes.items x) e is.spelled;
   last_is = is.last ∙ ap (λ (x : Plaintext). last_number 0 x.options) e;
   none = none;
 }
@@ -145,3 +145,13 @@ pub kept_lawful : (bytes body : List ℕ) (code : ℕ) (payload : Option (List �
 kept_lawful bytes body code payload fits parts e =
     let taken = body_takes 0 body (options_in 0 body, payload) (AreBytes-rest code body (subst AreBytes parts fits)) (parts_read body payload e) in
     record { options = taken.fits.options; payload = taken.fits.payload }
+
+-- what follows the code is spelled so
+pub kept_spelled : (bytes body : List ℕ) (code : ℕ) (payload : Option (List ℕ)) → AreBytes bytes → bytes ≡ code ∷ body → Some payload ≡ payload_in 0 body → body ≡ body_spelling 0 (options_in 0 body, payload)
+kept_spelled bytes body code payload fits parts e =
+    (body_takes 0 body (options_in 0 body, payload) (AreBytes-rest code body (subst AreBytes parts fits)) (parts_read body payload e)).whole
+
+-- the length of a code and what follows it
+pub length-of_parts : (p : Plaintext) (body : List ℕ) → body ≡ options_spelling 0 p.options ++ payload_spelling p.payload → 1 + length body ≡ length (plaintext_spelling p)
+unfolding plaintext_spelling
+length-of_parts p body e = omega (arith, ap length e)

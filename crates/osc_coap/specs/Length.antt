@@ -20,6 +20,10 @@ abbrev pub payload_length : Option (List ℕ) → ℕ
 payload_length None = 0
 payload_length (Some bytes) = 1 + length bytes
 
+-- the most bytes of a datagram that is built (RFC 7252 section 4.6)
+abbrev pub datagram_limit : ℕ
+datagram_limit = 1152
+
 abbrev pub spelled_length : Message → ℕ
 spelled_length m = 4 + length m.token + options_length 0 m.options + payload_length m.payload
 

@@ -1,4 +1,5 @@
 pub mod Kind
+pub mod Code
 pub mod Message
 pub mod Plaintext
 pub mod Header

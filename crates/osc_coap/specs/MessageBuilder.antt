@@ -16,8 +16,8 @@ abbrev pub message_in : List ℕ → Message
 message_in bytes = found (message_at bytes)
 
 abbrev pub view : Inside → Message
-view b = message_in b.bytes.items
+view b = message_in b.written.bytes.items
 
 pub record IsKept (b : Inside) : Type 0 where
-  pub spelled : Spells b.bytes.items (view b)
-  pub last : b.last ≡ last_number 0 (view b).options
+  pub spelled : Spells b.written.bytes.items (view b)
+  pub last : b.written.last ≡ last_number 0 (view b).options

@@ -14,8 +14,8 @@ abbrev pub plaintext_in : List ℕ → Plaintext
 plaintext_in bytes = found (plaintext_at bytes)
 
 abbrev pub view : Inside → Plaintext
-view b = plaintext_in b.bytes.items
+view b = plaintext_in b.written.bytes.items
 
 pub record IsKept (b : Inside) : Type 0 where
-  pub spelled : SpellsPlaintext b.bytes.items (view b)
-  pub last : b.last ≡ last_number 0 (view b).options
+  pub spelled : SpellsPlaintext b.written.bytes.items (view b)
+  pub last : b.written.last ≡ last_number 0 (view b).options

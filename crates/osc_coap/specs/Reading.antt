@@ -1,5 +1,6 @@
--- Reading from left to right: the way from the code to the spelling. No public contract rests on this.
-use Rattle.std.specs.Prelude.{ℕ, zero, suc, ◌+◌, ◌*◌, ◌/◌, ◌%◌, List, [], ◌∷◌, length, take, drop, Option, Some, None, nat_lt, ◌==◌, if◌then◌else◌, unwrap_or, IsTrue, is_some, Bool, true, ◌&&◌, Result, Ok, Err}
+-- Reading from left to right: the way from the code to the spelling. What it finds is what `Spells` and `SpellsPlaintext`
+-- say (the law `reading`).
+use Rattle.std.specs.Prelude.{ℕ, zero, suc, ◌+◌, ◌*◌, ◌/◌, ◌%◌, List, [], ◌∷◌, length, take, drop, slice_index_or, ◌<◌, Option, Some, None, nat_lt, ◌==◌, if◌then◌else◌, unwrap_or, IsTrue, is_some, Bool, true, ◌&&◌, Result, Ok, Err}
 use Rattle.std.specs.Option.{option_map}
 use Rattle.osc_coap.specs.declared.kind.Kind.{Kind}
 use Rattle.osc_coap.specs.declared.kind.Kind.TheVariants.{Confirmable, NonConfirmable, Acknowledgement, Reset}
@@ -7,6 +8,10 @@ use Rattle.osc_coap.specs.declared.error.ParseError.{ParseError}
 use Rattle.osc_coap.specs.declared.error.ParseError.TheVariants.{Version, Format}
 use Rattle.osc_coap.specs.Message.{NumberAndValue, Message}
 use Rattle.osc_coap.specs.Plaintext.{Plaintext}
+
+-- each element is a byte
+abbrev pub AreBytes : List ℕ → Type 0
+AreBytes bytes = (i : ℕ) → slice_index_or bytes i 0 < 256
 
 infixl 10 ◌>>=◌
 abbrev pub ◌>>=◌ : {A B : Type 0} → Option A → (A → Option B) → Option B

@@ -1,9 +1,10 @@
-//! Options and a payload, written behind one another.
+//! Options and a payload, written behind one another: what messages and plaintexts have alike.
 
 ghost use Rattle.std.specs.Prelude.{◌≡◌, ◌<◌, ◌≤◌, ◌↔◌, ◌+◌, ◌++◌, length, IsOk, OnOk, OnErr};
 ghost use Rattle.arrayvec.specs.ArrayVec.{array_vec_len};
 ghost use Rattle.osc_coap.specs.Message.{nibble, extension, option_spelling, payload_spelling};
 ghost use Rattle.osc_coap.specs.Building.{payload_of};
+ghost use Rattle.osc_coap.specs.Length.{datagram_limit, extension_length as extension_length_of, option_length as option_length_of};
 
 use crate::error::DatagramTooLong;
 use crate::options::PAYLOAD_MARKER;
@@ -45,9 +46,32 @@ fn extension_of(n: usize) -> ArrayVec<u8, 2>
     out
 }
 
+/// How many bytes the extension has.
+fn extension_length(n: usize) -> usize
+    ensures value { result ≡ extension_length_of n }
+    ensures bound { result ≤ 2 }
+{
+    if n < 13 {
+        0
+    } else if n < 269 {
+        1
+    } else {
+        2
+    }
+}
+
+/// How many bytes an option takes behind one of number `before`, or first behind 0 (RFC 7252 section 3.1).
+pub fn option_length(before: u16, number: u16, value: &[u8]) -> usize
+    requires { before ≤ number }
+    ensures { result ≡ option_length_of before (number, value.now) }
+{
+    let size = value.len();
+    1 + extension_length((number - before) as usize) + extension_length(size) + size
+}
+
 /// Appends bytes for which there is room.
 pub(crate) fn append(out: &mut ArrayVec<u8, DATAGRAM_LIMIT>, bytes: &[u8])
-    requires { array_vec_len out.old + length bytes.now ≤ DATAGRAM_LIMIT }
+    requires { array_vec_len out.old + length bytes.now ≤ datagram_limit }
     ensures { out.new.items ≡ out.old.items ++ bytes.now }
 {
     let _ = out.try_extend_from_slice(bytes);
@@ -62,7 +86,7 @@ pub(crate) fn push_option(
 ) -> Result<(), DatagramTooLong>
     requires { before ≤ number }
     ensures variant { IsOk result
-        ↔ (length (out.old.items ++ option_spelling before (number, value.now)) ≤ DATAGRAM_LIMIT) }
+        ↔ (length (out.old.items ++ option_spelling before (number, value.now)) ≤ datagram_limit) }
     ensures ok { OnOk result
         (out.new.items ≡ out.old.items ++ option_spelling before (number, value.now)) }
     ensures err { OnErr result (out.new ≡ out.old) }
@@ -91,7 +115,7 @@ pub(crate) fn push_payload(
     payload: &[u8],
 ) -> Result<(), DatagramTooLong>
     ensures variant { IsOk result
-        ↔ (length (out.old.items ++ payload_spelling (payload_of payload.now)) ≤ DATAGRAM_LIMIT) }
+        ↔ (length (out.old.items ++ payload_spelling (payload_of payload.now)) ≤ datagram_limit) }
     ensures ok { OnOk result
         (out.new.items ≡ out.old.items ++ payload_spelling (payload_of payload.now)) }
     ensures err { OnErr result (out.new ≡ out.old) }
@@ -106,4 +130,40 @@ pub(crate) fn push_payload(
     out.push(PAYLOAD_MARKER);
     append(out, payload);
     Ok(())
+}
+
+/// What the builders of messages and of plaintexts write: bytes, and the number of the last option, or 0.
+#[derive(Drop)]
+pub(crate) struct Writer {
+    pub(crate) bytes: ArrayVec<u8, DATAGRAM_LIMIT>,
+    pub(crate) last: u16,
+}
+
+impl Writer {
+    /// Adds an option behind the others, if there is room.
+    pub(crate) fn option(&mut self, number: u16, value: &[u8]) -> Result<(), DatagramTooLong>
+        requires { self.old.last ≤ number }
+        ensures variant { IsOk result
+            ↔ (length (self.old.bytes.items ++ option_spelling self.old.last (number, value.now)) ≤ datagram_limit) }
+        ensures ok { OnOk result
+            ((self.new.bytes.items ≡ self.old.bytes.items ++ option_spelling self.old.last (number, value.now))
+            × (self.new.last ≡ number)) }
+        ensures err { OnErr result (self.new ≡ self.old) }
+    {
+        push_option(&mut self.bytes, self.last, number, value)?;
+        self.last = number;
+        Ok(())
+    }
+
+    /// Adds the marker and the payload, if there is room. No bytes are no payload.
+    pub(crate) fn payload(&mut self, payload: &[u8]) -> Result<(), DatagramTooLong>
+        ensures variant { IsOk result
+            ↔ (length (self.old.bytes.items ++ payload_spelling (payload_of payload.now)) ≤ datagram_limit) }
+        ensures ok { OnOk result
+            ((self.new.bytes.items ≡ self.old.bytes.items ++ payload_spelling (payload_of payload.now))
+            × (self.new.last ≡ self.old.last)) }
+        ensures err { OnErr result (self.new ≡ self.old) }
+    {
+        push_payload(&mut self.bytes, payload)
+    }
 }

@@ -3,22 +3,29 @@
 ghost use Rattle.std.specs.Prelude.{◌≡◌, ◌<◌, ◌≤◌, ◌↔◌, [], None, length, IsOk, OnOk, OnErr};
 ghost use Rattle.arrayvec.specs.ArrayVec.{array_vec_len};
 ghost use Rattle.osc_coap.specs.Message.{Message, Spells, spelling};
+ghost use Rattle.osc_coap.specs.Length.{datagram_limit};
 ghost use Rattle.osc_coap.specs.Building.{last_number, bare, with_option, with_payload};
 
-use crate::body::{DATAGRAM_LIMIT, append, push_option, push_payload};
+use crate::body::{DATAGRAM_LIMIT, Writer, append};
 use crate::error::DatagramTooLong;
 use crate::kind::Kind;
 use crate::message::MessageRef;
 use arrayvec::ArrayVec;
+use std::fmt;
 use std::marker::Model;
 
 /// A message that grows in a datagram: its header and token first, then options whose numbers
 /// don't fall, then the payload.
-#[derive(Debug, Drop)]
+#[derive(Drop)]
 pub struct MessageBuilder {
-    bytes: ArrayVec<u8, DATAGRAM_LIMIT>,
-    /// The number of the last option, or 0.
-    last: u16,
+    written: Writer,
+}
+
+// What a message carries isn't printed.
+impl fmt::Debug for MessageBuilder {
+    fn fmt<W: fmt::Write>(&self, f: &mut fmt::Formatter<W>) -> fmt::Result {
+        f.write_str("MessageBuilder")
+    }
 }
 
 impl Model for MessageBuilder {
@@ -46,7 +53,9 @@ impl MessageBuilder {
         bytes.push((id / 256) as u8);
         bytes.push((id % 256) as u8);
         append(&mut bytes, token);
-        MessageBuilder { bytes, last: 0 }
+        MessageBuilder {
+            written: Writer { bytes, last: 0 },
+        }
     }
 
     /// Adds an option behind the others.
@@ -55,13 +64,11 @@ impl MessageBuilder {
         requires rises { last_number 0 self.old.options ≤ number }
         requires before_payload { self.old.payload ≡ None }
         ensures variant { IsOk result
-            ↔ (length (spelling (with_option self.old number value.now)) ≤ DATAGRAM_LIMIT) }
+            ↔ (length (spelling (with_option self.old number value.now)) ≤ datagram_limit) }
         ensures ok { OnOk result (self.new ≡ with_option self.old number value.now) }
         ensures err { OnErr result (self.new ≡ self.old) }
     {
-        push_option(&mut self.bytes, self.last, number, value)?;
-        self.last = number;
-        Ok(())
+        self.written.option(number, value)
     }
 
     /// Sets the payload. No bytes are no payload.
@@ -69,27 +76,28 @@ impl MessageBuilder {
         requires code { 0 < self.old.code }
         requires first { self.old.payload ≡ None }
         ensures variant { IsOk result
-            ↔ (length (spelling (with_payload self.old payload.now)) ≤ DATAGRAM_LIMIT) }
+            ↔ (length (spelling (with_payload self.old payload.now)) ≤ datagram_limit) }
         ensures ok { OnOk result (self.new ≡ with_payload self.old payload.now) }
         ensures err { OnErr result (self.new ≡ self.old) }
     {
-        push_payload(&mut self.bytes, payload)
+        self.written.payload(payload)
     }
 
     /// The datagram.
     pub fn bytes(&self) -> &[u8]
         ensures spelled { Spells result.now self.now }
-        ensures fits { length result.now ≤ DATAGRAM_LIMIT }
+        ensures fits { length result.now ≤ datagram_limit }
     {
-        self.bytes.as_slice()
+        self.written.bytes.as_slice()
     }
 
     /// The datagram, to be kept.
     pub fn into_bytes(self) -> ArrayVec<u8, DATAGRAM_LIMIT>
         ensures spelled { Spells result.items self }
-        ensures fits { array_vec_len result ≤ DATAGRAM_LIMIT }
+        ensures fits { array_vec_len result ≤ datagram_limit }
     {
-        let MessageBuilder { bytes, .. } = self;
+        let MessageBuilder { written } = self;
+        let Writer { bytes, .. } = written;
         let _length = bytes.len();
         bytes
     }

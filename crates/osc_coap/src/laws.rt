@@ -1,11 +1,12 @@
 //! Laws of the definitions, for the crates above: what a spelling is, how long it is, and how
 //! messages grow. These functions do nothing: whoever calls one has its clauses for a proof.
 
-ghost use Rattle.std.specs.Prelude.{◌≡◌, ◌<◌, ◌≤◌, ◌+◌, ◌^◌, ◌++◌, ℕ, List, [], Bool, None, length, filter, sum_by};
+ghost use Rattle.std.specs.Prelude.{◌≡◌, ◌<◌, ◌≤◌, ◌+◌, ◌^◌, ◌++◌, ℕ, List, [], Bool, Ok, Some, None, length, filter, sum_by};
 ghost use Rattle.osc_coap.specs.declared.kind.Kind.{Kind as AnyKind};
 ghost use Rattle.osc_coap.specs.Message.{NumberAndValue, Message, IsOptionBehind, AreOptions, HasSpelling, Spells, spelling};
 ghost use Rattle.osc_coap.specs.Plaintext.{Plaintext, HasPlaintextSpelling, SpellsPlaintext, plaintext_spelling};
 ghost use Rattle.osc_coap.specs.Header.{HasHeader};
+ghost use Rattle.osc_coap.specs.Reading.{AreBytes, message_at, plaintext_at};
 ghost use Rattle.osc_coap.specs.Length.{option_length, options_length, payload_length, spelled_length, plaintext_length};
 ghost use Rattle.osc_coap.specs.Building.{last_number, bare, with_option, payload_of, with_payload};
 
@@ -37,6 +38,16 @@ pub fn one_plaintext()
         → HasPlaintextSpelling p → SpellsPlaintext (plaintext_spelling p) p }
     ensures only { (bytes : List ℕ) (p : Plaintext)
         → SpellsPlaintext bytes p → bytes ≡ plaintext_spelling p }
+{}
+
+/// What is read from left to right is what the spelling says: of bytes, the one message or plaintext that they are, if
+/// they are any.
+pub fn reading()
+    ensures message { (bytes : List ℕ) (m : Message) → AreBytes bytes → message_at bytes ≡ Ok m → Spells bytes m }
+    ensures message_again { (bytes : List ℕ) (m : Message) → Spells bytes m → message_at bytes ≡ Ok m }
+    ensures plaintext { (bytes : List ℕ) (p : Plaintext)
+        → AreBytes bytes → plaintext_at bytes ≡ Some p → SpellsPlaintext bytes p }
+    ensures plaintext_again { (bytes : List ℕ) (p : Plaintext) → SpellsPlaintext bytes p → plaintext_at bytes ≡ Some p }
 {}
 
 /// The length of a plaintext's spelling, exactly.

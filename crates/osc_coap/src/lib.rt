@@ -4,6 +4,7 @@
 
 mod body;
 mod builder;
+mod code;
 mod error;
 mod header;
 mod kind;
@@ -12,14 +13,12 @@ mod message;
 mod options;
 mod plaintext;
 
-pub use body::DATAGRAM_LIMIT;
+pub use body::{DATAGRAM_LIMIT, option_length};
 pub use builder::MessageBuilder;
+pub use code::{is_request_code, is_response_code};
 pub use error::{DatagramTooLong, ParseError};
 pub use header::kind_and_id;
 pub use kind::Kind;
 pub use message::MessageRef;
 pub use options::{Options, PAYLOAD_MARKER};
 pub use plaintext::{PlaintextBuilder, PlaintextRef};
-
-#[cfg(test)]
-mod tests;

@@ -3,17 +3,18 @@
 ghost use Rattle.std.specs.Prelude.{◌≡◌, ◌<◌, ◌^◌, ◌↔◌, length, IfOk, Ok, Err};
 ghost use Rattle.std.specs.Option.{option_copied};
 ghost use Rattle.osc_coap.specs.Header.{HasOtherVersion};
-ghost use Rattle.osc_coap.specs.Message.{Message, HasSpelling, Spells};
+ghost use Rattle.osc_coap.specs.Message.{Message, HasSpelling, Spells, spelling};
 ghost use Rattle.osc_coap.specs.Reading.{message_at};
 
 use crate::error::ParseError;
 use crate::kind::Kind;
 use crate::options::{Options, payload_of};
+use std::fmt;
 use std::marker::Model;
 
 /// A message (RFC 7252 section 3) whose token, options and payload are slices of the datagram, and
 /// so outlive the `MessageRef` itself.
-#[derive(Clone, Debug, Drop)]
+#[derive(Clone, Drop)]
 pub struct MessageRef<'a> {
     kind: Kind,
     code: u8,
@@ -22,6 +23,13 @@ pub struct MessageRef<'a> {
     /// The options, and what follows them.
     body: &'a [u8],
     payload: Option<&'a [u8]>,
+}
+
+// What a message carries isn't printed.
+impl<'a> fmt::Debug for MessageRef<'a> {
+    fn fmt<W: fmt::Write>(&self, f: &mut fmt::Formatter<W>) -> fmt::Result {
+        f.write_str("MessageRef")
+    }
 }
 
 impl<'a> Model for MessageRef<'a> {
@@ -79,6 +87,7 @@ impl<'a> MessageRef<'a> {
         read(datagram)
     }
 
+    /// How the message is delivered, or what it answers.
     pub fn kind(&self) -> Kind
         ensures { result ≡ self.now.kind }
     {
@@ -106,6 +115,13 @@ impl<'a> MessageRef<'a> {
         ensures lawful { HasSpelling self.now }
     {
         self.token
+    }
+
+    /// How many bytes the message has.
+    pub fn length(&self) -> usize
+        ensures { result ≡ length (spelling self.now) }
+    {
+        4 + self.token.len() + self.body.len()
     }
 
     /// The options in order, each as its number and its value.

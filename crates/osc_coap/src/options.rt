@@ -6,6 +6,7 @@ ghost use Rattle.std.specs.Iterator.{YieldsFirstBy, item_count};
 ghost use Rattle.osc_coap.specs.Reading as spec;
 ghost use Rattle.osc_coap.specs.Reading.{extended_at, option_at, options_in, payload_in, CanBeRead};
 
+use std::fmt;
 use std::marker::Model;
 
 /// The byte that stands between the options and the payload (RFC 7252 section 3).
@@ -81,10 +82,17 @@ pub(crate) fn payload_of(bytes: &[u8]) -> Option<Option<&[u8]>>
 }
 
 /// The options of a message that are left, in order: number and value.
-#[derive(Clone, Debug, Drop)]
+#[derive(Clone, Drop)]
 pub struct Options<'a> {
     before: u16,
     rest: &'a [u8],
+}
+
+// They may be those of a plaintext, and aren't printed.
+impl<'a> fmt::Debug for Options<'a> {
+    fn fmt<W: fmt::Write>(&self, f: &mut fmt::Formatter<W>) -> fmt::Result {
+        f.write_str("Options")
+    }
 }
 
 impl<'a> Model for Options<'a> {

@@ -3,23 +3,32 @@
 ghost use Rattle.std.specs.Prelude.{◌≡◌, ◌<◌, ◌≤◌, ◌↔◌, ◌^◌, None, Some, length, IfSome, IsOk, OnOk, OnErr};
 ghost use Rattle.std.specs.Option.{option_copied};
 ghost use Rattle.osc_coap.specs.Plaintext.{Plaintext, HasPlaintextSpelling, SpellsPlaintext, plaintext_spelling};
+ghost use Rattle.osc_coap.specs.Length.{datagram_limit};
 ghost use Rattle.osc_coap.specs.Reading.{plaintext_at};
 ghost use Rattle.osc_coap.specs.Building.{last_number, bare_plaintext, with_inner_option, with_inner_payload};
 
-use crate::body::{DATAGRAM_LIMIT, push_option, push_payload};
+use crate::body::Writer;
 use crate::error::DatagramTooLong;
 use crate::options::{Options, payload_of};
 use arrayvec::ArrayVec;
+use std::fmt;
 use std::marker::Model;
 
 /// A plaintext whose options and payload are slices of its bytes, and so outlive the `PlaintextRef`
 /// itself.
-#[derive(Clone, Debug, Drop)]
+#[derive(Clone, Drop)]
 pub struct PlaintextRef<'a> {
     code: u8,
     /// The options, and what follows them.
     body: &'a [u8],
     payload: Option<&'a [u8]>,
+}
+
+// What was encrypted isn't printed.
+impl<'a> fmt::Debug for PlaintextRef<'a> {
+    fn fmt<W: fmt::Write>(&self, f: &mut fmt::Formatter<W>) -> fmt::Result {
+        f.write_str("PlaintextRef")
+    }
 }
 
 impl<'a> Model for PlaintextRef<'a> {
@@ -68,6 +77,13 @@ impl<'a> PlaintextRef<'a> {
         self.code
     }
 
+    /// How many bytes the plaintext has.
+    pub fn length(&self) -> usize
+        ensures { result ≡ length (plaintext_spelling self.now) }
+    {
+        1 + self.body.len()
+    }
+
     /// The options in order, each as its number and its value.
     pub fn options(&self) -> Options<'a>
         ensures value { result ≡ self.now.options }
@@ -87,11 +103,16 @@ impl<'a> PlaintextRef<'a> {
 }
 
 /// A plaintext that grows: its code first, then options whose numbers don't fall, then the payload.
-#[derive(Debug, Drop)]
+#[derive(Drop)]
 pub struct PlaintextBuilder {
-    bytes: ArrayVec<u8, DATAGRAM_LIMIT>,
-    /// The number of the last option, or 0.
-    last: u16,
+    written: Writer,
+}
+
+// What is to be encrypted isn't printed.
+impl fmt::Debug for PlaintextBuilder {
+    fn fmt<W: fmt::Write>(&self, f: &mut fmt::Formatter<W>) -> fmt::Result {
+        f.write_str("PlaintextBuilder")
+    }
 }
 
 impl Model for PlaintextBuilder {
@@ -113,7 +134,9 @@ impl PlaintextBuilder {
     {
         let mut bytes = ArrayVec::new();
         bytes.push(code);
-        PlaintextBuilder { bytes, last: 0 }
+        PlaintextBuilder {
+            written: Writer { bytes, last: 0 },
+        }
     }
 
     /// Adds an option behind the others.
@@ -122,13 +145,11 @@ impl PlaintextBuilder {
         requires before_payload { self.old.payload ≡ None }
         ensures variant { IsOk result
             ↔ (length (plaintext_spelling (with_inner_option self.old number value.now))
-            ≤ DATAGRAM_LIMIT) }
+            ≤ datagram_limit) }
         ensures ok { OnOk result (self.new ≡ with_inner_option self.old number value.now) }
         ensures err { OnErr result (self.new ≡ self.old) }
     {
-        push_option(&mut self.bytes, self.last, number, value)?;
-        self.last = number;
-        Ok(())
+        self.written.option(number, value)
     }
 
     /// Sets the payload. No bytes are no payload.
@@ -136,18 +157,18 @@ impl PlaintextBuilder {
         requires first { self.old.payload ≡ None }
         ensures variant { IsOk result
             ↔ (length (plaintext_spelling (with_inner_payload self.old payload.now))
-            ≤ DATAGRAM_LIMIT) }
+            ≤ datagram_limit) }
         ensures ok { OnOk result (self.new ≡ with_inner_payload self.old payload.now) }
         ensures err { OnErr result (self.new ≡ self.old) }
     {
-        push_payload(&mut self.bytes, payload)
+        self.written.payload(payload)
     }
 
     /// The bytes that OSCORE encrypts.
     pub fn bytes(&self) -> &[u8]
         ensures spelled { SpellsPlaintext result.now self.now }
-        ensures fits { length result.now ≤ DATAGRAM_LIMIT }
+        ensures fits { length result.now ≤ datagram_limit }
     {
-        self.bytes.as_slice()
+        self.written.bytes.as_slice()
     }
 }

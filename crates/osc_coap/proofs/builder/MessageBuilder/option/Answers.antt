@@ -1,28 +1,25 @@
-use Rattle.std.proofs.Common.{refl, sym, arith}
-use Rattle.std.proofs.lemmas.Result.{err_from_is_err_and}
-use Rattle.osc_coap.proofs.BuildLaws.{kept, opened, option_whole, option_spells, last_number-push, message_in-spelling}
+use Rattle.std.proofs.Common.{sym, ◌∙◌, length, subst, ℕ, ◌≤◌, List, arith}
+use Rattle.osc_coap.proofs.BuildLaws.{either, on_ok, kept, opened, option_whole, option_spells, last_number-push, message_in-spelling}
 use Rattle.osc_coap.proofs.builder.MessageBuilder.option.Goals as goal
 
-pub returns-in_err-push_option-clause-variant : goal.returns-in_err-push_option-clause-variant
-returns-in_err-push_option-clause-variant c =
+pub invariant_of-self : goal.invariant_of-self
+invariant_of-self c =
     let is = opened c.self.inside c.args.self.now c.self.invariant c.self.view_is c.requires.before_payload in
-    let whole = option_whole _ _ c.args.self.now c.args.number c.args.value.now is in
-    let exit = err_from_is_err_and c.from_residual.result c.from_residual.ensures.1 in
-    rw (exit.1, whole) c.in_err-push_option.ensures.variant
-
-pub invariant_of-self-2 : goal.invariant_of-self-2
-invariant_of-self-2 c =
-    let is = opened c.self.inside c.args.self.now c.self.invariant c.self.view_is c.requires.before_payload in
-    let made = option_spells _ _ _ c.args.self.now c.args.number c.args.value.now is c.requires.code c.requires.rises (omega arith) c.in_ok-push_option.ensures.ok (rw c.in_ok-push_option.ensures.ok (c.in_ok-push_option.ensures.variant.0 refl)) in
-    kept _ _ made (sym (last_number-push 0 c.args.self.now.options (c.args.number, c.args.value.now)))
+    either c.option.result c.option.ensures.ok c.option.ensures.err
+    (λ ok e. kept _ _
+    (option_spells _ _ _ c.args.self.now c.args.number c.args.value.now is c.requires.code c.requires.rises (omega arith) e.0 (subst (λ (t : List ℕ). length t ≤ 1152) (sym e.0) (c.option.ensures.variant.0 ok)))
+    (e.1 ∙ sym (last_number-push 0 c.args.self.now.options (c.args.number, c.args.value.now))))
+    (λ e. rw e c.self.invariant)
 
 pub returns-clause-variant : goal.returns-clause-variant
 returns-clause-variant c =
     let is = opened c.self.inside c.args.self.now c.self.invariant c.self.view_is c.requires.before_payload in
     let whole = option_whole _ _ c.args.self.now c.args.number c.args.value.now is in
-    (λ e. rw whole (c.in_ok-push_option.ensures.variant.0 refl), λ fits. refl)
+    rw whole c.option.ensures.variant
 
 pub returns-clause-ok : goal.returns-clause-ok
 returns-clause-ok c =
     let is = opened c.self.inside c.args.self.now c.self.invariant c.self.view_is c.requires.before_payload in
-    message_in-spelling _ _ (option_spells _ _ _ c.args.self.now c.args.number c.args.value.now is c.requires.code c.requires.rises (omega arith) c.in_ok-push_option.ensures.ok (rw c.in_ok-push_option.ensures.ok (c.in_ok-push_option.ensures.variant.0 refl)))
+    on_ok c.option.result
+    (λ ok e. message_in-spelling _ _ (option_spells _ _ _ c.args.self.now c.args.number c.args.value.now is c.requires.code c.requires.rises (omega arith) e.0 (subst (λ (t : List ℕ). length t ≤ 1152) (sym e.0) (c.option.ensures.variant.0 ok))))
+    c.option.ensures.ok
