@@ -7,7 +7,7 @@ use Rattle.osc_coap.specs.Message.{NumberAndValue}
 use Rattle.osc_options.specs.declared.table.Rule.{Rule}
 use Rattle.osc_options.specs.Table.{rule_of}
 use Rattle.osc_options.specs.Recognised.{fits, is_recognised, recognised}
-use Rattle.osc_options.specs.Asking.{value}
+use Rattle.osc_options.specs.Requests.{value}
 
 fits_within : (before limit : ℕ) (option : NumberAndValue) (rule : Option Rule) → IfSome rule (λ r. r.longest ≤ limit) → fits before option rule ≡ true → length option.1 ≤ limit
 fits_within before limit option None short e = cc

@@ -7,10 +7,10 @@ use Rattle.osc_model.specs.declared.reply.Reply.{Reply}
 use Rattle.osc_coap.specs.Message.{NumberAndValue}
 use Rattle.osc_coap.specs.Building.{payload_of}
 use Rattle.osc_options.specs.Recognised.{recognised}
-use Rattle.osc_options.specs.Asking.{uint, value}
-use Rattle.osc_options.specs.Answering.{uint_bytes, etag_option, format_option, reply_options}
-use Rattle.osc_options.specs.Plain.{unheeded}
-use Rattle.osc_options.specs.PlainReply.{reply_plaintext, is_reply_code, etag_in, reply_in}
+use Rattle.osc_options.specs.Requests.{uint, value}
+use Rattle.osc_options.specs.Replies.{uint_bytes, etag_option, format_option, reply_options}
+use Rattle.osc_options.specs.PlaintextRequests.{unheeded}
+use Rattle.osc_options.specs.PlaintextReplies.{reply_plaintext, is_reply_code, etag_in, reply_in}
 
 le_test : (m n : ℕ) → m ≤ n → nat_le m n ≡ true
 le_test m n le = grind (arith, nat_tests)

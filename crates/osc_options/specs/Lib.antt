@@ -1,10 +1,10 @@
 pub mod Table
 pub mod Recognised
-pub mod Asking
-pub mod Answering
+pub mod Requests
+pub mod Replies
 pub mod Split
 pub mod Merging
 pub mod MergedOptions
 pub mod Errors
-pub mod Plain
-pub mod PlainReply
+pub mod PlaintextRequests
+pub mod PlaintextReplies

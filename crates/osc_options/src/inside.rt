@@ -1,6 +1,6 @@
 //! What must not stand in a plaintext (RFC 7252 section 5.4.1, RFC 8613 section 4.1).
 ghost use Rattle.std.specs.Prelude.{◌≡◌};
-ghost use Rattle.osc_options.specs.Plain.{unheeded as unheeded_in};
+ghost use Rattle.osc_options.specs.PlaintextRequests.{unheeded as unheeded_in};
 
 use crate::recognised::is_recognised;
 use crate::table::{Class, class_of, is_critical};

@@ -6,7 +6,7 @@ ghost use Rattle.osc_coap.specs.Message.{NumberAndValue, Message, AreOptions, Ha
 ghost use Rattle.osc_coap.specs.Plaintext.{Plaintext, HasPlaintextSpelling, plaintext_spelling};
 ghost use Rattle.osc_coap.specs.Length.{options_length};
 ghost use Rattle.osc_options.specs.Split.{merge, plaintext_of, protected, unprotected, has_oscore};
-ghost use Rattle.osc_options.specs.PlainReply.{reply_plaintext, reply_in};
+ghost use Rattle.osc_options.specs.PlaintextReplies.{reply_plaintext, reply_in};
 
 use osc_coap::laws::{fewer_options, length_of_plaintext, length_of_spelling};
 

@@ -4,7 +4,7 @@ ghost use Rattle.std.specs.List.{list_any};
 ghost use Rattle.std.specs.Option.{option_map};
 ghost use Rattle.std.specs.Iterator.{YieldsFirstBy, item_count};
 ghost use Rattle.osc_options.specs.Recognised as spec;
-ghost use Rattle.osc_options.specs.Asking.{value as value_in};
+ghost use Rattle.osc_options.specs.Requests.{value as value_in};
 
 use crate::table::{is_critical, rule_of};
 use osc_coap::{MessageRef, Options};

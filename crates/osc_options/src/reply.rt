@@ -4,10 +4,10 @@ ghost use Rattle.std.specs.Prelude.{◌≡◌, ◌<◌, ◌≤◌, ◌↔◌, Er
 ghost use Rattle.osc_coap.specs.Message.{spelling};
 ghost use Rattle.osc_coap.specs.Plaintext.{Plaintext, SpellsPlaintext, plaintext_spelling};
 ghost use Rattle.osc_coap.specs.Building.{bare};
-ghost use Rattle.osc_options.specs.Asking.{value as value_in};
-ghost use Rattle.osc_options.specs.Answering.{uint_bytes as bytes_of, with_reply};
-ghost use Rattle.osc_options.specs.Plain.{IsMemoryAside};
-ghost use Rattle.osc_options.specs.PlainReply as spec;
+ghost use Rattle.osc_options.specs.Requests.{value as value_in};
+ghost use Rattle.osc_options.specs.Replies.{uint_bytes as bytes_of, with_reply};
+ghost use Rattle.osc_options.specs.PlaintextRequests.{IsMemoryAside};
+ghost use Rattle.osc_options.specs.PlaintextReplies as spec;
 
 use crate::error::ReplyError;
 use crate::inside::unheeded;
@@ -109,7 +109,7 @@ fn reply_with(alloc: Global, plaintext: &PlaintextRef<'_>) -> Result<Reply, Allo
 
 /// The reply that a plaintext is.
 fn heeded(alloc: Global, plaintext: &PlaintextRef<'_>) -> Result<Reply, ReplyError>
-    ensures { IsMemoryAside ReplyError.Memory (spec.answered plaintext.now) result }
+    ensures { IsMemoryAside ReplyError.Memory (spec.reply_of_plaintext plaintext.now) result }
 {
     if !is_reply_code(plaintext.code()) {
         return Err(ReplyError::Format);
@@ -125,10 +125,10 @@ fn heeded(alloc: Global, plaintext: &PlaintextRef<'_>) -> Result<Reply, ReplyErr
 /// isn't recognised, stands in it. An ETag of another length than 8 is left out.
 pub fn reply_of(alloc: Global, plaintext: &[u8]) -> Result<Reply, ReplyError>
     ensures plain { (p : Plaintext) → SpellsPlaintext plaintext.now p
-        → IsMemoryAside ReplyError.Memory (spec.answered p) result }
+        → IsMemoryAside ReplyError.Memory (spec.reply_of_plaintext p) result }
     ensures none { ((p : Plaintext) → ¬ SpellsPlaintext plaintext.now p) → result ≡ Err ReplyError.Format }
     ensures memory { result ≡ Err ReplyError.Memory
-        → (p : Plaintext) × SpellsPlaintext plaintext.now p × IsOk (spec.answered p) }
+        → (p : Plaintext) × SpellsPlaintext plaintext.now p × IsOk (spec.reply_of_plaintext p) }
 {
     match PlaintextRef::parse(plaintext) {
         Some(plaintext) => heeded(alloc, &plaintext),

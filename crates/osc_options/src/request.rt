@@ -5,8 +5,8 @@ ghost use Rattle.osc_model.specs.Path.{path_of};
 ghost use Rattle.osc_coap.specs.Plaintext.{Plaintext, SpellsPlaintext};
 ghost use Rattle.osc_options.specs.Table.{rule_of};
 ghost use Rattle.osc_options.specs.Recognised.{recognised};
-ghost use Rattle.osc_options.specs.Asking.{request_in as asked_by, request_of as asked_of_message, uint as number_of, value as value_in, values as values_in};
-ghost use Rattle.osc_options.specs.Plain.{IsRequestCode, is_request_code as spec_is_request_code, asked, IsMemoryAside};
+ghost use Rattle.osc_options.specs.Requests.{request_in as asked_by, request_of as asked_of_message, uint as number_of, value as value_in, values as values_in};
+ghost use Rattle.osc_options.specs.PlaintextRequests.{IsRequestCode, is_request_code as spec_is_request_code, request_of_plaintext, IsMemoryAside};
 
 use crate::error::RequestError;
 use crate::inside::unheeded;
@@ -107,7 +107,7 @@ fn is_request_code(code: u8) -> bool
 
 /// The request that a plaintext is.
 fn heeded(alloc: Global, plaintext: &PlaintextRef<'_>) -> Result<Request, RequestError>
-    ensures { IsMemoryAside RequestError.Memory (asked plaintext.now) result }
+    ensures { IsMemoryAside RequestError.Memory (request_of_plaintext plaintext.now) result }
 {
     if !is_request_code(plaintext.code()) {
         return Err(RequestError::Format);
@@ -129,10 +129,10 @@ fn heeded(alloc: Global, plaintext: &PlaintextRef<'_>) -> Result<Request, Reques
 /// isn't recognised, stands in it.
 pub fn request_of(alloc: Global, plaintext: &[u8]) -> Result<Request, RequestError>
     ensures plain { (p : Plaintext) → SpellsPlaintext plaintext.now p
-        → IsMemoryAside RequestError.Memory (asked p) result }
+        → IsMemoryAside RequestError.Memory (request_of_plaintext p) result }
     ensures none { ((p : Plaintext) → ¬ SpellsPlaintext plaintext.now p) → result ≡ Err RequestError.Format }
     ensures memory { result ≡ Err RequestError.Memory
-        → (p : Plaintext) × SpellsPlaintext plaintext.now p × IsOk (asked p) }
+        → (p : Plaintext) × SpellsPlaintext plaintext.now p × IsOk (request_of_plaintext p) }
 {
     match PlaintextRef::parse(plaintext) {
         Some(plaintext) => heeded(alloc, &plaintext),

@@ -1,6 +1,6 @@
 use Rattle.std.proofs.Common.{◌≡◌, ◌++◌, map}
 use Rattle.osc_options.specs.Recognised.{recognised}
-use Rattle.osc_options.specs.Asking.{values}
+use Rattle.osc_options.specs.Requests.{values}
 use Rattle.osc_options.proofs.request.path.Given as goal
 
 abbrev pub invariant-loop-number : goal.invariant-loop-number

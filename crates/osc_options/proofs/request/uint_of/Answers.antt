@@ -2,7 +2,7 @@ use Rattle.std.proofs.Common.{◌≡◌, ◌≤◌, ℕ, List, length, Option, a
 use Rattle.std.specs.Prelude.{IfSome}
 use Rattle.std.specs.Option.{option_map}
 use Rattle.osc_options.specs.Recognised.{recognised}
-use Rattle.osc_options.specs.Asking.{value}
+use Rattle.osc_options.specs.Requests.{value}
 use Rattle.osc_options.proofs.RecognisedLaws.{value_within}
 use Rattle.osc_options.proofs.request.uint_of.Goals as goal
 

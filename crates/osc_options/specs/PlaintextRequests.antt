@@ -9,7 +9,7 @@ use Rattle.osc_options.specs.declared.table.Class.TheVariants.{U}
 use Rattle.osc_options.specs.Table.{is_critical, class_of}
 use Rattle.osc_options.specs.Recognised.{is_recognised}
 use Rattle.osc_options.specs.Split.{same_class}
-use Rattle.osc_options.specs.Asking.{request_in}
+use Rattle.osc_options.specs.Requests.{request_in}
 
 -- The first option that must not stand inside, by its number: one of class U, recognised or not, or a critical one that
 -- isn't recognised. `before` is the number of the option before these.
@@ -31,8 +31,8 @@ heeded None request = Ok request
 heeded (Some number) request = Err (BadOption number)
 
 -- the request that a plaintext is, or the first reason why it is none
-abbrev pub asked : Plaintext → Result Request RequestError
-asked p =
+abbrev pub request_of_plaintext : Plaintext → Result Request RequestError
+request_of_plaintext p =
     if is_request_code p.code then heeded (unheeded 0 p.options) (request_in p.code p.options p.payload)
     else Err Format
 

@@ -6,9 +6,9 @@ use Rattle.osc_coap.specs.Building.{payload_of}
 use Rattle.osc_options.specs.declared.error.ReplyError.{ReplyError}
 use Rattle.osc_options.specs.declared.error.ReplyError.TheVariants.{Format, BadOption}
 use Rattle.osc_options.specs.Recognised.{recognised}
-use Rattle.osc_options.specs.Asking.{uint, value}
-use Rattle.osc_options.specs.Answering.{reply_options}
-use Rattle.osc_options.specs.Plain.{unheeded}
+use Rattle.osc_options.specs.Requests.{uint, value}
+use Rattle.osc_options.specs.Replies.{reply_options}
+use Rattle.osc_options.specs.PlaintextRequests.{unheeded}
 
 -- ---- written
 
@@ -42,12 +42,12 @@ heeded_reply None reply = Ok reply
 heeded_reply (Some number) reply = Err (BadOption number)
 
 -- the reply that a plaintext is, or the first reason why it is none
-abbrev pub answered : Plaintext → Result Reply ReplyError
-answered p = if is_reply_code p.code then heeded_reply (unheeded 0 p.options) (reply_with p) else Err Format
+abbrev pub reply_of_plaintext : Plaintext → Result Reply ReplyError
+reply_of_plaintext p = if is_reply_code p.code then heeded_reply (unheeded 0 p.options) (reply_with p) else Err Format
 
-abbrev pub if_answered : Result Reply ReplyError → Option Reply
-if_answered (Ok reply) = Some reply
-if_answered (Err e) = None
+abbrev pub if_reply : Result Reply ReplyError → Option Reply
+if_reply (Ok reply) = Some reply
+if_reply (Err e) = None
 
 abbrev pub reply_in : Plaintext → Option Reply
-reply_in p = if_answered (answered p)
+reply_in p = if_reply (reply_of_plaintext p)
