@@ -7,7 +7,7 @@ use Rattle.osc_model.specs.declared.context.Side.TheVariants.{Client, Server}
 use Rattle.osc_coap.specs.Message.{NumberAndValue, Message}
 use Rattle.osc_coap.specs.Plaintext.{Plaintext, plaintext_spelling}
 use Rattle.osc_coap.specs.Building.{payload_of}
-use Rattle.osc_options.specs.Asking.{value}
+use Rattle.osc_options.specs.Requests.{value}
 use Rattle.osc_options.specs.Split.{outer_options, of_class, merge, plaintext_of}
 use Rattle.osc_options.specs.declared.table.Class.TheVariants.{U}
 use Rattle.osc_context.specs.Derivation.{key_of}

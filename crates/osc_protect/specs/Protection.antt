@@ -7,7 +7,7 @@ use Rattle.osc_model.specs.declared.context.Side.TheVariants.{Client, Server}
 use Rattle.osc_model.specs.declared.step.Note.{Note}
 use Rattle.osc_coap.specs.Message.{Message, spelling}
 use Rattle.osc_coap.specs.Plaintext.{plaintext_spelling}
-use Rattle.osc_options.specs.Asking.{value}
+use Rattle.osc_options.specs.Requests.{value}
 use Rattle.osc_options.specs.Split.{plaintext_of, protected}
 use Rattle.osc_context.specs.Derivation.{key_of}
 use Rattle.osc_context.specs.Nonce.{nonce_of}

@@ -1,7 +1,7 @@
 //! What protected messages say before they are opened (RFC 8613 sections 8.2 and 8.4).
 
 ghost use Rattle.std.specs.Prelude.{◌≡◌, ◌↔◌, Some, IfSome, IsTrue, option_copied};
-ghost use Rattle.osc_options.specs.Asking.{value as value_in};
+ghost use Rattle.osc_options.specs.Requests.{value as value_in};
 ghost use Rattle.osc_protect.specs.Protection.{Asked, IsRequest, IsFor, Answered, IsResponse};
 
 use crate::value::OscoreOption;

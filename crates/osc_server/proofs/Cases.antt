@@ -2,7 +2,7 @@
 use Rattle.std.proofs.Common.{Bool, true, false, if◌then◌else◌}
 use Rattle.osc_coap.specs.Message.{Message}
 use Rattle.osc_model.specs.Scope.{Scope}
-use Rattle.osc_options.specs.Asking.{request_of}
+use Rattle.osc_options.specs.Requests.{request_of}
 use Rattle.osc_server.specs.Case.{IsAnswered, is_open_get}
 use Rattle.osc_server.specs.Parts.{unrefused_case}
 use Rattle.osc_server.specs.declared.case.Case.{Case}

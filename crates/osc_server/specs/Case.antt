@@ -6,7 +6,7 @@ use Rattle.osc_model.specs.declared.request.Request.{Request}
 use Rattle.osc_coap.specs.Message.{NumberAndValue, Message as CoapMessage}
 use Rattle.osc_coap.specs.declared.kind.Kind.{Kind}
 use Rattle.osc_coap.specs.declared.kind.Kind.TheVariants.{Confirmable}
-use Rattle.osc_options.specs.Asking.{request_of}
+use Rattle.osc_options.specs.Requests.{request_of}
 use Rattle.osc_options.specs.Recognised.{unrecognised_critical}
 use Rattle.osc_scope.specs.Verdict.{verdict_of}
 use Rattle.osc_scope.specs.declared.verdict.Verdict.{Verdict}

@@ -9,7 +9,7 @@ use Rattle.osc_model.specs.declared.bytes.Bytes.{Bytes}
 use Rattle.osc_model.specs.declared.node.Peer.{Peer}
 use Rattle.osc_model.specs.declared.reply.Reply.{Reply}
 use Rattle.osc_model.specs.declared.step.Datagram.{Datagram}
-use Rattle.osc_options.specs.Asking.{request_of}
+use Rattle.osc_options.specs.Requests.{request_of}
 use Rattle.osc_server.specs.Case.{is_open_get}
 use Rattle.osc_server.specs.declared.case.Case.{Case}
 use Rattle.osc_server.specs.declared.case.Case.TheVariants.{OpenGet, Unauthorised}

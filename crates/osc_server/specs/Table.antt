@@ -14,7 +14,7 @@ use Rattle.osc_model.specs.declared.step.Step.{Step}
 use Rattle.osc_coap.specs.Message.{Message, spelling}
 use Rattle.osc_coap.specs.Building.{bare as header_and_token}
 use Rattle.osc_coap.specs.declared.kind.Kind.TheVariants.{Acknowledgement, NonConfirmable, Reset as ResetKind}
-use Rattle.osc_options.specs.Answering.{with_reply}
+use Rattle.osc_options.specs.Replies.{with_reply}
 use Rattle.osc_message.specs.declared.heard.Heard.TheVariants as heard
 use Rattle.osc_message.specs.declared.handling.Handling.TheVariants.{Dropped, Answered}
 use Rattle.osc_message.specs.Heard.{noted_reply}

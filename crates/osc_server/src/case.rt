@@ -1,7 +1,7 @@
 //! Which case a datagram is.
 ghost use Rattle.std.specs.Prelude.{◌≡◌, ◌||◌, is_some, if◌then◌else◌, IfOk, OnErr, IsTrue};
 ghost use Rattle.osc_message.specs.Heard.{is_request as is_request_of};
-ghost use Rattle.osc_options.specs.Asking.{request_of};
+ghost use Rattle.osc_options.specs.Requests.{request_of};
 ghost use Rattle.osc_options.specs.Recognised.{unrecognised_critical};
 ghost use Rattle.osc_server.specs.Case as spec;
 ghost use Rattle.osc_server.specs.Parts.{AsksGet, unrefused_case as spec_unrefused};

@@ -1,5 +1,5 @@
 use Rattle.std.proofs.Common.{◌≡◌}
-use Rattle.osc_options.specs.Asking.{value}
+use Rattle.osc_options.specs.Requests.{value}
 use Rattle.osc_protect.proofs.asked.oscore_value.Given as goal
 
 abbrev pub invariant-loop-number : goal.invariant-loop-number
