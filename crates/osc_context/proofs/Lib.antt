@@ -1,3 +1,4 @@
+mod KeyLemmas
 pub mod ListLemmas
 pub mod NonceLemmas
 pub mod SaltLemmas

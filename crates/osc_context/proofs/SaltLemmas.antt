@@ -75,3 +75,6 @@ server_nonce_of salt nonce1 nonce2 h =
     let same : before ++ (head 2 (length nonce2) ++ nonce2) ≡ front ++ nonce2 = sym (append_assoc before (head 2 (length nonce2)) nonce2) in
     ap (λ l. drop (length l - 8) l) same
     ∙ drop_at front nonce2 (length (front ++ nonce2) - 8) (omega (arith, length-append front nonce2))
+
+pub content_of : (a b : List ℕ) → byte_string a ≡ byte_string b → a ≡ b
+content_of a b e = cc

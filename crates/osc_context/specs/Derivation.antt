@@ -43,6 +43,16 @@ key_of name side = derived name (id_of name side) (codes "Key") 16
 abbrev pub common_iv_of : ContextName → List ℕ
 common_iv_of name = derived name [] (codes "IV") 13
 
+-- what fixes the key of an end: secret, master salt, id context, and the ID under which it seals
+pub record KeyName : Type 0 where
+  pub secret : List ℕ
+  pub salt : List ℕ
+  pub id_context : Option (List ℕ)
+  pub id : List ℕ
+
+abbrev pub key_name_of : ContextName → Side → KeyName
+key_name_of name side = record { secret = name.secret; salt = name.salt; id_context = name.id_context; id = id_of name side }
+
 -- ---- contexts of one end
 
 -- what an end seals with: `next` is the sender sequence number that it takes next
@@ -52,6 +62,13 @@ pub record Sender : Type 0 where
   pub common_iv : List ℕ
   pub next : ℕ
 
+-- a sender sequence number that was taken, and what seals under it
+pub record Taken : Type 0 where
+  pub id : List ℕ
+  pub key : List ℕ
+  pub common_iv : List ℕ
+  pub number : ℕ
+
 -- what it opens with: the other end's ID and key
 pub record Recipient : Type 0 where
   pub id : List ℕ
@@ -60,6 +77,14 @@ pub record Recipient : Type 0 where
 
 abbrev pub sender_of : ContextName → Side → ℕ → Sender
 sender_of name side next = record { id = id_of name side; key = key_of name side; common_iv = common_iv_of name; next = next }
+
+-- the number that a sender takes next
+abbrev pub next_taken : Sender → Taken
+next_taken sender = record { id = sender.id; key = sender.key; common_iv = sender.common_iv; number = sender.next }
+
+-- a number of an end under a name
+abbrev pub taken_of : ContextName → Side → ℕ → Taken
+taken_of name side number = record { id = id_of name side; key = key_of name side; common_iv = common_iv_of name; number = number }
 
 abbrev pub recipient_of : ContextName → Side → Recipient
 recipient_of name side = record { id = id_of name (other_side side); key = key_of name (other_side side); common_iv = common_iv_of name }

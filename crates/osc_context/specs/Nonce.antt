@@ -4,7 +4,11 @@ use Rattle.std.specs.Simd.Lanes.{zip2}
 use Rattle.osc_model.specs.declared.context.ContextName.{ContextName}
 use Rattle.osc_context.specs.Derivation.{common_iv_of}
 
--- the greatest sender sequence number: a Partial IV has at most 5 bytes
+-- the most bytes of a sender ID: of the 13 bytes of a nonce its length takes one, and the Partial IV 5 (section 3.3)
+abbrev pub longest_id : ℕ
+longest_id = 7
+
+-- the greatest sender sequence number: a Partial IV has at most 5 bytes (section 7.2.1)
 abbrev pub greatest_number : ℕ
 greatest_number = 2 ^ 40 - 1
 

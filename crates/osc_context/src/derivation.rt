@@ -3,14 +3,14 @@
 ghost use Rattle.std.specs.Prelude.{◌≡◌, ◌≤◌, ◌<◌, ◌↔◌, ◌⊎◌, [], codes, length, IfOk, Err};
 ghost use Rattle.osc_cbor.specs.Spelling.{spelling};
 ghost use Rattle.osc_hkdf.specs.Hkdf.{extract_of, expand_of};
-ghost use Rattle.osc_context.specs.Derivation.{info, derived, key_of, common_iv_of, id_of, sender_of, recipient_of};
+ghost use Rattle.osc_context.specs.Derivation.{info, derived, common_iv_of, sender_of, recipient_of};
+ghost use Rattle.osc_context.specs.Nonce.{longest_id};
 
 use crate::append::{append_bytes, append_head, append_id_context, append_text, append_unsigned};
 use crate::error::DeriveError;
-use crate::nonce::ID_LIMIT;
+use crate::nonce::{ID_LIMIT, id_copy};
 use crate::recipient::RecipientContext;
 use crate::sender::SenderContext;
-use arrayvec::ArrayVec;
 use osc_cbor::Major;
 use osc_hkdf::{expand, extract};
 use osc_model::{ContextName, Side};
@@ -39,45 +39,44 @@ pub(crate) fn info_of(
     Ok(out)
 }
 
-/// Fills `out` with the output of this info.
-fn fill(name: &ContextName, info: &[u8], out: &mut [u8])
-    requires { length out.old ≤ 8160 }
-    ensures { out.new ≡ expand_of (extract_of name.now.salt name.now.secret) info.now (length out.old) }
+/// The pseudorandom key of this name, from which all is derived.
+fn prk_of(name: &ContextName) -> [u8; 32]
+    ensures { result ≡ extract_of name.now.salt name.now.secret }
 {
-    let prk = extract(name.salt.as_slice(), name.secret.as_slice());
-    expand(&prk, info, out).unwrap()
+    extract(name.salt.as_slice(), name.secret.as_slice())
 }
 
-/// The key under which the end with this ID seals.
+/// The key under which the end with this ID seals, by the pseudorandom key.
 #[tactic(auto, unfolding(crate::specs::Derivation::derived))]
-fn derive_key(alloc: Global, name: &ContextName, id: &[u8]) -> Result<[u8; 16], AllocError>
+fn derive_key(
+    alloc: Global,
+    prk: &[u8; 32],
+    name: &ContextName,
+    id: &[u8],
+) -> Result<[u8; 16], AllocError>
+    requires { prk.now ≡ extract_of name.now.salt name.now.secret }
     ensures { IfOk result (λ key. key ≡ derived name.now id.now (codes "Key") 16) }
 {
     let info = info_of(alloc, name, id, b"Key", 16)?;
     let mut key = [0; 16];
-    fill(name, &info, &mut key);
+    expand(prk, &info, &mut key).unwrap();
     Ok(key)
 }
 
-/// The common IV: no ID tells it from another.
+/// The common IV, by the pseudorandom key: no ID tells it from another.
 #[tactic(auto, unfolding(crate::specs::Derivation::derived))]
-fn derive_common_iv(alloc: Global, name: &ContextName) -> Result<[u8; 13], AllocError>
+fn derive_common_iv(
+    alloc: Global,
+    prk: &[u8; 32],
+    name: &ContextName,
+) -> Result<[u8; 13], AllocError>
+    requires { prk.now ≡ extract_of name.now.salt name.now.secret }
     ensures { IfOk result (λ common_iv. common_iv ≡ common_iv_of name.now) }
 {
     let info = info_of(alloc, name, b"", b"IV", 13)?;
     let mut common_iv = [0; 13];
-    fill(name, &info, &mut common_iv);
+    expand(prk, &info, &mut common_iv).unwrap();
     Ok(common_iv)
-}
-
-/// A copy of an ID.
-fn id_copy(id: &[u8]) -> ArrayVec<u8, ID_LIMIT>
-    requires { length id.now ≤ ID_LIMIT }
-    ensures { result.items ≡ id.now }
-{
-    let mut copy = ArrayVec::new();
-    let _ = copy.try_extend_from_slice(id);
-    copy
 }
 
 /// The contexts of an end with these two IDs, its own and the other end's.
@@ -87,16 +86,17 @@ fn contexts(
     own: &[u8],
     other: &[u8],
 ) -> Result<(SenderContext, RecipientContext), AllocError>
-    requires own { length own.now ≤ ID_LIMIT }
-    requires other { length other.now ≤ ID_LIMIT }
+    requires own { length own.now ≤ longest_id }
+    requires other { length other.now ≤ longest_id }
     ensures sender { IfOk result (λ made. made.0
         ≡ record { id = own.now; key = derived name.now own.now (codes "Key") 16; common_iv = common_iv_of name.now; next = 0 }) }
     ensures recipient { IfOk result (λ made. made.1
         ≡ record { id = other.now; key = derived name.now other.now (codes "Key") 16; common_iv = common_iv_of name.now }) }
 {
-    let common_iv = derive_common_iv(alloc, name)?;
-    let own_key = derive_key(alloc, name, own)?;
-    let other_key = derive_key(alloc, name, other)?;
+    let prk = prk_of(name);
+    let common_iv = derive_common_iv(alloc, &prk, name)?;
+    let own_key = derive_key(alloc, &prk, name, own)?;
+    let other_key = derive_key(alloc, &prk, name, other)?;
     let sender = SenderContext::new(id_copy(own), own_key, common_iv);
     let recipient = RecipientContext::new(id_copy(other), other_key, common_iv);
     Ok((sender, recipient))
@@ -116,9 +116,9 @@ pub fn derive(
     ensures sender { IfOk result (λ made. made.0 ≡ sender_of name.now side 0) }
     ensures recipient { IfOk result (λ made. made.1 ≡ recipient_of name.now side) }
     ensures too_long { (result ≡ Err DeriveError.IdTooLong)
-        ↔ ((ID_LIMIT < length name.now.client_id) ⊎ (ID_LIMIT < length name.now.server_id)) }
+        ↔ ((longest_id < length name.now.client_id) ⊎ (longest_id < length name.now.server_id)) }
     ensures equal { (result ≡ Err DeriveError.EqualIds)
-        ↔ ((length name.now.client_id ≤ ID_LIMIT) × (name.now.client_id ≡ name.now.server_id)) }
+        ↔ ((length name.now.client_id ≤ longest_id) × (name.now.client_id ≡ name.now.server_id)) }
 {
     if name.client_id.len() > ID_LIMIT || name.server_id.len() > ID_LIMIT {
         return Err(DeriveError::IdTooLong);

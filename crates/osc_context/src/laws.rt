@@ -3,8 +3,8 @@
 ghost use Rattle.std.specs.Prelude.{◌≡◌, ◌≤◌, ◌<◌, ◌^◌, ℕ, List, length};
 ghost use Rattle.osc_model.specs.declared.context.ContextName.{ContextName as AnyName};
 ghost use Rattle.osc_model.specs.declared.context.Side.{Side as AnySide};
-ghost use Rattle.osc_context.specs.Nonce.{greatest_number, partial_iv, nonce, nonce_of};
-ghost use Rattle.osc_context.specs.Derivation.{key_of, common_iv_of};
+ghost use Rattle.osc_context.specs.Nonce.{longest_id, greatest_number, partial_iv, nonce, nonce_of};
+ghost use Rattle.osc_context.specs.Derivation.{key_of, key_name_of, common_iv_of};
 ghost use Rattle.osc_context.specs.MasterSalt.{master_salt, client_nonce, server_nonce};
 
 /// Numbers below 2^40 have distinct Partial IVs, of 1 to 5 bytes.
@@ -16,9 +16,28 @@ pub fn one_partial_iv()
 /// Distinct pairs of sender ID and number have distinct nonces under one common IV.
 pub fn distinct_nonces()
     ensures { (iv a b : List ℕ) (m n : ℕ)
-        → length iv ≡ 13 → length a ≤ 7 → length b ≤ 7 → m ≤ greatest_number → n ≤ greatest_number
+        → length iv ≡ 13 → length a ≤ longest_id → length b ≤ longest_id → m ≤ greatest_number → n ≤ greatest_number
         → nonce iv a m ≡ nonce iv b n → (a ≡ b) × (m ≡ n) }
 {}
+
+/// Secret, master salt and id context fix the common IV, and with the ID under which an end seals its key.
+pub fn one_derivation()
+    ensures common_iv { (a b : AnyName) → a.secret ≡ b.secret → a.salt ≡ b.salt → a.id_context ≡ b.id_context
+        → common_iv_of a ≡ common_iv_of b }
+    ensures key { (a b : AnyName) (x y : AnySide) → key_name_of a x ≡ key_name_of b y → key_of a x ≡ key_of b y }
+{}
+
+/// Under equal secret, master salt and id context a nonce tells the ID and the number that it is made of.
+pub fn nonces_of_a_key()
+    ensures { (a b : AnyName) (x y : List ℕ) (m n : ℕ)
+        → a.secret ≡ b.secret → a.salt ≡ b.salt → a.id_context ≡ b.id_context
+        → length x ≤ longest_id → length y ≤ longest_id → m ≤ greatest_number → n ≤ greatest_number
+        → nonce_of a x m ≡ nonce_of b y n → (x ≡ y) × (m ≡ n) }
+{
+    one_derivation();
+    distinct_nonces();
+    derived_lengths();
+}
 
 /// The lengths of what is derived: keys have 16 bytes, common IVs 13.
 pub fn derived_lengths()
@@ -26,6 +45,18 @@ pub fn derived_lengths()
     ensures common_iv { (name : AnyName) → length (common_iv_of name) ≡ 13 }
 {
     osc_hkdf::lengths();
+}
+
+/// Master salts that are equal were joined of equal parts.
+pub fn one_master_salt()
+    ensures { (salt nonce1 nonce2 other other1 other2 : List ℕ)
+        → length salt < 2 ^ 64 → length nonce1 < 2 ^ 64 → length nonce2 < 2 ^ 64
+        → length other < 2 ^ 64 → length other1 < 2 ^ 64 → length other2 < 2 ^ 64
+        → master_salt salt nonce1 nonce2 ≡ master_salt other other1 other2
+        → (salt ≡ other) × (nonce1 ≡ other1) × (nonce2 ≡ other2) }
+{
+    osc_cbor::laws::one_item();
+    osc_cbor::laws::what_is_written();
 }
 
 /// Both nonces of an exchange are read back from its master salt, so two exchanges whose salts are equal had equal nonces.

@@ -4,7 +4,7 @@ ghost use Rattle.std.specs.Prelude.{◌≡◌, ◌≤◌, ◌<◌, ◌∷◌, �
 ghost use Rattle.std.specs.Simd.Lanes.{zip2};
 ghost use Rattle.arrayvec.specs.ArrayVec.{array_vec_len};
 ghost use Rattle.osc_context.specs.Nonce as spec;
-ghost use Rattle.osc_context.specs.Nonce.{greatest_number};
+ghost use Rattle.osc_context.specs.Nonce.{longest_id, greatest_number};
 
 use arrayvec::ArrayVec;
 
@@ -13,6 +13,16 @@ pub const ID_LIMIT: usize = 7;
 
 /// The greatest sender sequence number, 2^40 - 1: a Partial IV has at most 5 bytes (RFC 8613 section 7.2.1).
 pub const NUMBER_LIMIT: u64 = 1_099_511_627_775;
+
+/// A copy of an ID.
+pub(crate) fn id_copy(id: &[u8]) -> ArrayVec<u8, ID_LIMIT>
+    requires { length id.now ≤ longest_id }
+    ensures { result.items ≡ id.now }
+{
+    let mut copy = ArrayVec::new();
+    let _ = copy.try_extend_from_slice(id);
+    copy
+}
 
 /// The five low bytes of a number, the most significant first.
 fn five_bytes(number: u64) -> [u8; 5]
@@ -51,7 +61,7 @@ pub fn partial_iv_of(number: u64) -> ArrayVec<u8, 5>
 
 /// What is xored with the common IV: the length of the ID in one byte, the ID in 7 and the number in 5.
 fn plain_nonce(id: &[u8], number: u64) -> [u8; 13]
-    requires id { length id.now ≤ ID_LIMIT }
+    requires id { length id.now ≤ longest_id }
     requires number { number ≤ greatest_number }
     ensures { result ≡ length id.now ∷ spec.padded 7 id.now ++ spec.five_bytes number }
 {
@@ -74,7 +84,7 @@ fn xor_into(bytes: &mut [u8; 13], others: &[u8; 13])
 /// The nonce of a number under a common IV, where the end with this ID made the Partial IV.
 #[tactic(auto, using(crate::proofs::NonceLemmas::nonce_is))]
 pub fn nonce_for(common_iv: &[u8; 13], id: &[u8], number: u64) -> [u8; 13]
-    requires id { length id.now ≤ ID_LIMIT }
+    requires id { length id.now ≤ longest_id }
     requires number { number ≤ greatest_number }
     ensures { result ≡ spec.nonce common_iv.now id.now number }
 {

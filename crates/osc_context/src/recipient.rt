@@ -1,17 +1,26 @@
 //! The recipient context (RFC 8613 section 3.1).
 
 ghost use Rattle.std.specs.Prelude.{◌≡◌, ◌≤◌, length};
+ghost use Rattle.osc_context.specs.Nonce.{longest_id};
 
 use crate::nonce::ID_LIMIT;
 use arrayvec::ArrayVec;
+use std::fmt;
 use std::marker::Model;
 
 /// What an end opens with: the other end's ID and key, and the common IV.
-#[derive(Debug, Drop)]
+#[derive(Drop)]
 pub struct RecipientContext {
     id: ArrayVec<u8, ID_LIMIT>,
     key: [u8; 16],
     common_iv: [u8; 13],
+}
+
+// The key isn't printed.
+impl fmt::Debug for RecipientContext {
+    fn fmt<W: fmt::Write>(&self, f: &mut fmt::Formatter<W>) -> fmt::Result {
+        f.write_str("RecipientContext")
+    }
 }
 
 impl Model for RecipientContext {
@@ -36,7 +45,7 @@ impl RecipientContext {
     /// The recipient ID, at most 7 bytes: the other end's sender ID.
     pub fn id(&self) -> &[u8]
         ensures value { result.now ≡ self.now.id }
-        ensures short { length result.now ≤ ID_LIMIT }
+        ensures short { length result.now ≤ longest_id }
     {
         self.id.as_slice()
     }

@@ -1,11 +1,7 @@
 //! The replay window of a security context: which sequence numbers of the other side are fresh (RFC 8613 section 7.4).
 #![tactic(auto)]
 
-mod laws;
+pub mod laws;
 mod window;
 
-pub use laws::{fresh_after, fresh_test, one_window};
 pub use window::Window;
-
-#[cfg(test)]
-mod tests;
