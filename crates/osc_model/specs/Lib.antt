@@ -7,5 +7,6 @@ pub mod Checks
 pub mod Apply
 pub mod Grant
 pub mod History
+pub mod StepNotes
 pub mod Step
 pub mod Draw

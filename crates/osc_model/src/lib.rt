@@ -12,6 +12,7 @@ mod reply;
 mod request;
 mod resource;
 mod step;
+mod step_notes;
 
 pub use bytes::Bytes;
 pub use code::{Code, Method};
@@ -22,3 +23,4 @@ pub use reply::Reply;
 pub use request::{ETags, Request};
 pub use resource::Resource;
 pub use step::{ClientResult, Datagram, Datagrams, Entry, Note, Step};
+pub use step_notes::StepNotes;

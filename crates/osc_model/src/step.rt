@@ -7,6 +7,7 @@ use crate::code::Code;
 use crate::context::{ContextName, Side};
 use crate::node::{Moment, Peer};
 use crate::reply::Reply;
+use crate::step_notes::StepNotes;
 use std::alloc::{AllocError, Global};
 use std::fmt;
 use std::marker::Model;
@@ -127,16 +128,8 @@ impl Datagrams {
 pub struct Step {
     /// What is sent.
     pub out: Datagrams,
-    /// What was sealed, if anything was.
-    pub seals: Option<Note>,
-    /// What was opened, if anything was.
-    pub opens: Option<Note>,
-    /// The request that was served, if one was.
-    pub served: Option<Entry>,
-    /// What a client learnt, if it did.
-    pub result: Option<ClientResult>,
-    /// The nonce that an exchange drew, if one did.
-    pub drawn: Option<[u8; 8]>,
+    /// What was sealed, opened, served, learnt and drawn.
+    pub notes: StepNotes,
 }
 
 impl Step {
@@ -146,11 +139,7 @@ impl Step {
     {
         Step {
             out,
-            seals: None,
-            opens: None,
-            served: None,
-            result: None,
-            drawn: None,
+            notes: StepNotes::quiet(),
         }
     }
 }
