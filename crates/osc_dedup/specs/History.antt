@@ -2,8 +2,7 @@
 use Rattle.std.specs.Prelude.{◌≡◌, ◌+◌, ◌<◌, ◌≤◌, false, not, List, [], ◌∷◌, ◌++◌, length, filter}
 use Rattle.std.specs.List.{All}
 use Rattle.osc_model.specs.declared.node.Moment.{Moment}
-use Rattle.osc_dedup.specs.declared.table.TheConstants.{MOST}
-use Rattle.osc_dedup.specs.Table.{Entry, is_of, staying, with_note}
+use Rattle.osc_dedup.specs.Table.{most_entries, Entry, is_of, staying, with_note}
 
 -- an entry, and when it was noted; lists of notes have the newest first
 pub record Note : Type 0 where
@@ -35,4 +34,4 @@ pub record IsThere (notes : List Note) (now : Moment) (entry : Entry) : Type 0 w
   pub lives : now.ms < entry.noted.until
   pub latest : All (λ note. is_of entry.peer entry.id note.entry ≡ false) younger
   pub had_place : (newer between : List Note) (note : Note) → younger ≡ newer ++ note ∷ between
-      → length (staying note.moment note.entry.peer note.entry.id (unreplaced between)) + 1 < MOST
+      → length (staying note.moment note.entry.peer note.entry.id (unreplaced between)) + 1 < most_entries

@@ -4,7 +4,10 @@ use Rattle.std.specs.Option.{option_map}
 use Rattle.osc_model.specs.declared.node.Moment.{Moment}
 use Rattle.osc_model.specs.declared.node.Peer.{Peer}
 use Rattle.osc_dedup.specs.declared.table.Noted.{Noted}
-use Rattle.osc_dedup.specs.declared.table.TheConstants.{MOST}
+
+-- how many entries a table has at most
+abbrev pub most_entries : ℕ
+most_entries = 64
 
 -- a message, named by its sender and its message ID, and what was noted of it
 pub record Entry : Type 0 where
@@ -31,7 +34,7 @@ staying now peer id entries = filter (λ entry. is_alive now entry && not (is_of
 abbrev pub with_note : Moment → Peer → ℕ → Noted → List Entry → List Entry
 with_note now peer id noted entries =
     let others = staying now peer id entries in
-    drop (length others + 1 - MOST) others ++ (record { peer = peer; id = id; noted = noted }) ∷ []
+    drop (length others + 1 - most_entries) others ++ (record { peer = peer; id = id; noted = noted }) ∷ []
 
 -- what was noted of a message, while it lives
 abbrev pub looked : Moment → Peer → ℕ → List Entry → Option Noted

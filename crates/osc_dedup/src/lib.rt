@@ -9,7 +9,4 @@ mod laws;
 mod table;
 
 pub use laws::{expiring, one_table};
-pub use table::{Duplicates, MOST, Noted};
-
-#[cfg(test)]
-mod tests;
+pub use table::{Duplicates, Noted};

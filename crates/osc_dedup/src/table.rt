@@ -12,7 +12,7 @@ use std::marker::Model;
 use std::mem;
 
 /// How many entries a table has at most.
-pub const MOST: usize = 64;
+const MOST: usize = 64;
 
 /// An address, a port and a message ID.
 type Key = ([u8; 4], u16, u16);
@@ -121,16 +121,15 @@ pub struct Duplicates {
 impl Model for Duplicates {
     ghost use Rattle.std.specs.Prelude.{List, ℕ, ◌≡◌, ◌≤◌, ◌+◌, length, []};
     ghost use Rattle.indexmap.specs.IndexMap.{spare, IsUnique};
-    ghost use Rattle.osc_dedup.specs.declared.table.TheConstants.{MOST};
-    ghost use Rattle.osc_dedup.specs.Table.{Entry};
+    ghost use Rattle.osc_dedup.specs.Table.{most_entries, Entry};
     ghost use Rattle.osc_dedup.specs.Keys.{entries_of, same_key};
 
     ghost Value = { List Entry };
 
     ghost view = { λ table. entries_of table.kept.entries };
 
-    ghost invariant = { λ table. (length table.kept.entries ≤ MOST) × (MOST ≤ length table.kept.entries + spare table.kept)
-        × (table.other.entries ≡ []) × (MOST ≤ spare table.other) × IsUnique same_key table.kept };
+    ghost invariant = { λ table. (length table.kept.entries ≤ most_entries) × (most_entries ≤ length table.kept.entries + spare table.kept)
+        × (table.other.entries ≡ []) × (most_entries ≤ spare table.other) × IsUnique same_key table.kept };
 }
 
 impl Duplicates {
@@ -162,11 +161,17 @@ impl Duplicates {
         append(&mut self.kept, key, noted);
     }
 
-    /// Lets the dead go.
+    /// Lets the dead go, and what they hold: no look finds them any more, and the next note would let them go as well.
     pub fn expire(&mut self, now: Moment)
         ensures { self.new ≡ alive now self.old }
     {
         move_staying(&mut self.kept, &mut self.other, now, None, MOST);
         mem::swap(&mut self.kept, &mut self.other);
+    }
+    /// Lets all entries go.
+    pub fn clear(&mut self)
+        ensures { self.new ≡ [] }
+    {
+        self.kept.clear();
     }
 }

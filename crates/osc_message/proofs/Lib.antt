@@ -1,5 +1,6 @@
 pub mod Limits
 pub mod Peers
+pub mod Places
 pub mod Schedule
 pub mod Sound
 pub mod Walk

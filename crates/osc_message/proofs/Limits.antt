@@ -1,5 +1,5 @@
 -- The limits on open messages are kept.
-use Rattle.std.proofs.Common.{◌≡◌, ℕ, ◌+◌, ◌<◌, ◌≤◌, Bool, true, false, not, cond, ltb, ◌&&◌, ◌||◌, List, [], ◌∷◌, ◌++◌, length, length-append, filter, count_by, refl, ap, ap₂, sym, ◌∙◌, subst, Option, Some, None, is_some, arith}
+use Rattle.std.proofs.Common.{◌≡◌, ℕ, ◌+◌, ◌*◌, ◌<◌, ◌≤◌, Bool, true, false, not, cond, ltb, ◌&&◌, ◌||◌, List, [], ◌∷◌, ◌++◌, length, length-append, filter, count_by, suc, refl, ap, ap₂, sym, ◌∙◌, subst, Option, Some, None, is_some, arith}
 use Rattle.std.specs.List.{filter_map, cons_option, list_any}
 use Rattle.std.proofs.lemmas.Bool.{ltb-true, or_parts, or_right}
 use Rattle.std.proofs.lemmas.List.Folds.{list_any-append}
@@ -313,3 +313,59 @@ limits_ticked now all limits =
 
 pub limits_nil : IsWithinLimits []
 limits_nil = limited [] (record { out = λ p. omega arith; wait = λ p. omega arith; peers = omega arith })
+
+-- ---- how many there are
+
+weights : (a b : Bool) → weight (a && b) + weight (a && not b) ≡ weight a
+weights true true = refl
+weights true false = refl
+weights false true = refl
+weights false false = refl
+
+-- outstanding and waiting are all
+both : (p : Peer) (xs : List Open) → count (goes_to p) xs + count (waits_for p) xs ≡ count (is_to p) xs
+both p [] = refl
+both p (x ∷ xs) = omega (arith, weights (is_to p x) (is_outstanding x), both p xs)
+
+-- those that aren't to the peer
+abbrev to_others : Peer → List Open → List Open
+to_others p xs = filter (λ x. not (is_to p x)) xs
+
+length_others : (p : Peer) (xs : List Open) → length xs ≡ count (is_to p) xs + length (to_others p xs)
+length_others p [] = refl
+length_others p (x ∷ xs) = by (is_to p x) (length_others p xs)
+  where
+    by : (b : Bool) → length xs ≡ count (is_to p) xs + length (to_others p xs)
+        → suc (length xs) ≡ (weight b + count (is_to p) xs) + length (cond (not b) (x ∷ to_others p xs) (to_others p xs))
+    by true up = omega (arith, up)
+    by false up = omega (arith, up)
+
+none_left : (p : Peer) (xs : List Open) → has_open p (to_others p xs) ≡ false
+none_left p [] = refl
+none_left p (x ∷ xs) = by (is_to p x) refl (none_left p xs)
+  where
+    by : (b : Bool) → is_to p x ≡ b → has_open p (to_others p xs) ≡ false → has_open p (cond (not b) (x ∷ to_others p xs) (to_others p xs)) ≡ false
+    by true e up = up
+    by false e up = rw e up
+
+-- at most 17 to each of some peers
+most_to : (xs : List Open) (ps : List Peer) → ((p : Peer) → count (is_to p) xs ≤ 17) → ((q : Peer) → has_open q xs ≡ true → list_any (same_peer q) ps ≡ true) → length xs ≤ 17 * length ps
+most_to [] [] each among = omega arith
+most_to (x ∷ xs) [] each among =
+    let mine : is_to x.to x ≡ true = same_peer_equiv.refl x.to in
+    let found : false ≡ true = among x.to (ap (λ b. b || has_open x.to xs) mine) in
+    absurd (cc)
+most_to xs (p ∷ ps) each among =
+    omega (arith, length_others p xs, each p, most_to (to_others p xs) ps (λ q. omega (arith, count_filter (λ x. not (is_to p x)) (is_to q) xs, each q)) rest)
+  where
+    other : (q : Peer) (b : Bool) → same_peer q p ≡ b → has_open q (to_others p xs) ≡ true → (b || list_any (same_peer q) ps) ≡ true → list_any (same_peer q) ps ≡ true
+    other q true e f found = let none : has_open q (to_others p xs) ≡ false = open_same q p (to_others p xs) e ∙ none_left p xs in absurd (cc)
+    other q false e f found = found
+
+    rest : (q : Peer) → has_open q (to_others p xs) ≡ true → list_any (same_peer q) ps ≡ true
+    rest q e = other q (same_peer q p) refl e (among q (open_filter (λ x. not (is_to p x)) q xs e))
+
+pub most_messages : (all : List Open) → IsWithinLimits all → length all ≤ 1088
+most_messages all limits =
+    let within = counted all limits in
+    omega (arith, most_to all (peers_of all) (λ p. omega (arith, both p all, within.out p, within.wait p)) (λ q e. any_peers q all ∙ e), within.peers)

@@ -1,5 +1,5 @@
 -- What holds of the open messages at all times.
-use Rattle.std.proofs.Common.{◌≡◌, ℕ, ◌<◌, ◌≤◌, ◌^◌, Bool, true, false, cond, ltb, List, [], ◌∷◌, ◌++◌, length, filter, refl, ap, sym, subst, ◌∙◌, Option, Some, None, arith}
+use Rattle.std.proofs.Common.{◌≡◌, ℕ, ◌<◌, ◌≤◌, Bool, true, false, cond, ltb, List, [], ◌∷◌, ◌++◌, length, length-append, filter, refl, ap, sym, subst, ◌∙◌, Option, Some, None, arith}
 use Rattle.std.specs.List.{All, filter_map, zip, cons_option}
 use Rattle.std.proofs.lemmas.Bool.{ltb-true}
 use Rattle.std.proofs.lemmas.List.Elements.{All-nil, All-cons, All-head, All-tail, All-push, All-filter}
@@ -10,8 +10,8 @@ use Rattle.osc_message.specs.declared.due.Due.{Due}
 use Rattle.osc_message.specs.declared.due.Due.TheVariants.{Keep, Send, GiveUp}
 use Rattle.osc_message.specs.Confirmables.{Sent, Open, has_open, takes, sent_at, with_open}
 use Rattle.osc_message.specs.Ticks.{due_at, due_of, dues, dues_of, sent_again, after, ticked}
-use Rattle.osc_message.specs.Bounds.{IsBoundedSent, IsBounded, IsSound}
-use Rattle.osc_message.proofs.Limits.{limits_nil, limits_filter, limits_push, limits_ticked}
+use Rattle.osc_message.specs.Bounds.{most_open, IsBoundedSent, IsBounded, IsSound}
+use Rattle.osc_message.proofs.Limits.{limits_nil, limits_filter, limits_push, limits_ticked, most_messages}
 
 -- ---- what is due of each, beside the messages
 
@@ -37,11 +37,11 @@ done_ticked now all ds ys planned done =
 
 -- ---- bounds
 
-bounded_waiting : (now : Moment) → now.ms < 2 ^ 63 → (message : Open) → message.timeout ≤ 3000 → (b : Bool) (later : List Open) → message.sent ≡ None
+bounded_waiting : (now : Moment) (message : Open) → message.timeout ≤ 3000 → (b : Bool) (later : List Open) → message.sent ≡ None
     → All IsBounded later → All IsBounded (cons_option (after now (message, cond b Keep Send)) later)
-bounded_waiting now early message timeout true later waits all = let bound : IsBoundedSent message.sent = rw waits tt in All-cons IsBounded message later (timeout, bound) all
-bounded_waiting now early message timeout false later waits all =
-    let bound : IsBoundedSent (Some (sent_again now message.sent)) = subst (λ s. IsBoundedSent (Some (sent_again now s))) (sym waits) (early, omega arith) in
+bounded_waiting now message timeout true later waits all = let bound : IsBoundedSent message.sent = rw waits tt in All-cons IsBounded message later (timeout, bound) all
+bounded_waiting now message timeout false later waits all =
+    let bound : IsBoundedSent (Some (sent_again now message.sent)) = subst (λ s. IsBoundedSent (Some (sent_again now s))) (sym waits) (omega arith) in
     All-cons IsBounded _ later (timeout, bound) all
 
 bounded_outstanding : (now : Moment) (message : Open) (sent : Sent) → message.timeout ≤ 3000 → IsBoundedSent (Some sent) → (early few : Bool) (later : List Open)
@@ -49,26 +49,26 @@ bounded_outstanding : (now : Moment) (message : Open) (sent : Sent) → message.
     → All IsBounded later → All IsBounded (cons_option (after now (message, cond early Keep (cond few Send GiveUp))) later)
 bounded_outstanding now message sent timeout bound true few later went e all = let kept : IsBoundedSent message.sent = rw went bound in All-cons IsBounded message later (timeout, kept) all
 bounded_outstanding now message sent timeout bound false true later went e all =
-    let bound : IsBoundedSent (Some (sent_again now message.sent)) = subst (λ s. IsBoundedSent (Some (sent_again now s))) (sym went) (bound.0, omega (arith, ltb-true sent.repeats 4 e)) in
+    let bound : IsBoundedSent (Some (sent_again now message.sent)) = subst (λ s. IsBoundedSent (Some (sent_again now s))) (sym went) (omega (arith, ltb-true sent.repeats 4 e)) in
     All-cons IsBounded _ later (timeout, bound) all
 bounded_outstanding now message sent timeout bound false false later went e all = all
 
-bounded_after : (now : Moment) → now.ms < 2 ^ 63 → (all earlier : List Open) (message : Open) (sent : Option Sent) (later : List Open) → message.sent ≡ sent → message.timeout ≤ 3000 → IsBoundedSent sent
+bounded_after : (now : Moment) (all earlier : List Open) (message : Open) (sent : Option Sent) (later : List Open) → message.sent ≡ sent → message.timeout ≤ 3000 → IsBoundedSent sent
     → All IsBounded later → All IsBounded (cons_option (after now (message, due_of now all earlier message sent)) later)
-bounded_after now early all earlier message None later is timeout bound rest = bounded_waiting now early message timeout _ later is rest
-bounded_after now early all earlier message (Some sent) later is timeout bound rest =
+bounded_after now all earlier message None later is timeout bound rest = bounded_waiting now message timeout _ later is rest
+bounded_after now all earlier message (Some sent) later is timeout bound rest =
     bounded_outstanding now message sent timeout bound (ltb now.ms (due_at message sent)) (ltb sent.repeats 4) later is refl rest
 
-bounded_ticked : (now : Moment) → now.ms < 2 ^ 63 → (all earlier later : List Open) → All IsBounded later → All IsBounded (filter_map (after now) (dues now all earlier later))
-bounded_ticked now early all earlier [] bounded = All-nil IsBounded
-bounded_ticked now early all earlier (message ∷ later) bounded =
+bounded_ticked : (now : Moment) (all earlier later : List Open) → All IsBounded later → All IsBounded (filter_map (after now) (dues now all earlier later))
+bounded_ticked now all earlier [] bounded = All-nil IsBounded
+bounded_ticked now all earlier (message ∷ later) bounded =
     let head = All-head IsBounded message later bounded in
-    bounded_after now early all earlier message message.sent _ refl head.0 head.1
-    (bounded_ticked now early all (earlier ++ message ∷ []) later (All-tail IsBounded message later bounded))
+    bounded_after now all earlier message message.sent _ refl head.0 head.1
+    (bounded_ticked now all (earlier ++ message ∷ []) later (All-tail IsBounded message later bounded))
 
-bounded_sent_at : (now : Moment) → now.ms < 2 ^ 63 → (waits : Bool) → IsBoundedSent (sent_at now waits)
-bounded_sent_at now early true = tt
-bounded_sent_at now early false = (early, omega arith)
+bounded_sent_at : (now : Moment) (waits : Bool) → IsBoundedSent (sent_at now waits)
+bounded_sent_at now true = tt
+bounded_sent_at now false = omega arith
 
 -- ---- what holds at all times
 
@@ -78,12 +78,19 @@ sound_nil = record { bounded = All-nil IsBounded; limits = limits_nil }
 pub sound_filter : (p : Open → Bool) (all : List Open) → IsSound all → IsSound (filter p all)
 sound_filter p all sound = record { bounded = All-filter p IsBounded all sound.bounded; limits = limits_filter p all sound.limits }
 
-pub sound_push : (now : Moment) (to : Peer) (id timeout : ℕ) (bytes : Bytes) (all : List Open) → now.ms < 2 ^ 63 → timeout ≤ 3000 → takes to all ≡ true → IsSound all
+pub sound_push : (now : Moment) (to : Peer) (id timeout : ℕ) (bytes : Bytes) (all : List Open) → timeout ≤ 3000 → takes to all ≡ true → IsSound all
     → IsSound (with_open now to id timeout bytes all)
-sound_push now to id timeout bytes all early bound taken sound = record {
-  bounded = All-push IsBounded all _ sound.bounded (bound, bounded_sent_at now early (has_open to all));
+sound_push now to id timeout bytes all bound taken sound = record {
+  bounded = All-push IsBounded all _ sound.bounded (bound, bounded_sent_at now (has_open to all));
   limits = limits_push now to id timeout bytes all taken sound.limits;
 }
 
-pub sound_ticked : (now : Moment) (all : List Open) → now.ms < 2 ^ 63 → IsSound all → IsSound (ticked now all)
-sound_ticked now all early sound = record { bounded = bounded_ticked now early all [] all sound.bounded; limits = limits_ticked now all sound.limits }
+pub sound_ticked : (now : Moment) (all : List Open) → IsSound all → IsSound (ticked now all)
+sound_ticked now all sound = record { bounded = bounded_ticked now all [] all sound.bounded; limits = limits_ticked now all sound.limits }
+
+-- one more that is taken has room
+pub room_for_one : (to : Peer) (all : List Open) → takes to all ≡ true → IsSound all → length all < most_open
+room_for_one to all taken sound =
+    let now : Moment = record { ms = 0; early = omega arith } in
+    let more : length (with_open now to 0 0 [] all) ≤ 1088 = most_messages (with_open now to 0 0 [] all) (limits_push now to 0 0 [] all taken sound.limits) in
+    omega (arith, more, length-append all ((record { to = to; id = 0; timeout = 0; bytes = []; sent = sent_at now (has_open to all) }) ∷ []))

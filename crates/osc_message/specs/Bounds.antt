@@ -1,14 +1,18 @@
--- Bounds on open messages, so that moments can be reckoned from them: no public contract names them.
-use Rattle.std.specs.Prelude.{ℕ, ◌≤◌, ◌<◌, ◌^◌, Bool, false, nat_le, List, Option, Some, None}
+-- Bounds on open messages, so that moments can be reckoned from them and all have room: no public contract names them.
+use Rattle.std.specs.Prelude.{ℕ, ◌≤◌, ◌*◌, Bool, false, nat_le, List, Option, Some, None}
 use Rattle.std.specs.List.{All}
 use Rattle.osc_model.specs.declared.node.Moment.{Moment}
 use Rattle.osc_message.specs.Confirmables.{Sent, Open}
 use Rattle.osc_message.specs.Limits.{IsWithinLimits}
 use Rattle.osc_message.specs.Ticks.{most_repeats}
 
+-- how many messages are open at most: to each of 64 peers one that is outstanding and 16 that wait
+abbrev pub most_open : ℕ
+most_open = 64 * 17
+
 abbrev pub IsBoundedSent : Option Sent → Type 0
 IsBoundedSent None = Unit {0}
-IsBoundedSent (Some sent) = (sent.at.ms < 2 ^ 63) × (sent.repeats ≤ most_repeats)
+IsBoundedSent (Some sent) = sent.repeats ≤ most_repeats
 
 abbrev pub IsBounded : Open → Type 0
 IsBounded message = (message.timeout ≤ 3000) × IsBoundedSent message.sent

@@ -1,23 +1,40 @@
 -- The state of a node's message layer, and what each call makes of it (RFC 7252 section 4).
-use Rattle.std.specs.Prelude.{ℕ, ◌+◌, List, Option}
+use Rattle.std.specs.Prelude.{ℕ, ◌+◌, ◌%◌, List, [], Option, Some, None}
+use Rattle.osc_model.specs.Draw.{message_id_drawn}
 use Rattle.osc_model.specs.declared.bytes.Bytes.{Bytes}
+use Rattle.osc_model.specs.declared.node.Draw.{Draw}
 use Rattle.osc_model.specs.declared.node.Moment.{Moment}
 use Rattle.osc_model.specs.declared.node.Peer.{Peer}
 use Rattle.osc_coap.specs.declared.kind.Kind.{Kind}
 use Rattle.osc_coap.specs.declared.kind.Kind.TheVariants.{Confirmable, Acknowledgement, Reset as ResetKind}
-use Rattle.osc_coap.specs.Message.{Message as CoapMessage}
-use Rattle.osc_dedup.specs.Table.{Entry, with_note}
+use Rattle.osc_dedup.specs.Table.{Entry, alive, with_note}
 use Rattle.osc_message.specs.declared.heard.Heard.{Heard}
 use Rattle.osc_message.specs.declared.heard.Heard.TheVariants.{Empty, Message}
 use Rattle.osc_message.specs.declared.handling.Handling.{Handling}
 use Rattle.osc_message.specs.declared.handling.Handling.TheVariants.{Dropped, Answered, Counted}
 use Rattle.osc_message.specs.Confirmables.{Open, acknowledged}
+use Rattle.osc_message.specs.Ticks.{ticked}
 
--- what was heard lately, the open confirmable messages, and for how many more there is room
+-- what was heard lately, the open confirmable messages, and the message ID of the node's next message, once it has made one
 pub record EndpointState : Type 0 where
   pub seen : List Entry
   pub sending : List Open
-  pub room : ℕ
+  pub next_id : Option ℕ
+
+-- nothing was heard, nothing is open, and no message was made
+abbrev pub fresh : EndpointState
+fresh = record { seen = []; sending = []; next_id = None }
+
+-- ---- the node's own message IDs: the first one is drawn, and each later one is the next (section 4.4)
+
+abbrev pub own_id : Draw → Option ℕ → ℕ
+own_id draw None = message_id_drawn draw
+own_id draw (Some id) = id
+
+abbrev pub id_taken : Draw → EndpointState → EndpointState
+id_taken draw state = record state { next_id = Some ((own_id draw state.next_id + 1) % 65536) }
+
+-- ---- what was heard is settled
 
 -- EXCHANGE_LIFETIME and NON_LIFETIME in ms (section 4.8.2)
 abbrev pub lifetime : Kind → ℕ
@@ -25,28 +42,37 @@ lifetime Confirmable = 247000
 lifetime kind = 145000
 
 -- one noted, until its lifetime ends; acknowledgements can't be repeated and aren't
-abbrev pub noted : EndpointState → Moment → Peer → Kind → ℕ → Option Bytes → EndpointState
-noted state now from Acknowledgement id reply = state
-noted state now from ResetKind id reply = state
-noted state now from kind id reply =
-    record state { seen = with_note now from id (record { until = now.ms + lifetime kind; reply = reply }) state.seen }
-
-abbrev pub acknowledging : EndpointState → Peer → ℕ → EndpointState
-acknowledging state from id = record state { sending = acknowledged from id state.sending }
+abbrev pub noted : Moment → Peer → Kind → ℕ → Option Bytes → List Entry → List Entry
+noted now from Acknowledgement id reply seen = seen
+noted now from ResetKind id reply seen = seen
+noted now from kind id reply seen = with_note now from id (record { until = now.ms + lifetime kind; reply = reply }) seen
 
 -- an acknowledgement, or a Reset, acknowledges the message that it names (section 4.2)
-abbrev pub acknowledging_by : EndpointState → Peer → Kind → ℕ → EndpointState
-acknowledging_by state from Acknowledgement id = acknowledging state from id
-acknowledging_by state from ResetKind id = acknowledging state from id
-acknowledging_by state from kind id = state
+abbrev pub acknowledged_by : Peer → Kind → ℕ → List Open → List Open
+acknowledged_by from Acknowledgement id sending = acknowledged from id sending
+acknowledged_by from ResetKind id sending = acknowledged from id sending
+acknowledged_by from kind id sending = sending
 
--- what the node made of a message: a response that counts acknowledges the request that it answers
-abbrev pub handled : EndpointState → Moment → Peer → CoapMessage → Handling → EndpointState
-handled state now from message Dropped = state
-handled state now from message (Answered reply) = noted state now from message.kind message.id reply
-handled state now from message (Counted request reply) = noted (acknowledging state from request) now from message.kind message.id reply
+-- what the node made of a message: one that it answered, or that counted, is noted
+abbrev pub handled_seen : Moment → Peer → Kind → ℕ → Handling → List Entry → List Entry
+handled_seen now from kind id Dropped seen = seen
+handled_seen now from kind id (Answered reply) seen = noted now from kind id reply seen
+handled_seen now from kind id (Counted request reply) seen = noted now from kind id reply seen
+
+-- a response that counts acknowledges the request that it answers
+abbrev pub handled_sending : Peer → Handling → List Open → List Open
+handled_sending from (Counted request reply) sending = acknowledged from request sending
+handled_sending from handling sending = sending
 
 abbrev pub settled : EndpointState → Moment → Peer → Heard → Handling → EndpointState
-settled state now from (Empty kind id) handling = acknowledging state from id
-settled state now from (Message message) handling = handled (acknowledging_by state from message.kind message.id) now from message handling
+settled state now from (Empty kind id) handling = record state { sending = acknowledged from id state.sending }
+settled state now from (Message message) handling = record state {
+  seen = handled_seen now from message.kind message.id handling state.seen;
+  sending = handled_sending from handling (acknowledged_by from message.kind message.id state.sending);
+}
 settled state now from heard handling = state
+
+-- ---- a tick: what is due is done, and the dead notes go
+
+abbrev pub after_tick : Moment → EndpointState → EndpointState
+after_tick now state = record state { seen = alive now state.seen; sending = ticked now state.sending }

@@ -4,8 +4,9 @@ pub mod Heard
 pub mod Confirmables
 pub mod Ticks
 pub mod Endpoint
-pub mod Steps
+pub mod Sending
 pub mod Bounds
 pub mod Limits
 pub mod Timeout
 pub mod Schedule
+pub mod Outbox

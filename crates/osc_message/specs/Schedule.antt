@@ -1,10 +1,10 @@
 -- When a confirmable message goes out that nobody acknowledges (RFC 7252 section 4.2), over the ticks that come.
-use Rattle.std.specs.Prelude.{ℕ, ◌+◌, ◌-◌, ◌*◌, ◌^◌, Bool, true, false, nat_lt, if◌then◌else◌, List, [], ◌∷◌, Some}
+use Rattle.std.specs.Prelude.{ℕ, ◌+◌, ◌-◌, ◌*◌, ◌^◌, Bool, true, false, nat_lt, if◌then◌else◌, List, [], ◌∷◌, ◌++◌, length, drop, Some}
 use Rattle.osc_model.specs.declared.node.Moment.{Moment}
 use Rattle.osc_message.specs.declared.due.Due.{Due}
 use Rattle.osc_message.specs.declared.due.Due.TheVariants.{Keep, Send, GiveUp}
 use Rattle.osc_message.specs.Confirmables.{Sent, Open}
-use Rattle.osc_message.specs.Ticks.{outstanding_due, sent_again}
+use Rattle.osc_message.specs.Ticks.{outstanding_due, dues_of, sent_again}
 
 -- what one tick does, before what the later ones do with the message as it is kept, or as it is once it was sent again
 abbrev pub done_at : Due → Moment → List (Moment × Due) → List (Moment × Due) → List (Moment × Due)
@@ -18,6 +18,18 @@ done_over message sent [] = []
 done_over message sent (now ∷ later) =
     done_at (outstanding_due now message sent) now (done_over message sent later) (done_over message (sent_again now (Some sent)) later)
 
+-- what a tick does with the first of these messages, before what the later ones do with it
+abbrev pub first_done : Moment → List (Open × Due) → (Open → List (Moment × Due)) → List (Moment × Due)
+first_done now [] later = []
+first_done now ((message, Keep) ∷ dues) later = later message
+first_done now ((message, Send) ∷ dues) later = (now, Send) ∷ later (record message { sent = Some (sent_again now message.sent) })
+first_done now ((message, GiveUp) ∷ dues) later = (now, GiveUp) ∷ []
+
+-- the ticks that do something with an open message, where each tick comes with what stands before and behind the message then
+abbrev pub done_among : List (Moment × List Open × List Open) → Open → List (Moment × Due)
+done_among [] = λ message. []
+done_among ((now, before, behind) ∷ later) = λ message. first_done now (drop (length before) (dues_of now (before ++ message ∷ behind))) (done_among later)
+
 -- ---- what the standard wants
 
 -- what is done on the first tick at or after this moment, and on those behind it
@@ -29,7 +41,7 @@ on_first moment does (now ∷ later) = if nat_lt now.ms moment then on_first mom
 -- so on behind that one, up to (2^4 - 1) times; on the first tick behind these at or after (2^5 - 1) times it is given up.
 abbrev pub schedule : Moment → ℕ → List Moment → List (Moment × Due)
 schedule went timeout ticks =
-    let after : ℕ → ℕ = λ k. went.0 + (2 ^ k - 1) * timeout in
+    let after : ℕ → ℕ = λ k. went.ms + (2 ^ k - 1) * timeout in
     on_first (after 1) (λ now later. (now, Send) ∷
     on_first (after 2) (λ now later. (now, Send) ∷
     on_first (after 3) (λ now later. (now, Send) ∷

@@ -5,8 +5,8 @@ use Rattle.osc_model.specs.declared.node.Moment.{Moment}
 use Rattle.osc_model.specs.declared.step.Datagram.{Datagram}
 use Rattle.osc_message.specs.declared.due.Due.{Due}
 use Rattle.osc_message.specs.declared.due.Due.TheVariants.{Keep, Send, GiveUp}
-use Rattle.osc_message.specs.declared.given_up.GivenUp.{GivenUp}
-use Rattle.osc_message.specs.Confirmables.{Sent, Open, has_open, has_outstanding}
+use Rattle.osc_message.specs.declared.name.MessageName.{MessageName}
+use Rattle.osc_message.specs.Confirmables.{Sent, Open, is_outstanding, has_open, has_outstanding}
 
 -- MAX_RETRANSMIT (section 4.8)
 abbrev pub most_repeats : ℕ
@@ -38,11 +38,19 @@ dues now all earlier (message ∷ later) = (message, due_of now all earlier mess
 abbrev pub dues_of : Moment → List Open → List (Open × Due)
 dues_of now all = dues now all [] all
 
--- ---- what is sent, what stays, what is given up
+-- ---- what is sent, what goes out for the first time, what stays, what is given up
 
 abbrev pub datagram_of : Open × Due → Option Datagram
 datagram_of (message, Send) = Some (record { to = message.to; bytes = message.bytes })
 datagram_of (message, due) = None
+
+abbrev pub name_of : Open → MessageName
+name_of message = record { peer = message.to; id = message.id }
+
+-- one that waited
+abbrev pub started_of : Open × Due → Option MessageName
+started_of (message, Send) = if is_outstanding message then None else Some (name_of message)
+started_of (message, due) = None
 
 -- the first time it goes out, or one more
 abbrev pub sent_again : Moment → Option Sent → Sent
@@ -54,8 +62,8 @@ after now (message, Keep) = Some message
 after now (message, Send) = Some (record message { sent = Some (sent_again now message.sent) })
 after now (message, GiveUp) = None
 
-abbrev pub given_up_of : Open × Due → Option GivenUp
-given_up_of (message, GiveUp) = Some (record { peer = message.to; id = message.id })
+abbrev pub given_up_of : Open × Due → Option MessageName
+given_up_of (message, GiveUp) = Some (name_of message)
 given_up_of (message, due) = None
 
 abbrev pub ticked : Moment → List Open → List Open
@@ -64,7 +72,10 @@ ticked now all = filter_map (after now) (dues_of now all)
 abbrev pub tick_sends : Moment → List Open → List Datagram
 tick_sends now all = filter_map datagram_of (dues_of now all)
 
-abbrev pub tick_gives_up : Moment → List Open → List GivenUp
+abbrev pub tick_starts : Moment → List Open → List MessageName
+tick_starts now all = filter_map started_of (dues_of now all)
+
+abbrev pub tick_gives_up : Moment → List Open → List MessageName
 tick_gives_up now all = filter_map given_up_of (dues_of now all)
 
 -- ---- whether a tick does anything

@@ -1,13 +1,10 @@
 //! Open confirmable messages, and their initial timeout (RFC 7252 sections 4.2 and 4.8).
-ghost use Rattle.std.specs.Prelude.{◌≡◌, ◌+◌, ◌*◌, ◌%◌, ◌≤◌, vec_len, vec_capacity};
+ghost use Rattle.std.specs.Prelude.{◌≡◌, ◌≤◌, vec_capacity};
 ghost use Rattle.osc_message.specs.Bounds.{IsSound};
 ghost use Rattle.osc_message.specs.Timeout.{timeout_of};
 ghost use Rattle.osc_message.specs.Confirmables.{is_named as is_named_of, acknowledged};
 
 use osc_model::{Bytes, Draw, Moment, Peer};
-
-/// The greatest initial timeout, in ms: ACK_TIMEOUT times ACK_RANDOM_FACTOR.
-pub const TIMEOUT_LIMIT: u64 = 3000;
 
 /// How a message that went out stands.
 #[derive(Clone, Copy, Debug, PartialEq, Eq)]
@@ -33,12 +30,12 @@ pub struct Open {
     pub sent: Option<Sent>,
 }
 
-/// The initial timeout of a message in ms, by bytes 16 and 17 of the draw: 2000 to 3000.
+/// The initial timeout of a message in ms: 2000 to 3000.
 pub fn initial_timeout(draw: &Draw) -> u64
     ensures value { result ≡ timeout_of draw.now }
-    ensures within { (2000 ≤ result) × (result ≤ TIMEOUT_LIMIT) }
+    ensures within { (2000 ≤ result) × (result ≤ 3000) }
 {
-    2000 + (256 * draw.0[16] as u64 + draw.0[17] as u64) % 1001
+    2000 + draw.timeout() as u64 % 1001
 }
 
 /// Whether the message is to this peer and of this ID.
@@ -52,7 +49,6 @@ fn is_named(message: &Open, peer: Peer, id: u16) -> bool
 pub(crate) fn acknowledge(sending: &mut Vec<Open>, peer: Peer, id: u16)
     ensures items { sending.new.items ≡ acknowledged peer id sending.old.items }
     ensures sound { IsSound sending.old.items → IsSound sending.new.items }
-    ensures len { vec_len sending.new ≤ vec_len sending.old }
     ensures capacity { vec_capacity sending.new ≡ vec_capacity sending.old }
 {
     sending.retain(|message| !is_named(message, peer, id));

@@ -39,7 +39,6 @@ fn timeouts_until_next(repeats: u32) -> u64
 /// When what comes next of an outstanding message is due, in ms.
 pub(crate) fn due_at(message: &Open, sent: Sent) -> u64
     requires timeout { message.now.timeout ≤ 3000 }
-    requires moment { sent.at.ms < 2 ^ 63 }
     requires repeats { sent.repeats ≤ 4 }
     ensures { result ≡ due_at_of message.now sent }
 {
@@ -48,7 +47,6 @@ pub(crate) fn due_at(message: &Open, sent: Sent) -> u64
 
 fn due_of_outstanding(now: Moment, message: &Open, sent: Sent) -> Due
     requires timeout { message.now.timeout ≤ 3000 }
-    requires moment { sent.at.ms < 2 ^ 63 }
     requires repeats { sent.repeats ≤ 4 }
     ensures { result ≡ outstanding_due now message.now sent }
 {

@@ -1,24 +1,28 @@
 //! The message layer of a node.
-ghost use Rattle.std.specs.Prelude.{◌≡◌, ◌≤◌, ◌<◌, ◌^◌, ◌+◌, ◌↔◌, [], length, not, true, false, IsOk, IfOk, OnOk, OnErr, IfSome, IfNone};
+ghost use Rattle.std.specs.Prelude.{◌≡◌, ◌≤◌, ◌<◌, ◌+◌, ◌↔◌, length, not, true, false, IsOk, IfOk, OnOk, OnErr, IfSome, IfNone};
 ghost use Rattle.std.specs.Option.{option_copied};
 ghost use Rattle.osc_model.specs.declared.node.Moment.{Moment as AnyMoment};
 ghost use Rattle.osc_message.specs.Received.{Receives};
 ghost use Rattle.osc_message.specs.Heard.{heard as heard_as, noted_reply as reply_noted};
 ghost use Rattle.osc_message.specs.Confirmables.{has_open as has_open_of, takes as takes_of, with_open};
-ghost use Rattle.osc_message.specs.Ticks.{ticked, tick_sends, tick_gives_up, acts};
-ghost use Rattle.osc_message.specs.Endpoint.{settled};
+ghost use Rattle.osc_message.specs.Ticks.{tick_sends, tick_starts, tick_gives_up, acts};
+ghost use Rattle.osc_message.specs.Timeout.{timeout_of};
+ghost use Rattle.osc_message.specs.Endpoint.{fresh, own_id as own_id_of, id_taken, settled, after_tick};
+ghost use Rattle.osc_message.specs.Sending.{reply_start as reply_start_of, reply_id as reply_id_of, replied};
 ghost use Rattle.osc_message.specs.Limits.{IsWithinLimits};
 ghost use Rattle.osc_message.specs.declared.received.Received.{Received as AnyReceived};
 
-use crate::confirmable::{Open, TIMEOUT_LIMIT, acknowledge};
+use crate::confirmable::{Open, acknowledge};
 use crate::deadline::deadline;
 use crate::handling::{Handling, acknowledge_by, handle};
 use crate::heard::{Heard, hear};
-use crate::queue::{has_open, push, takes};
+use crate::queue::{MOST_OPEN, has_open, push, takes};
 use crate::received::receive;
+use crate::sending::{is_confirmable, reply_kind};
 use crate::tick::{Ticked, tick};
+use osc_coap::{MessageBuilder, MessageRef};
 use osc_dedup::Duplicates;
-use osc_model::{Bytes, Moment, Peer};
+use osc_model::{Bytes, Draw, Moment, Peer};
 use std::alloc::{AllocError, Global};
 use std::marker::Model;
 use thiserror::Error;
@@ -37,37 +41,49 @@ impl QueueFull {
     }
 }
 
-/// The message layer of a node: what was heard lately, and the open confirmable messages.
+/// The message layer of a node: what was heard lately, the open confirmable messages, and the node's own message IDs.
+///
+/// All the room that it needs for messages, but for their bytes, is taken when it is made: 64 notes, and to each of 64 peers one
+/// message that is outstanding and 16 that wait.
 #[derive(Drop)]
 pub struct Endpoint {
     seen: Duplicates,
     sending: Vec<Open>,
-    // For how many more messages the vector is promised to have room.
-    room: usize,
+    // The ID of the next message of the node's own, once it has made one.
+    next_id: Option<u16>,
 }
 
 impl Model for Endpoint {
-    ghost use Rattle.std.specs.Prelude.{◌+◌, ◌≤◌, vec_len, vec_capacity};
+    ghost use Rattle.std.specs.Prelude.{◌≤◌, vec_capacity};
     ghost use Rattle.osc_message.specs.Endpoint.{EndpointState};
-    ghost use Rattle.osc_message.specs.Bounds.{IsSound};
+    ghost use Rattle.osc_message.specs.Bounds.{IsSound, most_open};
 
     ghost Value = { EndpointState };
 
-    ghost view = { λ e. record { seen = e.seen; sending = e.sending.items; room = e.room } };
+    ghost view = { λ e. record { seen = e.seen; sending = e.sending.items; next_id = e.next_id } };
 
-    ghost invariant = { λ e. (vec_len e.sending + e.room ≤ vec_capacity e.sending) × IsSound e.sending.items };
+    ghost invariant = { λ e. (most_open ≤ vec_capacity e.sending) × IsSound e.sending.items };
 }
 
 impl Endpoint {
-    /// Nothing was heard yet, and nothing is open. The duplicate table's room is taken here.
+    /// Nothing was heard yet, nothing is open, and no message was made. Refused only for want of memory.
     pub fn new(alloc: Global) -> Result<Endpoint, AllocError>
-        ensures { IfOk result (λ endpoint. endpoint ≡ record { seen = []; sending = []; room = 0 }) }
+        ensures { IfOk result (λ endpoint. endpoint ≡ fresh) }
     {
         Ok(Endpoint {
             seen: Duplicates::new(alloc)?,
-            sending: Vec::new(alloc),
-            room: 0,
+            sending: Vec::with_capacity(alloc, MOST_OPEN)?,
+            next_id: None,
         })
+    }
+
+    /// Forgets all, as if it were new; takes no memory.
+    pub fn clear(&mut self)
+        ensures { self.new ≡ fresh }
+    {
+        self.seen.clear();
+        self.sending.clear();
+        self.next_id = None;
     }
 
     /// What these bytes, which came from this peer, are to the message layer; changes nothing and takes no memory.
@@ -85,8 +101,9 @@ impl Endpoint {
     }
 
     /// Makes the changes of what was heard: a message is noted, a confirmable one acknowledged. Takes no memory.
+    ///
+    /// An acknowledgement acknowledges whatever the node makes of the response in it, also where it is dropped.
     pub fn settle(&mut self, now: Moment, from: Peer, heard: &Heard<'_>, handling: Handling)
-        requires { now.ms < 2 ^ 63 }
         ensures { self.new ≡ settled self.old now from heard.now handling }
     {
         match heard {
@@ -109,6 +126,56 @@ impl Endpoint {
         }
     }
 
+    /// The message ID of the node's next message of its own: the first one is the draw's, each later one the next.
+    pub fn own_id(&self, draw: &Draw) -> u16
+        ensures { result ≡ own_id_of draw.now self.now.next_id }
+    {
+        match self.next_id {
+            Some(id) => id,
+            None => draw.message_id(),
+        }
+    }
+
+    /// Takes the message ID of a message of the node's own.
+    pub fn take_id(&mut self, draw: &Draw) -> u16
+        ensures id { result ≡ own_id_of draw.now self.old.next_id }
+        ensures taken { self.new ≡ id_taken draw.now self.old }
+    {
+        let id = self.own_id(draw);
+        self.next_id = Some(id.wrapping_add(1));
+        id
+    }
+
+    /// The reply's message as far as its token: the acknowledgement of a confirmable request, and a non-confirmable message of
+    /// the node's own to another. Its ID is taken once the reply is settled, by `take_reply_id`.
+    pub fn reply_start(&self, draw: &Draw, request: &MessageRef<'_>, code: u8) -> MessageBuilder
+        requires { 0 < code }
+        ensures { result ≡ reply_start_of draw.now self.now.next_id request.now code }
+    {
+        let kind = reply_kind(request.kind());
+        MessageBuilder::start(kind, code, self.reply_id(draw, request), request.token())
+    }
+
+    /// The message ID of the reply: that of a confirmable request, and the node's next one for another.
+    pub fn reply_id(&self, draw: &Draw, request: &MessageRef<'_>) -> u16
+        ensures { result ≡ reply_id_of draw.now self.now.next_id request.now }
+    {
+        if is_confirmable(request.kind()) {
+            request.id()
+        } else {
+            self.own_id(draw)
+        }
+    }
+
+    /// Takes the message ID of the reply, where it is the node's own.
+    pub fn take_reply_id(&mut self, draw: &Draw, request: &MessageRef<'_>)
+        ensures { self.new ≡ replied draw.now request.now self.old }
+    {
+        if !is_confirmable(request.kind()) {
+            let _id = self.take_id(draw);
+        }
+    }
+
     /// How many confirmable messages are open: outstanding, or waiting.
     pub fn open_messages(&self) -> usize
         ensures count { result ≡ length self.now.sending }
@@ -117,19 +184,19 @@ impl Endpoint {
         self.sending.len()
     }
 
-    /// Makes the room of so many calls of `send`. Without memory all stays as it was.
-    pub fn reserve(&mut self, sends: usize) -> Result<(), AllocError>
-        ensures ok { OnOk result (sends ≤ self.new.room) }
-        ensures same { (self.new.seen ≡ self.old.seen) × (self.new.sending ≡ self.old.sending) × (self.old.room ≤ self.new.room) }
+    /// Whether `send` takes a confirmable message to this peer.
+    ///
+    /// The work grows with the square of the number of open messages.
+    pub fn takes(&self, to: Peer) -> bool
+        ensures { result ≡ takes_of to self.now.sending }
     {
-        self.sending.reserve(sends)?;
-        self.room = self.room.max(sends);
-        Ok(())
+        takes(&self.sending, to)
     }
 
-    /// Takes a confirmable message, and answers whether it goes out now; else it waits for its turn. Takes no memory.
+    /// Takes a confirmable message, and answers whether it goes out now; else it waits for its turn. Its initial timeout is the
+    /// draw's. Takes no memory.
     ///
-    /// The timeout is the message's initial one, in ms. The work grows with the square of the number of open messages.
+    /// The work grows with the square of the number of open messages.
     ///
     /// # Errors
     ///
@@ -140,42 +207,39 @@ impl Endpoint {
         now: Moment,
         to: Peer,
         id: u16,
-        timeout: u64,
+        draw: &Draw,
         bytes: Bytes,
     ) -> Result<bool, QueueFull>
-        requires moment { now.ms < 2 ^ 63 }
-        requires timeout { timeout ≤ TIMEOUT_LIMIT }
-        requires room { 0 < self.old.room }
         ensures taken { IsOk result ↔ (takes_of to self.old.sending ≡ true) }
         ensures goes { IfOk result (λ goes. goes ≡ not (has_open_of to self.old.sending)) }
-        ensures ok { OnOk result ((self.new.seen ≡ self.old.seen)
-            × (self.new.sending ≡ with_open now to id timeout bytes self.old.sending)
-            × (self.old.room ≤ self.new.room + 1)) }
+        ensures ok { OnOk result (self.new ≡ record self.old { sending = with_open now to id (timeout_of draw.now) bytes self.old.sending }) }
         ensures err { OnErr result (self.new ≡ self.old) }
     {
         if !takes(&self.sending, to) {
             return Err(QueueFull);
         }
         let waits = has_open(&self.sending, to);
-        push(&mut self.sending, now, to, id, timeout, bytes, waits);
-        self.room -= 1;
+        push(&mut self.sending, now, to, id, draw, bytes, waits);
         Ok(!waits)
     }
 
-    /// Sends what is due at this moment, and gives up what nobody acknowledged. Without memory all stays as it was.
+    /// Sends what is due at this moment, gives up what nobody acknowledged, and lets the notes go whose lifetime has ended.
+    /// Without memory for what is sent all stays as it was.
     ///
     /// The work grows with the square of the number of open messages.
     pub fn on_tick(&mut self, alloc: Global, now: Moment) -> Result<Ticked, AllocError>
-        requires { now.ms < 2 ^ 63 }
         ensures sent { IfOk result (λ done. done.out ≡ tick_sends now self.old.sending) }
+        ensures started { IfOk result (λ done. done.started ≡ tick_starts now self.old.sending) }
         ensures given_up { IfOk result (λ done. done.given_up ≡ tick_gives_up now self.old.sending) }
-        ensures ok { OnOk result ((self.new.seen ≡ self.old.seen) × (self.new.sending ≡ ticked now self.old.sending) × (self.old.room ≤ self.new.room)) }
+        ensures ok { OnOk result (self.new ≡ after_tick now self.old) }
         ensures err { OnErr result (self.new ≡ self.old) }
     {
-        tick(&mut self.sending, alloc, now)
+        let done = tick(&mut self.sending, alloc, now)?;
+        self.seen.expire(now);
+        Ok(done)
     }
 
-    /// The first moment at which a tick does anything, in ms, or none where no tick would.
+    /// The first moment at which a tick sends or gives up anything, in ms, or none where no tick would.
     ///
     /// The work grows with the square of the number of open messages.
     pub fn next_deadline(&self) -> Option<u64>

@@ -1,8 +1,7 @@
 //! What a node made of a message, and what that changes.
-ghost use Rattle.std.specs.Prelude.{◌≡◌, ◌≤◌, ◌<◌, ◌^◌, vec_len, vec_capacity};
+ghost use Rattle.std.specs.Prelude.{◌≡◌, ◌≤◌, vec_capacity};
 ghost use Rattle.osc_message.specs.Bounds.{IsSound};
-ghost use Rattle.osc_message.specs.Endpoint.{lifetime as lifetime_of};
-ghost use Rattle.osc_message.specs.Steps.{noted_in, acknowledged_by, handled_seen, handled_sending};
+ghost use Rattle.osc_message.specs.Endpoint.{lifetime as lifetime_of, noted, acknowledged_by, handled_seen, handled_sending};
 
 use crate::confirmable::{Open, acknowledge};
 use osc_coap::Kind;
@@ -34,8 +33,7 @@ fn lifetime(kind: Kind) -> u64
 
 /// Notes a message that can be repeated, with what answered it.
 fn note(seen: &mut Duplicates, now: Moment, from: Peer, kind: Kind, id: u16, reply: Option<Bytes>)
-    requires { now.ms < 2 ^ 63 }
-    ensures { seen.new ≡ noted_in now from kind id reply seen.old }
+    ensures { seen.new ≡ noted now from kind id reply seen.old }
 {
     match kind {
         Kind::Acknowledgement | Kind::Reset => {}
@@ -55,7 +53,6 @@ fn note(seen: &mut Duplicates, now: Moment, from: Peer, kind: Kind, id: u16, rep
 pub(crate) fn acknowledge_by(sending: &mut Vec<Open>, from: Peer, kind: Kind, id: u16)
     ensures items { sending.new.items ≡ acknowledged_by from kind id sending.old.items }
     ensures sound { IsSound sending.old.items → IsSound sending.new.items }
-    ensures len { vec_len sending.new ≤ vec_len sending.old }
     ensures capacity { vec_capacity sending.new ≡ vec_capacity sending.old }
 {
     match kind {
@@ -74,11 +71,9 @@ pub(crate) fn handle(
     id: u16,
     handling: Handling,
 )
-    requires { now.ms < 2 ^ 63 }
     ensures seen { seen.new ≡ handled_seen now from kind id handling seen.old }
     ensures items { sending.new.items ≡ handled_sending from handling sending.old.items }
     ensures sound { IsSound sending.old.items → IsSound sending.new.items }
-    ensures len { vec_len sending.new ≤ vec_len sending.old }
     ensures capacity { vec_capacity sending.new ≡ vec_capacity sending.old }
 {
     match handling {

@@ -23,8 +23,8 @@ pub enum Heard<'a> {
     Message(MessageRef<'a>),
 }
 
-/// Whether this is the code of a request.
-fn is_request(code: u8) -> bool
+/// Whether this is the code of a request (RFC 7252 section 3).
+pub fn is_request(code: u8) -> bool
     ensures { result ≡ is_request_of code }
 {
     0 < code && code < 32

@@ -1,13 +1,15 @@
 //! Laws of the definitions, for the crates above. These functions do nothing: whoever calls one has its clauses for a proof.
-ghost use Rattle.std.specs.Prelude.{◌≡◌, ◌≤◌, ℕ, true, List, length, filter};
+ghost use Rattle.std.specs.Prelude.{◌≡◌, ◌≤◌, ◌∷◌, ◌++◌, ℕ, true, [], List, length, filter, map, Some};
+ghost use Rattle.std.specs.List.{filter_map};
+ghost use Rattle.std.specs.Option.{option_to_list};
 ghost use Rattle.osc_model.specs.declared.bytes.Bytes.{Bytes as AnyBytes};
 ghost use Rattle.osc_model.specs.declared.node.Moment.{Moment as AnyMoment};
 ghost use Rattle.osc_model.specs.declared.node.Peer.{Peer as AnyPeer};
-ghost use Rattle.osc_message.specs.Confirmables.{Open as AnyOpen, takes, with_open, acknowledged};
+ghost use Rattle.osc_message.specs.Confirmables.{Sent as AnySent, Open as AnyOpen, takes, with_open, acknowledged};
 ghost use Rattle.osc_message.specs.Limits.{IsWithinLimits};
 ghost use Rattle.osc_message.specs.Received.{Receives};
-ghost use Rattle.osc_message.specs.Schedule.{done_over, schedule, is_sending};
-ghost use Rattle.osc_message.specs.Ticks.{ticked};
+ghost use Rattle.osc_message.specs.Schedule.{done_over, done_among, schedule, is_sending};
+ghost use Rattle.osc_message.specs.Ticks.{outstanding_due, dues, dues_of, after, ticked};
 ghost use Rattle.osc_message.specs.declared.received.Received.{Received as AnyReceived};
 
 use osc_coap::laws::{one_message, one_spelling};
@@ -28,9 +30,23 @@ pub fn within_limits()
     ensures ticked { (now : AnyMoment) (all : List AnyOpen) → IsWithinLimits all → IsWithinLimits (ticked now all) }
 {}
 
-/// A message that went out is retransmitted, and given up, on the first ticks at or after its moments, as long as nobody
-/// acknowledges it; so it goes out five times at most.
+/// What a tick does with an outstanding message, whatever stands before and behind it.
+pub fn ticks()
+    ensures due { (now : AnyMoment) (front back : List AnyOpen) (message : AnyOpen) (sent : AnySent) → message.sent ≡ Some sent
+        → dues_of now (front ++ message ∷ back) ≡ dues now (front ++ message ∷ back) [] front
+        ++ (message, outstanding_due now message sent) ∷ dues now (front ++ message ∷ back) (front ++ message ∷ []) back }
+    ensures stays { (now : AnyMoment) (front back : List AnyOpen) (message : AnyOpen) (sent : AnySent) → message.sent ≡ Some sent
+        → ticked now (front ++ message ∷ back) ≡ filter_map (after now) (dues now (front ++ message ∷ back) [] front)
+        ++ (option_to_list (after now (message, outstanding_due now message sent))
+        ++ filter_map (after now) (dues now (front ++ message ∷ back) (front ++ message ∷ []) back)) }
+{}
+
+/// Ticks do with a message that went out, whatever stands beside it at each of them, what its first going out and its timeout
+/// say: it is retransmitted, and given up, on the first ticks at or after its moments, as long as nobody acknowledges it; so
+/// it goes out five times at most.
 pub fn retransmissions()
+    ensures ticks { (message : AnyOpen) (sent : AnySent) (ticks : List (AnyMoment × List AnyOpen × List AnyOpen)) → message.sent ≡ Some sent
+        → done_among ticks message ≡ done_over message sent (map (λ tick. tick.0) ticks) }
     ensures schedule { (message : AnyOpen) (went : AnyMoment) (ticks : List AnyMoment)
         → done_over message (record { at = went; repeats = 0 }) ticks ≡ schedule went message.timeout ticks }
     ensures most { (message : AnyOpen) (went : AnyMoment) (ticks : List AnyMoment)

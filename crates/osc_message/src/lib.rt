@@ -8,23 +8,24 @@ mod confirmable;
 mod deadline;
 mod due;
 mod endpoint;
-mod given_up;
 mod handling;
 mod heard;
 mod laws;
+mod name;
+mod outbox;
 mod queue;
 mod received;
+mod sending;
 mod tick;
 
-pub use confirmable::{TIMEOUT_LIMIT, initial_timeout};
+pub use confirmable::initial_timeout;
 pub use due::Due;
 pub use endpoint::{Endpoint, QueueFull};
-pub use given_up::{GivenUp, GivenUps};
 pub use handling::Handling;
-pub use heard::Heard;
-pub use laws::{one_reception, retransmissions, within_limits};
+pub use heard::{Heard, is_request};
+pub use laws::{one_reception, retransmissions, ticks, within_limits};
+pub use name::{MessageName, MessageNames};
+pub use outbox::{Buffer, Outbox};
 pub use received::{Received, receive};
+pub use sending::{acknowledgement, empty_acknowledgement, is_confirmable, rejection, reset};
 pub use tick::Ticked;
-
-#[cfg(test)]
-mod tests;

@@ -1,10 +1,11 @@
 //! What a list of open messages holds for a peer, and whether it takes one more (RFC 7252 section 4.7).
-ghost use Rattle.std.specs.Prelude.{◌≡◌, ◌≤◌, ◌<◌, ◌+◌, ◌^◌, ◌&&◌, true, not, length, vec_len, vec_capacity};
-ghost use Rattle.osc_message.specs.Bounds.{IsSound};
+ghost use Rattle.std.specs.Prelude.{◌≡◌, ◌≤◌, ◌&&◌, true, not, length, vec_capacity};
+ghost use Rattle.osc_message.specs.Bounds.{IsSound, most_open};
+ghost use Rattle.osc_message.specs.Timeout.{timeout_of};
 ghost use Rattle.osc_message.specs.Confirmables.{is_to as is_to_of, is_outstanding, has_open as has_open_of, has_outstanding as has_outstanding_of, waiting, peers_of, takes as takes_of, sent_at, with_open};
 
-use crate::confirmable::{Open, Sent, TIMEOUT_LIMIT};
-use osc_model::{Bytes, Moment, Peer};
+use crate::confirmable::{Open, Sent, initial_timeout};
+use osc_model::{Bytes, Draw, Moment, Peer};
 
 /// How many messages may wait for one peer.
 const MOST_WAITING: usize = 16;
@@ -77,6 +78,9 @@ pub(crate) fn takes(all: &[Open], peer: Peer) -> bool
     }
 }
 
+/// How many messages are open at most.
+pub(crate) const MOST_OPEN: usize = MOST_PEERS * (1 + MOST_WAITING);
+
 /// How a message stands that waits, or goes out now.
 fn first_sent(now: Moment, waits: bool) -> Option<Sent>
     ensures { result ≡ sent_at now waits }
@@ -97,23 +101,22 @@ pub(crate) fn push(
     now: Moment,
     to: Peer,
     id: u16,
-    timeout: u64,
+    draw: &Draw,
     bytes: Bytes,
     waits: bool,
 )
-    requires room { vec_len sending.old < vec_capacity sending.old }
-    requires moment { now.ms < 2 ^ 63 }
-    requires timeout { timeout ≤ TIMEOUT_LIMIT }
+    requires sound { IsSound sending.old.items }
+    requires room { most_open ≤ vec_capacity sending.old }
+    requires taken { takes_of to sending.old.items ≡ true }
     requires waits { waits ≡ has_open_of to sending.old.items }
-    ensures items { sending.new.items ≡ with_open now to id timeout bytes sending.old.items }
-    ensures sound { takes_of to sending.old.items ≡ true → IsSound sending.old.items → IsSound sending.new.items }
-    ensures len { vec_len sending.new ≡ vec_len sending.old + 1 }
+    ensures items { sending.new.items ≡ with_open now to id (timeout_of draw.now) bytes sending.old.items }
+    ensures sound { IsSound sending.new.items }
     ensures capacity { vec_capacity sending.new ≡ vec_capacity sending.old }
 {
     sending.push_reserved(Open {
         to,
         id,
-        timeout,
+        timeout: initial_timeout(draw),
         bytes,
         sent: first_sent(now, waits),
     });

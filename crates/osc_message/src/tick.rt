@@ -3,12 +3,12 @@ ghost use Rattle.std.specs.Prelude.{◌≡◌, ◌≤◌, ◌<◌, ◌+◌, ◌^
 ghost use Rattle.std.specs.List.{All, filter_map, zip};
 ghost use Rattle.std.specs.Option.{option_to_list};
 ghost use Rattle.osc_message.specs.Bounds.{IsBounded, IsSound};
-ghost use Rattle.osc_message.specs.Ticks.{datagram_of, given_up_of, sent_again, after, dues_of, ticked, tick_sends, tick_gives_up};
+ghost use Rattle.osc_message.specs.Ticks.{datagram_of, name_of as name_in, started_of, given_up_of, sent_again, after, dues_of, ticked, tick_sends, tick_starts, tick_gives_up};
 ghost use Rattle.osc_message.specs.declared.confirmable.Open.{Open as AnyOpen};
 
 use crate::confirmable::{Open, Sent};
 use crate::due::{Due, due_of};
-use crate::given_up::{GivenUp, GivenUps};
+use crate::name::{MessageName, MessageNames};
 use osc_model::{Datagram, Datagrams, Moment};
 use std::alloc::{AllocError, Global};
 
@@ -19,8 +19,10 @@ pub(crate) struct Plan {
     pub dues: Vec<Due>,
     /// What is sent, in order.
     pub out: Datagrams,
+    /// What goes out for the first time, in order.
+    pub started: MessageNames,
     /// What is given up, in order.
-    pub given_up: GivenUps,
+    pub given_up: MessageNames,
 }
 
 fn add_copy(out: &mut Datagrams, message: &Open, due: Due) -> Result<(), AllocError>
@@ -35,16 +37,39 @@ fn add_copy(out: &mut Datagrams, message: &Open, due: Due) -> Result<(), AllocEr
     Ok(())
 }
 
-fn add_given_up(given_up: &mut GivenUps, message: &Open, due: Due) -> Result<(), AllocError>
+fn name_of(message: &Open) -> MessageName
+    ensures { result ≡ name_in message.now }
+{
+    MessageName {
+        peer: message.to,
+        id: message.id,
+    }
+}
+
+fn add_started(
+    started: &mut MessageNames,
+    message: &Open,
+    due: Due,
+) -> Result<(), AllocError>
+    ensures { OnOk result (started.new ≡ started.old ++ option_to_list (started_of (message.now, due))) }
+{
+    match (due, message.sent) {
+        (Due::Send, None) => started.push(name_of(message)),
+        _ => Ok(()),
+    }
+}
+
+fn add_given_up(
+    given_up: &mut MessageNames,
+    message: &Open,
+    due: Due,
+) -> Result<(), AllocError>
     ensures { OnOk result (given_up.new ≡ given_up.old ++ option_to_list (given_up_of (message.now, due))) }
 {
-    if let Due::GiveUp = due {
-        given_up.push(GivenUp {
-            peer: message.to,
-            id: message.id,
-        })?;
+    match due {
+        Due::GiveUp => given_up.push(name_of(message)),
+        _ => Ok(()),
     }
-    Ok(())
 }
 
 /// What a tick does; the work grows with the square of the number of open messages.
@@ -52,21 +77,25 @@ pub(crate) fn make_plan(alloc: Global, now: Moment, all: &[Open]) -> Result<Plan
     requires { All IsBounded all.now }
     ensures dues { IfOk result (λ plan. plan.dues.items ≡ filter_map (λ pair. Some pair.1) (dues_of now all.now)) }
     ensures out { IfOk result (λ plan. plan.out ≡ tick_sends now all.now) }
+    ensures started { IfOk result (λ plan. plan.started ≡ tick_starts now all.now) }
     ensures given_up { IfOk result (λ plan. plan.given_up ≡ tick_gives_up now all.now) }
 {
     let mut dues = Vec::with_capacity(alloc, all.len())?;
     let mut out = Datagrams::new(alloc);
-    let mut given_up = GivenUps::new(alloc);
+    let mut started = MessageNames::new(alloc);
+    let mut given_up = MessageNames::new(alloc);
     for index in 0..all.len() {
         let message = &all[index];
         let due = due_of(now, all, &all[..index], message);
         dues.push(due)?;
         add_copy(&mut out, message, due)?;
+        add_started(&mut started, message, due)?;
         add_given_up(&mut given_up, message, due)?;
     }
     Ok(Plan {
         dues,
         out,
+        started,
         given_up,
     })
 }
@@ -131,8 +160,10 @@ pub(crate) fn apply(sending: &mut Vec<Open>, dues: &[Due], now: Moment)
 pub struct Ticked {
     /// What is sent, in order.
     pub out: Datagrams,
-    /// What was given up, in order.
-    pub given_up: GivenUps,
+    /// Which went out for the first time, in order.
+    pub started: MessageNames,
+    /// Which were given up, in order.
+    pub given_up: MessageNames,
 }
 
 /// Does what is due; without memory all stays as it was.
@@ -141,21 +172,25 @@ pub(crate) fn tick(
     alloc: Global,
     now: Moment,
 ) -> Result<Ticked, AllocError>
-    requires moment { now.ms < 2 ^ 63 }
-    requires sound { IsSound sending.old.items }
+    requires { IsSound sending.old.items }
     ensures out { IfOk result (λ done. done.out ≡ tick_sends now sending.old.items) }
+    ensures started { IfOk result (λ done. done.started ≡ tick_starts now sending.old.items) }
     ensures given_up { IfOk result (λ done. done.given_up ≡ tick_gives_up now sending.old.items) }
     ensures items { OnOk result (sending.new.items ≡ ticked now sending.old.items) }
     ensures sound { IsSound sending.new.items }
-    ensures len { vec_len sending.new ≤ vec_len sending.old }
     ensures capacity { vec_capacity sending.new ≡ vec_capacity sending.old }
     ensures err { OnErr result (sending.new ≡ sending.old) }
 {
     let Plan {
         dues,
         out,
+        started,
         given_up,
     } = make_plan(alloc, now, sending)?;
     apply(sending, &dues, now);
-    Ok(Ticked { out, given_up })
+    Ok(Ticked {
+        out,
+        started,
+        given_up,
+    })
 }

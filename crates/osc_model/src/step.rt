@@ -107,6 +107,13 @@ impl Datagrams {
         }
     }
 
+    /// These datagrams, which are not copied.
+    pub fn from_vec(items: Vec<Datagram>) -> Datagrams
+        ensures { result ≡ items.items }
+    {
+        Datagrams { items }
+    }
+
     /// Adds one at the end; without memory all stays as it was.
     pub fn push(&mut self, datagram: Datagram) -> Result<(), AllocError>
         ensures ok { OnOk result (self.new ≡ self.old ++ datagram ∷ []) }

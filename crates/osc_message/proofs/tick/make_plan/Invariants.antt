@@ -1,6 +1,6 @@
 use Rattle.std.proofs.Common.{◌≡◌, ◌++◌, Some, take, drop}
 use Rattle.std.specs.List.{filter_map}
-use Rattle.osc_message.specs.Ticks.{dues, dues_of, datagram_of, given_up_of, tick_sends, tick_gives_up}
+use Rattle.osc_message.specs.Ticks.{dues, dues_of, datagram_of, started_of, given_up_of, tick_sends, tick_starts, tick_gives_up}
 use Rattle.osc_message.proofs.tick.make_plan.Given as goal
 
 abbrev pub invariant-loop-index : goal.invariant-loop-index
@@ -9,5 +9,6 @@ invariant-loop-index l =
     record {
       dues : l.dues.items ++ filter_map (λ pair. Some pair.1) rest ≡ filter_map (λ pair. Some pair.1) (dues_of l.now l.all);
       out : l.out ++ filter_map datagram_of rest ≡ tick_sends l.now l.all;
+      started : l.started ++ filter_map started_of rest ≡ tick_starts l.now l.all;
       given_up : l.given_up ++ filter_map given_up_of rest ≡ tick_gives_up l.now l.all;
     }

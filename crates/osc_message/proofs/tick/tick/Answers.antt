@@ -17,4 +17,4 @@ pub returns-clause-sound : goal.returns-clause-sound
 returns-clause-sound c =
     let planned : c.deref-2.result.now ≡ due_part (dues_of c.args.now c.args.sending.now.items) = cc (c.deref-2.ensures.value, c.in_ok-dues.ensures.dues, c.deref.ensures.value) in
     rw (done_ticked c.args.now c.args.sending.now.items c.deref-2.result.now c.apply.new.sending.items planned c.apply.ensures.items)
-    (sound_ticked c.args.now c.args.sending.now.items c.requires.moment c.requires.sound)
+    (sound_ticked c.args.now c.args.sending.now.items c.requires)

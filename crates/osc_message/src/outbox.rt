@@ -1,0 +1,94 @@
+//! Room for what a step sends and notes, taken before the step's first change: what is put there takes no memory.
+ghost use Rattle.std.specs.Prelude.{◌≡◌, ◌≤◌, ◌<◌, ◌-◌, [], ◌∷◌, ◌++◌, length, IfOk};
+
+use osc_model::{Bytes, Datagram, Datagrams, Peer};
+use std::alloc::{AllocError, Global};
+use std::marker::Model;
+
+/// Room for the bytes of one message, before they are known; contracts see how many bytes it is for.
+#[derive(Drop)]
+pub struct Buffer {
+    bytes: Vec<u8>,
+    size: usize,
+}
+
+impl Model for Buffer {
+    ghost use Rattle.std.specs.Prelude.{ℕ, ◌≡◌, ◌≤◌, [], vec_capacity};
+
+    ghost Value = { ℕ };
+
+    ghost view = { λ b. b.size };
+
+    ghost invariant = { λ b. (b.bytes.items ≡ []) × (b.size ≤ vec_capacity b.bytes) };
+}
+
+impl Buffer {
+    /// Room for so many bytes.
+    pub fn new(alloc: Global, size: usize) -> Result<Buffer, AllocError>
+        ensures { IfOk result (λ buffer. buffer ≡ size) }
+    {
+        Ok(Buffer {
+            bytes: Vec::with_capacity(alloc, size)?,
+            size,
+        })
+    }
+
+    /// These bytes, in the room; takes no memory.
+    pub fn fill(self, bytes: &[u8]) -> Bytes
+        requires { length bytes.now ≤ self }
+        ensures { result ≡ bytes.now }
+    {
+        let Buffer {
+            bytes: mut room, ..
+        } = self;
+        room.extend_from_slice(bytes).unwrap();
+        Bytes::from_vec(room)
+    }
+}
+
+/// What a step sends, in places that were taken before.
+#[derive(Drop)]
+pub struct Outbox {
+    sent: Vec<Datagram>,
+    places: usize,
+}
+
+impl Model for Outbox {
+    ghost use Rattle.std.specs.Prelude.{◌+◌, ◌≤◌, vec_len, vec_capacity};
+    ghost use Rattle.osc_message.specs.Outbox.{OutboxState};
+
+    ghost Value = { OutboxState };
+
+    ghost view = { λ o. record { sent = o.sent.items; places = o.places } };
+
+    ghost invariant = { λ o. vec_len o.sent + o.places ≤ vec_capacity o.sent };
+}
+
+impl Outbox {
+    /// Places for so many datagrams.
+    pub fn new(alloc: Global, places: usize) -> Result<Outbox, AllocError>
+        ensures { IfOk result (λ outbox. outbox ≡ record { sent = []; places = places }) }
+    {
+        Ok(Outbox {
+            sent: Vec::with_capacity(alloc, places)?,
+            places,
+        })
+    }
+
+    /// Sends a datagram behind the others, in one of the places; takes no memory.
+    pub fn send(&mut self, to: Peer, bytes: Bytes)
+        requires { 0 < self.old.places }
+        ensures { self.new ≡ record { sent = self.old.sent ++ (record { to = to; bytes = bytes }) ∷ []; places = self.old.places - 1 } }
+    {
+        self.sent.push_reserved(Datagram { to, bytes });
+        self.places -= 1;
+    }
+
+    /// What is sent; takes no memory.
+    pub fn into_datagrams(self) -> Datagrams
+        ensures { result ≡ self.sent }
+    {
+        let Outbox { sent, .. } = self;
+        Datagrams::from_vec(sent)
+    }
+}
