@@ -10,4 +10,6 @@ pub mod RefuseLaws
 pub mod FailLaws
 pub mod ReadLaws
 pub mod OneItem
+pub mod TokenLaws
+pub mod ExtentLaws
 pub mod WholeLemmas

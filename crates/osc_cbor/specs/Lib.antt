@@ -8,3 +8,5 @@ pub mod View
 pub mod Parts
 pub mod Same
 pub mod Reading
+pub mod Tokens
+pub mod Ends

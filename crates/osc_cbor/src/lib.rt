@@ -5,15 +5,18 @@
 #![tactic(auto)]
 
 mod error;
+mod extents;
 mod heads;
 mod item;
 pub mod laws;
 mod reader;
 mod same;
+mod tokens;
 mod whole;
 mod writer;
 
 pub use error::ReadError;
+pub use extents::extent;
 pub use heads::{HEAD_LIMIT, Major, head};
 pub use item::Item;
 pub use reader::read;

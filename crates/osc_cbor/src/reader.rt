@@ -7,7 +7,7 @@ ghost use Rattle.osc_cbor.specs.Spelling.{Spells, Begins};
 ghost use Rattle.osc_cbor.specs.Faults.{Fails};
 ghost use Rattle.osc_cbor.specs.Errors.{GivesItem, GivesFault};
 ghost use Rattle.osc_cbor.specs.Reading as spec;
-ghost use Rattle.osc_cbor.specs.Reading.{Gives, number_at, argument_at, simple_at, string_at, text_at, items_from, pairs_from, content_at, item_at};
+ghost use Rattle.osc_cbor.specs.Reading.{Gives, Reads, number_at, argument_at, simple_at, string_at, text_at, items_from, pairs_from, content_at, item_at};
 ghost use Rattle.osc_cbor.specs.View.{view, items_view, pairs_view};
 ghost use Rattle.osc_cbor.specs.declared.error.ReadError.{ReadError as AnyError};
 
@@ -18,10 +18,10 @@ use crate::same::has_key;
 use std::alloc::Global;
 
 /// How many levels there are: an item stands in at most 8 arrays, maps and tags.
-const MOST_LEVELS: u8 = 9;
+pub(crate) const MOST_LEVELS: u8 = 9;
 
 fn one_byte_at(bytes: &[u8]) -> Result<(u64, &[u8]), ReadError>
-    ensures { Gives (λ x. (x.0, x.1.now)) result (number_at w8 bytes.now) }
+    ensures { Reads (λ x. (x.0, x.1.now)) result (number_at w8 bytes.now) }
 {
     let [first, rest @ ..] = bytes else {
         return Err(ReadError::Truncated);
@@ -30,7 +30,7 @@ fn one_byte_at(bytes: &[u8]) -> Result<(u64, &[u8]), ReadError>
 }
 
 fn two_bytes_at(bytes: &[u8]) -> Result<(u64, &[u8]), ReadError>
-    ensures { Gives (λ x. (x.0, x.1.now)) result (number_at w16 bytes.now) }
+    ensures { Reads (λ x. (x.0, x.1.now)) result (number_at w16 bytes.now) }
 {
     if bytes.len() < 2 {
         return Err(ReadError::Truncated);
@@ -41,7 +41,7 @@ fn two_bytes_at(bytes: &[u8]) -> Result<(u64, &[u8]), ReadError>
 }
 
 fn four_bytes_at(bytes: &[u8]) -> Result<(u64, &[u8]), ReadError>
-    ensures { Gives (λ x. (x.0, x.1.now)) result (number_at w32 bytes.now) }
+    ensures { Reads (λ x. (x.0, x.1.now)) result (number_at w32 bytes.now) }
 {
     if bytes.len() < 4 {
         return Err(ReadError::Truncated);
@@ -52,7 +52,7 @@ fn four_bytes_at(bytes: &[u8]) -> Result<(u64, &[u8]), ReadError>
 }
 
 fn eight_bytes_at(bytes: &[u8]) -> Result<(u64, &[u8]), ReadError>
-    ensures { Gives (λ x. (x.0, x.1.now)) result (number_at w64 bytes.now) }
+    ensures { Reads (λ x. (x.0, x.1.now)) result (number_at w64 bytes.now) }
 {
     if bytes.len() < 8 {
         return Err(ReadError::Truncated);
@@ -66,8 +66,8 @@ fn eight_bytes_at(bytes: &[u8]) -> Result<(u64, &[u8]), ReadError>
 
 /// The argument that the low five bits of a first byte stand for, and the bytes after it.
 #[tactic(auto, unfolding(crate::specs::Reading::argument_at))]
-fn argument_of(bits: u8, bytes: &[u8]) -> Result<(u64, &[u8]), ReadError>
-    ensures { Gives (λ x. (x.0, x.1.now)) result (argument_at bits bytes.now) }
+pub(crate) fn argument_of(bits: u8, bytes: &[u8]) -> Result<(u64, &[u8]), ReadError>
+    ensures { Reads (λ x. (x.0, x.1.now)) result (argument_at bits bytes.now) }
 {
     match bits {
         0..=23 => Ok((bits as u64, bytes)),
@@ -80,7 +80,7 @@ fn argument_of(bits: u8, bytes: &[u8]) -> Result<(u64, &[u8]), ReadError>
 }
 
 /// The major type that the high three bits of a first byte stand for; 7 is that of simple values.
-fn major_of(bits: u8) -> Option<Major>
+pub(crate) fn major_of(bits: u8) -> Option<Major>
     ensures { result ≡ spec.major_of bits }
 {
     match bits {
@@ -97,8 +97,8 @@ fn major_of(bits: u8) -> Option<Major>
 
 /// False, true or null.
 #[tactic(auto, unfolding(crate::specs::Reading::simple_at))]
-fn simple_of(bits: u8, bytes: &[u8]) -> Result<(Item, &[u8]), ReadError>
-    ensures { Gives (λ x. (view x.0, x.1.now)) result (simple_at bits bytes.now) }
+pub(crate) fn simple_of(bits: u8, bytes: &[u8]) -> Result<(Item, &[u8]), ReadError>
+    ensures { Reads (λ x. (view x.0, x.1.now)) result (simple_at bits bytes.now) }
 {
     match bits {
         20 => Ok((Item::Bool(false), bytes)),
@@ -110,8 +110,8 @@ fn simple_of(bits: u8, bytes: &[u8]) -> Result<(Item, &[u8]), ReadError>
 
 /// So many bytes, and those after them.
 #[tactic(auto, unfolding(crate::specs::Reading::string_at))]
-fn string_of(size: u64, bytes: &[u8]) -> Result<(&[u8], &[u8]), ReadError>
-    ensures { Gives (λ x. (x.0.now, x.1.now)) result (string_at size bytes.now) }
+pub(crate) fn string_of(size: u64, bytes: &[u8]) -> Result<(&[u8], &[u8]), ReadError>
+    ensures { Reads (λ x. (x.0.now, x.1.now)) result (string_at size bytes.now) }
 {
     if (bytes.len() as u64) < size {
         return Err(ReadError::Truncated);
@@ -121,8 +121,8 @@ fn string_of(size: u64, bytes: &[u8]) -> Result<(&[u8], &[u8]), ReadError>
 
 /// So many bytes of text, and those after them.
 #[tactic(auto, unfolding(crate::specs::Reading::text_at))]
-fn text_of(size: u64, bytes: &[u8]) -> Result<(&str, &[u8]), ReadError>
-    ensures { Gives (λ x. (x.0.now, x.1.now)) result (text_at size bytes.now) }
+pub(crate) fn text_of(size: u64, bytes: &[u8]) -> Result<(&str, &[u8]), ReadError>
+    ensures { Reads (λ x. (x.0.now, x.1.now)) result (text_at size bytes.now) }
 {
     let (content, rest) = string_of(size, bytes)?;
     match std::str::from_utf8(content) {

@@ -1,0 +1,137 @@
+//! Items passed over and compared in their bytes, by their heads and strings. No memory is taken.
+
+ghost use Rattle.std.specs.Prelude.{◌≡◌, ◌↔◌, ◌^◌, ◌≤◌, ◌++◌, List, ℕ, length, IsTrue};
+ghost use Rattle.osc_cbor.specs.Data.{DataItem, Pairs, pair_count};
+ghost use Rattle.osc_cbor.specs.Reading.{Reads};
+ghost use Rattle.osc_cbor.specs.Same as equality;
+ghost use Rattle.osc_cbor.specs.Spelling.{Spells, SpellsPairs};
+ghost use Rattle.osc_cbor.specs.Tokens as spec;
+ghost use Rattle.osc_cbor.specs.Tokens.{token_at, token_behind};
+
+use crate::error::ReadError;
+use crate::reader::{argument_of, string_of};
+
+/// A head with the string behind it: major type, argument and string. Of a simple value the argument is its five bits.
+type Token<'a> = (u8, u64, &'a [u8]);
+
+/// What stands behind a head.
+#[tactic(auto, unfolding(crate::specs::Tokens::token_behind))]
+fn behind_head(major: u8, argument: u64, bytes: &[u8]) -> Result<(Token, &[u8]), ReadError>
+    ensures { Reads (λ x. ((x.0.0, x.0.1, x.0.2.now), x.1.now)) result (token_behind major argument bytes.now) }
+{
+    if major == 2 || major == 3 {
+        let (content, rest) = string_of(argument, bytes)?;
+        return Ok(((major, argument, content), rest));
+    }
+    Ok(((major, argument, &[]), bytes))
+}
+
+/// The first head of the bytes with its string, and the bytes after them.
+#[tactic(auto, unfolding(crate::specs::Tokens::token_at))]
+fn token_of(bytes: &[u8]) -> Result<(Token, &[u8]), ReadError>
+    ensures { Reads (λ x. ((x.0.0, x.0.1, x.0.2.now), x.1.now)) result (token_at bytes.now) }
+{
+    let Some((first, rest)) = bytes.split_first() else {
+        return Err(ReadError::Truncated);
+    };
+    if *first / 32 == 7 {
+        return Ok(((7, (*first % 32) as u64, &[]), rest));
+    }
+    let (argument, rest) = argument_of(*first % 32, rest)?;
+    behind_head(*first / 32, argument, rest)
+}
+
+/// Whether two tokens are equal.
+fn is_same(one: Token, other: Token) -> bool
+    ensures { IsTrue result ↔ ◌≡◌ {A = spec.Token} (one.entry.0, one.entry.1, one.entry.2.now) (other.entry.0, other.entry.1, other.entry.2.now) }
+{
+    one.0 == other.0 && one.1 == other.1 && one.2 == other.2
+}
+
+/// Whether two spelled items are equal.
+pub(crate) fn same_spelled(a: &[u8], b: &[u8]) -> bool
+    ensures { (d e : DataItem) → Spells a.now d → Spells b.now e → result ≡ equality.same d e }
+{
+    let mut left = a;
+    let mut right = b;
+    while !left.is_empty() {
+        let Ok((one, behind_one)) = token_of(left) else {
+            return false;
+        };
+        let Ok((other, behind_other)) = token_of(right) else {
+            return false;
+        };
+        if !is_same(one, other) {
+            return false;
+        }
+        left = behind_one;
+        right = behind_other;
+    }
+    right.is_empty()
+}
+
+/// How many items stand inside one with this head.
+#[tactic(auto, unfolding(crate::specs::Tokens::inside))]
+fn inside(major: u8, argument: u64) -> u128
+    ensures count { result ≡ spec.inside major argument }
+    ensures bound { result ≤ 2 ^ 65 }
+{
+    match major {
+        4 => argument as u128,
+        5 => 2 * argument as u128,
+        6 => 1,
+        _ => 0,
+    }
+}
+
+/// How many bytes there are.
+fn size_of(bytes: &[u8]) -> u64
+    ensures { result ≡ length bytes.now }
+{
+    bytes.len() as u64
+}
+
+/// The bytes behind the item that stands at their beginning.
+pub(crate) fn behind_item(bytes: &[u8]) -> &[u8]
+    ensures { (d : DataItem) (front rest : List ℕ) → Spells front d → bytes.now ≡ front ++ rest → result.now ≡ rest }
+{
+    let mut todo: u128 = 1;
+    let mut rest = bytes;
+    while todo > 0 {
+        if todo > size_of(rest) as u128 {
+            return rest;
+        }
+        let Ok((token, after)) = token_of(rest) else {
+            return rest;
+        };
+        todo = todo - 1 + inside(token.0, token.1);
+        rest = after;
+    }
+    rest
+}
+
+/// What stands before the rest.
+pub(crate) fn taken<'a>(bytes: &'a [u8], rest: &[u8]) -> &'a [u8]
+    ensures { (front : List ℕ) → bytes.now ≡ front ++ rest.now → result.now ≡ front }
+{
+    if bytes.len() < rest.len() {
+        return bytes;
+    }
+    &bytes[..bytes.len() - rest.len()]
+}
+
+/// Whether one of so many pairs at the beginning of the bytes has this key.
+pub(crate) fn has_spelled_key(key: &[u8], count: u64, bytes: &[u8]) -> bool
+    ensures { (k : DataItem) (ps : Pairs) (front rest : List ℕ) → Spells key.now k → SpellsPairs front ps → pair_count ps ≡ count
+        → bytes.now ≡ front ++ rest → result ≡ equality.has_key k ps }
+{
+    let mut rest = bytes;
+    for _ in 0..count {
+        let behind_key = behind_item(rest);
+        if same_spelled(key, taken(rest, behind_key)) {
+            return true;
+        }
+        rest = behind_item(behind_key);
+    }
+    false
+}
