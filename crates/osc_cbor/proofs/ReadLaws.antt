@@ -1,16 +1,16 @@
 -- What the answer of a read means.
-use Rattle.std.proofs.Common.{◌≡◌, ◌≢◌, ◌⊎◌, ℕ, ◌+◌, ◌-◌, ◌≤◌, List, ◌++◌, length, take, Result, Ok, Err, refl, sym, ap, subst, ◌∙◌, arith, inl, inr}
+use Rattle.std.proofs.Common.{◌≡◌, ◌⊎◌, ℕ, zero, suc, ◌+◌, ◌-◌, ◌≤◌, List, ◌++◌, length, take, Result, Ok, Err, refl, sym, ap, subst, ◌∙◌, arith, inl, inr}
 use Rattle.std.proofs.lemmas.List.{take_at, length-append}
-use Rattle.osc_cbor.specs.Data.{DataItem, nesting, most_nesting}
+use Rattle.osc_cbor.specs.Data.{DataItem, Pairs, nesting, most_nesting}
 use Rattle.osc_cbor.specs.Spelling.{Spells, Begins}
-use Rattle.osc_cbor.specs.Faults.{Fails}
+use Rattle.osc_cbor.specs.Faults.{HeadFails, StringFails, PairFails, key_fails, key_again, value_fails, ItemFails, in_head, in_string, in_array, in_map, in_tag, TooDeepFails, too_deep, Fails}
+use Rattle.osc_cbor.specs.Faults as faults
 use Rattle.osc_cbor.specs.Reading.{Refuses, item_at}
 use Rattle.osc_cbor.specs.declared.error.ReadError.{ReadError}
 use Rattle.osc_cbor.specs.declared.error.ReadError.TheVariants.{Truncated, Unsupported, DuplicateKey, TooDeep, Memory}
-use Rattle.osc_cbor.proofs.Steps.{AreBytes, ok_is, err_is, ok_or_err}
+use Rattle.osc_cbor.proofs.Steps.{AreBytes, ok_is, ok_or_err}
 use Rattle.osc_cbor.proofs.FoundLaws.{item_takes}
 use Rattle.osc_cbor.proofs.AgainLaws.{item_again}
-use Rattle.osc_cbor.proofs.RefuseLaws.{item_refuses}
 use Rattle.osc_cbor.proofs.FailLaws.{item_fails}
 
 -- a refusal is for want of memory, or the one of the reading
@@ -46,25 +46,12 @@ found_only bytes found after e d front rest spelled shallow whole =
     let left : after ≡ rest = ap (λ (p : DataItem × List ℕ). p.1) same in
     (ap (λ (p : DataItem × List ℕ). p.0) same, omega (arith, ap length left, ap length whole, length-append front rest))
 
-pub refused_only : (bytes : List ℕ) (e : ReadError) → Refuses e (item_at 9 bytes) → (d : DataItem) (front rest : List ℕ) → Spells front d → nesting d ≤ most_nesting → bytes ≡ front ++ rest → e ≡ Memory
-refused_only bytes e h d front rest spelled shallow whole =
+-- once the end was found, nothing but memory is wanting
+pub only_memory : (bytes : List ℕ) (e : ReadError) → Refuses e (item_at 9 bytes) → (d : DataItem) (rest : List ℕ) → item_at 9 bytes ≡ Ok (d, rest) → e ≡ Memory
+only_memory bytes e h d rest found =
     elim (refusal e (item_at 9 bytes) h) [
       | inl is ↦ is
-      | inr read ↦ absurd (ok_or_err (d, rest) e (sym (ap (item_at 9) whole ∙ item_again 9 d front rest spelled (omega (arith, shallow))) ∙ read))
-    ]
-
-pub refused_fault : (bytes : List ℕ) (e : ReadError) → AreBytes bytes → Refuses e (item_at 9 bytes) → (fault : ReadError) → e ≡ fault → fault ≢ Memory → Fails 9 bytes fault
-refused_fault bytes e fits h fault is other =
-    elim (refusal e (item_at 9 bytes) h) [
-      | inl memory ↦ absurd (other (sym is ∙ memory))
-      | inr read ↦ subst (Fails 9 bytes) is (item_refuses 9 bytes e fits read)
-    ]
-
-pub refused_first : (bytes : List ℕ) (e : ReadError) → Refuses e (item_at 9 bytes) → (fault : ReadError) → Fails 9 bytes fault → (e ≡ fault) ⊎ (e ≡ Memory)
-refused_first bytes e h fault fails =
-    elim (refusal e (item_at 9 bytes) h) [
-      | inl memory ↦ inr memory
-      | inr read ↦ inl (err_is {A = DataItem × List ℕ} e fault (sym read ∙ item_fails 9 bytes fault fails))
+      | inr read ↦ absurd (ok_or_err (d, rest) e (sym found ∙ read))
     ]
 
 pub found_first : (bytes : List ℕ) (found : DataItem) (after : List ℕ) → item_at 9 bytes ≡ Ok (found, after) → (fault : ReadError) → Fails 9 bytes fault → ⊥
@@ -73,3 +60,36 @@ found_first bytes found after e fault fails = ok_or_err (found, after) fault (sy
 -- the error of two equal answers
 pub same_err : {Y : Type 0} {e d fault : ReadError} → e ≡ d → ◌≡◌ {A = Result Y ReadError} (Err d) (Err fault) → e ≡ fault
 same_err p q = p ∙ cc
+
+-- ---- want of memory is no fault of the bytes
+
+head_never : (bytes : List ℕ) → HeadFails bytes Memory → ⊥
+head_never bytes (faults.HeadFails.no_byte none is) = cc
+head_never bytes (faults.HeadFails.unsupported major bits rest whole lt bad is) = cc
+head_never bytes (faults.HeadFails.cut_short major bits size rest whole low extended short is) = cc
+
+string_never : (bytes : List ℕ) → StringFails bytes Memory → ⊥
+string_never bytes (faults.StringFails.bytes_end n f is) = cc
+string_never bytes (faults.StringFails.text_ends n f is) = cc
+string_never bytes (faults.StringFails.not_utf8 content rest f other is) = cc
+
+pair_never : (left : ℕ) (Inner : List ℕ → ReadError → Type 0) → ((bytes : List ℕ) → Inner bytes Memory → ⊥) → (before : Pairs) (bytes : List ℕ) → PairFails left Inner before bytes Memory → ⊥
+pair_never left Inner never before bytes (key_fails h) = never bytes h
+pair_never left Inner never before bytes (key_again k front rest is_key shallow whole old is) = cc
+pair_never left Inner never before bytes (value_fails k front rest is_key shallow whole new h) = never rest h
+
+item_never : (left : ℕ) (Inner : List ℕ → ReadError → Type 0) → ((bytes : List ℕ) → Inner bytes Memory → ⊥) → (bytes : List ℕ) → ItemFails left Inner bytes Memory → ⊥
+item_never left Inner never bytes (in_head h) = head_never bytes h
+item_never left Inner never bytes (in_string h) = string_never bytes h
+item_never left Inner never bytes (in_array n f) = never f.is_rest.rest f.is_rest.fails
+item_never left Inner never bytes (in_map n f) = pair_never left Inner never f.is_rest.before f.is_rest.rest f.is_rest.fails
+item_never left Inner never bytes (in_tag n f) = never f.rest f.is_rest
+
+deep_never : (bytes : List ℕ) → TooDeepFails bytes Memory → ⊥
+deep_never bytes (faults.TooDeepFails.no_byte none is) = cc
+deep_never bytes (too_deep some is) = cc
+
+pub never_memory : (left : ℕ) (bytes : List ℕ) → Fails left bytes Memory → ⊥
+unfolding Fails
+never_memory zero bytes h = deep_never bytes h
+never_memory (suc left) bytes h = item_never left (Fails left) (never_memory left) bytes h

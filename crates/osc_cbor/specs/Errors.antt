@@ -1,5 +1,5 @@
 -- The numbers of the refusals, and what a read gives.
-use Rattle.std.specs.Prelude.{◌≡◌, ◌⊎◌, ℕ, Result, Ok, Err}
+use Rattle.std.specs.Prelude.{◌≡◌, ℕ, Result, Ok, Err}
 use Rattle.osc_cbor.specs.Data.{DataItem}
 use Rattle.osc_cbor.specs.View.{view}
 use Rattle.osc_cbor.specs.declared.item.Item.{Item}
@@ -17,8 +17,3 @@ number_of Memory = 9
 abbrev pub GivesItem : Result (Item × ℕ) ReadError → DataItem → ℕ → Type 0
 GivesItem (Ok found) d count = (view found.0 ≡ d) × (found.1 ≡ count)
 GivesItem (Err fault) d count = fault ≡ Memory
-
--- this fault is answered, unless memory runs out
-abbrev pub GivesFault : Result (Item × ℕ) ReadError → ReadError → Type 0
-GivesFault (Ok found) fault = ⊥
-GivesFault (Err other) fault = (other ≡ fault) ⊎ (other ≡ Memory)

@@ -68,12 +68,7 @@ fn behind_simple(bits: u8, bytes: &[u8]) -> Result<&[u8], ReadError>
 /// The bytes behind what follows a head. Items inside have so many levels left.
 #[cycle(extent)]
 #[tactic(auto, unfolding(crate::specs::Reading::content_at))]
-fn behind_content(
-    left: u8,
-    major: Major,
-    argument: u64,
-    bytes: &[u8],
-) -> Result<&[u8], ReadError>
+fn behind_content(left: u8, major: Major, argument: u64, bytes: &[u8]) -> Result<&[u8], ReadError>
     ensures { Ends (λ x. x.now) result (content_at (item_at left) major argument bytes.now) }
 {
     match major {

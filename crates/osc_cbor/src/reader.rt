@@ -1,17 +1,18 @@
 //! Reading items.
 
 ghost use Rattle.std.specs.Int.{w8, w16, w32, w64};
-ghost use Rattle.std.specs.Prelude.{◌≡◌, ◌≢◌, ◌≤◌, List, ℕ, ◌++◌, length, IfOk, Err};
+ghost use Rattle.std.specs.Prelude.{◌≡◌, ◌≢◌, ◌↔◌, ◌≤◌, List, ℕ, ◌++◌, length, IfOk, Err};
 ghost use Rattle.osc_cbor.specs.Data.{DataItem, nesting, most_nesting, no_items, no_pairs};
 ghost use Rattle.osc_cbor.specs.Spelling.{Spells, Begins};
 ghost use Rattle.osc_cbor.specs.Faults.{Fails};
-ghost use Rattle.osc_cbor.specs.Errors.{GivesItem, GivesFault};
+ghost use Rattle.osc_cbor.specs.Errors.{GivesItem};
 ghost use Rattle.osc_cbor.specs.Reading as spec;
 ghost use Rattle.osc_cbor.specs.Reading.{Gives, Reads, number_at, argument_at, simple_at, string_at, text_at, items_from, pairs_from, content_at, item_at};
 ghost use Rattle.osc_cbor.specs.View.{view, items_view, pairs_view};
 ghost use Rattle.osc_cbor.specs.declared.error.ReadError.{ReadError as AnyError};
 
 use crate::error::ReadError;
+use crate::extents::behind;
 use crate::heads::Major;
 use crate::item::Item;
 use crate::same::has_key;
@@ -236,23 +237,25 @@ fn item_of(alloc: Global, left: u8, bytes: &[u8]) -> Result<(Item, &[u8]), ReadE
 
 /// Reads the item at the beginning of the bytes, and answers it with the number of bytes that it takes. Bytes may follow.
 ///
-/// The item holds at most 192 bytes of memory for each byte that it takes, whatever lengths its heads claim. The time is
-/// linear in the bytes, but that each key of a map is compared with those before it.
+/// Its end is found first, so that nothing is allocated for bytes that are no item. The item holds at most 192 bytes of
+/// memory for each byte that it takes, whatever lengths its heads claim. The time is linear in the bytes, but that each key of
+/// a map is compared with those before it.
 ///
 /// # Errors
 ///
-/// The first fault in the order of the bytes, else `Memory`.
+/// The first fault in the order of the bytes. `Memory` only where an item stands there.
 pub fn read(alloc: Global, bytes: &[u8]) -> Result<(Item, usize), ReadError>
     // What is read is spelled so.
     ensures found { IfOk result (λ found. Begins bytes.now (view found.0) found.1) }
     // What is spelled so is read, whatever follows.
     ensures only { (d : DataItem) (front rest : List ℕ)
         → Spells front d → nesting d ≤ most_nesting → bytes.now ≡ front ++ rest → GivesItem result d (length front) }
-    // A fault is the first one ..
-    ensures fault { (fault : AnyError) → result ≡ Err fault → fault ≢ AnyError.Memory → Fails 9 bytes.now fault }
-    // .. and the first one is answered.
-    ensures first { (fault : AnyError) → Fails 9 bytes.now fault → GivesFault result fault }
+    // A fault is the first one, and the first one is answered ..
+    ensures fault { (fault : AnyError) → fault ≢ AnyError.Memory → ((result ≡ Err fault) ↔ Fails 9 bytes.now fault) }
+    // .. for want of memory too: that is told only where an item stands.
+    ensures memory { result ≡ Err ReadError.Memory → (d : DataItem) × (count : ℕ) × Begins bytes.now d count }
 {
+    behind(MOST_LEVELS, bytes)?;
     let (item, rest) = item_of(alloc, MOST_LEVELS, bytes)?;
     Ok((item, bytes.len() - rest.len()))
 }

@@ -1,27 +1,39 @@
 //! Bytes that are one whole item.
 
-ghost use Rattle.std.specs.Prelude.{◌≡◌, IfOk, MatchOption};
+ghost use Rattle.std.specs.Prelude.{◌≡◌, ◌↔◌, IsTrue, MatchOption, MatchResult};
 ghost use Rattle.osc_cbor.specs.Data.{DataItem};
 ghost use Rattle.osc_cbor.specs.Spelling.{IsWhole};
 ghost use Rattle.osc_cbor.specs.View.{view};
 
-use crate::error::ReadError;
+use crate::extents::extent;
 use crate::item::Item;
 use crate::reader::read;
 use std::alloc::{AllocError, Global};
 
-/// The item that the bytes are, all of them, where they are one. An error is want of memory; memory and time are those of
-/// [`read`].
-pub fn read_whole(alloc: Global, bytes: &[u8]) -> Result<Option<Item>, AllocError>
-    ensures { IfOk result (λ found. MatchOption found
-        ((d : DataItem) → ¬ IsWhole bytes.now d)
-        (λ item. IsWhole bytes.now (view item) × ((d : DataItem) → IsWhole bytes.now d → view item ≡ d))) }
+/// Whether the bytes are one item, all of them; takes no memory. The time is that of [`extent`].
+pub fn is_whole(bytes: &[u8]) -> bool
+    ensures { IsTrue result ↔ ((d : DataItem) × IsWhole bytes.now d) }
 {
+    match extent(bytes) {
+        Ok(count) => count == bytes.len(),
+        Err(_) => false,
+    }
+}
+
+/// The item that the bytes are, all of them, where they are one. An error is want of memory, and comes only where they are
+/// one; memory and time are those of [`read`].
+pub fn read_whole(alloc: Global, bytes: &[u8]) -> Result<Option<Item>, AllocError>
+    ensures { MatchResult result
+        (λ found. MatchOption found
+        ((d : DataItem) → ¬ IsWhole bytes.now d)
+        (λ item. IsWhole bytes.now (view item) × ((d : DataItem) → IsWhole bytes.now d → view item ≡ d)))
+        (λ _. (d : DataItem) × IsWhole bytes.now d) }
+{
+    if !is_whole(bytes) {
+        return Ok(None);
+    }
     match read(alloc, bytes) {
         Ok((item, count)) => Ok((count == bytes.len()).then_some(item)),
-        Err(fault) => match fault {
-            ReadError::Memory => Err(AllocError),
-            _ => Ok(None),
-        },
+        Err(_) => Err(AllocError),
     }
 }
