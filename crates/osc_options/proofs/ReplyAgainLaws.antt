@@ -4,13 +4,14 @@ use Rattle.std.specs.Prelude.{IfSome, option_map, unwrap_or}
 use Rattle.std.proofs.lemmas.Bool.{cases_lt, cases_eq, lt-ltb, le-ltb, ne_eqb}
 use Rattle.std.proofs.lemmas.Bool.Decides.{nat_tests}
 use Rattle.osc_model.specs.declared.reply.Reply.{Reply}
+use Rattle.osc_coap.specs.Code.{is_response_code}
 use Rattle.osc_coap.specs.Message.{NumberAndValue}
 use Rattle.osc_coap.specs.Building.{payload_of}
 use Rattle.osc_options.specs.Recognised.{recognised}
 use Rattle.osc_options.specs.Requests.{uint, value}
 use Rattle.osc_options.specs.Replies.{uint_bytes, etag_option, format_option, reply_options}
 use Rattle.osc_options.specs.PlaintextRequests.{unheeded}
-use Rattle.osc_options.specs.PlaintextReplies.{reply_plaintext, is_reply_code, etag_in, reply_in}
+use Rattle.osc_options.specs.PlaintextReplies.{reply_plaintext, etag_in, reply_in}
 
 le_test : (m n : ℕ) → m ≤ n → nat_le m n ≡ true
 le_test m n le = grind (arith, nat_tests)
@@ -79,7 +80,7 @@ format_again None (Some n) is = ap (λ (n : ℕ). Some n) (uint_again n is)
 format_again (Some tag) None is = refl
 format_again (Some tag) (Some n) is = ap (λ (n : ℕ). Some n) (uint_again n is)
 
-reply_code : (code : ℕ) → 64 ≤ code → code < 192 → is_reply_code code ≡ true
+reply_code : (code : ℕ) → 64 ≤ code → code < 192 → is_response_code code ≡ true
 reply_code code least most = rw (le_test 64 code least, lt-ltb code 192 most) refl
 
 abbrev made : Reply → Option (List ℕ) → Option ℕ → List ℕ → Option Reply

@@ -8,8 +8,9 @@ use Rattle.osc_coap.specs.Building.{payload_of}
 use Rattle.osc_options.specs.declared.table.Class.TheVariants.{E, U}
 use Rattle.osc_options.specs.Table.{class_of}
 use Rattle.osc_options.specs.Split.{same_class, outer_options, inner_options, merge, plaintext_of, protected, unprotected, has_oscore}
-use Rattle.osc_options.specs.Merging.{is_outer, is_inner, AreInOrder}
-use Rattle.osc_options.proofs.MergeLaws.{merge-nil, merge-outer, AreOptions-merge, AreInOrder-options, AreInOrder-merge}
+use Rattle.osc_options.specs.Merging.{is_outer, is_inner}
+use Rattle.osc_options.specs.Split.{AreInOrder}
+use Rattle.osc_options.proofs.MergeLaws.{merge-first, merge-outer, AreOptions-merge, AreInOrder-options, AreInOrder-merge}
 
 -- ---- one option at a time
 
@@ -82,7 +83,7 @@ without_own : (options : List NumberAndValue) (value : List ℕ) → outer_optio
 without_own [] value = refl
 without_own (option ∷ options) value =
     elim (cases_Bool (nat_lt 9 option.0)) [
-      | inl larger ↦ rw larger (own_left value (option ∷ merge options []) ∙ ap (λ (rest : List NumberAndValue). outer_options (option ∷ rest)) (merge-nil options))
+      | inl larger ↦ rw larger (own_left value (option ∷ options))
       | inr other ↦ rw other (outer_same option (merge options ((9, value) ∷ [])) options (without_own options value))
     ]
 
@@ -109,12 +110,12 @@ all_outer (option ∷ options) =
     ]
 
 -- an encrypted option stands before outer ones behind it
-inner_first : (option : NumberAndValue) (outer inner : List NumberAndValue) → is_outer option.0 ≡ false → AllOuter outer → AreOptions option.0 outer → merge outer (option ∷ inner) ≡ option ∷ merge outer inner
-inner_first option [] inner is all are = refl
-inner_first option (first ∷ outer) inner is all are =
+inner_first : (option : NumberAndValue) (outer inner : List NumberAndValue) → is_outer option.0 ≡ false → AllOuter outer → AreOptions option.0 outer → AreOptions option.0 inner → merge outer (option ∷ inner) ≡ option ∷ merge outer inner
+inner_first option [] inner is all are behind = merge-first option [] inner (AreInOrder-options option.0 inner behind)
+inner_first option (first ∷ outer) inner is all are behind =
     let other : first.0 ≡ option.0 → ⊥ = λ same. let both = ap is_outer same in absurd cc in
     let lt : option.0 < first.0 = omega (arith, are.0.rises, other) in
-    rw (lt-ltb option.0 first.0 lt) refl
+    rw (lt-ltb option.0 first.0 lt) (merge-first option (first ∷ outer) inner (AreInOrder-options option.0 inner behind))
 
 -- options that are split are merged again
 pub split_merged : FewerLaw → (before : ℕ) (options : List NumberAndValue) → AreOptions before options → has_oscore options ≡ false → merge (outer_options options) (inner_options options) ≡ options
@@ -133,7 +134,7 @@ split_merged fewer before (option ∷ options) are none =
             | inr is ↦
                 ap (λ (outer : List NumberAndValue). merge outer (inner_options (option ∷ options))) (outer_left option options is.0)
                 ∙ ap (merge (outer_options options)) (inner_taken option options is.1)
-                ∙ inner_first option (outer_options options) (inner_options options) is.0 (all_outer options) (outer_are fewer option.0 options are.1)
+                ∙ inner_first option (outer_options options) (inner_options options) is.0 (all_outer options) (outer_are fewer option.0 options are.1) (fewer _ option.0 options are.1)
                 ∙ ap (λ (rest : List NumberAndValue). option ∷ rest) rest
           ]
     ]

@@ -1,5 +1,5 @@
 -- Merging from left to right, and options appended: the way from the code to the definitions. No public contract rests on this.
-use Rattle.std.specs.Prelude.{ℕ, ◌≤◌, Bool, true, false, not, ◌&&◌, ◌==◌, nat_lt, List, [], ◌∷◌, ◌++◌, Option, Some, None}
+use Rattle.std.specs.Prelude.{ℕ, Bool, true, false, not, ◌&&◌, ◌==◌, nat_lt, List, ◌++◌, Option, Some, None}
 use Rattle.osc_coap.specs.declared.kind.Kind.{Kind}
 use Rattle.osc_coap.specs.Message.{NumberAndValue, Message}
 use Rattle.osc_coap.specs.Plaintext.{Plaintext}
@@ -13,16 +13,6 @@ is_outer number = same_class U (class_of number) && not (number == 9)
 
 abbrev pub is_inner : ℕ → Bool
 is_inner number = same_class E (class_of number)
-
--- the options of which the first was taken off; where there is no first, there are none
-abbrev pub behind_front : Option NumberAndValue → List NumberAndValue → List NumberAndValue
-behind_front None rest = []
-behind_front (Some option) rest = option ∷ rest
-
--- the options that are left to go through, if any
-abbrev pub left_of : Option (List NumberAndValue) → List NumberAndValue
-left_of None = []
-left_of (Some options) = options
 
 -- whether the option that is next, by the first outer and the first inner one, is no outer one
 abbrev pub is_inner_next : Option NumberAndValue → Option NumberAndValue → Bool
@@ -47,8 +37,3 @@ message_with kind code id token options payload = record {
   options = options;
   payload = payload_of payload;
 }
-
--- numbers that don't fall
-abbrev pub AreInOrder : ℕ → List NumberAndValue → Type 0
-AreInOrder before [] = Unit {0}
-AreInOrder before (option ∷ options) = (before ≤ option.0) × AreInOrder option.0 options

@@ -1,10 +1,11 @@
 -- The replies that go and come encrypted (RFC 7252 sections 5.4.1 and 5.9, RFC 8613 section 5.3).
-use Rattle.std.specs.Prelude.{ℕ, Bool, ◌==◌, ◌&&◌, nat_le, nat_lt, if◌then◌else◌, List, [], length, Option, Some, None, option_map, unwrap_or, Result, Ok, Err}
+use Rattle.std.specs.Prelude.{ℕ, ◌==◌, if◌then◌else◌, List, [], length, Option, Some, None, option_map, unwrap_or, Result, Ok, Err}
 use Rattle.osc_model.specs.declared.reply.Reply.{Reply}
+use Rattle.osc_coap.specs.Code.{is_response_code}
 use Rattle.osc_coap.specs.Plaintext.{Plaintext}
 use Rattle.osc_coap.specs.Building.{payload_of}
-use Rattle.osc_options.specs.declared.error.ReplyError.{ReplyError}
-use Rattle.osc_options.specs.declared.error.ReplyError.TheVariants.{Format, BadOption}
+use Rattle.osc_options.specs.declared.error.PlaintextError.{PlaintextError}
+use Rattle.osc_options.specs.declared.error.PlaintextError.TheVariants.{Format, BadOption}
 use Rattle.osc_options.specs.Recognised.{recognised}
 use Rattle.osc_options.specs.Requests.{uint, value}
 use Rattle.osc_options.specs.Replies.{reply_options}
@@ -16,10 +17,6 @@ abbrev pub reply_plaintext : Reply → Plaintext
 reply_plaintext reply = record { code = reply.code.0; options = reply_options reply; payload = payload_of reply.payload }
 
 -- ---- read
-
--- classes 2 to 5
-abbrev pub is_reply_code : ℕ → Bool
-is_reply_code code = nat_le 64 code && nat_lt code 192
 
 -- the first ETag, where it has 8 bytes; else there is none
 abbrev pub etag_in : Option (List ℕ) → Option (List ℕ)
@@ -37,15 +34,15 @@ reply_with p =
       payload = unwrap_or p.payload [];
     }
 
-abbrev pub heeded_reply : Option ℕ → Reply → Result Reply ReplyError
+abbrev pub heeded_reply : Option ℕ → Reply → Result Reply PlaintextError
 heeded_reply None reply = Ok reply
 heeded_reply (Some number) reply = Err (BadOption number)
 
 -- the reply that a plaintext is, or the first reason why it is none
-abbrev pub reply_of_plaintext : Plaintext → Result Reply ReplyError
-reply_of_plaintext p = if is_reply_code p.code then heeded_reply (unheeded 0 p.options) (reply_with p) else Err Format
+abbrev pub reply_of_plaintext : Plaintext → Result Reply PlaintextError
+reply_of_plaintext p = if is_response_code p.code then heeded_reply (unheeded 0 p.options) (reply_with p) else Err Format
 
-abbrev pub if_reply : Result Reply ReplyError → Option Reply
+abbrev pub if_reply : Result Reply PlaintextError → Option Reply
 if_reply (Ok reply) = Some reply
 if_reply (Err e) = None
 

@@ -1,10 +1,11 @@
 -- The requests that come encrypted, of which all was said inside (RFC 7252 sections 5.4.1 and 5.8, RFC 8613 sections 4.1 and 5.3).
-use Rattle.std.specs.Prelude.{◌≡◌, ℕ, ◌<◌, Bool, not, ◌&&◌, ◌||◌, ◌⊎◌, nat_lt, if◌then◌else◌, List, [], ◌∷◌, Option, Some, None, Result, Ok, Err, IsOk}
+use Rattle.std.specs.Prelude.{◌≡◌, ℕ, not, ◌&&◌, ◌||◌, ◌⊎◌, if◌then◌else◌, List, [], ◌∷◌, Option, Some, None, Result, Ok, Err, IsOk}
 use Rattle.osc_model.specs.declared.request.Request.{Request}
 use Rattle.osc_coap.specs.Message.{NumberAndValue}
+use Rattle.osc_coap.specs.Code.{is_request_code}
 use Rattle.osc_coap.specs.Plaintext.{Plaintext}
-use Rattle.osc_options.specs.declared.error.RequestError.{RequestError}
-use Rattle.osc_options.specs.declared.error.RequestError.TheVariants.{Format, BadOption}
+use Rattle.osc_options.specs.declared.error.PlaintextError.{PlaintextError}
+use Rattle.osc_options.specs.declared.error.PlaintextError.TheVariants.{Format, BadOption}
 use Rattle.osc_options.specs.declared.table.Class.TheVariants.{U}
 use Rattle.osc_options.specs.Table.{is_critical, class_of}
 use Rattle.osc_options.specs.Recognised.{is_recognised}
@@ -19,19 +20,12 @@ unheeded before (option ∷ options) =
     if same_class U (class_of option.0) || is_critical option.0 && not (is_recognised before option) then Some option.0
     else unheeded option.0 options
 
--- class 0, but not 0.00, which is that of an empty message
-abbrev pub IsRequestCode : ℕ → Type 0
-IsRequestCode code = (0 < code) × (code < 32)
-
-abbrev pub is_request_code : ℕ → Bool
-is_request_code code = nat_lt 0 code && nat_lt code 32
-
-abbrev pub heeded : Option ℕ → Request → Result Request RequestError
+abbrev pub heeded : Option ℕ → Request → Result Request PlaintextError
 heeded None request = Ok request
 heeded (Some number) request = Err (BadOption number)
 
 -- the request that a plaintext is, or the first reason why it is none
-abbrev pub request_of_plaintext : Plaintext → Result Request RequestError
+abbrev pub request_of_plaintext : Plaintext → Result Request PlaintextError
 request_of_plaintext p =
     if is_request_code p.code then heeded (unheeded 0 p.options) (request_in p.code p.options p.payload)
     else Err Format

@@ -24,3 +24,12 @@ reply_options reply = etag_option reply.etag ++ format_option reply.format
 -- the reply put into a message that has neither options nor payload yet
 abbrev pub with_reply : Message → Reply → Message
 with_reply message reply = record message { code = reply.code.0; options = reply_options reply; payload = payload_of reply.payload }
+
+-- Max-Age, option 14, in seconds (section 5.10.5)
+abbrev pub max_age_option : Option ℕ → List NumberAndValue
+max_age_option None = []
+max_age_option (Some seconds) = (14, uint_bytes seconds) ∷ []
+
+-- the same for an error reply with a diagnostic payload (section 5.5.2)
+abbrev pub with_error : Message → ℕ → Option ℕ → List ℕ → Message
+with_error message code max_age text = record message { code = code; options = max_age_option max_age; payload = payload_of text }

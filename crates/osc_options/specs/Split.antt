@@ -1,5 +1,5 @@
 -- How OSCORE splits a message in two, and makes one of the two again (RFC 8613 sections 4.1 and 5.3).
-use Rattle.std.specs.Prelude.{ℕ, Bool, true, false, not, ◌==◌, nat_lt, if◌then◌else◌, List, [], ◌∷◌, filter}
+use Rattle.std.specs.Prelude.{ℕ, ◌≤◌, Bool, true, false, not, ◌==◌, nat_lt, if◌then◌else◌, List, [], ◌∷◌, filter}
 use Rattle.std.specs.List.{list_any}
 use Rattle.osc_coap.specs.Message.{NumberAndValue, Message}
 use Rattle.osc_coap.specs.Plaintext.{Plaintext}
@@ -30,16 +30,25 @@ inner_options options = of_class E options
 
 -- ---- two lists of options in one
 
--- an outer option, before which the inner ones of smaller numbers stand, and behind which the others do as `behind` says
-abbrev pub merge_behind : NumberAndValue → (List NumberAndValue → List NumberAndValue) → List NumberAndValue → List NumberAndValue
-merge_behind option behind [] = option ∷ behind []
-merge_behind option behind (first ∷ inner) =
-    if nat_lt first.0 option.0 then first ∷ merge_behind option behind inner else option ∷ behind (first ∷ inner)
+-- an option put behind those of no larger number
+abbrev pub insert : NumberAndValue → List NumberAndValue → List NumberAndValue
+insert option [] = option ∷ []
+insert option (first ∷ options) = if nat_lt option.0 first.0 then option ∷ first ∷ options else first ∷ insert option options
 
--- the options of two lists in the order of their numbers; of equal numbers the outer option is first
+-- the options of two lists in the order of their numbers: each inner one is put behind the others of no larger number, so
+-- that of each number the outer options come first and then the inner ones (the law `merged_options`)
 abbrev pub merge : List NumberAndValue → List NumberAndValue → List NumberAndValue
-merge [] inner = inner
-merge (option ∷ outer) inner = merge_behind option (merge outer) inner
+merge outer [] = outer
+merge outer (option ∷ inner) = merge (insert option outer) inner
+
+-- the options of one number, in their order
+abbrev pub of_number : ℕ → List NumberAndValue → List NumberAndValue
+of_number number options = filter (λ option. option.0 == number) options
+
+-- numbers that don't fall, from this one on
+abbrev pub AreInOrder : ℕ → List NumberAndValue → Type 0
+AreInOrder before [] = Unit {0}
+AreInOrder before (option ∷ options) = (before ≤ option.0) × AreInOrder option.0 options
 
 -- ---- messages
 

@@ -1,11 +1,11 @@
 //! Laws of the definitions, for the crates above. These functions do nothing: whoever calls one has its clauses for
 //! a proof.
-ghost use Rattle.std.specs.Prelude.{◌≡◌, ◌<◌, ◌≤◌, ◌+◌, ℕ, List, Some, IfSome, false, length};
+ghost use Rattle.std.specs.Prelude.{◌≡◌, ◌<◌, ◌≤◌, ◌+◌, ◌++◌, ℕ, List, Some, IfSome, false, length};
 ghost use Rattle.osc_model.specs.declared.reply.Reply.{Reply};
 ghost use Rattle.osc_coap.specs.Message.{NumberAndValue, Message, AreOptions, HasSpelling, spelling};
 ghost use Rattle.osc_coap.specs.Plaintext.{Plaintext, HasPlaintextSpelling, plaintext_spelling};
 ghost use Rattle.osc_coap.specs.Length.{options_length};
-ghost use Rattle.osc_options.specs.Split.{merge, plaintext_of, protected, unprotected, has_oscore};
+ghost use Rattle.osc_options.specs.Split.{AreInOrder, of_number, merge, plaintext_of, protected, unprotected, has_oscore};
 ghost use Rattle.osc_options.specs.PlaintextReplies.{reply_plaintext, reply_in};
 
 use osc_coap::laws::{fewer_options, length_of_plaintext, length_of_spelling};
@@ -31,8 +31,18 @@ pub fn splitting_what_is_lawful()
     fewer_options();
 }
 
-/// Two lists of options in one: they are options, and take no more bytes than each alone.
+/// Two lists of options in one: in the order of their numbers, and of each number the outer ones and then the inner ones,
+/// which determines the list. They are options, and take no more bytes than each alone.
 pub fn merged_options()
+    ensures order { (before : ℕ) (outer inner : List NumberAndValue)
+        → AreInOrder before outer → AreInOrder before inner → AreInOrder before (merge outer inner) }
+    ensures each { (before number : ℕ) (outer inner : List NumberAndValue)
+        → AreInOrder before outer → AreInOrder before inner
+        → of_number number (merge outer inner) ≡ of_number number outer ++ of_number number inner }
+    ensures only { (before : ℕ) (outer inner merged : List NumberAndValue)
+        → AreInOrder before outer → AreInOrder before inner → AreInOrder before merged
+        → ((number : ℕ) → of_number number merged ≡ of_number number outer ++ of_number number inner)
+        → merged ≡ merge outer inner }
     ensures options { (before : ℕ) (outer inner : List NumberAndValue)
         → AreOptions before outer → AreOptions before inner → AreOptions before (merge outer inner) }
     ensures length { (before : ℕ) (outer inner : List NumberAndValue)

@@ -13,14 +13,11 @@ mod reply;
 mod request;
 mod table;
 
-pub use error::{ReplyError, RequestError};
+pub use error::PlaintextError;
 pub use merging::{Merged, merge};
 pub use parts::{InnerOptions, OuterOptions, SplitOptions, split};
 pub use protection::{plaintext_of, protected_message, unprotected_message};
 pub use recognised::{has_option, unrecognised_critical, value_of};
-pub use reply::{reply_message, reply_of, reply_plaintext};
+pub use reply::{error_message, reply_message, reply_of};
 pub use request::{request_of, request_of_message};
 pub use table::{Class, Rule, class_of, is_critical, is_unsafe, rule_of};
-
-#[cfg(test)]
-mod tests;

@@ -2,10 +2,12 @@
 ghost use Rattle.std.specs.Prelude.{◌≡◌, [], ◌∷◌, MatchOption, option_map};
 ghost use Rattle.std.specs.Iterator.{YieldsFirstBy, item_count};
 ghost use Rattle.osc_options.specs.Split as spec;
-ghost use Rattle.osc_options.specs.Merging.{behind_front, left_of, is_inner_next as spec_is_inner_next};
+ghost use Rattle.osc_options.specs.Merging.{is_inner_next as spec_is_inner_next};
+ghost use Rattle.osc_options.specs.MergedOptions.{behind_front, left_of};
 
 use crate::numbers::OSCORE;
 use crate::parts::{InnerOptions, OuterOptions};
+use std::fmt;
 use std::marker::Model;
 
 /// Whether the option that is next, by the first outer and the first inner one, is no outer one.
@@ -67,7 +69,7 @@ fn take_inner<'a>(
 
 /// Outer and inner options that are left, in the order of their numbers: number and value. Of equal numbers the
 /// outer option is first.
-#[derive(Debug, Drop)]
+#[derive(Drop)]
 pub struct Merged<'a> {
     /// The first outer option, and those behind it.
     outer: Option<(u16, &'a [u8])>,
@@ -75,6 +77,13 @@ pub struct Merged<'a> {
     /// The first inner option, and those behind it.
     inner: Option<(u16, &'a [u8])>,
     inner_left: Option<InnerOptions<'a>>,
+}
+
+// They may be those of a plaintext, and aren't printed.
+impl<'a> fmt::Debug for Merged<'a> {
+    fn fmt<W: fmt::Write>(&self, f: &mut fmt::Formatter<W>) -> fmt::Result {
+        f.write_str("Merged")
+    }
 }
 
 impl<'a> Model for Merged<'a> {
@@ -86,6 +95,8 @@ impl<'a> Model for Merged<'a> {
     ghost use Rattle.osc_options.specs.MergedOptions as merged;
 
     ghost view = { merged.view };
+
+    ghost invariant = { merged.IsKept };
 }
 
 impl<'a> Iterator for Merged<'a> {
@@ -108,6 +119,8 @@ impl<'a> Iterator for Merged<'a> {
 pub fn merge<'a>(outer: OuterOptions<'a>, inner: InnerOptions<'a>) -> Merged<'a>
     ensures { result ≡ spec.merge outer.entry inner.entry }
 {
+    outer.in_order();
+    inner.in_order();
     let mut outer_left = outer;
     let mut inner_left = inner;
     Merged {
@@ -122,6 +135,7 @@ pub fn merge<'a>(outer: OuterOptions<'a>, inner: InnerOptions<'a>) -> Merged<'a>
 pub(crate) fn with_oscore<'a>(outer: OuterOptions<'a>, value: &'a [u8]) -> Merged<'a>
     ensures { result ≡ spec.merge outer.entry ((9, value.now) ∷ []) }
 {
+    outer.in_order();
     let mut outer_left = outer;
     Merged {
         outer: outer_left.next(),

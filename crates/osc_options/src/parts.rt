@@ -3,10 +3,12 @@ ghost use Rattle.std.specs.Prelude.{◌≡◌, [], ◌∷◌, MatchOption};
 ghost use Rattle.std.specs.Iterator.{YieldsFirstBy, item_count};
 ghost use Rattle.osc_options.specs.Split as spec;
 ghost use Rattle.osc_options.specs.Merging as test;
+ghost use Rattle.osc_coap.specs.Message.{AreOptions};
 
 use crate::numbers::OSCORE;
 use crate::table::{Class, class_of};
 use osc_coap::{MessageRef, Options};
+use std::fmt;
 use std::marker::Model;
 
 /// Whether an option of this number stays outside.
@@ -71,6 +73,17 @@ impl<'a> Model for OuterOptions<'a> {
     ghost Value = { List NumberAndValue };
 
     ghost view = { λ left. spec.outer_options left.options };
+
+    ghost invariant = { λ left. spec.AreInOrder 0 (spec.outer_options left.options) };
+}
+
+impl<'a> OuterOptions<'a> {
+    /// Their numbers don't fall.
+    pub(crate) fn in_order(&self)
+        ensures { spec.AreInOrder 0 self.now }
+    {
+        let _left = &self.options;
+    }
 }
 
 impl<'a> Iterator for OuterOptions<'a> {
@@ -86,9 +99,16 @@ impl<'a> Iterator for OuterOptions<'a> {
 }
 
 /// The options of class E that are left, in order: number and value.
-#[derive(Debug, Drop)]
+#[derive(Drop)]
 pub struct InnerOptions<'a> {
     options: Options<'a>,
+}
+
+// They are to be encrypted, or were, and aren't printed.
+impl<'a> fmt::Debug for InnerOptions<'a> {
+    fn fmt<W: fmt::Write>(&self, f: &mut fmt::Formatter<W>) -> fmt::Result {
+        f.write_str("InnerOptions")
+    }
 }
 
 impl<'a> Model for InnerOptions<'a> {
@@ -99,6 +119,17 @@ impl<'a> Model for InnerOptions<'a> {
     ghost Value = { List NumberAndValue };
 
     ghost view = { λ left. spec.inner_options left.options };
+
+    ghost invariant = { λ left. spec.AreInOrder 0 (spec.inner_options left.options) };
+}
+
+impl<'a> InnerOptions<'a> {
+    /// Their numbers don't fall.
+    pub(crate) fn in_order(&self)
+        ensures { spec.AreInOrder 0 self.now }
+    {
+        let _left = &self.options;
+    }
 }
 
 impl<'a> Iterator for InnerOptions<'a> {
@@ -115,6 +146,7 @@ impl<'a> Iterator for InnerOptions<'a> {
 
 /// Those of the options that stay outside.
 pub(crate) fn outer_options<'a>(options: Options<'a>) -> OuterOptions<'a>
+    requires { AreOptions 0 options }
     ensures { result ≡ spec.outer_options options.entry }
 {
     OuterOptions { options }
@@ -122,6 +154,7 @@ pub(crate) fn outer_options<'a>(options: Options<'a>) -> OuterOptions<'a>
 
 /// Those of the options that are encrypted.
 pub(crate) fn inner_options<'a>(options: Options<'a>) -> InnerOptions<'a>
+    requires { AreOptions 0 options }
     ensures { result ≡ spec.inner_options options.entry }
 {
     InnerOptions { options }

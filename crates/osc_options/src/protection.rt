@@ -3,8 +3,10 @@ ghost use Rattle.std.specs.Prelude.{◌≡◌, ◌<◌, ◌≤◌, ◌↔◌, No
 ghost use Rattle.osc_coap.specs.Message.{spelling};
 ghost use Rattle.osc_coap.specs.Plaintext.{plaintext_spelling};
 ghost use Rattle.osc_coap.specs.Building.{last_number};
+ghost use Rattle.osc_coap.specs.Length.{datagram_limit};
 ghost use Rattle.osc_options.specs.Split as spec;
-ghost use Rattle.osc_options.specs.Merging.{AreInOrder, message_with, with_options, with_inner_options};
+ghost use Rattle.osc_options.specs.Merging.{message_with, with_options, with_inner_options};
+ghost use Rattle.osc_options.specs.Split.{AreInOrder};
 
 use crate::merging::{Merged, merge, with_oscore};
 use crate::parts::{InnerOptions, inner_options, outer_options};
@@ -19,7 +21,7 @@ fn add_options(message: &mut MessageBuilder, options: Merged<'_>) -> Result<(), 
     requires first { message.old.payload ≡ None }
     requires order { AreInOrder (last_number 0 message.old.options) options }
     ensures ok { OnOk result (message.new ≡ with_options message.old options.entry) }
-    ensures variant { IsOk result ↔ (length (spelling (with_options message.old options.entry)) ≤ 1152) }
+    ensures variant { IsOk result ↔ (length (spelling (with_options message.old options.entry)) ≤ datagram_limit) }
 {
     length_of_spelling();
     one_spelling();
@@ -39,7 +41,7 @@ fn add_inner_options(
     requires order { AreInOrder (last_number 0 plaintext.old.options) options }
     ensures ok { OnOk result (plaintext.new ≡ with_inner_options plaintext.old options.entry) }
     ensures variant { IsOk result
-        ↔ (length (plaintext_spelling (with_inner_options plaintext.old options.entry)) ≤ 1152) }
+        ↔ (length (plaintext_spelling (with_inner_options plaintext.old options.entry)) ≤ datagram_limit) }
 {
     length_of_plaintext();
     one_plaintext();
@@ -64,7 +66,7 @@ fn message_of(
     requires order { AreInOrder 0 options }
     ensures ok { IfOk result (λ m. m ≡ message_with kind code id token.now options.entry payload.now) }
     ensures fits { IsOk result
-        ↔ (length (spelling (message_with kind code id token.now options.entry payload.now)) ≤ 1152) }
+        ↔ (length (spelling (message_with kind code id token.now options.entry payload.now)) ≤ datagram_limit) }
 {
     length_of_spelling();
     let mut message = MessageBuilder::start(kind, code, id, token);
@@ -77,7 +79,7 @@ fn message_of(
 /// longer than a datagram may be.
 pub fn plaintext_of(message: &MessageRef<'_>) -> Result<PlaintextBuilder, DatagramTooLong>
     ensures ok { IfOk result (λ p. p ≡ spec.plaintext_of message.now) }
-    ensures fits { IsOk result ↔ (length (plaintext_spelling (spec.plaintext_of message.now)) ≤ 1152) }
+    ensures fits { IsOk result ↔ (length (plaintext_spelling (spec.plaintext_of message.now)) ≤ datagram_limit) }
 {
     length_of_plaintext();
     fewer_options();
@@ -99,7 +101,7 @@ pub fn protected_message(
     requires { 0 < code }
     ensures ok { IfOk result (λ m. m ≡ spec.protected message.now code value.now payload.now) }
     ensures fits { IsOk result
-        ↔ (length (spelling (spec.protected message.now code value.now payload.now)) ≤ 1152) }
+        ↔ (length (spelling (spec.protected message.now code value.now payload.now)) ≤ datagram_limit) }
 {
     fewer_options();
     let options = with_oscore(outer_options(message.options()), value);
@@ -121,7 +123,7 @@ pub fn unprotected_message(
 ) -> Result<MessageBuilder, DatagramTooLong>
     requires { 0 < inner.now.code }
     ensures ok { IfOk result (λ m. m ≡ spec.unprotected outer.now inner.now) }
-    ensures fits { IsOk result ↔ (length (spelling (spec.unprotected outer.now inner.now)) ≤ 1152) }
+    ensures fits { IsOk result ↔ (length (spelling (spec.unprotected outer.now inner.now)) ≤ datagram_limit) }
 {
     fewer_options();
     let options = merge(

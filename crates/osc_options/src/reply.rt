@@ -1,27 +1,28 @@
-//! A message or a plaintext that carries a reply, and the reply that a plaintext is (RFC 7252 section 5.10, RFC 8613
+//! A message that carries a reply, and the reply that a plaintext is (RFC 7252 section 5.10, RFC 8613
 //! section 5.3).
 ghost use Rattle.std.specs.Prelude.{◌≡◌, ◌<◌, ◌≤◌, ◌↔◌, Err, length, IsOk, IfOk};
 ghost use Rattle.osc_coap.specs.Message.{spelling};
-ghost use Rattle.osc_coap.specs.Plaintext.{Plaintext, SpellsPlaintext, plaintext_spelling};
+ghost use Rattle.osc_coap.specs.Length.{datagram_limit};
+ghost use Rattle.osc_coap.specs.Plaintext.{Plaintext, SpellsPlaintext};
 ghost use Rattle.osc_coap.specs.Building.{bare};
 ghost use Rattle.osc_options.specs.Requests.{value as value_in};
-ghost use Rattle.osc_options.specs.Replies.{uint_bytes as bytes_of, with_reply};
+ghost use Rattle.osc_options.specs.Replies.{uint_bytes as bytes_of, with_reply, with_error};
 ghost use Rattle.osc_options.specs.PlaintextRequests.{IsMemoryAside};
 ghost use Rattle.osc_options.specs.PlaintextReplies as spec;
 
-use crate::error::ReplyError;
+use crate::error::PlaintextError;
 use crate::inside::unheeded;
-use crate::numbers::{CONTENT_FORMAT, ETAG};
+use crate::numbers::{CONTENT_FORMAT, ETAG, MAX_AGE};
 use crate::recognised::{RecognisedOptions, first_value, recognised_options};
 use crate::request::uint_of;
 use arrayvec::ArrayVec;
-use osc_coap::laws::{length_of_plaintext, length_of_spelling};
-use osc_coap::{DatagramTooLong, Kind, MessageBuilder, PlaintextBuilder, PlaintextRef};
+use osc_coap::laws::length_of_spelling;
+use osc_coap::{DatagramTooLong, Kind, MessageBuilder, PlaintextRef, is_response_code};
 use osc_model::{Bytes, Code, Reply};
 use std::alloc::{AllocError, Global};
 
 /// A whole number without leading zero bytes (RFC 7252 section 3.2).
-fn uint_bytes(n: u16) -> ArrayVec<u8, 2>
+pub(crate) fn uint_bytes(n: u16) -> ArrayVec<u8, 2>
     ensures value { result.items ≡ bytes_of n }
 {
     let mut bytes = ArrayVec::new();
@@ -45,7 +46,7 @@ pub fn reply_message(
     requires token { length token.now ≤ 8 }
     requires code { 0 < reply.now.code.0 }
     ensures ok { IfOk result (λ message. message ≡ with_reply (bare kind reply.now.code.0 id token.now) reply.now) }
-    ensures fits { IsOk result ↔ (length (spelling (with_reply (bare kind reply.now.code.0 id token.now) reply.now)) ≤ 1152) }
+    ensures fits { IsOk result ↔ (length (spelling (with_reply (bare kind reply.now.code.0 id token.now) reply.now)) ≤ datagram_limit) }
 {
     length_of_spelling();
     let mut message = MessageBuilder::start(kind, reply.code.0, id, token);
@@ -59,29 +60,29 @@ pub fn reply_message(
     Ok(message)
 }
 
-/// The plaintext that carries the reply, encrypted with all its options; refused only where it is longer than a datagram
-/// may be.
-pub fn reply_plaintext(reply: &Reply) -> Result<PlaintextBuilder, DatagramTooLong>
-    ensures ok { IfOk result (λ p. p ≡ spec.reply_plaintext reply.now) }
-    ensures fits { IsOk result ↔ (length (plaintext_spelling (spec.reply_plaintext reply.now)) ≤ 1152) }
+/// An error reply of this kind, message ID and token, with a diagnostic payload (RFC 7252 section 5.5.2) and, where it is
+/// not to be kept, a Max-Age in seconds (section 5.10.5); refused only where it is longer than a datagram may be.
+pub fn error_message(
+    kind: Kind,
+    id: u16,
+    token: &[u8],
+    code: Code,
+    max_age: Option<u16>,
+    text: &[u8],
+) -> Result<MessageBuilder, DatagramTooLong>
+    requires token { length token.now ≤ 8 }
+    requires code { 0 < code.0 }
+    ensures ok { IfOk result (λ message. message ≡ with_error (bare kind code.0 id token.now) code.0 max_age text.now) }
+    ensures fits { IsOk result
+        ↔ (length (spelling (with_error (bare kind code.0 id token.now) code.0 max_age text.now)) ≤ datagram_limit) }
 {
-    length_of_plaintext();
-    let mut plaintext = PlaintextBuilder::start(reply.code.0);
-    if let Some(tag) = &reply.etag {
-        plaintext.option(ETAG, tag)?;
+    length_of_spelling();
+    let mut message = MessageBuilder::start(kind, code.0, id, token);
+    if let Some(seconds) = max_age {
+        message.option(MAX_AGE, &uint_bytes(seconds))?;
     }
-    if let Some(format) = reply.format {
-        plaintext.option(CONTENT_FORMAT, &uint_bytes(format))?;
-    }
-    plaintext.payload(reply.payload.as_slice())?;
-    Ok(plaintext)
-}
-
-/// Whether a code is one of a response, of class 2 to 5.
-fn is_reply_code(code: u8) -> bool
-    ensures { result ≡ spec.is_reply_code code }
-{
-    64 <= code && code < 192
+    message.payload(text)?;
+    Ok(message)
 }
 
 /// The first ETag, where it has 8 bytes.
@@ -108,30 +109,30 @@ fn reply_with(alloc: Global, plaintext: &PlaintextRef<'_>) -> Result<Reply, Allo
 }
 
 /// The reply that a plaintext is.
-fn heeded(alloc: Global, plaintext: &PlaintextRef<'_>) -> Result<Reply, ReplyError>
-    ensures { IsMemoryAside ReplyError.Memory (spec.reply_of_plaintext plaintext.now) result }
+fn heeded(alloc: Global, plaintext: &PlaintextRef<'_>) -> Result<Reply, PlaintextError>
+    ensures { IsMemoryAside PlaintextError.Memory (spec.reply_of_plaintext plaintext.now) result }
 {
-    if !is_reply_code(plaintext.code()) {
-        return Err(ReplyError::Format);
+    if !is_response_code(plaintext.code()) {
+        return Err(PlaintextError::Format);
     }
     if let Some(number) = unheeded(plaintext) {
-        return Err(ReplyError::BadOption(number));
+        return Err(PlaintextError::BadOption(number));
     }
-    reply_with(alloc, plaintext).map_err(|_| ReplyError::Memory)
+    reply_with(alloc, plaintext).map_err(|_| PlaintextError::Memory)
 }
 
 /// The reply that these bytes are as a plaintext (RFC 8613 section 5.3). The error is `Format` where they are no
 /// plaintext or its code is none of a response, and else `BadOption` where an option of class U, or a critical one that
 /// isn't recognised, stands in it. An ETag of another length than 8 is left out.
-pub fn reply_of(alloc: Global, plaintext: &[u8]) -> Result<Reply, ReplyError>
+pub fn reply_of(alloc: Global, plaintext: &[u8]) -> Result<Reply, PlaintextError>
     ensures plain { (p : Plaintext) → SpellsPlaintext plaintext.now p
-        → IsMemoryAside ReplyError.Memory (spec.reply_of_plaintext p) result }
-    ensures none { ((p : Plaintext) → ¬ SpellsPlaintext plaintext.now p) → result ≡ Err ReplyError.Format }
-    ensures memory { result ≡ Err ReplyError.Memory
+        → IsMemoryAside PlaintextError.Memory (spec.reply_of_plaintext p) result }
+    ensures none { ((p : Plaintext) → ¬ SpellsPlaintext plaintext.now p) → result ≡ Err PlaintextError.Format }
+    ensures memory { result ≡ Err PlaintextError.Memory
         → (p : Plaintext) × SpellsPlaintext plaintext.now p × IsOk (spec.reply_of_plaintext p) }
 {
     match PlaintextRef::parse(plaintext) {
         Some(plaintext) => heeded(alloc, &plaintext),
-        None => Err(ReplyError::Format),
+        None => Err(PlaintextError::Format),
     }
 }

@@ -6,14 +6,14 @@ ghost use Rattle.osc_coap.specs.Plaintext.{Plaintext, SpellsPlaintext};
 ghost use Rattle.osc_options.specs.Table.{rule_of};
 ghost use Rattle.osc_options.specs.Recognised.{recognised};
 ghost use Rattle.osc_options.specs.Requests.{request_in as asked_by, request_of as asked_of_message, uint as number_of, value as value_in, values as values_in};
-ghost use Rattle.osc_options.specs.PlaintextRequests.{IsRequestCode, is_request_code as spec_is_request_code, request_of_plaintext, IsMemoryAside};
+ghost use Rattle.osc_options.specs.PlaintextRequests.{request_of_plaintext, IsMemoryAside};
 
-use crate::error::RequestError;
+use crate::error::PlaintextError;
 use crate::inside::unheeded;
 use crate::numbers::{ACCEPT, CONTENT_FORMAT, IF_MATCH, IF_NONE_MATCH, URI_PATH};
 use crate::recognised::{first_value, recognised_options};
 use arrayvec::ArrayVec;
-use osc_coap::{MessageRef, Options, PlaintextRef};
+use osc_coap::{MessageRef, Options, PlaintextRef, is_request_code};
 use osc_model::{Bytes, Code, ETags, Path, Request};
 use std::alloc::{AllocError, Global};
 
@@ -97,23 +97,15 @@ pub fn request_of_message(alloc: Global, message: &MessageRef<'_>) -> Result<Req
     request_in(alloc, message.code(), &message.options(), message.payload())
 }
 
-/// Whether a code is one of a request (RFC 7252 section 5.2).
-fn is_request_code(code: u8) -> bool
-    ensures value { result ≡ spec_is_request_code code }
-    ensures means { IsTrue result ↔ IsRequestCode code }
-{
-    0 < code && code < 32
-}
-
 /// The request that a plaintext is.
-fn heeded(alloc: Global, plaintext: &PlaintextRef<'_>) -> Result<Request, RequestError>
-    ensures { IsMemoryAside RequestError.Memory (request_of_plaintext plaintext.now) result }
+fn heeded(alloc: Global, plaintext: &PlaintextRef<'_>) -> Result<Request, PlaintextError>
+    ensures { IsMemoryAside PlaintextError.Memory (request_of_plaintext plaintext.now) result }
 {
     if !is_request_code(plaintext.code()) {
-        return Err(RequestError::Format);
+        return Err(PlaintextError::Format);
     }
     if let Some(number) = unheeded(plaintext) {
-        return Err(RequestError::BadOption(number));
+        return Err(PlaintextError::BadOption(number));
     }
     request_in(
         alloc,
@@ -121,21 +113,21 @@ fn heeded(alloc: Global, plaintext: &PlaintextRef<'_>) -> Result<Request, Reques
         &plaintext.options(),
         plaintext.payload(),
     )
-    .map_err(|_| RequestError::Memory)
+    .map_err(|_| PlaintextError::Memory)
 }
 
 /// The request that these bytes are as a plaintext (RFC 8613 section 5.3). The error is `Format` where they are no
 /// plaintext or its code is none of a request, and else `BadOption` where an option of class U, or a critical one that
 /// isn't recognised, stands in it.
-pub fn request_of(alloc: Global, plaintext: &[u8]) -> Result<Request, RequestError>
+pub fn request_of(alloc: Global, plaintext: &[u8]) -> Result<Request, PlaintextError>
     ensures plain { (p : Plaintext) → SpellsPlaintext plaintext.now p
-        → IsMemoryAside RequestError.Memory (request_of_plaintext p) result }
-    ensures none { ((p : Plaintext) → ¬ SpellsPlaintext plaintext.now p) → result ≡ Err RequestError.Format }
-    ensures memory { result ≡ Err RequestError.Memory
+        → IsMemoryAside PlaintextError.Memory (request_of_plaintext p) result }
+    ensures none { ((p : Plaintext) → ¬ SpellsPlaintext plaintext.now p) → result ≡ Err PlaintextError.Format }
+    ensures memory { result ≡ Err PlaintextError.Memory
         → (p : Plaintext) × SpellsPlaintext plaintext.now p × IsOk (request_of_plaintext p) }
 {
     match PlaintextRef::parse(plaintext) {
         Some(plaintext) => heeded(alloc, &plaintext),
-        None => Err(RequestError::Format),
+        None => Err(PlaintextError::Format),
     }
 }

@@ -1,1 +1,301 @@
 //! Tests of `osc_options`.
+use osc_coap::{Kind, MessageRef, PlaintextRef};
+use osc_model::{Bytes, Code, Reply};
+use osc_options::*;
+use std::test::*;
+
+/// Number, the marks C, U and R, and the least and the greatest length (RFC 7252 table 4, RFC 8613 table 1).
+const ROWS: [(u16, &[u8; 3], u16, u16); 16] = [
+    (1, b"C-R", 0, 8),
+    (3, b"CU-", 1, 255),
+    (4, b"--R", 1, 8),
+    (5, b"C--", 0, 0),
+    (7, b"CU-", 0, 2),
+    (8, b"--R", 0, 255),
+    (9, b"C--", 0, 255),
+    (11, b"CUR", 0, 255),
+    (12, b"---", 0, 2),
+    (14, b"-U-", 0, 4),
+    (15, b"CUR", 0, 255),
+    (17, b"C--", 0, 2),
+    (20, b"--R", 0, 255),
+    (35, b"CU-", 1, 1034),
+    (39, b"CU-", 1, 255),
+    (60, b"---", 0, 4),
+];
+
+#[test]
+fn the_table(rt: HostRuntime) -> Result<(), Fail> {
+    for (number, marks, shortest, longest) in ROWS {
+        let rule = rule_of(number).ok_or("a row")?;
+        assert_eq!(rt; is_critical(number), marks[0] == b'C');
+        assert_eq!(rt; is_unsafe(number), marks[1] == b'U');
+        assert_eq!(rt; rule.repeats, marks[2] == b'R');
+        assert_eq!(rt; rule.shortest, shortest);
+        assert_eq!(rt; rule.longest, longest);
+    }
+    assert_eq!(rt; class_of(numbers::URI_HOST), Class::U);
+    assert_eq!(rt; class_of(numbers::URI_PATH), Class::E);
+    assert_eq!(rt; class_of(65000), Class::E);
+    Ok(())
+}
+
+/// Datagrams, and the first critical option in each that isn't recognised.
+const DATAGRAMS: [(&[u8], Option<u16>); 9] = [
+    (b"\x40\x01\x00\x01", None),
+    (b"\x40\x01\x00\x01\x30", Some(3)),
+    (b"\x40\x01\x00\x01\x31s\x01s", Some(3)),
+    (b"\x40\x01\x00\x01\xd2\x04ab", None),
+    (b"\x40\x01\x00\x01\xd1\x04a\x01b", Some(17)),
+    (b"\x40\x01\x00\x01\x18abcdefgh", None),
+    (b"\x40\x01\x00\x01\x19abcdefghi", Some(1)),
+    (b"\x40\x01\x00\x01\x20", None),
+    (b"\x40\x01\x00\x01\xd0\x00", Some(13)),
+];
+
+#[test]
+fn what_is_not_recognised(rt: HostRuntime) -> Result<(), Fail> {
+    for (datagram, expected) in DATAGRAMS {
+        let message = MessageRef::parse(datagram)?;
+        assert_eq!(rt; unrecognised_critical(&message), expected);
+    }
+    Ok(())
+}
+
+#[test]
+fn a_request(rt: HostRuntime) -> Result<(), Fail> {
+    let datagram = b"\x40\x03\x00\x01\x11e\x40\x61a\x01b\x12\x00\x2a\x01\x05\x50\xffhi";
+    let message = MessageRef::parse(datagram)?;
+    assert!(rt; has_option(&message, numbers::ACCEPT));
+    assert!(rt; !has_option(&message, numbers::OSCORE));
+    let request = request_of_message(rt.alloc(), &message)?;
+    assert_eq!(rt; request.code, Code(3));
+    assert_eq!(rt; request.path.ok_or("a path")?.text(), b"/a/b".as_slice());
+    assert_eq!(rt; request.format, Some(42));
+    assert_eq!(rt; request.accept, Some(0));
+    assert_eq!(rt; request.if_match.as_slice().len(), 1);
+    assert!(rt; request.if_none_match);
+    assert_eq!(rt; request.payload.as_slice(), b"hi".as_slice());
+    Ok(())
+}
+
+#[test]
+fn at_most_eight_segments(rt: HostRuntime) -> Result<(), Fail> {
+    let eight = b"\x40\x01\x00\x01\xb1a\x01b\x01c\x01d\x01e\x01f\x01g\x01h";
+    let message = MessageRef::parse(eight)?;
+    let request = request_of_message(rt.alloc(), &message)?;
+    assert_eq!(rt;
+        request.path.ok_or("a path")?.text(),
+        b"/a/b/c/d/e/f/g/h".as_slice()
+    );
+    let nine = b"\x40\x01\x00\x01\xb1a\x01b\x01c\x01d\x01e\x01f\x01g\x01h\x01i";
+    let message = MessageRef::parse(nine)?;
+    assert!(rt; request_of_message(rt.alloc(), &message)?.path.is_none());
+    Ok(())
+}
+
+/// Content-Formats, and what follows the token of a reply with one, with an ETag and a payload.
+const REPLIES: [(Option<u16>, &[u8]); 4] = [
+    (None, b"\x48abcdefgh\xffhi"),
+    (Some(0), b"\x48abcdefgh\x80\xffhi"),
+    (Some(42), b"\x48abcdefgh\x81\x2a\xffhi"),
+    (Some(300), b"\x48abcdefgh\x82\x01\x2c\xffhi"),
+];
+
+#[test]
+fn replies(rt: HostRuntime) -> Result<(), Fail> {
+    for (format, expected) in REPLIES {
+        let reply = Reply {
+            code: Code::CONTENT,
+            etag: Some(*b"abcdefgh"),
+            format,
+            payload: Bytes::from_slice(rt.alloc(), b"hi")?,
+        };
+        let message = reply_message(Kind::Acknowledgement, 0x1234, b"t", &reply)
+            .ok()
+            .ok_or("room")?;
+        assert!(rt; message.bytes().starts_with(b"\x61\x45\x12\x34t"));
+        assert!(rt; message.bytes().ends_with(expected));
+    }
+    Ok(())
+}
+
+/// A GET with the token 00003974, Uri-Host "localhost" and Uri-Path "tv1".
+const REQUEST: [u8; 22] = [
+    0x44, 0x01, 0x5d, 0x1f, 0x00, 0x00, 0x39, 0x74, 0x39, 0x6c, 0x6f, 0x63, 0x61, 0x6c, 0x68, 0x6f,
+    0x73, 0x74, 0x83, 0x74, 0x76, 0x31,
+];
+
+/// The same request protected (RFC 8613 appendix C.4).
+const PROTECTED: [u8; 35] = [
+    0x44, 0x02, 0x5d, 0x1f, 0x00, 0x00, 0x39, 0x74, 0x39, 0x6c, 0x6f, 0x63, 0x61, 0x6c, 0x68, 0x6f,
+    0x73, 0x74, 0x62, 0x09, 0x14, 0xff, 0x61, 0x2f, 0x10, 0x92, 0xf1, 0x77, 0x6f, 0x1c, 0x16, 0x68,
+    0xb3, 0x82, 0x5e,
+];
+
+#[test]
+fn a_protected_request(rt: HostRuntime) -> Result<(), Fail> {
+    let request = MessageRef::parse(&REQUEST)?;
+    let mut parts = split(&request);
+    assert_eq!(rt; parts.outer.next(), Some((3, b"localhost".as_slice())));
+    assert_eq!(rt; parts.outer.next(), None);
+    assert_eq!(rt; parts.inner.next(), Some((11, b"tv1".as_slice())));
+    assert_eq!(rt; parts.inner.next(), None);
+
+    let plaintext = plaintext_of(&request).ok().ok_or("room")?;
+    assert_eq!(rt; plaintext.bytes(), b"\x01\xb3tv1".as_slice());
+    let outer = protected_message(&request, 2, b"\x09\x14", &PROTECTED[22..])
+        .ok()
+        .ok_or("room")?;
+    assert_eq!(rt; outer.bytes(), PROTECTED.as_slice());
+    assert_eq!(rt;
+        value_of(&outer.message(), numbers::OSCORE),
+        Some(b"\x09\x14".as_slice())
+    );
+
+    let inner = PlaintextRef::parse(plaintext.bytes()).ok_or("a plaintext")?;
+    let again = unprotected_message(&outer.message(), &inner)
+        .ok()
+        .ok_or("room")?;
+    assert_eq!(rt; again.bytes(), REQUEST.as_slice());
+    Ok(())
+}
+
+/// Outer and inner options take turns, and the outer one is first of two of one number.
+#[test]
+fn merged(rt: HostRuntime) -> Result<(), Fail> {
+    let outside = MessageRef::parse(b"\x40\x01\x00\x01\x31a\x41b\xd1\x0fc")?;
+    let inside = MessageRef::parse(b"\x40\x01\x00\x01\x51d\x61e\x01f")?;
+    let mut options = merge(split(&outside).outer, split(&inside).inner);
+    let expected: [(u16, &[u8]); 6] = [
+        (3, b"a"),
+        (5, b"d"),
+        (7, b"b"),
+        (11, b"e"),
+        (11, b"f"),
+        (35, b"c"),
+    ];
+    for option in expected {
+        assert_eq!(rt; options.next(), Some(option));
+    }
+    assert_eq!(rt; options.next(), None);
+    Ok(())
+}
+
+#[test]
+fn an_encrypted_request(rt: HostRuntime) -> Result<(), Fail> {
+    let request = request_of(rt.alloc(), b"\x01\xb3tv1")
+        .ok()
+        .ok_or("a request")?;
+    assert_eq!(rt; request.code, Code(1));
+    assert_eq!(rt; request.path.ok_or("a path")?.text(), b"/tv1".as_slice());
+
+    let format = Some(PlaintextError::Format);
+    let refused: [(&[u8], Option<PlaintextError>); 9] = [
+        (b"", format),
+        (b"\x00", format),
+        (b"\x45", format),
+        (b"\x01\xff", format),
+        (b"\x20", format),
+        // Uri-Host, which has to stay outside, also where it is too short.
+        (b"\x01\x31s", Some(PlaintextError::BadOption(3))),
+        (b"\x01\x30", Some(PlaintextError::BadOption(3))),
+        // A critical option that nobody knows, and an elective one.
+        (b"\x01\xd0\x00", Some(PlaintextError::BadOption(13))),
+        (b"\x01\xd0\x35", None),
+    ];
+    for (plaintext, error) in refused {
+        assert_eq!(rt;
+            request_of(rt.alloc(), plaintext).err(),
+            error,
+            "at {plaintext:?}"
+        );
+    }
+    Ok(())
+}
+
+#[test]
+fn an_encrypted_reply(rt: HostRuntime) -> Result<(), Fail> {
+    let reply = Reply {
+        code: Code::CONTENT,
+        etag: Some(*b"abcdefgh"),
+        format: Some(42),
+        payload: Bytes::from_slice(rt.alloc(), b"hi")?,
+    };
+    let message = reply_message(Kind::Acknowledgement, 1, b"", &reply)
+        .ok()
+        .ok_or("room")?;
+    let plaintext = plaintext_of(&message.message()).ok().ok_or("room")?;
+    assert_eq!(rt;
+        plaintext.bytes(),
+        b"\x45\x48abcdefgh\x81\x2a\xffhi".as_slice()
+    );
+    assert_eq!(rt; reply_of(rt.alloc(), plaintext.bytes()), Ok(reply));
+
+    // An ETag of another length is left out.
+    let short = reply_of(rt.alloc(), b"\x45\x41a").ok().ok_or("a reply")?;
+    assert_eq!(rt; short.etag, None);
+    for plaintext in [b"\x01".as_slice(), b"\x3f", b"\xc0", b"\x45\xff"] {
+        assert_eq!(rt;
+            reply_of(rt.alloc(), plaintext).err(),
+            Some(PlaintextError::Format)
+        );
+    }
+    assert_eq!(rt;
+        reply_of(rt.alloc(), b"\x45\xd0\x00").err(),
+        Some(PlaintextError::BadOption(13))
+    );
+    Ok(())
+}
+
+#[test]
+fn printed(rt: HostRuntime) -> Result<(), Fail> {
+    let alloc = rt.alloc();
+    for (error, number, text) in [
+        (PlaintextError::Format, 13, "the plaintext is no such message"),
+        (
+            PlaintextError::BadOption(3),
+            15,
+            "the option 3 is not understood inside",
+        ),
+        (PlaintextError::Memory, 9, "out of memory"),
+    ] {
+        assert_eq!(rt; error.number(), number);
+        assert_eq!(rt; format!(in alloc; "{error}")?.as_str(), text);
+    }
+    Ok(())
+}
+
+/// What a server answers where it holds no context, and where it can't decode (RFC 8613 section 8.2).
+#[test]
+fn errors(rt: HostRuntime) -> Result<(), Fail> {
+    let unknown = error_message(
+        Kind::Acknowledgement,
+        0x001a,
+        b"",
+        Code::UNAUTHORIZED,
+        Some(0),
+        b"Security context not found",
+    )
+    .ok()
+    .ok_or("room")?;
+    assert_eq!(rt;
+        unknown.bytes(),
+        b"\x60\x81\x00\x1a\xd0\x01\xffSecurity context not found".as_slice()
+    );
+    let malformed = error_message(
+        Kind::Acknowledgement,
+        0x001b,
+        b"",
+        Code::BAD_OPTION,
+        None,
+        b"Failed to decode COSE",
+    )
+    .ok()
+    .ok_or("room")?;
+    assert_eq!(rt;
+        malformed.bytes(),
+        b"\x60\x82\x00\x1b\xffFailed to decode COSE".as_slice()
+    );
+    Ok(())
+}

@@ -1,0 +1,5 @@
+use Rattle.osc_options.proofs.MergeLaws.{AreInOrder-taken}
+use Rattle.osc_options.proofs.parts.OuterOptionsIterator.next.Goals as goal
+
+pub invariant_of-self : goal.invariant_of-self
+invariant_of-self c = AreInOrder-taken (λ option. (option.0, option.1.now)) c.take_outer.result _ _ c.take_outer.ensures c.self.invariant
