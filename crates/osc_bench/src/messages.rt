@@ -77,8 +77,9 @@ fn server_of(alloc: Global, resources: u16) -> Result<Server, AllocError> {
             && !tree.is_full()
         {
             let payload = Bytes::from_slice(alloc, b"21.5")?;
-            open_scope.allow(path.clone()?, Method::Get)?;
+            open_scope.allow(alloc, path.clone()?, Method::Get)?;
             tree.put(
+                alloc,
                 path,
                 Resource {
                     format: None,

@@ -28,17 +28,17 @@ fn first_tree(alloc: Global, lines: &[Line]) -> Result<Tree, AllocError>
 {
     let mut tree = Tree::new(alloc);
     for line in lines {
-        put(&mut tree, line)?;
+        put(alloc, &mut tree, line)?;
     }
     Ok(tree)
 }
 
-fn put(tree: &mut Tree, line: &Line) -> Result<(), AllocError>
+fn put(alloc: Global, tree: &mut Tree, line: &Line) -> Result<(), AllocError>
     requires { CanPut tree.old line.now }
     ensures { OnOk result (tree.new ≡ spec.tree_after tree.old line.now) }
 {
     if let Line::Put { path, resource } = line {
-        tree.put(path.clone()?, resource.clone()?)?;
+        tree.put(alloc, path.clone()?, resource.clone()?)?;
     }
     Ok(())
 }
@@ -48,16 +48,16 @@ fn open_scope(alloc: Global, lines: &[Line]) -> Result<Scope, AllocError>
 {
     let mut scope = Scope::new(alloc);
     for line in lines {
-        allow(&mut scope, line)?;
+        allow(alloc, &mut scope, line)?;
     }
     Ok(scope)
 }
 
-fn allow(scope: &mut Scope, line: &Line) -> Result<(), AllocError>
+fn allow(alloc: Global, scope: &mut Scope, line: &Line) -> Result<(), AllocError>
     ensures { OnOk result (scope.new ≡ spec.scope_after scope.old line.now) }
 {
     if let Line::Open { path } = line {
-        scope.allow(path.clone()?, Method::Get)?;
+        scope.allow(alloc, path.clone()?, Method::Get)?;
     }
     Ok(())
 }

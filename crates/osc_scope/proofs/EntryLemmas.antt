@@ -1,20 +1,17 @@
 -- Entries and the items that they are.
-use Rattle.std.proofs.Common.{◌≡◌, ◌≢◌, ℕ, zero, suc, ◌+◌, ◌<◌, List, [], ◌∷◌, ◌++◌, length, get_or, take, drop, true, false, map, filter, None, refl, sym, ap, ◌∙◌, arith, flat_map, Result, Ok, Err, ◌⊎◌, inl, inr}
+use Rattle.std.proofs.Common.{◌≡◌, ◌≢◌, ℕ, zero, suc, ◌+◌, ◌<◌, List, [], ◌∷◌, ◌++◌, length, get_or, take, map, None, refl, sym, ap, subst, ◌∙◌, arith, Result, Ok, Err, ◌⊎◌, inl, inr}
 use Rattle.std.specs.List.{All}
 use Rattle.std.specs.Result.{IfOk}
-use Rattle.std.specs.FinSet as set
-use Rattle.std.proofs.lemmas.List.{take_more, drop_more, flat_map_more}
-use Rattle.std.proofs.lemmas.List.Elements.{All-push, All-head, All-tail}
+use Rattle.std.proofs.lemmas.List.{take_more, map-append}
+use Rattle.std.proofs.lemmas.List.Elements.{All-nil, All-cons, All-push, All-head, All-tail}
 use Rattle.osc_cbor.specs.Data.{DataItem, array, Items, no_items, item}
 use Rattle.osc_cbor.specs.View.{view, items_view}
 use Rattle.osc_cbor.specs.declared.item.Item.{Item}
 use Rattle.osc_model.specs.Scope.{Scope as Permissions}
-use Rattle.osc_model.specs.declared.code.Method.{Method}
-use Rattle.osc_scope.specs.Entries.{Entry, IsLawful, has, methods, permissions, scope_of, entry_item, entry_items}
+use Rattle.osc_scope.specs.Entries.{Entry, IsLawful, scope_of, entry_item, entry_items}
 use Rattle.osc_scope.specs.declared.error.ScopeError.{ScopeError}
 use Rattle.osc_scope.specs.declared.error.ScopeError.TheVariants.{BadScope, Memory}
-use Rattle.osc_scope.specs.Reading.{two_of, with_all, Grants}
-use Rattle.osc_scope.proofs.Sets.{with_all-from_list}
+use Rattle.osc_scope.specs.Reading.{two_of, entry_with, HasMethods, AreEntries}
 
 -- ---- one entry
 
@@ -38,18 +35,25 @@ pushed (c ∷ ds) d (f ∷ entries) e same one =
     cc
 
 -- one entry more
-pub grants_more : (ds : List Item) (i : ℕ) (d : Item) (scope new : Permissions) (e : Entry) → i < length ds → d ≡ get_or ds i d
-    → Grants (items_view (take i ds)) scope → IsLawful e → view d ≡ entry_item e → new ≡ with_all scope (permissions e)
-    → Grants (items_view (take (i + 1) ds)) new
-grants_more ds i d scope new e lt is g lawful one added = record {
-  entries = g.entries ++ e ∷ [];
-  lawful = All-push IsLawful g.entries e g.lawful lawful;
-  spelled = ap items_view (take_more ds i d lt) ∙ pushed (take i ds) (get_or ds i d) g.entries e g.spelled (ap view (sym is) ∙ one);
-  granted =
-      added ∙ ap (λ s. with_all s (permissions e)) g.granted
-      ∙ with_all-from_list (flat_map permissions g.entries) (permissions e)
-      ∙ ap set.from_list (flat_map_more permissions [] g.entries e);
-}
+pub one_more : (ds : List Item) (i : ℕ) (d : Item) (pairs new : List (List ℕ × ℕ)) (pair : List ℕ × ℕ) → i < length ds → d ≡ get_or ds i d
+    → AreEntries (items_view (take i ds)) pairs → IsLawful (entry_with pair) → view d ≡ entry_item (entry_with pair) → new ≡ pairs ++ pair ∷ []
+    → AreEntries (items_view (take (i + 1) ds)) new
+one_more ds i d pairs new pair lt is so_far lawful one added =
+    let mapped : map entry_with new ≡ map entry_with pairs ++ entry_with pair ∷ [] = ap (map entry_with) added ∙ map-append entry_with pairs (pair ∷ []) in
+    record {
+      lawful = subst (All IsLawful) (sym mapped) (All-push IsLawful (map entry_with pairs) (entry_with pair) so_far.lawful lawful);
+      spelled =
+          ap items_view (take_more ds i d lt)
+          ∙ pushed (take i ds) (get_or ds i d) (map entry_with pairs) (entry_with pair) so_far.spelled (ap view (sym is) ∙ one)
+          ∙ ap entry_items (sym mapped);
+    }
+
+-- entries have methods
+pub have_methods : (pairs : List (List ℕ × ℕ)) → All IsLawful (map entry_with pairs) → All HasMethods pairs
+have_methods [] h = All-nil HasMethods
+have_methods (pair ∷ pairs) h =
+    let first = All-head IsLawful (entry_with pair) (map entry_with pairs) h in
+    All-cons HasMethods pair pairs (first.some, first.known) (have_methods pairs (All-tail IsLawful (entry_with pair) (map entry_with pairs) h))
 
 none_at : (ds : List Item) (i : ℕ) (d : Item) → i < length ds
     → ((e : Entry) → IsLawful e → view (get_or ds i d) ≡ entry_item e → ⊥)
@@ -87,37 +91,6 @@ only_one d (Ok scope) found bad entries lawful is =
     inl (ap Ok (found.3 ∙ ap scope_of (one_entry_list found.0 entries same)))
 only_one d (Err BadScope) found bad entries lawful is = absurd (bad refl entries lawful is)
 only_one d (Err Memory) found bad entries lawful is = inr refl
-
--- ---- the methods of one entry
-
-abbrev left_over : Permissions → List ℕ → ℕ → List Method → Permissions
-left_over s path mask ms = with_all s (map (λ method. (path, method)) (filter (has mask) ms))
-
--- one method more, which the set has ..
-pub method_taken : (s new whole : Permissions) (path copy : List ℕ) (mask i : ℕ) (d : Method) → i < length methods
-    → true ≡ has mask (get_or methods i d) → copy ≡ path → new ≡ set.insert s (copy, get_or methods i d)
-    → left_over s path mask (drop i methods) ≡ whole → left_over new path mask (drop (i + 1) methods) ≡ whole
-method_taken s new whole path copy mask i d lt has_it same added left =
-    ap (λ t. left_over t path mask (drop (i + 1) methods)) (added ∙ ap (λ p. set.insert s (p, get_or methods i d)) same)
-    ∙ sym (passes (get_or methods i d) (drop (i + 1) methods) has_it)
-    ∙ ap (left_over s path mask) (sym (drop_more methods i d lt))
-    ∙ left
-  where
-    passes : (m : Method) (ms : List Method) → true ≡ has mask m → left_over s path mask (m ∷ ms) ≡ left_over (set.insert s (path, m)) path mask ms
-    passes m ms e = rw (← e) refl
-
--- .. or has not
-pub method_left : (s new whole : Permissions) (path : List ℕ) (mask i : ℕ) (d : Method) → i < length methods
-    → false ≡ has mask (get_or methods i d) → new ≡ s
-    → left_over s path mask (drop i methods) ≡ whole → left_over new path mask (drop (i + 1) methods) ≡ whole
-method_left s new whole path mask i d lt has_not same left =
-    ap (λ t. left_over t path mask (drop (i + 1) methods)) same
-    ∙ sym (passes_not (get_or methods i d) (drop (i + 1) methods) has_not)
-    ∙ ap (left_over s path mask) (sym (drop_more methods i d lt))
-    ∙ left
-  where
-    passes_not : (m : Method) (ms : List Method) → false ≡ has mask m → left_over s path mask (m ∷ ms) ≡ left_over s path mask ms
-    passes_not m ms e = rw (← e) refl
 
 pub one_array : (ds es : Items) → array ds ≡ array es → ds ≡ es
 one_array ds es e = cc

@@ -6,4 +6,5 @@ mod MethodLemmas
 mod NameLemmas
 mod TextLemmas
 mod SameScope
+mod LookupLemmas
 mod Spelled

@@ -1,12 +1,15 @@
 -- A set of permissions.
-use Rattle.std.proofs.Common.{◌≡◌, ℕ, List, [], ◌∷◌, ◌++◌, Bool, true, false, ◌||◌, refl, sym, ap, ◌∙◌, append-nil, append_assoc}
+use Rattle.std.proofs.Common.{◌≡◌, ℕ, List, [], ◌∷◌, ◌++◌, map, flat_map, Bool, true, false, ◌||◌, refl, sym, ap, ◌∙◌}
 use Rattle.std.specs.Ordering.{eq_by_cmp}
-use Rattle.std.specs.Cmp.{Equal-is}
+use Rattle.std.specs.Cmp.{IsTotalOrder, Equal-is}
+use Rattle.std.specs.FinMap.{IsAntisymmetric}
 use Rattle.std.specs.FinSet as set
 use Rattle.osc_model.specs.Scope.{Scope as Permissions, permission_cmp}
 use Rattle.osc_model.specs.declared.code.Method.{Method}
-use Rattle.osc_scope.specs.Reading.{with_all}
-use Rattle.osc_model.proofs.Orders.{permissions_total, permissions_exact}
+use Rattle.osc_model.specs.declared.code.Method.TheVariants.{Get, Post, Put, Delete}
+use Rattle.osc_scope.specs.Entries.{bit_of, permissions, scope_of}
+use Rattle.osc_scope.specs.Reading.{entry_with}
+use Rattle.std.proofs.lemmas.List.{map-append, flat_map_more}
 
 absorbed : (a b : Bool) → (a ≡ true → b ≡ true) → (a || b) ≡ b
 absorbed true true h = refl
@@ -14,16 +17,26 @@ absorbed true false h = sym (h refl)
 absorbed false b h = refl
 
 -- to add what is there changes nothing
-pub insert_present : (scope : Permissions) (permission : List ℕ × Method) → set.contains scope permission ≡ true → set.insert scope permission ≡ scope
-insert_present scope permission there = set.same_set permissions_total permissions_exact _ _ (λ q.
-    set.contains-insert permissions_total scope permission q
+pub insert_present : IsTotalOrder permission_cmp → IsAntisymmetric permission_cmp
+    → (scope : Permissions) (permission : List ℕ × Method) → set.contains scope permission ≡ true → set.insert scope permission ≡ scope
+insert_present total exact scope permission there = set.same_set total exact _ _ (λ q.
+    set.contains-insert total scope permission q
     ∙ absorbed (eq_by_cmp permission_cmp q permission) (set.contains scope q)
-    (λ tied. ap (set.contains scope) (permissions_exact q permission ((Equal-is (permission_cmp q permission)).0 tied)) ∙ there))
+    (λ tied. ap (set.contains scope) (exact q permission ((Equal-is (permission_cmp q permission)).0 tied)) ∙ there))
 
--- to add the pairs of a list to the set of another is to make the set of both
-pub with_all-from_list : (pairs more : List (List ℕ × Method)) → with_all (set.from_list pairs) more ≡ set.from_list (pairs ++ more)
-with_all-from_list pairs [] = ap set.from_list (sym (append-nil pairs))
-with_all-from_list pairs (pair ∷ more) =
-    ap (λ s. with_all s more) (sym (set.from_list_push permissions_total permissions_exact pairs pair))
-    ∙ with_all-from_list (pairs ++ pair ∷ []) more
-    ∙ ap set.from_list (append_assoc pairs (pair ∷ []) more)
+-- the set of one method grants it alone
+one_permission : (path : List ℕ) (m : Method) → permissions (entry_with (path, bit_of m)) ≡ (path, m) ∷ []
+one_permission path Get = refl
+one_permission path Post = refl
+one_permission path Put = refl
+one_permission path Delete = refl
+
+-- so one such entry more adds the pair
+pub scope_push : IsTotalOrder permission_cmp → IsAntisymmetric permission_cmp → (pairs : List (List ℕ × ℕ)) (path : List ℕ) (m : Method)
+    → scope_of (map entry_with (pairs ++ (path, bit_of m) ∷ [])) ≡ set.insert (scope_of (map entry_with pairs)) (path, m)
+scope_push total exact pairs path m =
+    let entries = map entry_with pairs in
+    ap scope_of (map-append entry_with pairs ((path, bit_of m) ∷ []))
+    ∙ ap set.from_list (sym (flat_map_more permissions [] entries (entry_with (path, bit_of m))))
+    ∙ ap (λ more. set.from_list (flat_map permissions entries ++ more)) (one_permission path m)
+    ∙ set.from_list_push total exact (flat_map permissions entries) (path, m)

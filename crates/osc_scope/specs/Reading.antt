@@ -1,13 +1,11 @@
 -- Reading entries, one after another. No public contract rests on this.
-use Rattle.std.specs.Prelude.{◌≡◌, ◌≢◌, ℕ, List, [], ◌∷◌, map, Option, Some, None, option_and_then, option_map}
+use Rattle.std.specs.Prelude.{◌≡◌, ◌≢◌, ℕ, ◌≤◌, Bool, false, List, [], ◌∷◌, map, Option, Some, None, option_and_then, option_map}
 use Rattle.std.specs.List.{All, sum_by}
-use Rattle.std.specs.FinSet as set
 use Rattle.osc_model.specs.Path.{IsPath}
-use Rattle.osc_model.specs.Scope.{Scope}
 use Rattle.osc_model.specs.declared.code.Method.{Method}
 use Rattle.osc_cbor.specs.Data.{DataItem, Items, no_items, item}
 use Rattle.osc_cbor.specs.Parts.{as_array, as_text, as_unsigned}
-use Rattle.osc_scope.specs.Entries.{Entry, IsLawful, bit_of, entry_items, scope_of}
+use Rattle.osc_scope.specs.Entries.{Entry, IsLawful, bit_of, has, entry_items}
 use Rattle.osc_scope.specs.Text.{Written, AreApart, name_of, entry_text, entry_of}
 
 -- ---- bytes
@@ -27,17 +25,18 @@ pair_of d = option_and_then typed (option_and_then two_of (as_array d))
 abbrev pub entry_with : List ℕ × ℕ → Entry
 entry_with pair = record { path = pair.0; mask = pair.1 }
 
--- the scope with these pairs too
-abbrev pub with_all : Scope → List (List ℕ × Method) → Scope
-with_all scope [] = scope
-with_all scope (pair ∷ pairs) = with_all (set.insert scope pair) pairs
+-- a set with one method or more of the four
+abbrev pub HasMethods : List ℕ × ℕ → Type 0
+HasMethods pair = (1 ≤ pair.1) × (pair.1 ≤ 15)
 
--- the items are those of entries, and the scope is that of them
-pub record Grants (items : Items) (scope : Scope) : Type 0 where
-  pub entries : List Entry
-  pub lawful : All IsLawful entries
-  pub spelled : items ≡ entry_items entries
-  pub granted : scope ≡ scope_of entries
+abbrev pub grants : ℕ → Option Method → Bool
+grants mask None = false
+grants mask (Some method) = has mask method
+
+-- the pairs are entries, and the items are those of them
+pub record AreEntries (items : Items) (pairs : List (List ℕ × ℕ)) : Type 0 where
+  pub lawful : All IsLawful (map entry_with pairs)
+  pub spelled : items ≡ entry_items (map entry_with pairs)
 
 -- ---- text
 

@@ -1,18 +1,18 @@
 //! Scopes as bytes (RFC 9237): an array of pairs of a path and a set of methods.
 
-ghost use Rattle.std.specs.Prelude.{◌≡◌, ◌⊎◌, List, IfOk, OnOk, Ok, Err, option_map};
+ghost use Rattle.std.specs.Prelude.{◌≡◌, ◌⊎◌, List, IfOk, Ok, Err, option_map};
 ghost use Rattle.std.specs.List.{All};
 ghost use Rattle.osc_cbor.specs.Data.{array};
 ghost use Rattle.osc_cbor.specs.View.{view, items_view};
-ghost use Rattle.osc_scope.specs.Entries.{Entry, IsLawful, IsScope, scope_of, permissions, entry_item, entry_items};
-ghost use Rattle.osc_scope.specs.Reading.{two_of, pair_of, entry_with, with_all, Grants};
+ghost use Rattle.osc_scope.specs.Entries.{Entry, IsLawful, IsScope, scope_of, entry_item, entry_items};
+ghost use Rattle.osc_scope.specs.Reading.{two_of, pair_of, entry_with, AreEntries};
 
 use crate::error::ScopeError;
-use crate::methods::{ALL_METHODS, has};
+use crate::methods::ALL_METHODS;
 use crate::scope::Scope;
 use osc_cbor::{Item, read_whole};
-use osc_model::{Method, Path};
-use std::alloc::{AllocError, Global};
+use osc_model::Path;
+use std::alloc::Global;
 
 impl Scope {
     /// The scope that the bytes are, all of them: a CBOR array of arrays of two, the text of a path and the set of methods
@@ -44,23 +44,22 @@ fn scope_in(alloc: Global, item: &Item) -> Result<Scope, ScopeError>
         → (entries : List Entry) → All IsLawful entries → ¬ (view item.now ≡ array (entry_items entries)) }
 {
     match item.as_array() {
-        Some(items) => granted(alloc, items),
+        Some(items) => Ok(Scope::of_entries(entries(alloc, items)?)),
         None => Err(ScopeError::BadScope),
     }
 }
 
-/// The scope of the entries that the items are.
-fn granted(alloc: Global, items: &[Item]) -> Result<Scope, ScopeError>
-    ensures found { IfOk result (λ scope. Grants (items_view items.now) scope) }
+/// The entries that the items are; each path is copied once.
+fn entries(alloc: Global, items: &[Item]) -> Result<Vec<(Path, u64)>, ScopeError>
+    ensures found { IfOk result (λ entries. AreEntries (items_view items.now) entries.items) }
     ensures bad { result ≡ Err ScopeError.BadScope
         → (entries : List Entry) → All IsLawful entries → ¬ (items_view items.now ≡ entry_items entries) }
 {
-    let mut scope = Scope::new(alloc);
+    let mut entries = Vec::with_capacity(alloc, items.len())?;
     for item in items {
-        let (path, mask) = entry(alloc, item)?;
-        allow_each(&mut scope, &path, mask)?;
+        entries.push(entry(alloc, item)?)?;
     }
-    Ok(scope)
+    Ok(entries)
 }
 
 /// The path and the set of methods of the entry that the item is.
@@ -98,16 +97,4 @@ fn two(items: &[Item]) -> Option<(&Item, &Item)>
         [first, second] => Some((first, second)),
         _ => None,
     }
-}
-
-/// Adds each method of the set on the path.
-fn allow_each(scope: &mut Scope, path: &Path, mask: u64) -> Result<(), AllocError>
-    ensures { OnOk result (scope.new ≡ with_all scope.old (permissions (entry_with (path.now, mask)))) }
-{
-    for method in [Method::Get, Method::Post, Method::Put, Method::Delete] {
-        if has(mask, method) {
-            scope.allow(path.clone()?, method)?;
-        }
-    }
-    Ok(())
 }

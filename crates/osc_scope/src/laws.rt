@@ -19,6 +19,7 @@ pub fn text_and_bytes()
         → scope_of (map entry_of entries) ≡ scope_written entries }
 {
     osc_cbor::laws::what_is_written();
+    osc_model::laws::permissions_are_ordered();
 }
 
 /// A scope of entries has a method on a path exactly where one of the entries has the path and the method.
@@ -26,7 +27,9 @@ pub fn one_of_the_entries()
     ensures { (entries : List Entry) (path : List ℕ) (method : AnyMethod)
         → set.contains (scope_of entries) (path, method)
         ≡ list_any (λ entry. bytes_eq path entry.path && has entry.mask method) entries }
-{}
+{
+    osc_model::laws::permissions_are_ordered();
+}
 
 /// Bytes are a scope of one list of entries at most.
 pub fn one_scope()

@@ -5,8 +5,8 @@
 mod entries;
 mod error;
 pub mod laws;
+mod lookup;
 mod methods;
-mod permissions;
 mod scope;
 mod text;
 mod verdict;
@@ -15,6 +15,3 @@ pub use error::ScopeError;
 pub use scope::Scope;
 pub use text::text_to_cbor;
 pub use verdict::Verdict;
-
-#[cfg(test)]
-mod tests;

@@ -1,32 +1,42 @@
 //! Scopes.
-ghost use Rattle.std.specs.Prelude.{◌≡◌, OnOk, OnErr, IsOk, IsTrue, option_map};
+ghost use Rattle.std.specs.Prelude.{◌≡◌, OnOk, OnErr, IsOk, IsTrue, map, option_map};
+ghost use Rattle.std.specs.List.{All};
 ghost use Rattle.std.specs.FinSet as set;
-ghost use Rattle.osc_model.specs.Scope.{names};
+ghost use Rattle.osc_scope.specs.Entries.{scope_of};
+ghost use Rattle.osc_scope.specs.Reading.{HasMethods, entry_with};
 ghost use Rattle.osc_scope.specs.Verdict.{verdict_of};
 
-use crate::permissions::is_listed;
+use crate::lookup::{is_granted, verdict_on};
+use crate::methods::bit_of;
 use crate::verdict::Verdict;
 use osc_model::{Code, Method, Path};
 use std::alloc::{AllocError, Global};
 use std::marker::Model;
 
-/// Which methods a holder may use on which paths: a set of pairs of a path and a method. A look-up goes over the pairs, so
-/// it takes time linear in their number, and no memory.
+/// Which methods a holder may use on which paths, as contracts see it: a set of pairs of a path and a method. It is kept as
+/// entries of a path and a set of methods (RFC 9237 section 3); a look-up goes over them once, so it takes time linear in
+/// their number, and no memory.
 #[derive(Debug, Drop)]
 pub struct Scope {
-    // No pair twice.
-    permissions: Vec<(Path, Method)>,
+    // Each with some method; a path may stand in several.
+    entries: Vec<(Path, u64)>,
 }
 
 impl Model for Scope {
-    ghost use Rattle.std.specs.FinSet as set;
+    ghost use Rattle.std.specs.Prelude.{map};
     ghost use Rattle.osc_model.specs.Scope.{Scope as Permissions, coded_scope};
 
     ghost Value = { Permissions };
 
     ghost coded = { coded_scope };
 
-    ghost view = { λ s. set.from_list s.permissions.items };
+    ghost use Rattle.std.specs.List.{All};
+    ghost use Rattle.osc_scope.specs.Entries.{scope_of};
+    ghost use Rattle.osc_scope.specs.Reading.{HasMethods, entry_with};
+
+    ghost view = { λ s. scope_of (map entry_with s.entries.items) };
+
+    ghost invariant = { λ s. All HasMethods s.entries.items };
 }
 
 impl Scope {
@@ -35,19 +45,28 @@ impl Scope {
         ensures { result ≡ set.empty }
     {
         Scope {
-            permissions: Vec::new(alloc),
+            entries: Vec::new(alloc),
         }
+    }
+
+    /// The scope of these entries, which are not copied.
+    pub(crate) fn of_entries(entries: Vec<(Path, u64)>) -> Self
+        requires { All HasMethods entries.items }
+        ensures { result ≡ scope_of (map entry_with entries.items) }
+    {
+        Scope { entries }
     }
 
     /// Adds a method on a path. A pair that the scope has already takes no memory; without memory for another, the
     /// scope stays as it was.
-    pub fn allow(&mut self, path: Path, method: Method) -> Result<(), AllocError>
+    pub fn allow(&mut self, _alloc: Global, path: Path, method: Method) -> Result<(), AllocError>
         ensures ok { OnOk result (self.new ≡ set.insert self.old (path, method)) }
         ensures err { OnErr result (self.new ≡ self.old) }
         ensures present { IsTrue (set.contains self.old (path, method)) → IsOk result }
     {
+        osc_model::laws::permissions_are_ordered();
         if !self.allows(&path, method) {
-            self.permissions.push((path, method))?;
+            self.entries.push((path, bit_of(method)))?;
         }
         Ok(())
     }
@@ -56,15 +75,9 @@ impl Scope {
     pub fn verdict(&self, path: Option<&Path>, code: Code) -> Verdict
         ensures { result ≡ verdict_of self.now (option_map (λ p. p.now) path.entry) code }
     {
-        let Some(path) = path else {
-            return Verdict::NoPath;
-        };
-        if Method::from_code(code).is_some_and(|method| self.allows(path, method)) {
-            Verdict::Granted
-        } else if self.names(path) {
-            Verdict::NoMethod
-        } else {
-            Verdict::NoPath
+        match path {
+            Some(path) => verdict_on(&self.entries, path, code),
+            None => Verdict::NoPath,
         }
     }
 
@@ -72,16 +85,7 @@ impl Scope {
     fn allows(&self, path: &Path, method: Method) -> bool
         ensures { result ≡ set.contains self.now (path.now, method) }
     {
-        is_listed(&self.permissions, path, method)
-    }
-
-    // Whether the scope has some method on the path.
-    fn names(&self, path: &Path) -> bool
-        ensures { result ≡ names self.now path.now }
-    {
-        self.allows(path, Method::Get)
-            || self.allows(path, Method::Post)
-            || self.allows(path, Method::Put)
-            || self.allows(path, Method::Delete)
+        crate::laws::one_of_the_entries();
+        is_granted(&self.entries, path, method)
     }
 }

@@ -85,13 +85,13 @@ fn path_text(alloc: Global, text: &[u8]) -> Result<String, ScopeError>
     ensures path { IfOk result (λ path. IsPath text.now) }
     ensures bad { result ≡ Err ScopeError.BadScope → ¬ IsPath text.now }
 {
-    let Ok(path) = str::from_utf8(text) else {
-        return Err(ScopeError::BadScope);
-    };
-    if Path::from_text(alloc, text)?.is_none() {
+    if !Path::is_text(text) {
         return Err(ScopeError::BadScope);
     }
-    Ok(String::from_str(alloc, path)?)
+    match str::from_utf8(text) {
+        Ok(path) => Ok(String::from_str(alloc, path)?),
+        Err(_) => Err(ScopeError::BadScope),
+    }
 }
 
 /// The set of the methods that are named, none twice.

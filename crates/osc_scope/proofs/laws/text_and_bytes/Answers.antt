@@ -6,4 +6,6 @@ pub returns-clause-bytes : goal.returns-clause-bytes
 returns-clause-bytes c = λ text entries s short. spelled text entries c.what_is_written.ensures.spells s short
 
 pub returns-clause-scope : goal.returns-clause-scope
-returns-clause-scope c = λ text entries s. same_scope entries s.lawful
+returns-clause-scope c = λ text entries s.
+    let order = c.permissions_are_ordered.ensures in
+    same_scope order.total order.exact order.same entries s.lawful

@@ -1,15 +1,20 @@
-use Rattle.std.proofs.Common.{sym, ap, ◌∙◌}
+use Rattle.std.proofs.Common.{[], ◌∷◌, ◌++◌, map, sym, ap, ◌∙◌}
 use Rattle.std.specs.FinSet as set
-use Rattle.osc_model.proofs.Orders.{permissions_total, permissions_exact}
-use Rattle.osc_scope.proofs.Sets.{insert_present}
+use Rattle.osc_scope.specs.Entries.{scope_of}
+use Rattle.osc_scope.specs.Reading.{entry_with}
+use Rattle.osc_scope.proofs.Sets.{insert_present, scope_push}
 use Rattle.osc_scope.proofs.scope.Scope.allow.Goals as goal
 
--- one more in the list is one more in the set
+-- one such entry more is one more in the set
 pub returns-in_ok-push-clause-ok : goal.returns-in_ok-push-clause-ok
 returns-in_ok-push-clause-ok c =
-    ap set.from_list c.in_ok-push.ensures.items
-    ∙ set.from_list_push permissions_total permissions_exact c.self.inside.permissions.items (c.args.path, c.args.method)
+    let order = c.permissions_are_ordered.ensures in
+    let items = c.self.inside.entries.items in
+    ap (λ es. scope_of (map entry_with es)) (c.in_ok-push.ensures.items ∙ ap (λ bit. items ++ (c.args.path, bit) ∷ []) c.bit_of.ensures)
+    ∙ scope_push order.total order.exact items c.args.path c.args.method
     ∙ ap (λ s. set.insert s (c.args.path, c.args.method)) c.self.view_is
 
 pub returns-else-not-allows-clause-ok : goal.returns-else-not-allows-clause-ok
-returns-else-not-allows-clause-ok c = sym (insert_present c.args.self.now (c.args.path, c.args.method) (sym c.allows.ensures ∙ c.if-not-allows.false))
+returns-else-not-allows-clause-ok c =
+    let order = c.permissions_are_ordered.ensures in
+    sym (insert_present order.total order.exact c.args.self.now (c.args.path, c.args.method) (sym c.allows.ensures ∙ c.if-not-allows.false))
