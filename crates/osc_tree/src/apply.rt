@@ -34,6 +34,7 @@ impl Tree {
         let Some(path) = &request.path else {
             return Ok(Reply::bare(alloc, Code::FORBIDDEN));
         };
+        osc_model::laws::what_passes_can_be_written();
         match refusal(self, scope, path, request) {
             Some(code) => Ok(Reply::bare(alloc, code)),
             None => self.perform(alloc, path, request),
@@ -95,7 +96,7 @@ impl Tree {
         } else {
             Code::CREATED
         };
-        self.put(path.clone()?, resource)?;
+        self.put(alloc, path.clone()?, resource)?;
         Ok(Reply::bare(alloc, code))
     }
 }

@@ -11,10 +11,11 @@ use osc_model::{Bytes, Code, Method, Path, Request, Resource};
 use osc_scope::{Scope, Verdict};
 
 /// The code of the first check that fails, or none. Takes no memory.
-#[tactic(auto, using(osc_model::proofs::Accepted::names_from_allows), unfolding(osc_model::specs::Checks::refusal))]
+#[tactic(auto, unfolding(osc_model::specs::Checks::refusal))]
 pub fn refusal(tree: &Tree, scope: &Scope, path: &Path, request: &Request) -> Option<Code>
     ensures { result ≡ refuses tree.now scope.now path.now request.now }
 {
+    osc_model::laws::allowed_is_named();
     match scope.verdict(Some(path), request.code) {
         Verdict::NoPath => return Some(Code::FORBIDDEN),
         Verdict::NoMethod => return Some(Code::METHOD_NOT_ALLOWED),

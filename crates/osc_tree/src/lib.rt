@@ -8,6 +8,3 @@ mod tree;
 
 pub use tags::etag;
 pub use tree::{LONGEST_PAYLOAD, MOST_RESOURCES, Tree};
-
-#[cfg(test)]
-mod tests;

@@ -3,7 +3,7 @@ ghost use Rattle.std.specs.Prelude.{◌≡◌, ◌≤◌, ◌<◌, ◌==◌, fal
 ghost use Rattle.std.specs.FinMap as map;
 ghost use Rattle.osc_model.specs.Tree.{IsWithinLimits, most_resources, longest_payload};
 
-use osc_model::{Path, Resource};
+use osc_model::{Path, Resource, laws};
 use std::alloc::{AllocError, Global};
 use std::collections::BTreeMap;
 use std::collections::btree_map::Iter;
@@ -40,6 +40,7 @@ impl Tree {
     pub fn new(alloc: Global) -> Self
         ensures { result ≡ map.empty }
     {
+        laws::trees_stay_within_limits();
         Tree {
             resources: BTreeMap::new(alloc),
         }
@@ -50,6 +51,7 @@ impl Tree {
         ensures found { option_copied result ≡ map.get self.now path.now }
         ensures limits { IsWithinLimits self.now }
     {
+        laws::paths_are_ordered();
         self.resources.get(path)
     }
 
@@ -58,6 +60,7 @@ impl Tree {
         ensures len { result ≡ map.len self.now }
         ensures limits { IsWithinLimits self.now }
     {
+        laws::paths_are_ordered();
         self.resources.len()
     }
 
@@ -77,12 +80,14 @@ impl Tree {
 
     /// Sets what the path has. The caller knows that the payload has at most `LONGEST_PAYLOAD` bytes, and that the path
     /// has something (`get`) or the tree is not full (`is_full`). Without memory the tree stays as it was.
-    pub fn put(&mut self, path: Path, resource: Resource) -> Result<(), AllocError>
+    pub fn put(&mut self, _alloc: Global, path: Path, resource: Resource) -> Result<(), AllocError>
         requires short { length resource.payload ≤ longest_payload }
         requires room { map.contains_key self.old path ≡ false → map.len self.old < most_resources }
         ensures ok { OnOk result (self.new ≡ map.insert self.old path resource) }
         ensures err { OnErr result (self.new ≡ self.old) }
     {
+        laws::paths_are_ordered();
+        laws::trees_stay_within_limits();
         self.resources.insert(path, resource)?;
         Ok(())
     }
@@ -91,6 +96,8 @@ impl Tree {
     pub(crate) fn remove(&mut self, path: &Path)
         ensures { self.new ≡ map.remove self.old path.now }
     {
+        laws::paths_are_ordered();
+        laws::trees_stay_within_limits();
         self.resources.remove(path);
     }
 
@@ -98,11 +105,12 @@ impl Tree {
     pub fn iter(&self) -> Iter<'_, Path, Resource>
         ensures { result ≡ map.entries self.now }
     {
+        laws::paths_are_ordered();
         self.resources.iter()
     }
 
     /// Another tree of the same resources. Without memory an `AllocError`.
-    pub fn copy(&self) -> Result<Tree, AllocError>
+    pub fn copy(&self, _alloc: Global) -> Result<Tree, AllocError>
         ensures { IfOk result (λ copy. copy ≡ self.now) }
     {
         Ok(Tree {
