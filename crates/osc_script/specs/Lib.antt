@@ -1,4 +1,6 @@
 pub mod Words
+pub mod Node
 pub mod Line
 pub mod Script
 pub mod Reading
+pub mod Place

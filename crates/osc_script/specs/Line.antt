@@ -4,6 +4,7 @@ use Rattle.std.specs.List.{list_any}
 use Rattle.std.specs.Str.{IsUtf8, bytes_eq}
 use Rattle.osc_model.specs.Path.{IsPath}
 use Rattle.osc_model.specs.Tree.{longest_payload, most_resources}
+use Rattle.osc_script.specs.Node.{name_of}
 use Rattle.osc_script.specs.Words.{words_of, SpellsNumber, SpellsFormat, SpellsBytes}
 use Rattle.osc_script.specs.declared.line.Line.{Line}
 use Rattle.osc_script.specs.declared.line.Line.TheVariants.{Skipped, Put, Open, At, Inject}
@@ -21,9 +22,9 @@ Say words (Put path resource) = (format bytes : List ℕ) × (words ≡ codes "p
 -- open PATH: a GET on the path needs no protection
 Say words (Open path) = (words ≡ codes "open" ∷ path ∷ []) × IsPath path
 -- at MS: the moment from here on
-Say words (At moment) = (number : List ℕ) × (words ≡ codes "at" ∷ number ∷ []) × SpellsNumber number moment.ms × (moment.ms < 2 ^ 63)
--- inject x s BYTES: a datagram of these bytes from the stranger to the server
-Say words (Inject bytes) = (spelled : List ℕ) × (words ≡ codes "inject" ∷ codes "x" ∷ codes "s" ∷ spelled ∷ []) × SpellsBytes spelled bytes
+Say words (At moment) = (number : List ℕ) × (words ≡ codes "at" ∷ number ∷ []) × SpellsNumber number moment.ms
+-- inject FROM TO BYTES: a datagram of these bytes from a node to a node
+Say words (Inject from to bytes) = (spelled : List ℕ) × (words ≡ codes "inject" ∷ name_of from ∷ name_of to ∷ spelled ∷ []) × SpellsBytes spelled bytes
 
 -- a line of UTF-8: it is skipped, or its words say this
 abbrev pub Says : List ℕ → Line → Type 0
@@ -32,7 +33,7 @@ Says text line = IsUtf8 text × ((IsSkipped text × (line ≡ Skipped)) ⊎ (¬ 
 -- ---- where a line may stand, behind those above it, the first of them first
 
 abbrev pub is_event : Line → Bool
-is_event (Inject bytes) = true
+is_event (Inject from to bytes) = true
 is_event line = false
 
 abbrev pub puts : List ℕ → Line → Bool
@@ -55,7 +56,7 @@ MayFollow above Skipped = Unit {0}
 MayFollow above (Put path resource) = (list_any is_event above ≡ false) × (list_any (puts path) above ≡ false) × (count_by is_put above < most_resources)
 MayFollow above (Open path) = list_any is_event above ≡ false
 MayFollow above (At moment) = moment_after 0 above ≤ moment.ms
-MayFollow above (Inject bytes) = Unit {0}
+MayFollow above (Inject from to bytes) = Unit {0}
 
 -- the text of a line, with the lines above it, stands for this
 abbrev pub StandsFor : List Line → List ℕ → Line → Type 0

@@ -1,12 +1,17 @@
 -- Reading a line from left to right. No public contract rests on this file.
-use Rattle.std.specs.Prelude.{◌≡◌, ℕ, ◌<◌, ◌^◌, ◌==◌, ◌&&◌, nat_lt, nat_le, Bool, if◌then◌else◌, List, [], ◌∷◌, ◌++◌, length, slice_index, replicate, codes, Option, Some, None, Result, Ok, Err}
+use Rattle.std.specs.Prelude.{◌≡◌, ℕ, ◌<◌, ◌^◌, ◌==◌, ◌&&◌, nat_lt, nat_le, Bool, true, false, refl, if◌then◌else◌, List, [], ◌∷◌, ◌++◌, length, slice_index, replicate, codes, Option, Some, None, Result, Ok, Err}
 use Rattle.std.specs.List.{slice_split}
 use Rattle.std.specs.Str.{bytes_eq, all_ascii_digits}
 use Rattle.std.specs.Str.Parse.{digits_value}
+use Rattle.std.proofs.lemmas.Bool.{ltb-true}
 use Rattle.osc_model.specs.Path.{IsPath}
 use Rattle.osc_model.specs.Tree.{longest_payload}
+use Rattle.osc_model.specs.declared.node.Moment.{Moment}
+use Rattle.osc_script.specs.Node.{name_of}
 use Rattle.osc_script.specs.declared.line.Line.{Line}
 use Rattle.osc_script.specs.declared.line.Line.TheVariants.{Put, Open, At, Inject}
+use Rattle.osc_script.specs.declared.node.Node.{Node}
+use Rattle.osc_script.specs.declared.node.Node.TheVariants.{Server, Stranger}
 use Rattle.hex.specs.Hex.{decode_of}
 use Rattle.hex.specs.declared.error.FromHexError.{FromHexError}
 
@@ -64,6 +69,9 @@ parts_in (part ∷ parts) = do
 unfoldable pub bytes_in : List ℕ → Option (List ℕ)
 bytes_in word = if bytes_eq word (codes "-") then Some [] else parts_in (slice_split (λ b. b == 43) word)
 
+unfoldable pub node_in : List ℕ → Option Node
+node_in word = if bytes_eq word (name_of Server) then Some Server else if bytes_eq word (name_of Stranger) then Some Stranger else None
+
 -- ---- lines
 
 abbrev pub with_one : (List ℕ → Option Line) → List (List ℕ) → Option Line
@@ -81,15 +89,26 @@ put_in path format bytes = do
   payload ← bytes_in bytes
   if nat_le (length payload) longest_payload then Some (Put path (record { format = format; payload = payload })) else None
 
+-- the moment of so many milliseconds, by the test that they are few enough
+abbrev pub moment_if : (ms : ℕ) (few : Bool) → nat_lt ms (2 ^ 63) ≡ few → Option Moment
+moment_if ms true early = Some (record { ms = ms; early = ltb-true ms (2 ^ 63) early })
+moment_if ms false early = None
+
+abbrev pub moment_in : ℕ → Option Moment
+moment_in ms = moment_if ms (nat_lt ms (2 ^ 63)) refl
+
 unfoldable pub at_in : List ℕ → Option Line
 at_in number = do
-  moment ← number_in number
-  if nat_lt moment (2 ^ 63) then Some (At (record { ms = moment })) else None
+  ms ← number_in number
+  moment ← moment_in ms
+  Some (At moment)
 
 unfoldable pub inject_in : List ℕ → List ℕ → List ℕ → Option Line
-inject_in from to spelled = if bytes_eq from (codes "x") && bytes_eq to (codes "s") then (do
+inject_in from to spelled = do
+  from ← node_in from
+  to ← node_in to
   bytes ← bytes_in spelled
-  Some (Inject bytes)) else None
+  Some (Inject from to bytes)
 
 unfoldable pub line_in : List (List ℕ) → Option Line
 line_in [] = None

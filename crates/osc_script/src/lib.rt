@@ -3,6 +3,7 @@
 
 mod laws;
 mod line;
+mod node;
 mod place;
 mod read;
 mod say;
@@ -12,6 +13,7 @@ mod words;
 
 pub use laws::one_script;
 pub use line::{Line, Script};
+pub use node::Node;
 pub use read::{ScriptError, read_script};
 
 #[cfg(test)]

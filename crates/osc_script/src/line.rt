@@ -2,6 +2,7 @@
 
 ghost use Rattle.std.specs.Prelude.{◌≡◌};
 
+use crate::node::Node;
 use osc_model::{Bytes, Moment, Path, Resource};
 use std::marker::Model;
 
@@ -18,8 +19,8 @@ pub enum Line {
     Open { path: Path },
     /// `at MS`: the moment from here on, in milliseconds. It doesn't fall.
     At { moment: Moment },
-    /// `inject x s BYTES`: a datagram of these bytes comes from the stranger to the server.
-    Inject { bytes: Bytes },
+    /// `inject FROM TO BYTES`: a datagram of these bytes comes from a node to a node, which may be the same.
+    Inject { from: Node, to: Node, bytes: Bytes },
 }
 
 /// The lines of a script, which contracts see as the list of them.

@@ -1,13 +1,14 @@
 //! A script, read whole before its first event.
 
-ghost use Rattle.std.specs.Prelude.{◌≡◌, ℕ, [], IfOk, map};
+ghost use Rattle.std.specs.Prelude.{◌≡◌, ℕ, [], ◌∷◌, ◌++◌, IfOk, IfSome, map};
 ghost use Rattle.osc_script.specs.Line.{StandsFor};
 ghost use Rattle.osc_script.specs.Script.{IsScript, IsFirstBad, IsFirstBadIn, without_empty_last, StandFor};
+ghost use Rattle.osc_script.specs.Place.{IsPlace};
 ghost use Rattle.osc_script.specs.Reading.{Reads};
 ghost use Rattle.osc_script.specs.declared.read.ScriptError.TheVariants.{OutOfMemory};
 
 use crate::line::{Line, Script};
-use crate::place::may_follow;
+use crate::place::Place;
 use crate::split::parts;
 use crate::text;
 use std::alloc::{AllocError, AllocFailed, Global};
@@ -54,8 +55,9 @@ fn read_lines(alloc: Global, texts: &[&[u8]]) -> Result<Vec<Line>, ScriptError>
     ensures bad { (n : ℕ) → result ≡ Err (ScriptError.BadLine n) → IsFirstBadIn (map (λ text. text.now) texts.now) n }
 {
     let mut lines = Vec::new(alloc);
+    let mut place = Place::FIRST;
     for text in texts {
-        let Some(line) = next_line(alloc, &lines, text)? else {
+        let Some(line) = next_line(alloc, &mut place, &lines, text)? else {
             return Err(ScriptError::BadLine(lines.len() as u64 + 1));
         };
         lines.push(line)?;
@@ -73,15 +75,23 @@ fn without_empty_last<'a, 'b>(parts: &'b [&'a [u8]]) -> &'b [&'a [u8]]
     }
 }
 
-// What the text stands for, behind the lines above it.
-fn next_line(alloc: Global, above: &[Line], text: &[u8]) -> Result<Option<Line>, AllocError>
-    ensures { IfOk result (λ found. Reads (StandsFor above.now text.now) found) }
+// What the text stands for, behind the lines above it, whose place goes on where it stands for something.
+fn next_line(
+    alloc: Global,
+    place: &mut Place,
+    above: &[Line],
+    text: &[u8],
+) -> Result<Option<Line>, AllocError>
+    requires { IsPlace above.now place.old }
+    ensures found { IfOk result (λ found. Reads (StandsFor above.now text.now) found) }
+    ensures place { IfOk result (λ found. IfSome found (λ line. IsPlace (above.now ++ line ∷ []) place.new)) }
 {
     let Some(line) = text::line(alloc, text)? else {
         return Ok(None);
     };
-    if !may_follow(above, &line) {
+    let Some(next) = place.behind(above, &line) else {
         return Ok(None);
-    }
+    };
+    *place = next;
     Ok(Some(line))
 }

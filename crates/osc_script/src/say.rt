@@ -2,10 +2,10 @@
 
 ghost use Rattle.std.specs.Prelude.{◌≡◌, IfOk, map, Some};
 ghost use Rattle.osc_script.specs.declared.line.Line.TheVariants.{Open};
-ghost use Rattle.osc_script.specs.Reading.{with_one, with_three, put_in, at_in, inject_in, line_in, Gives};
+ghost use Rattle.osc_script.specs.Reading.{with_one, with_three, put_in, at_in, moment_in, inject_in, line_in, Gives};
 
 use crate::line::Line;
-use crate::words::{bytes, format, number};
+use crate::words::{bytes, format, node, number};
 use osc_model::{Moment, Path, Resource};
 use std::alloc::{AllocError, Global};
 
@@ -66,6 +66,13 @@ fn open(alloc: Global, args: &[&str]) -> Result<Option<Line>, AllocError>
     Ok(Some(Line::Open { path }))
 }
 
+// The moment of so many milliseconds.
+fn moment_of(ms: u64) -> Option<Moment>
+    ensures { result ≡ moment_in ms }
+{
+    Moment::new(ms)
+}
+
 // MS
 #[tactic(auto, unfolding(crate::specs::Reading::at_in))]
 fn at(args: &[&str]) -> Option<Line>
@@ -74,13 +81,8 @@ fn at(args: &[&str]) -> Option<Line>
     let [moment] = args else {
         return None;
     };
-    let moment = number(moment.as_bytes())?;
-    if moment >= 1 << 63 {
-        return None;
-    }
-    Some(Line::At {
-        moment: Moment { ms: moment },
-    })
+    let moment = moment_of(number(moment.as_bytes())?)?;
+    Some(Line::At { moment })
 }
 
 // FROM TO BYTES
@@ -91,11 +93,14 @@ fn inject(alloc: Global, args: &[&str]) -> Result<Option<Line>, AllocError>
     let [from, to, payload] = args else {
         return Ok(None);
     };
-    if *from != "x" || *to != "s" {
+    let Some(from) = node(from) else {
         return Ok(None);
-    }
+    };
+    let Some(to) = node(to) else {
+        return Ok(None);
+    };
     let Some(bytes) = bytes(alloc, payload.as_bytes())? else {
         return Ok(None);
     };
-    Ok(Some(Line::Inject { bytes }))
+    Ok(Some(Line::Inject { from, to, bytes }))
 }

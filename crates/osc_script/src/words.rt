@@ -1,8 +1,9 @@
 //! Single words of a script.
 
 ghost use Rattle.std.specs.Prelude.{◌≡◌, ◌≢◌, ◌==◌, slice_index, IfOk, ◌∷◌, [], map, option_map};
-ghost use Rattle.osc_script.specs.Reading.{number_in, short_number_in, format_in, hex_in, repeated_in, part_in, parts_in, bytes_in};
+ghost use Rattle.osc_script.specs.Reading.{number_in, short_number_in, format_in, node_in, hex_in, repeated_in, part_in, parts_in, bytes_in};
 
+use crate::node::Node;
 use crate::split::parts;
 use hex::FromHexError;
 use osc_model::Bytes;
@@ -43,6 +44,20 @@ pub(crate) fn format(word: &[u8]) -> Option<Option<u16>>
         return Some(None);
     }
     Some(Some(short_number(word)?))
+}
+
+/// A node's name.
+#[tactic(auto, unfolding(crate::specs::Reading::node_in))]
+pub(crate) fn node(word: &str) -> Option<Node>
+    ensures { result ≡ node_in word.now }
+{
+    if word == Node::Server.name() {
+        Some(Node::Server)
+    } else if word == Node::Stranger.name() {
+        Some(Node::Stranger)
+    } else {
+        None
+    }
 }
 
 /// `-` for no bytes, or parts joined by `+`.

@@ -1,7 +1,11 @@
 use Rattle.std.proofs.Common.{◌≡◌, [], map, take}
+use Rattle.osc_script.specs.Place.{IsPlace}
 use Rattle.osc_script.specs.Script.{StandFor}
 use Rattle.osc_script.proofs.read.read_lines.Given as goal
 
--- the lines so far are what the texts so far stand for
+-- the lines so far are what the texts so far stand for, and what is kept is so of them
 abbrev pub invariant-loop-text : goal.invariant-loop-text
-invariant-loop-text l = StandFor [] (map (λ text. text.now) (take l.text-index l.texts)) l.lines.items
+invariant-loop-text l = record {
+  lines : StandFor [] (map (λ text. text.now) (take l.text-index l.texts)) l.lines.items;
+  place : IsPlace l.lines.items l.place;
+}

@@ -1,8 +1,8 @@
--- The nodes of a simulation: their names and their addresses.
+-- The nodes that a script names: their names and their addresses.
 use Rattle.std.specs.Prelude.{ℕ, List, [], ◌∷◌, codes}
 use Rattle.osc_model.specs.declared.node.Peer.{Peer}
-use Rattle.osc_programs.specs.declared.node.Node.{Node}
-use Rattle.osc_programs.specs.declared.node.Node.TheVariants.{Server, Stranger}
+use Rattle.osc_script.specs.declared.node.Node.{Node}
+use Rattle.osc_script.specs.declared.node.Node.TheVariants.{Server, Stranger}
 
 abbrev pub name_of : Node → List ℕ
 name_of Server = codes "s"

@@ -1,6 +1,6 @@
-//! The nodes of a simulation.
+//! The nodes that a script names.
 ghost use Rattle.std.specs.Prelude.{◌≡◌, IfSome, IfNone};
-ghost use Rattle.osc_programs.specs.Node as spec;
+ghost use Rattle.osc_script.specs.Node as spec;
 
 use osc_model::Peer;
 

@@ -1,0 +1,12 @@
+-- What is kept of the lines above while a script is read. No public contract rests on this file.
+use Rattle.std.specs.Prelude.{◌≡◌, List, count_by}
+use Rattle.std.specs.List.{list_any}
+use Rattle.osc_script.specs.Line.{is_event, is_put, moment_after}
+use Rattle.osc_script.specs.declared.line.Line.{Line}
+use Rattle.osc_script.specs.declared.place.Place.{Place}
+
+-- what is kept is so of the lines above
+pub record IsPlace (above : List Line) (place : Place) : Type 0 where
+  pub event : place.has_event ≡ list_any is_event above
+  pub moment : place.moment.ms ≡ moment_after 0 above
+  pub puts : place.puts ≡ count_by is_put above
