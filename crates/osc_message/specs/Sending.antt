@@ -1,10 +1,12 @@
 -- Messages that every node sends (RFC 7252 sections 4.2, 4.3 and 5.2).
-use Rattle.std.specs.Prelude.{ℕ, Bool, true, false, if◌then◌else◌, List, [], Option, Some, None}
+use Rattle.std.specs.Prelude.{ℕ, Bool, true, false, not, if◌then◌else◌, List, [], Option, Some, None}
+use Rattle.osc_model.specs.Code.{code}
 use Rattle.osc_model.specs.declared.node.Draw.{Draw}
 use Rattle.osc_coap.specs.declared.kind.Kind.{Kind}
 use Rattle.osc_coap.specs.declared.kind.Kind.TheVariants.{Confirmable, NonConfirmable, Acknowledgement, Reset as ResetKind}
 use Rattle.osc_coap.specs.Message.{Message}
 use Rattle.osc_coap.specs.Building.{bare}
+use Rattle.osc_message.specs.Heard.{is_request}
 use Rattle.osc_message.specs.Endpoint.{EndpointState, own_id, id_taken}
 
 abbrev pub is_confirmable : Kind → Bool
@@ -26,6 +28,13 @@ rejection message = if is_confirmable message.kind then Some (reset message.id) 
 -- a response that counts is acknowledged, where it is confirmable (section 5.2.2)
 abbrev pub acknowledgement : Message → Option Message
 acknowledgement message = if is_confirmable message.kind then Some (empty_acknowledgement message.id) else None
+
+-- A message with a critical option that the node doesn't recognise (section 5.4.1): a confirmable request is answered by 4.02
+-- (Bad Option) in its acknowledgement, a confirmable response is rejected, and all else is ignored.
+abbrev pub bad_option : Message → Option Message
+bad_option message =
+    if not (is_request message.code) then rejection message
+    else if is_confirmable message.kind then Some (bare Acknowledgement (code 4 2).0 message.id message.token) else None
 
 -- ---- replies
 

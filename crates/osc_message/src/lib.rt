@@ -1,7 +1,8 @@
 //! The message layer of CoAP (RFC 7252 section 4): what is new, what was heard before, and what goes out when.
 //!
 //! An `Endpoint` says what a datagram is and changes nothing; the node decides, and settles it. Confirmable messages are
-//! retransmitted until they are acknowledged or given up. Time is handed in.
+//! retransmitted until they are acknowledged or given up. Time is handed in. What every node sends stands here, and the room in
+//! which it is sent, taken before the node's first change.
 #![tactic(auto)]
 
 mod confirmable;
@@ -25,7 +26,10 @@ pub use handling::Handling;
 pub use heard::{Heard, is_request};
 pub use laws::{one_reception, retransmissions, ticks, within_limits};
 pub use name::{MessageName, MessageNames};
-pub use outbox::{Buffer, Outbox};
+pub use outbox::{Buffer, Outbox, ReplyRoom};
 pub use received::{Received, receive};
-pub use sending::{acknowledgement, empty_acknowledgement, is_confirmable, rejection, reset};
+pub use sending::{
+    acknowledgement, bad_option, empty_acknowledgement, is_confirmable, rejection, reply_kind,
+    reset,
+};
 pub use tick::Ticked;

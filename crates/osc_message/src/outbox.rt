@@ -39,7 +39,8 @@ impl Buffer {
         ensures { result ≡ bytes.now }
     {
         let Buffer {
-            bytes: mut room, ..
+            bytes: mut room,
+            ..
         } = self;
         room.extend_from_slice(bytes).unwrap();
         Bytes::from_vec(room)
@@ -90,5 +91,52 @@ impl Outbox {
     {
         let Outbox { sent, .. } = self;
         Datagrams::from_vec(sent)
+    }
+}
+
+/// Room for a reply: a place, and its bytes twice, to be sent and to be noted for a repeat. Contracts see how many bytes it is
+/// for.
+#[derive(Drop)]
+pub struct ReplyRoom {
+    outbox: Outbox,
+    sent: Buffer,
+    noted: Buffer,
+}
+
+impl Model for ReplyRoom {
+    ghost use Rattle.std.specs.Prelude.{ℕ, ◌≡◌, []};
+
+    ghost Value = { ℕ };
+
+    ghost view = { λ r. r.sent };
+
+    ghost invariant = { λ r. (r.outbox ≡ record { sent = []; places = 1 }) × (r.noted ≡ r.sent) };
+}
+
+impl ReplyRoom {
+    /// Room for a reply of so many bytes.
+    pub fn new(alloc: Global, size: usize) -> Result<ReplyRoom, AllocError>
+        ensures { IfOk result (λ room. room ≡ size) }
+    {
+        Ok(ReplyRoom {
+            outbox: Outbox::new(alloc, 1)?,
+            sent: Buffer::new(alloc, size)?,
+            noted: Buffer::new(alloc, size)?,
+        })
+    }
+
+    /// The reply's datagram, and its bytes to be noted; takes no memory.
+    pub fn fill(self, to: Peer, bytes: &[u8]) -> (Datagrams, Bytes)
+        requires { length bytes.now ≤ self }
+        ensures sent { result.0 ≡ (record { to = to; bytes = bytes.now }) ∷ [] }
+        ensures noted { result.1 ≡ bytes.now }
+    {
+        let ReplyRoom {
+            mut outbox,
+            sent,
+            noted,
+        } = self;
+        outbox.send(to, sent.fill(bytes));
+        (outbox.into_datagrams(), noted.fill(bytes))
     }
 }

@@ -1,8 +1,10 @@
 //! Messages that every node sends (RFC 7252 sections 4.2, 4.3 and 5.2).
-ghost use Rattle.std.specs.Prelude.{◌≡◌, ◌<◌};
-ghost use Rattle.osc_message.specs.Sending.{is_confirmable as is_confirmable_of, reset as reset_message, empty_acknowledgement as empty_acknowledgement_of, rejection as rejection_of, acknowledgement as acknowledgement_of, reply_kind as reply_kind_of};
+ghost use Rattle.std.specs.Prelude.{◌≡◌};
+ghost use Rattle.osc_message.specs.Sending.{is_confirmable as is_confirmable_of, reset as reset_message, empty_acknowledgement as empty_acknowledgement_of, rejection as rejection_of, acknowledgement as acknowledgement_of, bad_option as bad_option_of, reply_kind as reply_kind_of};
 
+use crate::heard::is_request;
 use osc_coap::{Kind, MessageBuilder, MessageRef};
+use osc_model::Code;
 
 /// Whether the kind is that of a confirmable message.
 pub fn is_confirmable(kind: Kind) -> bool
@@ -50,8 +52,23 @@ pub fn acknowledgement(message: &MessageRef<'_>) -> Option<MessageBuilder>
     }
 }
 
+/// What answers a message with a critical option that the node doesn't recognise: 4.02 (Bad Option) in the acknowledgement of a
+/// confirmable request, a Reset for a confirmable response, else nothing.
+pub fn bad_option(message: &MessageRef<'_>) -> Option<MessageBuilder>
+    ensures { result ≡ bad_option_of message.now }
+{
+    if !is_request(message.code()) {
+        return rejection(message);
+    }
+    if !is_confirmable(message.kind()) {
+        return None;
+    }
+    let code = Code::BAD_OPTION.0;
+    Some(MessageBuilder::start(Kind::Acknowledgement, code, message.id(), message.token()))
+}
+
 /// The kind of the message that carries the reply to a request of this kind.
-pub(crate) fn reply_kind(kind: Kind) -> Kind
+pub fn reply_kind(kind: Kind) -> Kind
     ensures { result ≡ reply_kind_of kind }
 {
     if is_confirmable(kind) {

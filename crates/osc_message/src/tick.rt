@@ -46,11 +46,7 @@ fn name_of(message: &Open) -> MessageName
     }
 }
 
-fn add_started(
-    started: &mut MessageNames,
-    message: &Open,
-    due: Due,
-) -> Result<(), AllocError>
+fn add_started(started: &mut MessageNames, message: &Open, due: Due) -> Result<(), AllocError>
     ensures { OnOk result (started.new ≡ started.old ++ option_to_list (started_of (message.now, due))) }
 {
     match (due, message.sent) {
@@ -59,11 +55,7 @@ fn add_started(
     }
 }
 
-fn add_given_up(
-    given_up: &mut MessageNames,
-    message: &Open,
-    due: Due,
-) -> Result<(), AllocError>
+fn add_given_up(given_up: &mut MessageNames, message: &Open, due: Due) -> Result<(), AllocError>
     ensures { OnOk result (given_up.new ≡ given_up.old ++ option_to_list (given_up_of (message.now, due))) }
 {
     match due {

@@ -9,6 +9,7 @@ use Rattle.osc_model.specs.declared.step.Step.{Step}
 use Rattle.osc_script.specs.Script.{IsScript}
 use Rattle.osc_script.specs.declared.line.Line.{Line}
 use Rattle.osc_script.specs.declared.line.Line.TheVariants.{Put, Open, At, Inject}
+use Rattle.osc_message.specs.Endpoint.{fresh}
 use Rattle.osc_message.specs.Received.{Receives}
 use Rattle.osc_message.specs.Heard.{heard}
 use Rattle.osc_message.specs.declared.received.Received.{Received}
@@ -45,7 +46,7 @@ abbrev pub first_server : List Line → State
 first_server lines = record {
   tree = tree_from map.empty lines;
   open_scope = scope_from set.empty lines;
-  endpoint = record { seen = []; sending = []; room = 0 };
+  endpoint = fresh;
   next_id = None;
 }
 

@@ -9,14 +9,13 @@ use Rattle.osc_coap.specs.declared.kind.Kind.{Kind}
 use Rattle.osc_coap.specs.declared.kind.Kind.TheVariants.{Confirmable, NonConfirmable, Acknowledgement, Reset}
 use Rattle.osc_coap.specs.Message.{Message}
 use Rattle.osc_dedup.specs.declared.table.Noted.{Noted}
-use Rattle.osc_dedup.specs.declared.table.TheConstants.{MOST}
-use Rattle.osc_dedup.specs.Table.{Entry, is_alive, is_of, staying, with_note, alive}
+use Rattle.osc_dedup.specs.Table.{most_entries, Entry, is_alive, is_of, staying, with_note, alive}
 use Rattle.osc_model.specs.declared.bytes.Bytes.{Bytes}
 use Rattle.osc_model.specs.declared.node.Moment.{Moment}
 use Rattle.osc_model.specs.declared.node.Peer.{Peer}
 use Rattle.osc_message.specs.declared.handling.Handling.TheVariants.{Answered}
 use Rattle.osc_message.specs.declared.heard.Heard.TheVariants as heard
-use Rattle.osc_message.specs.Endpoint.{EndpointState, noted, acknowledging_by, settled}
+use Rattle.osc_message.specs.Endpoint.{EndpointState, noted, settled}
 use Rattle.osc_message.specs.Heard.{noted_reply}
 use Rattle.osc_server.specs.Parts.{IsMessage, KeepsMessages, SendsTo}
 
@@ -30,29 +29,22 @@ with_note_kept now peer id new seen message kept =
     let others = staying now peer id seen in
     let stay : All IsKept others = All-filter (λ entry. is_alive now entry && not (is_of peer id entry)) IsKept seen kept.noted in
     record {
-      noted = All-push IsKept (drop (length others + 1 - MOST) others) (record { peer = peer; id = id; noted = new })
-          (All-drop IsKept (length others + 1 - MOST) others stay) message;
+      noted = All-push IsKept (drop (length others + 1 - most_entries) others) (record { peer = peer; id = id; noted = new })
+          (All-drop IsKept (length others + 1 - most_entries) others stay) message;
     }
 
-noted_kept : (state : EndpointState) (now : Moment) (peer : Peer) (kind : Kind) (id : ℕ) (reply : Option Bytes) → ForSome reply IsMessage → KeepsMessages state.seen → KeepsMessages (noted state now peer kind id reply).seen
-noted_kept state now peer Confirmable id reply message kept = with_note_kept now peer id _ state.seen message kept
-noted_kept state now peer NonConfirmable id reply message kept = with_note_kept now peer id _ state.seen message kept
-noted_kept state now peer Acknowledgement id reply message kept = kept
-noted_kept state now peer Reset id reply message kept = kept
-
-acknowledging_kept : (state : EndpointState) (peer : Peer) (kind : Kind) (id : ℕ) → KeepsMessages state.seen → KeepsMessages (acknowledging_by state peer kind id).seen
-acknowledging_kept state peer Confirmable id kept = kept
-acknowledging_kept state peer NonConfirmable id kept = kept
-acknowledging_kept state peer Acknowledgement id kept = kept
-acknowledging_kept state peer Reset id kept = kept
+noted_kept : (seen : List Entry) (now : Moment) (peer : Peer) (kind : Kind) (id : ℕ) (reply : Option Bytes) → ForSome reply IsMessage → KeepsMessages seen → KeepsMessages (noted now peer kind id reply seen)
+noted_kept seen now peer Confirmable id reply message kept = with_note_kept now peer id _ seen message kept
+noted_kept seen now peer NonConfirmable id reply message kept = with_note_kept now peer id _ seen message kept
+noted_kept seen now peer Acknowledgement id reply message kept = kept
+noted_kept seen now peer Reset id reply message kept = kept
 
 these : (bytes : Bytes) → IsMessage bytes → ForSome (Some bytes) IsMessage
 these bytes message = λ same e. subst IsMessage (same_Some bytes same e) message
 
 pub answered_kept : (state : EndpointState) (now : Moment) (peer : Peer) (message : Message) (bytes : Bytes) → IsMessage bytes → KeepsMessages state.seen → KeepsMessages (settled state now peer (heard.Message message) (Answered (Some bytes))).seen
 answered_kept state now peer message bytes spelled kept =
-    noted_kept (acknowledging_by state peer message.kind message.id) now peer message.kind message.id (Some bytes) (these bytes spelled)
-    (acknowledging_kept state peer message.kind message.id kept)
+    noted_kept state.seen now peer message.kind message.id (Some bytes) (these bytes spelled) kept
 
 -- ---- what is noted
 

