@@ -482,3 +482,51 @@ keys_none k ps (pair l v more) counted is = absurd (omega arith)
 
 pub keys_done : (k : DataItem) (ps : Pairs) (count : ℕ) (bytes rest : List ℕ) → Keys k ps count bytes rest → count ≡ 0 → false ≡ has_key k ps
 keys_done k ps count bytes rest x none = keys_none k ps x.more (x.counted ∙ none) x.same
+
+-- the major type of an item
+abbrev pub kind : DataItem → ℕ
+kind (unsigned n) = 0
+kind (negative n) = 1
+kind (byte_string content) = 2
+kind (text_string content) = 3
+kind (array ds) = 4
+kind (map ps) = 5
+kind (tag n d) = 6
+kind (bool b) = 7
+kind null = 7
+
+first_kind : (d : DataItem) (t : Token) (more : List Token) → tokens d [] ≡ t ∷ more → t.0 ≡ kind d
+first_kind (unsigned n) t more e = sym (ap (λ (x : Token). x.0) (heads_same (0, n, []) t _ more e))
+first_kind (negative n) t more e = sym (ap (λ (x : Token). x.0) (heads_same (1, n, []) t _ more e))
+first_kind (byte_string content) t more e = sym (ap (λ (x : Token). x.0) (heads_same (2, length content, content) t _ more e))
+first_kind (text_string content) t more e = sym (ap (λ (x : Token). x.0) (heads_same (3, length content, content) t _ more e))
+first_kind (array ds) t more e = sym (ap (λ (x : Token). x.0) (heads_same (4, item_count ds, []) t _ more e))
+first_kind (map ps) t more e = sym (ap (λ (x : Token). x.0) (heads_same (5, pair_count ps, []) t _ more e))
+first_kind (tag n d) t more e = sym (ap (λ (x : Token). x.0) (heads_same (6, n, []) t _ more e))
+first_kind (bool true) t more e = sym (ap (λ (x : Token). x.0) (heads_same (7, 21, []) t _ more e))
+first_kind (bool false) t more e = sym (ap (λ (x : Token). x.0) (heads_same (7, 20, []) t _ more e))
+first_kind null t more e = sym (ap (λ (x : Token). x.0) (heads_same (7, 22, []) t _ more e))
+
+-- the token at the front has the item's major type
+pub token_kind : (bytes : List ℕ) (d : DataItem) (t : Token) (after : List ℕ) → Spells bytes d → token_at bytes ≡ Ok (t, after) → t.0 ≡ kind d
+token_kind bytes d t after s read =
+    let (more, is, rest) = first_of_row bytes (tokens d []) t after (stream d bytes s) read in
+    first_kind d t more is
+
+-- and there is one
+pub token_there : (bytes : List ℕ) (d : DataItem) (e : ReadError) → Spells bytes d → token_at bytes ≡ Err e → ⊥
+token_there bytes d e s refused =
+    let o = opened bytes d s in
+    ok_or_err (o.token, o.inner ++ []) e (sym (o.reads []) ∙ ap token_at (append-nil bytes) ∙ refused)
+
+-- what has the major type 5 is a map
+pub map_of_kind : (d : DataItem) → kind d ≡ 5 → (ps : Pairs) × (d ≡ map ps)
+map_of_kind (map ps) e = (ps, refl)
+map_of_kind (unsigned n) e = absurd (omega arith)
+map_of_kind (negative n) e = absurd (omega arith)
+map_of_kind (byte_string content) e = absurd (omega arith)
+map_of_kind (text_string content) e = absurd (omega arith)
+map_of_kind (array ds) e = absurd (omega arith)
+map_of_kind (tag n d) e = absurd (omega arith)
+map_of_kind (bool b) e = absurd (omega arith)
+map_of_kind null e = absurd (omega arith)

@@ -20,7 +20,7 @@ pub use extents::extent;
 pub use heads::{HEAD_LIMIT, Major, head};
 pub use item::Item;
 pub use reader::read;
-pub use whole::{is_whole, read_whole};
+pub use whole::{is_whole, is_whole_map, read_whole};
 pub use writer::write;
 
 #[cfg(test)]

@@ -1,7 +1,7 @@
 //! Items passed over and compared in their bytes, by their heads and strings. No memory is taken.
 
 ghost use Rattle.std.specs.Prelude.{◌≡◌, ◌↔◌, ◌^◌, ◌≤◌, ◌++◌, List, ℕ, length, IsTrue};
-ghost use Rattle.osc_cbor.specs.Data.{DataItem, Pairs, pair_count};
+ghost use Rattle.osc_cbor.specs.Data.{DataItem, Pairs, pair_count, map as spelled_map};
 ghost use Rattle.osc_cbor.specs.Reading.{Reads};
 ghost use Rattle.osc_cbor.specs.Same as equality;
 ghost use Rattle.osc_cbor.specs.Spelling.{Spells, SpellsPairs};
@@ -9,6 +9,7 @@ ghost use Rattle.osc_cbor.specs.Tokens as spec;
 ghost use Rattle.osc_cbor.specs.Tokens.{token_at, token_behind};
 
 use crate::error::ReadError;
+use crate::heads::Major;
 use crate::reader::{argument_of, string_of};
 
 /// A head with the string behind it: major type, argument and string. Of a simple value the argument is its five bits.
@@ -134,4 +135,15 @@ pub(crate) fn has_spelled_key(key: &[u8], count: u64, bytes: &[u8]) -> bool
         rest = behind_item(behind_key);
     }
     false
+}
+
+/// Whether a spelled item is a map.
+pub(crate) fn is_spelled_map(bytes: &[u8]) -> bool
+    ensures map { (d : DataItem) → Spells bytes.now d → IsTrue result → (pairs : Pairs) × (d ≡ spelled_map pairs) }
+    ensures only { (pairs : Pairs) → Spells bytes.now (spelled_map pairs) → IsTrue result }
+{
+    match token_of(bytes) {
+        Ok((token, _)) => token.0 == Major::Map.number(),
+        Err(_) => false,
+    }
 }

@@ -1,13 +1,14 @@
 //! Bytes that are one whole item.
 
 ghost use Rattle.std.specs.Prelude.{◌≡◌, ◌↔◌, IsTrue, MatchOption, MatchResult};
-ghost use Rattle.osc_cbor.specs.Data.{DataItem};
+ghost use Rattle.osc_cbor.specs.Data.{DataItem, Pairs, map as whole_map};
 ghost use Rattle.osc_cbor.specs.Spelling.{IsWhole};
 ghost use Rattle.osc_cbor.specs.View.{view};
 
 use crate::extents::extent;
 use crate::item::Item;
 use crate::reader::read;
+use crate::tokens::is_spelled_map;
 use std::alloc::{AllocError, Global};
 
 /// Whether the bytes are one item, all of them; takes no memory. The time is that of [`extent`].
@@ -18,6 +19,13 @@ pub fn is_whole(bytes: &[u8]) -> bool
         Ok(count) => count == bytes.len(),
         Err(_) => false,
     }
+}
+
+/// Whether the bytes are one map, all of them; takes no memory. The time is that of [`extent`].
+pub fn is_whole_map(bytes: &[u8]) -> bool
+    ensures { IsTrue result ↔ ((pairs : Pairs) × IsWhole bytes.now (whole_map pairs)) }
+{
+    is_whole(bytes) && is_spelled_map(bytes)
 }
 
 /// The item that the bytes are, all of them, where they are one. An error is want of memory, and comes only where they are
