@@ -32,14 +32,18 @@ is_granted verdict = false
 abbrev pub is_open_get : Scope → Request → Bool
 is_open_get open_scope request = (request.code.0 == 1) && is_granted (verdict_of open_scope request.path request.code)
 
--- A request without protection: a critical option that isn't recognised, or OSCORE's, which isn't understood yet, is
--- refused where the request is confirmable, and ignored otherwise (section 5.4.1); a wish for a proxy (section 5.10.2); a
--- GET that needs no protection; any other request.
+-- an option that isn't understood is refused where the request is confirmable, and the request ignored otherwise
+-- (section 5.4.1)
+abbrev pub refused_option : CoapMessage → Case
+refused_option message = if is_confirmable message.kind then BadOption message else Ignored
+
+-- A request without protection: a critical option that isn't recognised; a wish for a proxy (section 5.10.2); OSCORE's
+-- option, which isn't understood yet; a GET that needs no protection; any other request.
 abbrev pub request_case : Scope → CoapMessage → Case
 request_case open_scope message =
-    if is_some (unrecognised_critical 0 message.options) || has_option 9 message.options
-    then (if is_confirmable message.kind then BadOption message else Ignored)
+    if is_some (unrecognised_critical 0 message.options) then refused_option message
     else if has_option 35 message.options || has_option 39 message.options then ProxyAsked message
+    else if has_option 9 message.options then refused_option message
     else if is_open_get open_scope (request_of message) then OpenGet message (request_of message)
     else Unauthorised message
 

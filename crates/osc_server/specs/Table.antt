@@ -1,7 +1,8 @@
 -- What a server sends in each case, and what it keeps after it.
-use Rattle.std.specs.Prelude.{◌≡◌, ℕ, ◌+◌, ◌*◌, ◌%◌, if◌then◌else◌, List, [], ◌∷◌, Option, Some, None, slice_index}
+use Rattle.std.specs.Prelude.{◌≡◌, ℕ, ◌+◌, ◌%◌, if◌then◌else◌, List, [], ◌∷◌, Option, Some, None}
 use Rattle.osc_model.specs.Apply.{apply, MayReply}
 use Rattle.osc_model.specs.Code.{code}
+use Rattle.osc_model.specs.Draw.{message_id_drawn}
 use Rattle.osc_model.specs.Reply.{bare}
 use Rattle.osc_model.specs.Step.{sends}
 use Rattle.osc_model.specs.declared.bytes.Bytes.{Bytes}
@@ -36,7 +37,7 @@ reset id = header_and_token ResetKind 0 id []
 
 -- the message ID of a server's own message: the first one is drawn, and each later one is the next (section 4.4)
 abbrev pub own_id : Draw → Option ℕ → ℕ
-own_id draw None = 256 * slice_index draw.0 18 + slice_index draw.0 19
+own_id draw None = message_id_drawn draw
 own_id draw (Some id) = id
 
 -- the reply to a confirmable request in its acknowledgement (section 5.2.1), and that to another in a message of the

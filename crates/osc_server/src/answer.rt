@@ -25,7 +25,7 @@ fn own_id(draw: &Draw, next_id: Option<u16>) -> u16
 {
     match next_id {
         Some(id) => id,
-        None => 256 * draw.0[18] as u16 + draw.0[19] as u16,
+        None => draw.message_id(),
     }
 }
 

@@ -63,11 +63,23 @@ fn is_open(open_scope: &Scope, request: &Request) -> bool
         && open_scope.verdict(request.path.as_ref(), request.code) == Verdict::Granted
 }
 
-/// Whether the request has an option that isn't understood.
+/// Whether the request has a critical option that isn't recognised.
 fn has_bad_option(message: &MessageRef<'_>) -> bool
-    ensures { result ≡ (is_some (unrecognised_critical 0 message.now.options) || spec.has_option 9 message.now.options) }
+    ensures { result ≡ is_some (unrecognised_critical 0 message.now.options) }
 {
-    unrecognised_critical(message).is_some() || has_option(message, OSCORE)
+    unrecognised_critical(message).is_some()
+}
+
+/// What is made of a request with an option that isn't understood.
+fn refused_option<'a>(message: MessageRef<'a>) -> Case<'a>
+    ensures case { result ≡ spec.refused_option message.entry }
+    ensures get { AsksGet result }
+{
+    if is_confirmable(message.kind()) {
+        Case::BadOption(message)
+    } else {
+        Case::Ignored
+    }
 }
 
 /// Whether the request wants a proxy.
@@ -108,13 +120,11 @@ fn request_case<'a>(
     ensures needs_memory { OnErr result (spec.IsAnswered (spec.request_case open_scope.now message.entry)) }
 {
     if has_bad_option(&message) {
-        if is_confirmable(message.kind()) {
-            Ok(Case::BadOption(message))
-        } else {
-            Ok(Case::Ignored)
-        }
+        Ok(refused_option(message))
     } else if asks_proxy(&message) {
         Ok(Case::ProxyAsked(message))
+    } else if has_option(&message, OSCORE) {
+        Ok(refused_option(message))
     } else {
         unrefused_case(alloc, open_scope, message)
     }

@@ -8,6 +8,3 @@ mod server;
 
 pub use case::Case;
 pub use server::Server;
-
-#[cfg(test)]
-mod tests;

@@ -1,5 +1,5 @@
 //! The server.
-ghost use Rattle.std.specs.Prelude.{◌≡◌, ◌≤◌, ◌<◌, ◌^◌, [], ◌∷◌, None, length, IfOk, OnErr};
+ghost use Rattle.std.specs.Prelude.{◌≡◌, ◌≤◌, ◌<◌, [], ◌∷◌, None, length, IfOk, OnErr};
 ghost use Rattle.std.specs.List.{All};
 ghost use Rattle.osc_coap.specs.Message.{Message, Spells};
 ghost use Rattle.osc_message.specs.declared.handling.Handling.TheVariants.{Dropped};
@@ -88,7 +88,6 @@ impl Server {
         bytes: &[u8],
         draw: &Draw,
     ) -> Result<Step, AllocError>
-        requires { now.ms < 2 ^ 63 }
         ensures answered { IfOk result (λ step. (received : AnyReceived) × Receives bytes.now received
             × Answers self.old now from draw.now (case_in self.old.open_scope (heard_as self.old.endpoint.seen now from received)) step self.new) }
         ensures one { IfOk result (λ step. length step.out ≤ 1) }
@@ -115,8 +114,7 @@ impl Server {
         draw: &Draw,
         case: Case<'_>,
     ) -> Result<Step, AllocError>
-        requires moment { now.ms < 2 ^ 63 }
-        requires get { AsksGet case }
+        requires { AsksGet case }
         ensures answered { IfOk result (λ step. Answers self.old now from draw.now case.entry step self.new) }
         ensures sent { IfOk result (λ step. SendsTo from step.out) }
         ensures same { (self.new.tree ≡ self.old.tree) × (self.new.open_scope ≡ self.old.open_scope) }
@@ -154,7 +152,6 @@ impl Server {
 
     /// What an empty acknowledgement or Reset names is acknowledged.
     fn settle_empty(&mut self, now: Moment, from: Peer, kind: Kind, id: u16)
-        requires { now.ms < 2 ^ 63 }
         ensures { self.new ≡ record self.old { endpoint = settled self.old.endpoint now from (heard.Empty kind id) Dropped } }
     {
         self.endpoint
@@ -192,8 +189,7 @@ impl Server {
         request: MessageRef<'_>,
         code: Code,
     ) -> Result<Step, AllocError>
-        requires moment { now.ms < 2 ^ 63 }
-        requires code { 0 < code.0 }
+        requires { 0 < code.0 }
         ensures replied { IfOk result (λ step. Replies self.old now from draw.now request.entry (bare code) step self.new) }
         ensures sent { IfOk result (λ step. SendsTo from step.out) }
         ensures err { OnErr result (self.new ≡ self.old) }
@@ -211,8 +207,7 @@ impl Server {
         request: MessageRef<'_>,
         reply: &Reply,
     ) -> Result<Step, AllocError>
-        requires moment { now.ms < 2 ^ 63 }
-        requires short { IsShort reply.now }
+        requires { IsShort reply.now }
         ensures replied { IfOk result (λ step. Replies self.old now from draw.now request.entry reply.now step self.new) }
         ensures sent { IfOk result (λ step. SendsTo from step.out) }
         ensures err { OnErr result (self.new ≡ self.old) }
@@ -237,7 +232,7 @@ fn open_reply(alloc: Global, tree: &mut Tree, open_scope: &Scope, request: &Requ
     ensures short { IsShort result }
     ensures same { tree.new ≡ tree.old }
 {
-    // Tells that what the tree has fits a datagram.
+    // For the proof alone: the call tells that what the tree has fits a datagram.
     let _count = tree.len();
     match tree.apply(alloc, open_scope, request) {
         Ok(reply) => reply,
