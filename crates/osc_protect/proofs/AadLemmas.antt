@@ -29,21 +29,9 @@ pub external_aad_is : (name : ContextName) (number : ℕ)
 unfolding external_aad head
 external_aad_is name number = grind (arith, append_assoc)
 
-pub aad_of_is : (name : ContextName) (number : ℕ) → aad_of name number ≡ enc_structure [] (external_aad name number)
-unfolding aad_of
-aad_of_is name number = refl
-
-beginning_length : (external : List ℕ) → length (enc_structure [] external) ≡ 11 + length (spelling (byte_string external))
-unfolding enc_structure head
-beginning_length external = simp (append-nil, length-append) (omega arith)
-
-pub structure_length : (external : List ℕ) → length external < 24 → length (enc_structure [] external) ≡ 12 + length external
-structure_length external h =
-    let front = beginning_length external in
-    let behind = short_string_length external h in
-    omega (arith, front, behind)
-
-pub aad_length : (name : ContextName) (number : ℕ) → length (external_aad name number) ≤ 19 → length (aad_of name number) ≤ 31
-aad_length name number h =
-    let long : length (enc_structure [] (external_aad name number)) ≡ 12 + length (external_aad name number) = structure_length (external_aad name number) (omega arith) in
-    rw (aad_of_is name number) (omega arith)
+-- the structure that is authenticated, of which the first parts are always the same
+pub aad_of_is : (name : ContextName) (number : ℕ)
+    → aad_of name number
+    ≡ (131 ∷ 104 ∷ 69 ∷ 110 ∷ 99 ∷ 114 ∷ 121 ∷ 112 ∷ 116 ∷ 48 ∷ 64 ∷ []) ++ spelling (byte_string (external_aad name number))
+unfolding aad_of enc_structure head
+aad_of_is name number = simp (append-nil, append_assoc)

@@ -13,7 +13,7 @@ use Rattle.osc_options.specs.declared.table.Class.TheVariants.{U}
 use Rattle.osc_context.specs.Derivation.{key_of}
 use Rattle.osc_context.specs.Nonce.{greatest_number}
 use Rattle.osc_protect.specs.Aad.{aad_of}
-use Rattle.osc_protect.specs.Protection.{HasShortContext, plain_bytes, request_nonce, response_nonce, request_value, response_value, IsProtectedRequest, IsProtectedResponse, Asked, IsRequest, IsFor, Answered, IsResponse}
+use Rattle.osc_protect.specs.Protection.{HasShortContext, plain_bytes, request_nonce, response_nonce, request_value, response_value, IsProtectedRequest, IsProtectedResponse, SealedRequest, IsRequest, IsFor, SealedResponse, IsResponse}
 
 -- ---- option 9
 
@@ -62,26 +62,26 @@ module _ (is_sealing : List ℕ → List ℕ → List ℕ → List ℕ → List 
     (one_text : (key nonce aad text other sealed : List ℕ) → is_sealing key nonce aad text sealed → is_sealing key nonce aad other sealed → text ≡ other)
     (sealed_length : (key nonce aad text sealed : List ℕ) → is_sealing key nonce aad text sealed → length sealed ≡ length text + tag) where
   pub request_says : (name : ContextName) (number : ℕ) (m p : Message) → HasShortContext name → number ≤ greatest_number → IsProtectedRequest is_sealing name number m p
-      → (asked : Asked) × IsRequest p asked × (asked.number ≡ number) × IsFor name asked
-      × ((text : List ℕ) → is_sealing (key_of name Client) (request_nonce name number) (aad_of name number) text asked.sealed → text ≡ plain_bytes m)
+      → (request : SealedRequest) × IsRequest p request × (request.number ≡ number) × IsFor name request
+      × ((text : List ℕ) → is_sealing (key_of name Client) (request_nonce name number) (aad_of name number) text request.sealed → text ≡ plain_bytes m)
   request_says name number m p short fits made =
-      let asked : Asked = record { number = number; kid = name.client_id; kid_context = name.id_context; sealed = made.sealed } in
+      let request : SealedRequest = record { number = number; kid = name.client_id; kid_context = name.id_context; sealed = made.sealed } in
       let some : 0 < length made.sealed = omega (arith, sealed_length _ _ _ _ _ made.is_sealed, plaintext-some (plaintext_of m)) in
-      let says : IsRequest p asked = record {
+      let says : IsRequest p request = record {
         bytes = request_value name number;
         option = ap (λ (q : Message). value 9 q.options) made.whole ∙ value_written m.options (request_value name number);
         spelled = record { lawful = record { number = fits; kid_context = context_fits name.id_context short }; whole = refl };
         payload = ap (λ (q : Message). q.payload) made.whole ∙ payload_written made.sealed some;
       } in
-      (asked, says, refl, record { kid = refl; kid_context = λ bytes same. same }, λ text opens. one_text _ _ _ _ _ _ opens made.is_sealed)
+      (request, says, refl, record { kid = refl; kid_context = λ bytes same. same }, λ text opens. one_text _ _ _ _ _ _ opens made.is_sealed)
 
   pub response_says : (name : ContextName) (number : ℕ) (own : Option ℕ) (m p : Message) → IfSome own (λ n. n ≤ greatest_number) → IsProtectedResponse is_sealing name number own m p
-      → (answered : Answered) × IsResponse p answered × (answered.own ≡ own)
-      × ((text : List ℕ) → is_sealing (key_of name Server) (response_nonce name number own) (aad_of name number) text answered.sealed → text ≡ plain_bytes m)
+      → (response : SealedResponse) × IsResponse p response × (response.own ≡ own)
+      × ((text : List ℕ) → is_sealing (key_of name Server) (response_nonce name number own) (aad_of name number) text response.sealed → text ≡ plain_bytes m)
   response_says name number own m p fits made =
-      let answered : Answered = record { own = own; sealed = made.sealed } in
+      let response : SealedResponse = record { own = own; sealed = made.sealed } in
       let some : 0 < length made.sealed = omega (arith, sealed_length _ _ _ _ _ made.is_sealed, plaintext-some (plaintext_of m)) in
-      let says : IsResponse p answered = record {
+      let says : IsResponse p response = record {
         bytes = response_value own;
         kid_context = None;
         kid = None;
@@ -89,4 +89,4 @@ module _ (is_sealing : List ℕ → List ℕ → List ℕ → List ℕ → List 
         spelled = record { lawful = record { number = fits; kid_context = tt }; whole = refl };
         payload = ap (λ (q : Message). q.payload) made.whole ∙ payload_written made.sealed some;
       } in
-      (answered, says, refl, λ text opens. one_text _ _ _ _ _ _ opens made.is_sealed)
+      (response, says, refl, λ text opens. one_text _ _ _ _ _ _ opens made.is_sealed)

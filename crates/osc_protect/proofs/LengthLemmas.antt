@@ -1,12 +1,14 @@
 -- How long protected messages are: only the length of the payload counts.
-use Rattle.std.proofs.Common.{◌≡◌, ℕ, ◌+◌, ◌≤◌, List, [], ◌∷◌, length, refl, ap, arith}
+use Rattle.std.proofs.Common.{◌≡◌, ℕ, ◌+◌, ◌≤◌, List, [], ◌∷◌, length, None, refl, ap, ◌∙◌, sym, arith, replicate}
+use Rattle.std.proofs.lemmas.List.{length-replicate}
 use Rattle.osc_coap.specs.Message.{Message, spelling}
 use Rattle.osc_coap.specs.Length.{payload_length, spelled_length}
-use Rattle.osc_coap.specs.Building.{payload_of}
+use Rattle.osc_coap.specs.Building.{payload_of, with_payload}
 use Rattle.osc_options.specs.Split.{protected}
 
-abbrev pub Exact : Type 0
-Exact = (m : Message) → length (spelling m) ≡ spelled_length m
+-- by how much a payload makes a message longer
+abbrev pub Grows : Type 0
+Grows = (m : Message) (bytes : List ℕ) → m.payload ≡ None → length (spelling (with_payload m bytes)) ≡ length (spelling m) + payload_length (payload_of bytes)
 
 payload_same : (a b : List ℕ) → length a ≡ length b → payload_length (payload_of a) ≡ payload_length (payload_of b)
 payload_same [] [] e = refl
@@ -18,13 +20,34 @@ payload_least : (a : List ℕ) → length a ≤ payload_length (payload_of a)
 payload_least [] = omega arith
 payload_least (a ∷ more) = omega arith
 
-pub same_length : Exact → (m : Message) (code : ℕ) (value a b : List ℕ) → length a ≡ length b
-    → length (spelling (protected m code value a)) ≡ length (spelling (protected m code value b))
-same_length exact m code value a b e =
-    let p = payload_same a b e in
-    rw (exact (protected m code value a), exact (protected m code value b), p) refl
+-- payloads of one length make messages of one length
+pub same_length : Grows → (m : Message) (a b : List ℕ) → m.payload ≡ None → length a ≡ length b
+    → length (spelling (with_payload m a)) ≡ length (spelling (with_payload m b))
+same_length grows m a b none e = grows m a none ∙ ap (λ n. length (spelling m) + n) (payload_same a b e) ∙ sym (grows m b none)
 
-pub least_length : Exact → (m : Message) (code : ℕ) (value a : List ℕ) → length a ≤ length (spelling (protected m code value a))
-least_length exact m code value a =
-    let p = payload_least a in
-    rw (exact (protected m code value a)) (omega (arith, p))
+pub least_length : Grows → (m : Message) (a : List ℕ) → m.payload ≡ None → length a ≤ length (spelling (with_payload m a))
+least_length grows m a none =
+    let whole = grows m a none in
+    let least = payload_least a in
+    omega arith
+
+-- the payload of a message in whose place another is sent
+pub protected_length : Grows → (m : Message) (code : ℕ) (value a : List ℕ)
+    → length (spelling (protected m code value a)) ≡ length (spelling (protected m code value [])) + payload_length (payload_of a)
+protected_length grows m code value a = grows (protected m code value []) a refl
+
+pub least_protected : Grows → (m : Message) (code : ℕ) (value : List ℕ) (n : ℕ) → n ≤ length (spelling (protected m code value (replicate n 0)))
+least_protected grows m code value n =
+    let zeros = length-replicate {A = ℕ} n 0 in
+    let least = least_length grows (protected m code value []) (replicate n 0) refl in
+    omega (arith, zeros, least)
+
+-- what was built without its payload, and the payload behind it
+pub built_length : Grows → (m : Message) (code : ℕ) (value bytes : List ℕ) (outer : Message) (n size : ℕ)
+    → bytes ≡ spelling outer → outer ≡ protected m code value [] → size ≡ payload_length (payload_of (replicate n 0))
+    → length (spelling (protected m code value (replicate n 0))) ≡ length bytes + size
+built_length grows m code value bytes outer n size spelled is sized =
+    let whole = protected_length grows m code value (replicate n 0) in
+    let a = ap (length {A = ℕ}) spelled in
+    let b = ap (λ (o : Message). length (spelling o)) is in
+    omega (arith, whole, a, b, sized)

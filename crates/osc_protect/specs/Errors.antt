@@ -1,18 +1,14 @@
--- The numbers of the refusals.
+-- The numbers of the refusals, under which programs report them.
 use Rattle.std.specs.Prelude.{ℕ}
-use Rattle.osc_protect.specs.declared.error.RequestError.{RequestError}
-use Rattle.osc_protect.specs.declared.error.RequestError.TheVariants as q
-use Rattle.osc_protect.specs.declared.error.ResponseError.{ResponseError}
-use Rattle.osc_protect.specs.declared.error.ResponseError.TheVariants as r
 
-abbrev pub request_number : RequestError → ℕ
-request_number q.Malformed = 21
-request_number q.NoContext = 22
-request_number q.Replay = 23
-request_number q.NotGenuine = 3
-request_number q.Memory = 9
+-- the OSCORE option or the payload is malformed
+abbrev pub malformed : ℕ
+malformed = 21
 
-abbrev pub response_number : ResponseError → ℕ
-response_number r.Malformed = 21
-response_number r.NotGenuine = 3
-response_number r.Memory = 9
+-- what is sealed is the sealing of no text
+abbrev pub not_genuine : ℕ
+not_genuine = 3
+
+-- the protected message would be longer than a datagram may be
+abbrev pub too_long : ℕ
+too_long = 14

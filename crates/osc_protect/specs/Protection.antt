@@ -57,52 +57,80 @@ response_with own m sealed = protected m 68 (response_value own) sealed
 
 -- `is_sealing key nonce aad text sealed` is the cipher's relation
 module _ (is_sealing : List ℕ → List ℕ → List ℕ → List ℕ → List ℕ → Type 0) where
-  pub record IsProtectedRequest (name : ContextName) (number : ℕ) (m p : Message) : Type 0 where
+  -- a protected request in place of m, in which this text is sealed
+  pub record IsRequestOf (text : List ℕ) (name : ContextName) (number : ℕ) (m p : Message) : Type 0 where
     pub sealed : List ℕ
-    pub is_sealed : is_sealing (key_of name Client) (request_nonce name number) (aad_of name number) (plain_bytes m) sealed
+    pub is_sealed : is_sealing (key_of name Client) (request_nonce name number) (aad_of name number) text sealed
     pub whole : p ≡ request_with name number m sealed
+
+  -- m, protected
+  abbrev pub IsProtectedRequest : ContextName → ℕ → Message → Message → Type 0
+  IsProtectedRequest name number m p = IsRequestOf (plain_bytes m) name number m p
 
   pub record IsProtectedResponse (name : ContextName) (number : ℕ) (own : Option ℕ) (m p : Message) : Type 0 where
     pub sealed : List ℕ
     pub is_sealed : is_sealing (key_of name Server) (response_nonce name number own) (aad_of name number) (plain_bytes m) sealed
     pub whole : p ≡ response_with own m sealed
 
--- how long the protected message is, where a tag has so many bytes: only the length of what is sealed counts
+-- the most bytes of a protected message: those of a datagram (RFC 7252 section 4.6)
+abbrev pub longest_message : ℕ
+longest_message = 1152
+
+-- How long the protected message is, where the sealed text and a tag have so many bytes: only their number counts.
+abbrev pub length_of_request : ℕ → ContextName → ℕ → Message → ℕ
+length_of_request size name number m = length (spelling (request_with name number m (replicate size 0)))
+
 abbrev pub request_length : ℕ → ContextName → ℕ → Message → ℕ
-request_length tag name number m = length (spelling (request_with name number m (replicate (length (plain_bytes m) + tag) 0)))
+request_length tag name number m = length_of_request (length (plain_bytes m) + tag) name number m
 
 abbrev pub response_length : ℕ → Option ℕ → Message → ℕ
 response_length tag own m = length (spelling (response_with own m (replicate (length (plain_bytes m) + tag) 0)))
 
+-- ---- room and rights
+
+-- the memory of one use of a key: for which context, and for how many bytes of text at most
+pub record RoomOf : Type 0 where
+  pub name : ContextName
+  pub most : ℕ
+
+-- a text that isn't longer than a message may be has room
+abbrev pub HasRoomFor : List ℕ → ℕ → Type 0
+HasRoomFor text most = length text ≤ longest_message → length text ≤ most
+
+-- what a reply answers: the request of this number under this context
+pub record ReplyTo : Type 0 where
+  pub context : ContextName
+  pub number : ℕ
+
 -- ---- what a message says, before it is opened
 
 -- what a protected request says: its number, its kid, maybe a kid context, and what is sealed
-pub record Asked : Type 0 where
+pub record SealedRequest : Type 0 where
   pub number : ℕ
   pub kid : List ℕ
   pub kid_context : Option (List ℕ)
   pub sealed : List ℕ
 
-pub record IsRequest (m : Message) (asked : Asked) : Type 0 where
+pub record IsRequest (m : Message) (request : SealedRequest) : Type 0 where
   pub bytes : List ℕ
   pub option : value 9 m.options ≡ Some bytes
-  pub spelled : SpellsValue bytes (record { partial_iv = Some asked.number; kid_context = asked.kid_context; kid = Some asked.kid })
-  pub payload : m.payload ≡ Some asked.sealed
+  pub spelled : SpellsValue bytes (record { partial_iv = Some request.number; kid_context = request.kid_context; kid = Some request.kid })
+  pub payload : m.payload ≡ Some request.sealed
 
 -- it names this context: by the client's ID, and by the id context where it has a kid context
-pub record IsFor (name : ContextName) (asked : Asked) : Type 0 where
-  pub kid : asked.kid ≡ name.client_id
-  pub kid_context : ForSome asked.kid_context (λ bytes. name.id_context ≡ Some bytes)
+pub record IsFor (name : ContextName) (request : SealedRequest) : Type 0 where
+  pub kid : request.kid ≡ name.client_id
+  pub kid_context : ForSome request.kid_context (λ bytes. name.id_context ≡ Some bytes)
 
 -- what a protected response says: maybe a Partial IV of its own, and what is sealed; kid and kid context have no effect
-pub record Answered : Type 0 where
+pub record SealedResponse : Type 0 where
   pub own : Option ℕ
   pub sealed : List ℕ
 
-pub record IsResponse (m : Message) (answered : Answered) : Type 0 where
+pub record IsResponse (m : Message) (response : SealedResponse) : Type 0 where
   pub bytes : List ℕ
   pub kid_context : Option (List ℕ)
   pub kid : Option (List ℕ)
   pub option : value 9 m.options ≡ Some bytes
-  pub spelled : SpellsValue bytes (record { partial_iv = answered.own; kid_context = kid_context; kid = kid })
-  pub payload : m.payload ≡ Some answered.sealed
+  pub spelled : SpellsValue bytes (record { partial_iv = response.own; kid_context = kid_context; kid = kid })
+  pub payload : m.payload ≡ Some response.sealed

@@ -1,33 +1,31 @@
 //! The associated data of a request and of its response (RFC 8613 section 5.4).
 
-ghost use Rattle.std.specs.Prelude.{◌≡◌, ◌+◌, ◌≤◌, ◌++◌, length, IsOk, OnOk, OnErr};
-ghost use Rattle.std.specs.Vec.{vec_len, vec_capacity};
+ghost use Rattle.std.specs.Prelude.{◌≡◌, ◌+◌, ◌≤◌, ◌<◌, ◌++◌, length};
+ghost use Rattle.arrayvec.specs.ArrayVec.{array_vec_len};
 ghost use Rattle.osc_cbor.specs.Data.{byte_string};
 ghost use Rattle.osc_cbor.specs.Spelling.{spelling};
-ghost use Rattle.osc_context.specs.Nonce.{greatest_number};
+ghost use Rattle.osc_context.specs.Nonce.{longest_id, greatest_number};
 ghost use Rattle.osc_protect.specs.Aad.{external_aad as external, aad_of};
 
 use arrayvec::ArrayVec;
 use osc_cbor::{Major, head};
-use osc_context::{ID_LIMIT, partial_iv_of};
-use osc_cose::enc_structure;
+use osc_context::partial_iv_of;
 use osc_model::ContextName;
-use std::alloc::AllocError;
 
-/// The most bytes of the external associated data: 4 for the version and the algorithm, 8 for the ID, 6 for the Partial IV, and
-/// one for no options.
-const EXTERNAL_LIMIT: usize = 19;
-
-/// The most bytes of the associated data: 11 stand before the external one, and its head is one byte.
+/// The most bytes of the associated data: 11 stand before the external one, which has a head of one byte, and at most 19: 4
+/// for the version and the algorithm, 8 for the ID, 6 for the Partial IV, and one for no options.
 pub(crate) const AAD_LENGTH: usize = 31;
 
 /// The head of an array of five items, version 1, and an array of one algorithm, number 10.
 const BEGINNING: [u8; 4] = [0x85, 1, 0x81, 10];
 
+/// The head of an array of three items, the context "Encrypt0", and an empty protected header (RFC 9052 section 5.3).
+const STRUCTURE: [u8; 11] = *b"\x83\x68Encrypt0\x40";
+
 /// Appends a byte string for which there is room.
-fn append_string(bytes: &[u8], out: &mut ArrayVec<u8, EXTERNAL_LIMIT>)
-    requires short { length bytes.now ≤ ID_LIMIT }
-    requires room { length out.old.items + 1 + length bytes.now ≤ EXTERNAL_LIMIT }
+fn append_string(bytes: &[u8], out: &mut ArrayVec<u8, AAD_LENGTH>)
+    requires short { length bytes.now < 24 }
+    requires room { length out.old.items + 1 + length bytes.now ≤ AAD_LENGTH }
     ensures value { out.new.items ≡ out.old.items ++ spelling (byte_string bytes.now) }
     ensures length { length out.new.items ≡ length out.old.items + 1 + length bytes.now }
 {
@@ -37,11 +35,11 @@ fn append_string(bytes: &[u8], out: &mut ArrayVec<u8, EXTERNAL_LIMIT>)
 }
 
 /// The external associated data.
-pub(crate) fn external_aad(name: &ContextName, number: u64) -> ArrayVec<u8, EXTERNAL_LIMIT>
-    requires id { length name.now.client_id ≤ ID_LIMIT }
+pub(crate) fn external_aad(name: &ContextName, number: u64) -> ArrayVec<u8, AAD_LENGTH>
+    requires id { length name.now.client_id ≤ longest_id }
     requires number { number ≤ greatest_number }
     ensures value { result.items ≡ external name.now number }
-    ensures short { length result.items ≤ EXTERNAL_LIMIT }
+    ensures short { length result.items ≤ 19 }
 {
     let mut out = ArrayVec::new();
     out.try_extend_from_slice(&BEGINNING).unwrap();
@@ -51,18 +49,16 @@ pub(crate) fn external_aad(name: &ContextName, number: u64) -> ArrayVec<u8, EXTE
     out
 }
 
-/// Appends the cipher's associated data. Without memory all stays as it was; where there is room, none is taken.
-pub(crate) fn associated_data(
-    name: &ContextName,
-    number: u64,
-    out: &mut Vec<u8>,
-) -> Result<(), AllocError>
-    requires id { length name.now.client_id ≤ ID_LIMIT }
+/// The cipher's associated data.
+pub(crate) fn associated_data(name: &ContextName, number: u64) -> ArrayVec<u8, AAD_LENGTH>
+    requires id { length name.now.client_id ≤ longest_id }
     requires number { number ≤ greatest_number }
-    ensures ok { OnOk result (out.new.items ≡ out.old.items ++ aad_of name.now number) }
-    ensures err { OnErr result (out.new.items ≡ out.old.items) }
-    ensures short { length (aad_of name.now number) ≤ AAD_LENGTH }
-    ensures room { vec_len out.old + AAD_LENGTH ≤ vec_capacity out.old → IsOk result }
+    ensures value { result.items ≡ aad_of name.now number }
+    ensures short { array_vec_len result ≤ AAD_LENGTH }
 {
-    enc_structure(&[], external_aad(name, number).as_slice(), out)
+    let external = external_aad(name, number);
+    let mut out = ArrayVec::new();
+    out.try_extend_from_slice(&STRUCTURE).unwrap();
+    append_string(external.as_slice(), &mut out);
+    out
 }

@@ -1,91 +1,107 @@
-//! Why a message isn't protected or opened.
+//! Why a message isn't protected, read or opened.
 
 ghost use Rattle.std.specs.Prelude.{◌≡◌};
-ghost use Rattle.osc_protect.specs.Errors.{request_number, response_number};
+ghost use Rattle.osc_protect.specs.Errors as spec;
 
-use crate::room::Room;
+use crate::reply::ReplyRight;
+use crate::room::{RequestRoom, Room, TextRoom};
 use osc_context::SendNumber;
 use thiserror::Error;
 
-/// The protected request would be longer than a datagram may be: room and number are handed back.
+/// The OSCORE option's value is malformed, or there is no payload; of a request also: it has no Partial IV or no kid.
+#[derive(Clone, Copy, Debug, PartialEq, Eq, Error)]
+#[error("the OSCORE option or the payload is malformed")]
+pub struct Malformed;
+
+impl Malformed {
+    /// The number by which programs name the refusal.
+    pub fn number(self) -> u8
+        ensures { result ≡ spec.malformed }
+    {
+        21
+    }
+}
+
+/// What a request seals is the sealing of no text: the room is handed back.
+#[derive(Debug, Drop)]
+pub struct RequestNotGenuine {
+    /// The room, as it was.
+    pub room: RequestRoom,
+}
+
+impl RequestNotGenuine {
+    /// The number by which programs name the refusal.
+    pub fn number(&self) -> u8
+        ensures { result ≡ spec.not_genuine }
+    {
+        3
+    }
+}
+
+/// What a response seals is the sealing of no text: the room is handed back.
+#[derive(Debug, Drop)]
+pub struct ResponseNotGenuine {
+    /// The room, as it was.
+    pub room: Room,
+}
+
+impl ResponseNotGenuine {
+    /// The number by which programs name the refusal.
+    pub fn number(&self) -> u8
+        ensures { result ≡ spec.not_genuine }
+    {
+        3
+    }
+}
+
+/// The protected message would be longer than a datagram may be: room and number are handed back.
 #[derive(Debug)]
-pub struct RequestTooLong {
-    /// The room, untouched.
+pub struct MessageTooLong {
+    /// The room, as it was.
     pub room: Room,
     /// The number, not spent.
     pub number: SendNumber,
 }
 
-/// The protected response would be longer than a datagram may be: room and number are handed back.
-#[derive(Debug)]
-pub struct ResponseTooLong {
-    /// The room, untouched.
-    pub room: Room,
-    /// The number of its own Partial IV, if it was to have one, not spent.
-    pub own: Option<SendNumber>,
-}
-
-/// The number by which programs name the refusal of a message that is too long.
-pub const TOO_LONG: u8 = 14;
-
-/// Why a request isn't opened: the first of these that stands, but for `Memory` (RFC 8613 section 8.2).
-#[derive(Clone, Copy, Debug, PartialEq, Eq, Error)]
-pub enum RequestError {
-    /// The option's value is malformed, or has no Partial IV or no kid, or there is no payload.
-    #[error("the OSCORE option or the payload is malformed")]
-    Malformed,
-    /// It names another context, by kid or by kid context.
-    #[error("another security context")]
-    NoContext,
-    /// Its number isn't fresh.
-    #[error("a replay")]
-    Replay,
-    /// Its payload is the sealing of no text.
-    #[error("not genuine")]
-    NotGenuine,
-    /// There was no memory.
-    #[error("out of memory")]
-    Memory,
-}
-
-impl RequestError {
+impl MessageTooLong {
     /// The number by which programs name the refusal.
-    pub fn number(self) -> u8
-        ensures { result ≡ request_number self }
+    pub fn number(&self) -> u8
+        ensures { result ≡ spec.too_long }
     {
-        match self {
-            RequestError::Malformed => 21,
-            RequestError::NoContext => 22,
-            RequestError::Replay => 23,
-            RequestError::NotGenuine => 3,
-            RequestError::Memory => 9,
-        }
+        14
     }
 }
 
-/// Why a response isn't opened: the first of these that stands, but for `Memory` (RFC 8613 section 8.4).
-#[derive(Clone, Copy, Debug, PartialEq, Eq, Error)]
-pub enum ResponseError {
-    /// The option's value is malformed, or there is no payload.
-    #[error("the OSCORE option or the payload is malformed")]
-    Malformed,
-    /// Its payload is the sealing of no text.
-    #[error("not genuine")]
-    NotGenuine,
-    /// There was no memory.
-    #[error("out of memory")]
-    Memory,
+/// The protected reply would be longer than a datagram may be: room and right are handed back.
+#[derive(Debug)]
+pub struct ReplyTooLong {
+    /// The room, as it was.
+    pub room: TextRoom,
+    /// The right to reply, not used.
+    pub right: ReplyRight,
 }
 
-impl ResponseError {
+impl ReplyTooLong {
     /// The number by which programs name the refusal.
-    pub fn number(self) -> u8
-        ensures { result ≡ response_number self }
+    pub fn number(&self) -> u8
+        ensures { result ≡ spec.too_long }
     {
-        match self {
-            ResponseError::Malformed => 21,
-            ResponseError::NotGenuine => 3,
-            ResponseError::Memory => 9,
-        }
+        14
+    }
+}
+
+/// The request in which the text is sealed would be longer than a datagram may be: the room is handed back.
+#[derive(Debug, Drop)]
+pub struct TextTooLong {
+    /// The room, as it was.
+    pub room: Room,
+}
+
+impl TextTooLong {
+    /// The number by which programs name the refusal.
+    pub fn number(&self) -> u8
+        ensures { result ≡ spec.too_long }
+    {
+        14
     }
 }

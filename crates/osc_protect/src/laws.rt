@@ -7,9 +7,9 @@ ghost use Rattle.osc_coap.specs.Plaintext.{SpellsPlaintext};
 ghost use Rattle.osc_options.specs.Split.{plaintext_of, unprotected, has_oscore};
 ghost use Rattle.osc_model.specs.declared.context.Side.TheVariants.{Client, Server};
 ghost use Rattle.osc_context.specs.Derivation.{key_of};
-ghost use Rattle.osc_context.specs.Nonce.{greatest_number};
+ghost use Rattle.osc_context.specs.Nonce.{longest_id, greatest_number};
 ghost use Rattle.osc_protect.specs.Aad.{aad_of};
-ghost use Rattle.osc_protect.specs.Protection.{HasShortContext, plain_bytes, request_nonce, response_nonce, IsProtectedRequest, IsProtectedResponse, Asked, IsRequest, Answered, IsResponse, IsFor};
+ghost use Rattle.osc_protect.specs.Protection.{HasShortContext, plain_bytes, request_nonce, response_nonce, IsProtectedRequest, IsProtectedResponse, SealedRequest, IsRequest, SealedResponse, IsResponse, IsFor};
 
 use osc_ccm::Aead;
 use osc_coap::laws::one_plaintext;
@@ -18,7 +18,7 @@ use osc_options::laws::{merging_what_was_split, splitting_what_is_lawful};
 /// Associated data tells the request's number.
 pub fn aad_tells_the_number()
     ensures { (name : AnyName) (m n : ℕ)
-        → length name.client_id ≤ 7 → m ≤ greatest_number → n ≤ greatest_number
+        → length name.client_id ≤ longest_id → m ≤ greatest_number → n ≤ greatest_number
         → aad_of name m ≡ aad_of name n → m ≡ n }
 {}
 
@@ -26,10 +26,10 @@ pub fn aad_tells_the_number()
 /// this context's key, nonce and associated data is the plaintext of the message that was protected; and with it the message
 /// is as it was.
 pub fn unprotecting_a_protected_request<A: Aead>()
-    ensures asked { (name : AnyName) (number : ℕ) (m p : Message) → HasShortContext name → number ≤ greatest_number
+    ensures request { (name : AnyName) (number : ℕ) (m p : Message) → HasShortContext name → number ≤ greatest_number
         → IsProtectedRequest A.is_sealing name number m p
-        → (asked : Asked) × IsRequest p asked × (asked.number ≡ number) × IsFor name asked
-        × ((text : List ℕ) → A.is_sealing (key_of name Client) (request_nonce name number) (aad_of name number) text asked.sealed → text ≡ plain_bytes m) }
+        → (request : SealedRequest) × IsRequest p request × (request.number ≡ number) × IsFor name request
+        × ((text : List ℕ) → A.is_sealing (key_of name Client) (request_nonce name number) (aad_of name number) text request.sealed → text ≡ plain_bytes m) }
     ensures again { (name : AnyName) (number : ℕ) (m p : Message)
         → HasSpelling m → has_oscore m.options ≡ false → IsProtectedRequest A.is_sealing name number m p
         → SpellsPlaintext (plain_bytes m) (plaintext_of m) × (unprotected p (plaintext_of m) ≡ m) }
@@ -41,10 +41,10 @@ pub fn unprotecting_a_protected_request<A: Aead>()
 
 /// The same of a protected response.
 pub fn unprotecting_a_protected_response<A: Aead>()
-    ensures answered { (name : AnyName) (number : ℕ) (own : Option ℕ) (m p : Message)
+    ensures response { (name : AnyName) (number : ℕ) (own : Option ℕ) (m p : Message)
         → IfSome own (λ n. n ≤ greatest_number) → IsProtectedResponse A.is_sealing name number own m p
-        → (answered : Answered) × IsResponse p answered × (answered.own ≡ own)
-        × ((text : List ℕ) → A.is_sealing (key_of name Server) (response_nonce name number own) (aad_of name number) text answered.sealed → text ≡ plain_bytes m) }
+        → (response : SealedResponse) × IsResponse p response × (response.own ≡ own)
+        × ((text : List ℕ) → A.is_sealing (key_of name Server) (response_nonce name number own) (aad_of name number) text response.sealed → text ≡ plain_bytes m) }
     ensures again { (name : AnyName) (number : ℕ) (own : Option ℕ) (m p : Message)
         → HasSpelling m → has_oscore m.options ≡ false → IsProtectedResponse A.is_sealing name number own m p
         → SpellsPlaintext (plain_bytes m) (plaintext_of m) × (unprotected p (plaintext_of m) ≡ m) }

@@ -1,26 +1,33 @@
 //! Protection of requests and responses (RFC 8613 sections 4 to 8).
 //!
-//! Generic over the cipher: all that is known of it is the law of `Aead`. Protecting takes no memory, since its `Room` was
-//! taken before; each use of a key is noted.
+//! Generic over the cipher: all that is known of it is the law of `Aead`. Protecting and opening take no memory, since their
+//! room was taken before; each use of a key is noted. A message is read before it is opened, so that its context and its
+//! number can be looked at first: numbers are accepted by the caller, last.
 #![tactic(auto)]
 
 mod aad;
-mod asked;
 mod error;
 pub mod laws;
+mod reply;
 mod request;
 mod response;
 mod room;
+mod sealed;
 mod sealing;
 mod value;
 
-pub use error::{RequestError, RequestTooLong, ResponseError, ResponseTooLong, TOO_LONG};
-pub use request::{ProtectedRequest, fits, protect_request, unprotect_request};
-pub use response::{ProtectedResponse, protect_response, unprotect_response};
-pub use room::Room;
+pub use error::{
+    Malformed, MessageTooLong, ReplyTooLong, RequestNotGenuine, ResponseNotGenuine, TextTooLong,
+};
+pub use reply::ReplyRight;
+pub use request::{
+    OpenedRequest, ProtectedRequest, UncountedRequest, fits, open_request, protect_request,
+    protect_uncounted,
+};
+pub use response::{ProtectedResponse, open_response, protect_reply, protect_response};
+pub use room::{RequestRoom, Room, TextRoom};
+pub use sealed::{SealedRequestRef, SealedResponseRef, read_request, read_response};
 pub use value::OscoreOption;
 
 #[cfg(test)]
 mod tests;
-#[cfg(test)]
-mod value_tests;

@@ -1,24 +1,25 @@
 //! Protected requests (RFC 8613 sections 8.1 and 8.2).
 
-ghost use Rattle.std.specs.Prelude.{◌≡◌, ◌≢◌, ◌≤◌, ◌↔◌, ℕ, List, length, IsTrue, IsOk, IfOk, IfErr, OnErr, Err};
+ghost use Rattle.std.specs.Prelude.{◌≡◌, ◌≤◌, ◌↔◌, ◌+◌, ℕ, List, [], length, replicate, IsTrue, IsOk, IsErr, IsSome, IfOk, IfErr, IfSome};
+ghost use Rattle.osc_coap.specs.Message.{spelling};
+ghost use Rattle.osc_options.specs.Split.{protected};
 ghost use Rattle.osc_model.specs.declared.context.Side.TheVariants.{Client, Server};
-ghost use Rattle.osc_window.specs.Window.{IsFresh, with_accepted};
-ghost use Rattle.osc_context.specs.Derivation.{key_of, sender_of, recipient_of};
-ghost use Rattle.osc_context.specs.Nonce.{greatest_number};
+ghost use Rattle.osc_context.specs.Derivation.{key_of, taken_of, sender_of, recipient_of};
+ghost use Rattle.osc_context.specs.Nonce.{longest_id, greatest_number};
 ghost use Rattle.osc_protect.specs.Aad.{aad_of};
-ghost use Rattle.osc_protect.specs.Protection.{HasShortContext, plain_bytes, request_nonce, note_of, IsProtectedRequest, request_length, Asked, IsRequest, IsFor};
+ghost use Rattle.osc_protect.specs.Protection.{HasShortContext, HasRoomFor, longest_message, plain_bytes, request_nonce, note_of, IsRequestOf, IsProtectedRequest, length_of_request, request_length, IsFor};
 
-use crate::asked::{AskedRef, asked};
-use crate::error::{RequestError, RequestTooLong};
-use crate::room::Room;
-use crate::sealing::{KeyUse, protect, sealed_fits, unprotect};
+use crate::error::{MessageTooLong, RequestNotGenuine, TextTooLong};
+use crate::reply::ReplyRight;
+use crate::room::{RequestRoom, Room};
+use crate::sealed::SealedRequestRef;
+use crate::sealing::{KeyUse, open, outer_message, seal, split};
 use crate::value::request_option;
 use osc_ccm::Aead;
-use osc_coap::{MessageBuilder, MessageRef};
-use osc_context::{ID_LIMIT, RecipientContext, SendNumber, SenderContext, nonce_for};
+use osc_coap::laws::length_of_growing;
+use osc_coap::{DATAGRAM_LIMIT, MessageBuilder, MessageRef};
+use osc_context::{RecipientContext, SendNumber, SenderContext, nonce_for};
 use osc_model::{ContextName, Note, Side};
-use osc_window::Window;
-use std::alloc::Global;
 
 /// The code of a protected request, POST (RFC 8613 section 4.2).
 const OUTER_CODE: u8 = 0x02;
@@ -36,126 +37,159 @@ pub struct ProtectedRequest {
 pub fn fits<A: Aead>(name: &ContextName, number: u64, message: &MessageRef<'_>) -> bool
     requires number { number ≤ greatest_number }
     requires short { HasShortContext name.now }
-    requires id { length name.now.client_id ≤ ID_LIMIT }
-    ensures { IsTrue result ↔ (request_length A.TAG name.now number message.now ≤ 1152) }
+    requires id { length name.now.client_id ≤ longest_id }
+    ensures { IsTrue result ↔ (request_length A.TAG name.now number message.now ≤ longest_message) }
 {
     let value = request_option(name, number);
-    sealed_fits::<A>(message, OUTER_CODE, value.as_slice())
+    split::<A>(message, OUTER_CODE, value.as_slice()).is_some()
 }
 
 /// Protects a request of the client: its class E options and payload are sealed, its class U options stay outside. An
-/// option 9 of the message is replaced. Takes no memory.
+/// option 9 of the message is replaced. The number, which is of the room's context, is spent. Takes no memory.
 ///
 /// # Errors
 ///
 /// Exactly where the protected message is longer than a datagram may be; room and number are handed back.
 pub fn protect_request<A: Aead>(
     room: Room,
-    sender: &SenderContext,
     number: SendNumber,
     message: &MessageRef<'_>,
-) -> Result<ProtectedRequest, RequestTooLong>
-    requires sender { sender.now ≡ sender_of room Client sender.now.next }
-    requires short { HasShortContext room }
-    ensures protected { IfOk result (λ made. IsProtectedRequest A.is_sealing room number message.now made.message) }
-    ensures noted { IfOk result (λ made. made.note ≡ note_of room Client number (request_nonce room number) (plain_bytes message.now)) }
-    ensures fits { IsOk result ↔ (request_length A.TAG room number message.now ≤ 1152) }
+) -> Result<ProtectedRequest, MessageTooLong>
+    requires number { number ≡ taken_of room.name Client number.number }
+    requires short { HasShortContext room.name }
+    requires room { HasRoomFor (plain_bytes message.now) room.most }
+    ensures protected { IfOk result (λ made. IsProtectedRequest A.is_sealing room.name number.number message.now made.message) }
+    ensures noted { IfOk result (λ made. made.note
+        ≡ note_of room.name Client number.number (request_nonce room.name number.number) (plain_bytes message.now)) }
+    ensures fits { IsOk result ↔ (request_length A.TAG room.name number.number message.now ≤ longest_message) }
     ensures err { IfErr result (λ refused. (refused.room ≡ room) × (refused.number ≡ number)) }
 {
-    let id = sender.id();
-    let value = request_option(room.name(), number.get());
+    let id = number.id();
     let used = KeyUse {
         side: Side::Client,
         number: number.get(),
-        nonce: nonce_for(sender.common_iv(), id, number.get()),
+        nonce: nonce_for(number.common_iv(), id, number.get()),
     };
-    match protect::<A>(
-        room,
-        sender.key(),
-        used,
-        OUTER_CODE,
-        value.as_slice(),
-        message,
-    ) {
-        Ok((message, note)) => {
-            number.spend();
-            Ok(ProtectedRequest { message, note })
-        }
-        Err(room) => Err(RequestTooLong { room, number }),
-    }
+    let value = request_option(room.name(), number.get());
+    let Some((outer, plaintext)) = split::<A>(message, OUTER_CODE, value.as_slice()) else {
+        return Err(MessageTooLong { room, number });
+    };
+    let (message, note) = seal::<A>(outer, room, number.key(), used, plaintext.bytes());
+    number.spend();
+    Ok(ProtectedRequest { message, note })
 }
 
-/// What the message says, if it is a protected request for this context whose number is fresh.
-fn fresh_request<'a>(
-    name: &ContextName,
-    window: &Window,
-    message: &MessageRef<'a>,
-) -> Result<AskedRef<'a>, RequestError>
-    ensures ok { IfOk result (λ asked. IsRequest message.now asked × IsFor name.now asked × IsFresh window.now asked.number) }
-    ensures malformed { (result ≡ Err RequestError.Malformed) ↔ ((asked : Asked) → ¬ IsRequest message.now asked) }
-    ensures no_context { (result ≡ Err RequestError.NoContext)
-        ↔ ((asked : Asked) × IsRequest message.now asked × ¬ IsFor name.now asked) }
-    ensures replay { (result ≡ Err RequestError.Replay)
-        ↔ ((asked : Asked) × IsRequest message.now asked × IsFor name.now asked × ¬ IsFresh window.now asked.number) }
-    ensures only { (result ≢ Err RequestError.NotGenuine) × (result ≢ Err RequestError.Memory) }
-{
-    let Some(asked) = asked(message) else {
-        return Err(RequestError::Malformed);
-    };
-    if !asked.is_for(name) {
-        return Err(RequestError::NoContext);
-    }
-    if !window.is_fresh(asked.number) {
-        return Err(RequestError::Replay);
-    }
-    Ok(asked)
+/// A request under a number that nobody took for it: it spends none, so its nonce may be another request's as well.
+#[derive(Debug, Drop)]
+pub struct UncountedRequest {
+    /// The message to send.
+    pub message: MessageBuilder,
+    /// What was sealed, and under which name, number and nonce.
+    pub note: Note,
 }
 
-/// Opens a protected request at the server, and answers the note of the opening, whose plaintext is what was sealed. The
-/// window takes its number once it has opened.
+/// Seals any text as a request of the client under any number, as a holder can that keeps no rule: kind, message ID, token
+/// and class U options are the message's, its code, its class E options and its payload are left out. No number is spent.
+/// Takes no memory.
 ///
 /// # Errors
 ///
-/// As `RequestError` says; the window is as before then.
-pub fn unprotect_request<A: Aead>(
-    alloc: Global,
-    name: &ContextName,
-    recipient: &RecipientContext,
-    window: &mut Window,
+/// Exactly where the request is longer than a datagram may be; the room is handed back.
+pub fn protect_uncounted<A: Aead>(
+    room: Room,
+    sender: &SenderContext,
+    number: u64,
     message: &MessageRef<'_>,
-) -> Result<Note, RequestError>
-    requires recipient { recipient.now ≡ recipient_of name.now Server }
-    // What opens is of this context, fresh, and sealed so.
-    ensures opened { IfOk result (λ note. (asked : Asked)
-        × IsRequest message.now asked × IsFor name.now asked × IsFresh window.old asked.number
-        × A.is_sealing (key_of name.now Client) (request_nonce name.now asked.number) (aad_of name.now asked.number) note.plaintext asked.sealed
-        × (note ≡ note_of name.now Server asked.number (request_nonce name.now asked.number) note.plaintext)
-        × (window.new ≡ with_accepted window.old asked.number)) }
-    // The refusals, each exactly where its cause stands and none before it does.
-    ensures malformed { (result ≡ Err RequestError.Malformed) ↔ ((asked : Asked) → ¬ IsRequest message.now asked) }
-    ensures no_context { (result ≡ Err RequestError.NoContext)
-        ↔ ((asked : Asked) × IsRequest message.now asked × ¬ IsFor name.now asked) }
-    ensures replay { (result ≡ Err RequestError.Replay)
-        ↔ ((asked : Asked) × IsRequest message.now asked × IsFor name.now asked × ¬ IsFresh window.old asked.number) }
-    ensures not_genuine { result ≡ Err RequestError.NotGenuine
-        → (asked : Asked) × IsRequest message.now asked × IsFor name.now asked × IsFresh window.old asked.number
-        × ((text : List ℕ) → ¬ A.is_sealing (key_of name.now Client) (request_nonce name.now asked.number) (aad_of name.now asked.number) text asked.sealed) }
-    ensures memory { result ≡ Err RequestError.Memory
-        → (asked : Asked) × IsRequest message.now asked × IsFor name.now asked × IsFresh window.old asked.number }
-    ensures err { OnErr result (window.new ≡ window.old) }
+    text: &[u8],
+) -> Result<UncountedRequest, TextTooLong>
+    requires sender { sender.now ≡ sender_of room.name Client sender.now.next }
+    requires number { number ≤ greatest_number }
+    requires short { HasShortContext room.name }
+    requires room { HasRoomFor text.now room.most }
+    ensures protected { IfOk result (λ made. IsRequestOf A.is_sealing text.now room.name number message.now made.message) }
+    ensures noted { IfOk result (λ made. made.note ≡ note_of room.name Client number (request_nonce room.name number) text.now) }
+    ensures fits { IsOk result ↔ (length_of_request (length text.now + A.TAG) room.name number message.now ≤ longest_message) }
+    ensures err { IfErr result (λ refused. refused.room ≡ room) }
 {
-    let asked = fresh_request(name, window, message)?;
+    let id = sender.id();
+    let used = KeyUse {
+        side: Side::Client,
+        number,
+        nonce: nonce_for(sender.common_iv(), id, number),
+    };
+    let value = request_option(room.name(), number);
+    let Some(outer) = outer_of_text::<A>(message, value.as_slice(), text.len()) else {
+        return Err(TextTooLong { room });
+    };
+    let (message, note) = seal::<A>(outer, room, sender.key(), used, text);
+    Ok(UncountedRequest { message, note })
+}
+
+/// The message of a request with this option value, still without its payload; `None` exactly where it is longer than a
+/// datagram may be with a text of so many bytes sealed in it.
+fn outer_of_text<A: Aead>(
+    message: &MessageRef<'_>,
+    value: &[u8],
+    size: usize,
+) -> Option<MessageBuilder>
+    ensures outer { IfSome result (λ outer. outer ≡ protected message.now 2 value.now []) }
+    ensures short { IsSome result → size ≤ longest_message }
+    ensures fits { IsSome result
+        ↔ (length (spelling (protected message.now 2 value.now (replicate (size + A.TAG) 0))) ≤ longest_message) }
+{
+    length_of_growing();
+    if size > DATAGRAM_LIMIT {
+        return None;
+    }
+    outer_message(message, OUTER_CODE, value, size + A::TAG)
+}
+
+/// A request that was opened.
+#[derive(Debug)]
+pub struct OpenedRequest {
+    /// What was sealed, and under which name, number and nonce.
+    pub note: Note,
+    /// The right to one reply under its nonce.
+    pub right: ReplyRight,
+}
+
+/// Opens a protected request at the server. Which numbers are fresh isn't asked here, and no number is accepted: that is the
+/// caller's, once it knows that it goes on. Takes no memory.
+///
+/// # Errors
+///
+/// Exactly where what is sealed is the sealing of no text; the room is handed back.
+pub fn open_request<A: Aead>(
+    room: RequestRoom,
+    recipient: &RecipientContext,
+    request: &SealedRequestRef<'_>,
+) -> Result<OpenedRequest, RequestNotGenuine>
+    requires recipient { recipient.now ≡ recipient_of room.name Server }
+    requires named { IsFor room.name request.now }
+    requires room { length request.now.sealed ≤ room.most }
+    ensures opened { IfOk result (λ opened.
+        A.is_sealing (key_of room.name Client) (request_nonce room.name request.now.number) (aad_of room.name request.now.number) opened.note.plaintext request.now.sealed) }
+    ensures noted { IfOk result (λ opened. opened.note
+        ≡ note_of room.name Server request.now.number (request_nonce room.name request.now.number) opened.note.plaintext) }
+    ensures right { IfOk result (λ opened. opened.right ≡ record { context = room.name; number = request.now.number }) }
+    ensures not_genuine { IsErr result
+        ↔ ((text : List ℕ) → ¬ A.is_sealing (key_of room.name Client) (request_nonce room.name request.now.number) (aad_of room.name request.now.number) text request.now.sealed) }
+    ensures err { IfErr result (λ refused. refused.room ≡ room) }
+{
+    let number = request.number();
     let used = KeyUse {
         side: Side::Server,
-        number: asked.number,
-        nonce: nonce_for(recipient.common_iv(), recipient.id(), asked.number),
+        number,
+        nonce: nonce_for(recipient.common_iv(), recipient.id(), number),
     };
-    match unprotect::<A>(alloc, name, recipient.key(), used, asked.sealed) {
-        Ok(Some(note)) => {
-            window.accept(asked.number);
-            Ok(note)
-        }
-        Ok(None) => Err(RequestError::NotGenuine),
-        Err(_) => Err(RequestError::Memory),
+    let (room, context) = room.parts();
+    match open::<A>(room, recipient.key(), used, request.sealed()) {
+        Ok(note) => Ok(OpenedRequest {
+            note,
+            right: ReplyRight::new(context, number),
+        }),
+        Err(room) => Err(RequestNotGenuine {
+            room: RequestRoom::of(room, context),
+        }),
     }
 }

@@ -1,66 +1,25 @@
 //! Protected responses (RFC 8613 sections 8.3 and 8.4).
 
-ghost use Rattle.std.specs.Prelude.{◌≡◌, ◌≤◌, ◌↔◌, ℕ, List, length, IfSome, IsOk, IfOk, IfErr, Err};
+ghost use Rattle.std.specs.Prelude.{◌≡◌, ◌≤◌, ◌↔◌, ℕ, List, Some, None, length, IfSome, IsOk, IsErr, IfOk, IfErr};
 ghost use Rattle.osc_model.specs.declared.context.Side.TheVariants.{Client, Server};
-ghost use Rattle.osc_context.specs.Derivation.{key_of, common_iv_of, sender_of, recipient_of};
-ghost use Rattle.osc_context.specs.Nonce.{greatest_number};
+ghost use Rattle.osc_context.specs.Derivation.{key_of, common_iv_of, taken_of, sender_of, recipient_of};
+ghost use Rattle.osc_context.specs.Nonce.{longest_id, greatest_number};
 ghost use Rattle.osc_protect.specs.Aad.{aad_of};
-ghost use Rattle.osc_protect.specs.Protection.{plain_bytes, response_nonce, note_of, IsProtectedResponse, response_length, Answered, IsResponse};
+ghost use Rattle.osc_protect.specs.Protection.{HasRoomFor, longest_message, plain_bytes, request_nonce, response_nonce, note_of, IsProtectedResponse, response_length};
 
-use crate::asked::answered;
-use crate::error::{ResponseError, ResponseTooLong};
-use crate::room::Room;
-use crate::sealing::{KeyUse, protect, unprotect};
+use crate::error::{MessageTooLong, ReplyTooLong, ResponseNotGenuine};
+use crate::reply::ReplyRight;
+use crate::room::{Room, TextRoom};
+use crate::sealed::SealedResponseRef;
+use crate::sealing::{KeyUse, open, seal, split};
 use crate::value::response_option;
 use osc_ccm::Aead;
 use osc_coap::{MessageBuilder, MessageRef};
-use osc_context::{ID_LIMIT, RecipientContext, SendNumber, SenderContext, nonce_for};
+use osc_context::{RecipientContext, SendNumber, SenderContext, nonce_for};
 use osc_model::{ContextName, Note, Side};
-use std::alloc::Global;
 
 /// The code of a protected response, 2.04 (RFC 8613 section 4.2).
 const OUTER_CODE: u8 = 0x44;
-
-/// The nonce of a response: the request's, whose Partial IV is the client's, or that of its own Partial IV, which is the
-/// server's.
-fn nonce_of_response(
-    name: &ContextName,
-    common_iv: &[u8; 13],
-    server_id: &[u8],
-    number: u64,
-    own: Option<u64>,
-) -> [u8; 13]
-    requires common_iv { common_iv.now ≡ common_iv_of name.now }
-    requires server_id { server_id.now ≡ name.now.server_id }
-    requires client { length name.now.client_id ≤ ID_LIMIT }
-    requires server { length server_id.now ≤ ID_LIMIT }
-    requires number { number ≤ greatest_number }
-    requires own { IfSome own (λ n. n ≤ greatest_number) }
-    ensures { result ≡ response_nonce name.now number own }
-{
-    match own {
-        Some(own) => nonce_for(common_iv, server_id, own),
-        None => nonce_for(common_iv, name.client_id.as_slice(), number),
-    }
-}
-
-/// The number that a taken one is, if there is one, which is not spent by this.
-fn number_of(own: &Option<SendNumber>) -> Option<u64>
-    ensures value { result ≡ own.now }
-    ensures lawful { IfSome result (λ n. n ≤ greatest_number) }
-{
-    match own {
-        Some(own) => Some(own.get()),
-        None => None,
-    }
-}
-
-/// Spends the number, if there is one.
-fn spend(own: Option<SendNumber>) {
-    if let Some(own) = own {
-        own.spend();
-    }
-}
 
 /// A protected response, and the note of its seal.
 #[derive(Debug, Drop)]
@@ -71,102 +30,135 @@ pub struct ProtectedResponse {
     pub note: Note,
 }
 
-/// Protects the server's response to the request of this number: with none, it takes the request's nonce and an empty
-/// option value; with a number of its own, that is its Partial IV. Takes no memory.
+/// Protects the server's reply under the nonce of the request that it answers, with an empty option value; the right to
+/// reply is used up. Takes no memory.
+///
+/// # Errors
+///
+/// Exactly where the protected message is longer than a datagram may be; right and room are handed back.
+pub fn protect_reply<A: Aead>(
+    right: ReplyRight,
+    room: TextRoom,
+    sender: &SenderContext,
+    message: &MessageRef<'_>,
+) -> Result<ProtectedResponse, ReplyTooLong>
+    requires sender { sender.now ≡ sender_of right.context Server sender.now.next }
+    requires room { HasRoomFor (plain_bytes message.now) room }
+    ensures protected { IfOk result (λ made. IsProtectedResponse A.is_sealing right.context right.number None message.now made.message) }
+    ensures noted { IfOk result (λ made. made.note
+        ≡ note_of right.context Server right.number (request_nonce right.context right.number) (plain_bytes message.now)) }
+    ensures fits { IsOk result ↔ (response_length A.TAG None message.now ≤ longest_message) }
+    ensures err { IfErr result (λ refused. (refused.right ≡ right) × (refused.room ≡ room)) }
+{
+    let used = KeyUse {
+        side: Side::Server,
+        number: right.number(),
+        nonce: nonce_for(
+            sender.common_iv(),
+            right.context().client_id.as_slice(),
+            right.number(),
+        ),
+    };
+    let value = response_option(None);
+    let Some((outer, plaintext)) = split::<A>(message, OUTER_CODE, value.as_slice()) else {
+        return Err(ReplyTooLong { room, right });
+    };
+    let (context, _) = right.used();
+    let room = Room::of(context, room);
+    let (message, note) = seal::<A>(outer, room, sender.key(), used, plaintext.bytes());
+    Ok(ProtectedResponse { message, note })
+}
+
+/// Protects a response of the server to the request of this number under a nonce of its own: the number that it spends, which
+/// the server of the room's context took, is its Partial IV. Takes no memory.
 ///
 /// # Errors
 ///
 /// Exactly where the protected message is longer than a datagram may be; room and number are handed back.
 pub fn protect_response<A: Aead>(
     room: Room,
-    sender: &SenderContext,
-    number: u64,
-    own: Option<SendNumber>,
+    request: u64,
+    number: SendNumber,
     message: &MessageRef<'_>,
-) -> Result<ProtectedResponse, ResponseTooLong>
-    requires sender { sender.now ≡ sender_of room Server sender.now.next }
-    requires number { number ≤ greatest_number }
-    requires id { length room.client_id ≤ ID_LIMIT }
-    ensures protected { IfOk result (λ made. IsProtectedResponse A.is_sealing room number own message.now made.message) }
-    ensures noted { IfOk result (λ made. made.note ≡ note_of room Server number (response_nonce room number own) (plain_bytes message.now)) }
-    ensures fits { IsOk result ↔ (response_length A.TAG own message.now ≤ 1152) }
-    ensures err { IfErr result (λ refused. (refused.room ≡ room) × (refused.own ≡ own)) }
+) -> Result<ProtectedResponse, MessageTooLong>
+    requires number { number ≡ taken_of room.name Server number.number }
+    requires request { request ≤ greatest_number }
+    requires id { length room.name.client_id ≤ longest_id }
+    requires room { HasRoomFor (plain_bytes message.now) room.most }
+    ensures protected { IfOk result (λ made.
+        IsProtectedResponse A.is_sealing room.name request (Some number.number) message.now made.message) }
+    ensures noted { IfOk result (λ made. made.note
+        ≡ note_of room.name Server request (response_nonce room.name request (Some number.number)) (plain_bytes message.now)) }
+    ensures fits { IsOk result ↔ (response_length A.TAG (Some number.number) message.now ≤ longest_message) }
+    ensures err { IfErr result (λ refused. (refused.room ≡ room) × (refused.number ≡ number)) }
 {
-    let own_number = number_of(&own);
-    let value = response_option(own_number);
-    let nonce = nonce_of_response(
-        room.name(),
-        sender.common_iv(),
-        sender.id(),
-        number,
-        own_number,
-    );
+    let id = number.id();
     let used = KeyUse {
         side: Side::Server,
-        number,
-        nonce,
+        number: request,
+        nonce: nonce_for(number.common_iv(), id, number.get()),
     };
-    match protect::<A>(
-        room,
-        sender.key(),
-        used,
-        OUTER_CODE,
-        value.as_slice(),
-        message,
-    ) {
-        Ok((message, note)) => {
-            spend(own);
-            Ok(ProtectedResponse { message, note })
-        }
-        Err(room) => Err(ResponseTooLong { room, own }),
+    let value = response_option(Some(number.get()));
+    let Some((outer, plaintext)) = split::<A>(message, OUTER_CODE, value.as_slice()) else {
+        return Err(MessageTooLong { room, number });
+    };
+    let (message, note) = seal::<A>(outer, room, number.key(), used, plaintext.bytes());
+    number.spend();
+    Ok(ProtectedResponse { message, note })
+}
+
+/// The nonce of a response: the request's, whose Partial IV is the client's, or that of its own Partial IV, which is the
+/// server's.
+fn nonce_of_response(
+    name: &ContextName,
+    recipient: &RecipientContext,
+    number: u64,
+    own: Option<u64>,
+) -> [u8; 13]
+    requires recipient { recipient.now ≡ recipient_of name.now Client }
+    requires id { length name.now.client_id ≤ longest_id }
+    requires number { number ≤ greatest_number }
+    requires own { IfSome own (λ n. n ≤ greatest_number) }
+    ensures { result ≡ response_nonce name.now number own }
+{
+    match own {
+        Some(own) => nonce_for(recipient.common_iv(), recipient.id(), own),
+        None => nonce_for(recipient.common_iv(), name.client_id.as_slice(), number),
     }
 }
 
 /// Opens a protected response to the client's request of this number, and answers the note of the opening, whose plaintext
-/// is what was sealed.
+/// is what was sealed. Takes no memory.
 ///
 /// # Errors
 ///
-/// As `ResponseError` says.
-pub fn unprotect_response<A: Aead>(
-    alloc: Global,
-    name: &ContextName,
+/// Exactly where what is sealed is the sealing of no text; the room is handed back.
+pub fn open_response<A: Aead>(
+    room: Room,
     recipient: &RecipientContext,
     number: u64,
-    message: &MessageRef<'_>,
-) -> Result<Note, ResponseError>
-    requires recipient { recipient.now ≡ recipient_of name.now Client }
+    response: &SealedResponseRef<'_>,
+) -> Result<Note, ResponseNotGenuine>
+    requires recipient { recipient.now ≡ recipient_of room.name Client }
     requires number { number ≤ greatest_number }
-    requires id { length name.now.client_id ≤ ID_LIMIT }
-    // What opens was sealed so, as a response to this request.
-    ensures opened { IfOk result (λ note. (answered : Answered)
-        × IsResponse message.now answered
-        × A.is_sealing (key_of name.now Server) (response_nonce name.now number answered.own) (aad_of name.now number) note.plaintext answered.sealed
-        × (note ≡ note_of name.now Client number (response_nonce name.now number answered.own) note.plaintext)) }
-    ensures malformed { (result ≡ Err ResponseError.Malformed) ↔ ((answered : Answered) → ¬ IsResponse message.now answered) }
-    ensures not_genuine { result ≡ Err ResponseError.NotGenuine
-        → (answered : Answered) × IsResponse message.now answered
-        × ((text : List ℕ) → ¬ A.is_sealing (key_of name.now Server) (response_nonce name.now number answered.own) (aad_of name.now number) text answered.sealed) }
-    ensures memory { result ≡ Err ResponseError.Memory → (answered : Answered) × IsResponse message.now answered }
+    requires id { length room.name.client_id ≤ longest_id }
+    requires room { length response.now.sealed ≤ room.most }
+    ensures opened { IfOk result (λ note.
+        A.is_sealing (key_of room.name Server) (response_nonce room.name number response.now.own) (aad_of room.name number) note.plaintext response.now.sealed) }
+    ensures noted { IfOk result (λ note. note
+        ≡ note_of room.name Client number (response_nonce room.name number response.now.own) note.plaintext) }
+    ensures not_genuine { IsErr result
+        ↔ ((text : List ℕ) → ¬ A.is_sealing (key_of room.name Server) (response_nonce room.name number response.now.own) (aad_of room.name number) text response.now.sealed) }
+    ensures err { IfErr result (λ refused. refused.room ≡ room) }
 {
-    let Some(answered) = answered(message) else {
-        return Err(ResponseError::Malformed);
-    };
-    let nonce = nonce_of_response(
-        name,
-        recipient.common_iv(),
-        recipient.id(),
-        number,
-        answered.own,
-    );
+    let nonce = nonce_of_response(room.name(), recipient, number, response.own_number());
     let used = KeyUse {
         side: Side::Client,
         number,
         nonce,
     };
-    match unprotect::<A>(alloc, name, recipient.key(), used, answered.sealed) {
-        Ok(Some(note)) => Ok(note),
-        Ok(None) => Err(ResponseError::NotGenuine),
-        Err(_) => Err(ResponseError::Memory),
+    match open::<A>(room, recipient.key(), used, response.sealed()) {
+        Ok(note) => Ok(note),
+        Err(room) => Err(ResponseNotGenuine { room }),
     }
 }

@@ -1,25 +1,21 @@
-//! What requests and responses share: sealing a message's plaintext, and opening a payload.
+//! What requests and responses share: the message that is sent in place of one, its seal, and the opening of a payload.
 
-ghost use Rattle.std.specs.Prelude.{◌≡◌, ◌↔◌, ◌+◌, ◌≤◌, ◌<◌, ℕ, List, length, replicate, IsTrue, IsOk, IfOk, IfErr, MatchOption};
+ghost use Rattle.std.specs.Prelude.{◌≡◌, ◌↔◌, ◌+◌, ◌≤◌, ◌<◌, ℕ, List, [], None, length, replicate, IsSome, IsErr, IfOk, IfErr, IfSome};
 ghost use Rattle.osc_coap.specs.Message.{spelling};
-ghost use Rattle.osc_options.specs.Split.{protected};
-ghost use Rattle.osc_context.specs.Nonce.{greatest_number};
+ghost use Rattle.osc_coap.specs.Building.{payload_of, with_payload};
+ghost use Rattle.osc_coap.specs.Length.{payload_length};
+ghost use Rattle.osc_options.specs.Split.{protected, plaintext_of as plaintext_in};
+ghost use Rattle.osc_context.specs.Nonce.{longest_id, greatest_number};
 ghost use Rattle.osc_protect.specs.Aad.{aad_of};
-ghost use Rattle.osc_protect.specs.Protection.{plain_bytes, note_of};
+ghost use Rattle.osc_protect.specs.Protection.{plain_bytes, longest_message, note_of};
 
-use crate::aad::associated_data;
 use crate::room::Room;
 use arrayvec::ArrayVec;
-use osc_ccm::{AAD_LIMIT, Aead, TAG_LIMIT};
-use osc_coap::laws::length_of_spelling;
-use osc_coap::{DATAGRAM_LIMIT, MessageBuilder, MessageRef};
-use osc_context::ID_LIMIT;
-use osc_model::{Bytes, ContextName, Note, Side};
+use osc_ccm::Aead;
+use osc_coap::laws::length_of_growing;
+use osc_coap::{DATAGRAM_LIMIT, MessageBuilder, MessageRef, PlaintextBuilder};
+use osc_model::{Note, Side};
 use osc_options::{plaintext_of, protected_message};
-use std::alloc::{AllocError, Global};
-
-/// The most bytes of a sealed plaintext.
-const SEALED_LIMIT: usize = DATAGRAM_LIMIT + TAG_LIMIT;
 
 /// One use of a key.
 #[derive(Clone, Copy)]
@@ -31,29 +27,60 @@ pub(crate) struct KeyUse {
     pub(crate) nonce: [u8; 13],
 }
 
-/// Whether the message with this code and option value and so many bytes of payload is no longer than a datagram may be.
-fn payload_fits(message: &MessageRef<'_>, code: u8, value: &[u8], size: usize) -> bool
-    requires code { 0 < code }
-    requires size { size ≤ SEALED_LIMIT }
-    ensures { IsTrue result
-        ↔ (length (spelling (protected message.now code value.now (replicate size 0))) ≤ DATAGRAM_LIMIT) }
+/// How many bytes a payload of this size takes, with its marker.
+fn payload_size(size: usize) -> usize
+    requires { size ≤ 1168 }
+    ensures { result ≡ payload_length (payload_of (replicate size 0)) }
 {
-    let zeros = [0; SEALED_LIMIT];
-    protected_message(message, code, value, &zeros[..size]).is_ok()
+    if size == 0 { 0 } else { 1 + size }
 }
 
-/// Whether the message, protected with this code and option value, is no longer than a datagram may be.
-pub(crate) fn sealed_fits<A: Aead>(message: &MessageRef<'_>, code: u8, value: &[u8]) -> bool
+/// The message with this code and option value, still without its payload; `None` exactly where it is longer than a datagram
+/// may be with so many bytes of payload.
+pub(crate) fn outer_message(
+    message: &MessageRef<'_>,
+    code: u8,
+    value: &[u8],
+    size: usize,
+) -> Option<MessageBuilder>
     requires code { 0 < code }
-    ensures { IsTrue result
-        ↔ (length (spelling (protected message.now code value.now (replicate (length (plain_bytes message.now) + A.TAG) 0)))
-        ≤ DATAGRAM_LIMIT) }
+    requires size { size ≤ 1168 }
+    ensures outer { IfSome result (λ outer. outer ≡ protected message.now code value.now []) }
+    ensures fits { IsSome result
+        ↔ (length (spelling (protected message.now code value.now (replicate size 0))) ≤ longest_message) }
 {
-    length_of_spelling();
-    match plaintext_of(message) {
-        Ok(plaintext) => payload_fits(message, code, value, plaintext.bytes().len() + A::TAG),
-        Err(_) => false,
+    length_of_growing();
+    let Ok(outer) = protected_message(message, code, value, &[]) else {
+        return None;
+    };
+    if outer.bytes().len() + payload_size(size) > DATAGRAM_LIMIT {
+        return None;
     }
+    Some(outer)
+}
+
+/// The message with this code and option value, still without its payload, and what is sealed of it; `None` exactly where the
+/// protected message is longer than a datagram may be.
+pub(crate) fn split<A: Aead>(
+    message: &MessageRef<'_>,
+    code: u8,
+    value: &[u8],
+) -> Option<(MessageBuilder, PlaintextBuilder)>
+    requires code { 0 < code }
+    ensures outer { IfSome result (λ parts. parts.0 ≡ protected message.now code value.now []) }
+    ensures inner { IfSome result (λ parts. parts.1 ≡ plaintext_in message.now) }
+    ensures short { IsSome result → length (plain_bytes message.now) ≤ longest_message }
+    ensures fits { IsSome result
+        ↔ (length (spelling (protected message.now code value.now (replicate (length (plain_bytes message.now) + A.TAG) 0)))
+        ≤ longest_message) }
+{
+    length_of_growing();
+    let Ok(plaintext) = plaintext_of(message) else {
+        return None;
+    };
+    let size = plaintext.bytes().len() + A::TAG;
+    let outer = outer_message(message, code, value, size)?;
+    Some((outer, plaintext))
 }
 
 /// The sealing of a text.
@@ -62,12 +89,12 @@ fn seal_text<A: Aead>(
     nonce: &[u8; 13],
     aad: &[u8],
     text: &[u8],
-) -> ArrayVec<u8, SEALED_LIMIT>
-    requires text { length text.now ≤ DATAGRAM_LIMIT }
-    requires aad { length aad.now ≤ AAD_LIMIT }
+) -> ArrayVec<u8, DATAGRAM_LIMIT>
+    requires text { length text.now + A.TAG ≤ longest_message }
+    requires aad { length aad.now ≤ 31 }
     ensures { A.is_sealing key.now nonce.now aad.now text.now result.items }
 {
-    let mut sealed = ArrayVec::from([0; SEALED_LIMIT]);
+    let mut sealed = ArrayVec::from([0; DATAGRAM_LIMIT]);
     let cipher = A::from_key(key);
     let count = cipher
         .seal(nonce, aad, text, sealed.as_mut_slice())
@@ -76,93 +103,60 @@ fn seal_text<A: Aead>(
     sealed
 }
 
-/// The message with this code and option value and its plaintext sealed, and the note of the seal; refused exactly where that is longer
-/// than a datagram may be.
-pub(crate) fn protect<A: Aead>(
+/// Seals a text as the payload of a message, and notes it, which uses up the room.
+pub(crate) fn seal<A: Aead>(
+    outer: MessageBuilder,
     room: Room,
     key: &[u8; 16],
     used: KeyUse,
-    code: u8,
-    value: &[u8],
-    message: &MessageRef<'_>,
-) -> Result<(MessageBuilder, Note), Room>
-    requires code { 0 < code }
-    requires id { length room.client_id ≤ ID_LIMIT }
+    text: &[u8],
+) -> (MessageBuilder, Note)
+    requires code { 0 < outer.code }
+    requires payload { outer.payload ≡ None }
+    requires fits { length (spelling (with_payload outer (replicate (length text.now + A.TAG) 0))) ≤ longest_message }
+    requires id { length room.name.client_id ≤ longest_id }
     requires number { used.number ≤ greatest_number }
-    ensures protected { IfOk result (λ made. (sealed : List ℕ)
-        × A.is_sealing key.now used.nonce (aad_of room used.number) (plain_bytes message.now) sealed
-        × (made.0 ≡ protected message.now code value.now sealed)) }
-    ensures noted { IfOk result (λ made. made.1 ≡ note_of room used.side used.number used.nonce (plain_bytes message.now)) }
-    ensures fits { IsOk result
-        ↔ (length (spelling (protected message.now code value.now (replicate (length (plain_bytes message.now) + A.TAG) 0)))
-        ≤ DATAGRAM_LIMIT) }
-    ensures err { IfErr result (λ refused. refused ≡ room) }
+    requires room { length text.now ≤ room.most }
+    ensures sealed { (sealed : List ℕ)
+        × A.is_sealing key.now used.nonce (aad_of room.name used.number) text.now sealed
+        × (result.0 ≡ with_payload outer sealed) }
+    ensures noted { result.1 ≡ note_of room.name used.side used.number used.nonce text.now }
 {
-    if !sealed_fits::<A>(message, code, value) {
-        return Err(room);
-    }
-    length_of_spelling();
-    let plaintext = plaintext_of(message).unwrap();
-    let note = room.note(used.side, used.number, used.nonce, plaintext.bytes());
-    let sealed = seal_text::<A>(
-        key,
-        &used.nonce,
-        note.aad.as_slice(),
-        note.plaintext.as_slice(),
-    );
-    let message = protected_message(message, code, value, sealed.as_slice()).unwrap();
-    Ok((message, note))
+    length_of_growing();
+    let note = room.note(used.side, used.number, used.nonce, text);
+    let sealed = seal_text::<A>(key, &used.nonce, note.aad.as_slice(), text);
+    let mut message = outer;
+    message.payload(sealed.as_slice()).unwrap();
+    (message, note)
 }
 
-/// The text of which these bytes are the sealing, if they are one.
-fn open_text<A: Aead>(
-    alloc: Global,
-    key: &[u8; 16],
-    nonce: &[u8; 13],
-    aad: &[u8],
-    sealed: &[u8],
-) -> Result<Option<Bytes>, AllocError>
-    ensures { IfOk result (λ found. MatchOption found
-        ((text : List ℕ) → ¬ A.is_sealing key.now nonce.now aad.now text sealed.now)
-        (λ text. A.is_sealing key.now nonce.now aad.now text sealed.now)) }
-{
-    let mut text = Vec::from_slice(alloc, sealed)?;
-    let cipher = A::from_key(key);
-    match cipher.open(nonce, aad, sealed, text.as_mut_slice()) {
-        Ok(count) => {
-            text.truncate(count);
-            Ok(Some(Bytes::from_vec(text)))
-        }
-        Err(_) => Ok(None),
-    }
-}
-
-/// The note of the opening of a payload under the context of this name; `None` where it is the sealing of no text.
-pub(crate) fn unprotect<A: Aead>(
-    alloc: Global,
-    name: &ContextName,
+/// The note of the opening of a payload, which uses up the room; where it is the sealing of no text, the room is handed back.
+pub(crate) fn open<A: Aead>(
+    room: Room,
     key: &[u8; 16],
     used: KeyUse,
     sealed: &[u8],
-) -> Result<Option<Note>, AllocError>
-    requires id { length name.now.client_id ≤ ID_LIMIT }
+) -> Result<Note, Room>
+    requires id { length room.name.client_id ≤ longest_id }
     requires number { used.number ≤ greatest_number }
-    ensures { IfOk result (λ found. MatchOption found
-        ((text : List ℕ) → ¬ A.is_sealing key.now used.nonce (aad_of name.now used.number) text sealed.now)
-        (λ note. A.is_sealing key.now used.nonce (aad_of name.now used.number) note.plaintext sealed.now
-        × (note ≡ note_of name.now used.side used.number used.nonce note.plaintext))) }
+    requires room { length sealed.now ≤ room.most }
+    ensures opened { IfOk result (λ note.
+        A.is_sealing key.now used.nonce (aad_of room.name used.number) note.plaintext sealed.now
+        × (note ≡ note_of room.name used.side used.number used.nonce note.plaintext)) }
+    ensures not_genuine { IsErr result
+        ↔ ((text : List ℕ) → ¬ A.is_sealing key.now used.nonce (aad_of room.name used.number) text sealed.now) }
+    ensures err { IfErr result (λ refused. refused ≡ room) }
 {
-    let mut aad = Vec::new(alloc);
-    associated_data(name, used.number, &mut aad)?;
-    let Some(plaintext) = open_text::<A>(alloc, key, &used.nonce, aad.as_slice(), sealed)? else {
-        return Ok(None);
-    };
-    Ok(Some(Note {
-        context: name.clone()?,
-        side: used.side,
-        number: used.number,
-        nonce: used.nonce,
-        aad: Bytes::from_vec(aad),
-        plaintext,
-    }))
+    let (name, text) = room.parts();
+    match text.opened::<A>(key, &used.nonce, &name, used.number, sealed) {
+        Ok((aad, plaintext)) => Ok(Note {
+            context: name,
+            side: used.side,
+            number: used.number,
+            nonce: used.nonce,
+            aad,
+            plaintext,
+        }),
+        Err(text) => Err(Room::of(name, text)),
+    }
 }

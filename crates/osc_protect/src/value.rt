@@ -3,7 +3,7 @@
 ghost use Rattle.std.specs.Prelude.{◌≡◌, ◌+◌, ◌≤◌, ◌++◌, length, Some, IfSome, option_copied};
 ghost use Rattle.std.specs.Option.{option_map};
 ghost use Rattle.arrayvec.specs.ArrayVec.{array_vec_len};
-ghost use Rattle.osc_context.specs.Nonce.{greatest_number};
+ghost use Rattle.osc_context.specs.Nonce.{longest_id, greatest_number};
 ghost use Rattle.osc_protect.specs.Value.{Compressed, SpellsValue};
 ghost use Rattle.osc_protect.specs.Protection.{HasShortContext, request_value, response_value};
 ghost use Rattle.osc_protect.specs.ValueReading as spec;
@@ -192,7 +192,7 @@ fn append(out: &mut ArrayVec<u8, OPTION_LIMIT>, bytes: &[u8])
 pub(crate) fn request_option(name: &ContextName, number: u64) -> ArrayVec<u8, OPTION_LIMIT>
     requires number { number ≤ greatest_number }
     requires short { HasShortContext name.now }
-    requires id { length name.now.client_id ≤ 7 }
+    requires id { length name.now.client_id ≤ longest_id }
     ensures { result.items ≡ request_value name.now number }
 {
     let partial_iv = partial_iv_of(number);

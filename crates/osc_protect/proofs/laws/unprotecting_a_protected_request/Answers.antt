@@ -5,8 +5,8 @@ use Rattle.osc_protect.specs.Protection.{request_value}
 use Rattle.osc_protect.proofs.LawMessages.{request_says}
 use Rattle.osc_protect.proofs.laws.unprotecting_a_protected_request.Goals as goal
 
-pub returns-clause-asked : goal.returns-clause-asked
-returns-clause-asked g c = λ name number m p short fits made.
+pub returns-clause-request : goal.returns-clause-request
+returns-clause-request g c = λ name number m p short fits made.
     request_says g.A.Aead.is_sealing g.A.Aead.TAG g.met.A.Aead.one_text g.met.A.Aead.sealed_length name number m p short fits made
 
 pub returns-clause-again : goal.returns-clause-again

@@ -5,8 +5,8 @@ use Rattle.osc_protect.specs.Protection.{response_value}
 use Rattle.osc_protect.proofs.LawMessages.{response_says}
 use Rattle.osc_protect.proofs.laws.unprotecting_a_protected_response.Goals as goal
 
-pub returns-clause-answered : goal.returns-clause-answered
-returns-clause-answered g c = λ name number own m p fits made.
+pub returns-clause-response : goal.returns-clause-response
+returns-clause-response g c = λ name number own m p fits made.
     response_says g.A.Aead.is_sealing g.A.Aead.TAG g.met.A.Aead.one_text g.met.A.Aead.sealed_length name number own m p fits made
 
 pub returns-clause-again : goal.returns-clause-again

@@ -1,6 +1,6 @@
 use Rattle.std.proofs.Common.{◌≡◌}
 use Rattle.osc_options.specs.Requests.{value}
-use Rattle.osc_protect.proofs.asked.oscore_value.Given as goal
+use Rattle.osc_protect.proofs.sealed.oscore_value.Given as goal
 
 abbrev pub invariant-loop-number : goal.invariant-loop-number
 invariant-loop-number l = value 9 l.number-iterator ≡ value 9 l.message.options

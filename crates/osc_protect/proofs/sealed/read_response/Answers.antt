@@ -1,0 +1,7 @@
+use Rattle.osc_protect.proofs.sealed.read_response.Goals as goal
+
+pub returns-in-Some-clause-only : goal.returns-in-Some-clause-only
+returns-in-Some-clause-only c = λ response is. cc (c.in-Some.ensures.only response is)
+
+pub returns-in-None-clause-only : goal.returns-in-None-clause-only
+returns-in-None-clause-only c = λ response is. cc (c.in-None.ensures.only response is)
