@@ -2,12 +2,12 @@
 ghost use Rattle.std.specs.Prelude.{◌≡◌, ◌≤◌, ◌<◌, false, length, Some, if◌then◌else◌, IsTrue, IsSome, IfOk, OnOk, OnErr, option_copied};
 ghost use Rattle.std.specs.FinMap as map;
 ghost use Rattle.osc_model.specs.Code.{code, method_of};
-ghost use Rattle.osc_model.specs.Tree.{most_resources, longest_payload};
+ghost use Rattle.osc_model.specs.Tree.{Tree as AnyTree, most_resources, longest_payload};
 ghost use Rattle.osc_model.specs.Reply.{bare, takes_memory};
-ghost use Rattle.osc_model.specs.Checks.{AllowsWrite, written as new_resource};
-ghost use Rattle.osc_model.specs.Apply.{apply as outcome, perform as performs, read as reading};
+ghost use Rattle.osc_model.specs.Checks.{written as new_resource};
+ghost use Rattle.osc_model.specs.Apply.{apply as outcome, read as reading};
 
-use crate::checks::refusal;
+use crate::checks::accepted;
 use crate::tags::etag;
 use crate::tree::Tree;
 use osc_model::{Bytes, Code, Method, Path, Reply, Request, Resource};
@@ -18,7 +18,8 @@ impl Tree {
     /// Does what the request asks under this scope, and answers it: the reply, and the tree after it, are those of the
     /// definition `apply`, with 4.03, 4.05, 4.12, 4.04, 4.06, 4.13 and 5.03 for the checks that fail, the first of them
     /// alone. Without memory for the reply or the resource an `AllocError`, and the tree stays as it was; a refusal and
-    /// a DELETE take no memory. The look-up takes logarithmic time.
+    /// a DELETE take no memory. The path is looked up once, and once more to write or to remove, in logarithmic time; it is
+    /// copied only where it is new.
     #[tactic(auto, unfolding(osc_model::specs::Apply::apply))]
     pub fn apply(
         &mut self,
@@ -34,70 +35,63 @@ impl Tree {
         let Some(path) = &request.path else {
             return Ok(Reply::bare(alloc, Code::FORBIDDEN));
         };
-        osc_model::laws::what_passes_can_be_written();
-        match refusal(self, scope, path, request) {
-            Some(code) => Ok(Reply::bare(alloc, code)),
-            None => self.perform(alloc, path, request),
-        }
-    }
-
-    // Does what no check refuses.
-    fn perform(
-        &mut self,
-        alloc: Global,
-        path: &Path,
-        request: &Request,
-    ) -> Result<Reply, AllocError>
-        requires { AllowsWrite self.old path.now request.now }
-        ensures reply { IfOk result (λ reply. reply ≡ (performs self.old path.now (method_of request.now.code) request.now).reply) }
-        ensures tree { OnOk result (self.new ≡ (performs self.old path.now (method_of request.now.code) request.now).tree) }
-        ensures err { OnErr result (self.new ≡ self.old) }
-        ensures needs_memory { OnErr result (IsTrue (takes_memory (performs self.old path.now (method_of request.now.code) request.now).reply)) }
-    {
-        match Method::from_code(request.code) {
-            Some(Method::Get) => self.read(alloc, path),
-            Some(Method::Delete) => {
-                self.remove(path);
-                Ok(Reply::bare(alloc, Code::DELETED))
-            }
-            method => match written(alloc, method, self.get(path), request)? {
-                None => Ok(Reply::bare(alloc, Code::METHOD_NOT_ALLOWED)),
-                Some(resource) => self.write(alloc, path, resource),
+        match accepted(self, scope, path, request) {
+            Err(code) => Ok(Reply::bare(alloc, code)),
+            Ok(found) => match Method::from_code(request.code) {
+                Some(Method::Get) => read(alloc, found),
+                Some(Method::Delete) => {
+                    self.remove(path);
+                    Ok(Reply::bare(alloc, Code::DELETED))
+                }
+                method => {
+                    let is_there = found.is_some();
+                    match written(alloc, method, found, request)? {
+                        None => Ok(Reply::bare(alloc, Code::METHOD_NOT_ALLOWED)),
+                        Some(resource) => self.write(alloc, path, is_there, resource),
+                    }
+                }
             },
         }
     }
 
-    // Answers what the path has.
-    fn read(&self, alloc: Global, path: &Path) -> Result<Reply, AllocError>
-        ensures reply { IfOk result (λ reply. reply ≡ (reading self.now (map.get self.now path.now)).reply) }
-        ensures needs_memory { OnErr result (IsSome (map.get self.now path.now)) }
-    {
-        match self.get(path) {
-            None => Ok(Reply::bare(alloc, Code::NOT_FOUND)),
-            Some(resource) => Ok(Reply {
-                code: Code::CONTENT,
-                etag: Some(etag(resource)),
-                format: resource.format,
-                payload: resource.payload.clone()?,
-            }),
-        }
-    }
-
-    // Sets what the path has, and answers whether it had something.
-    fn write(&mut self, alloc: Global, path: &Path, resource: Resource) -> Result<Reply, AllocError>
+    // Sets what the path has, and answers whether it had something, which the caller knows.
+    fn write(
+        &mut self,
+        alloc: Global,
+        path: &Path,
+        is_there: bool,
+        resource: Resource,
+    ) -> Result<Reply, AllocError>
         requires short { length resource.payload ≤ longest_payload }
         requires room { map.contains_key self.old path.now ≡ false → map.len self.old < most_resources }
+        requires known { is_there ≡ map.contains_key self.old path.now }
         ensures reply { IfOk result (λ reply. reply ≡ bare (if map.contains_key self.old path.now then code 2 4 else code 2 1)) }
         ensures tree { OnOk result (self.new ≡ map.insert self.old path.now resource) }
         ensures err { OnErr result (self.new ≡ self.old) }
     {
-        let code = if self.get(path).is_some() {
-            Code::CHANGED
+        if is_there {
+            self.replace(path, resource);
+            Ok(Reply::bare(alloc, Code::CHANGED))
         } else {
-            Code::CREATED
-        };
-        self.put(alloc, path.clone()?, resource)?;
-        Ok(Reply::bare(alloc, code))
+            self.put(alloc, path.clone()?, resource)?;
+            Ok(Reply::bare(alloc, Code::CREATED))
+        }
+    }
+}
+
+// Answers what the path has.
+fn read(alloc: Global, found: Option<&Resource>) -> Result<Reply, AllocError>
+    ensures reply { (tree : AnyTree) → IfOk result (λ reply. reply ≡ (reading tree (option_copied found.entry)).reply) }
+    ensures needs_memory { OnErr result (IsSome (option_copied found.entry)) }
+{
+    match found {
+        None => Ok(Reply::bare(alloc, Code::NOT_FOUND)),
+        Some(resource) => Ok(Reply {
+            code: Code::CONTENT,
+            etag: Some(etag(resource)),
+            format: resource.format,
+            payload: resource.payload.clone()?,
+        }),
     }
 }
 

@@ -1,39 +1,71 @@
 //! The checks that a request must pass, in their order.
-ghost use Rattle.std.specs.Prelude.{◌≡◌, ◌==◌, ◌||◌, not, ◌∷◌, [], nat_le, ◌<◌, ◌^◌, length, bytes_eq, option_copied};
+ghost use Rattle.std.specs.Prelude.{◌≡◌, ◌==◌, ◌||◌, ◌&&◌, not, ◌∷◌, [], nat_le, ◌<◌, ◌^◌, length, bytes_eq, is_some, None, Some, IfOk, OnOk, IfErr, option_copied};
+ghost use Rattle.std.specs.FinMap as map;
 ghost use Rattle.std.specs.List.{list_any};
-ghost use Rattle.osc_model.specs.Code.{code};
+ghost use Rattle.osc_model.specs.Code.{code, method_of};
 ghost use Rattle.osc_model.specs.Tree.{longest_payload, payload_length as length_of};
-ghost use Rattle.osc_model.specs.Checks.{refusal as refuses, method_checks, first_failing, is_matched as matches, is_acceptable as accepts};
+ghost use Rattle.osc_model.specs.Checks.{AllowsWrite, refusal as refuses, method_checks, first_failing, is_matched as matches, is_acceptable as accepts};
 
 use crate::tags::etag;
 use crate::tree::{LONGEST_PAYLOAD, Tree};
 use osc_model::{Bytes, Code, Method, Path, Request, Resource};
 use osc_scope::{Scope, Verdict};
 
-/// The code of the first check that fails, or none. Takes no memory.
+/// What the path has, where no check fails, and else the code of the first that does; what passes can be written. Looks the
+/// path up once, and takes no memory.
+pub fn accepted<'a>(
+    tree: &'a Tree,
+    scope: &Scope,
+    path: &Path,
+    request: &Request,
+) -> Result<Option<&'a Resource>, Code>
+    ensures found { IfOk result (λ found. option_copied found ≡ map.get tree.now path.now) }
+    ensures passes { OnOk result (refuses tree.now scope.now path.now request.now ≡ None) }
+    ensures writes { OnOk result (AllowsWrite tree.now path.now request.now) }
+    ensures fails { IfErr result (λ code. refuses tree.now scope.now path.now request.now ≡ Some code) }
+{
+    osc_model::laws::what_passes_can_be_written();
+    checked(tree, scope, path, request)
+}
+
+// The same, without that it can be written.
 #[tactic(auto, unfolding(osc_model::specs::Checks::refusal))]
-pub fn refusal(tree: &Tree, scope: &Scope, path: &Path, request: &Request) -> Option<Code>
-    ensures { result ≡ refuses tree.now scope.now path.now request.now }
+fn checked<'a>(
+    tree: &'a Tree,
+    scope: &Scope,
+    path: &Path,
+    request: &Request,
+) -> Result<Option<&'a Resource>, Code>
+    ensures found { IfOk result (λ found. option_copied found ≡ map.get tree.now path.now) }
+    ensures passes { OnOk result (refuses tree.now scope.now path.now request.now ≡ None) }
+    ensures fails { IfErr result (λ code. refuses tree.now scope.now path.now request.now ≡ Some code) }
 {
     osc_model::laws::allowed_is_named();
     match scope.verdict(Some(path), request.code) {
-        Verdict::NoPath => return Some(Code::FORBIDDEN),
-        Verdict::NoMethod => return Some(Code::METHOD_NOT_ALLOWED),
+        Verdict::NoPath => return Err(Code::FORBIDDEN),
+        Verdict::NoMethod => return Err(Code::METHOD_NOT_ALLOWED),
         Verdict::Granted => {}
     }
     let found = tree.get(path);
+    match refusal(found, tree.is_full(), request) {
+        Some(code) => Err(code),
+        None => Ok(found),
+    }
+}
+
+// The checks of what is there: the conditions of the request, and then those of its method.
+fn refusal(found: Option<&Resource>, is_full: bool, request: &Request) -> Option<Code>
+    ensures { result ≡ first_failing ((matches (option_copied found.entry) request.now.if_match, code 4 12)
+        ∷ (not (request.now.if_none_match && is_some (option_copied found.entry)), code 4 12)
+        ∷ method_checks (method_of request.now.code) (option_copied found.entry) is_full request.now) }
+{
     if !is_matched(found, request.if_match.as_slice()) {
         return Some(Code::PRECONDITION_FAILED);
     }
     if request.if_none_match && found.is_some() {
         return Some(Code::PRECONDITION_FAILED);
     }
-    method_refusal(
-        Method::from_code(request.code),
-        found,
-        tree.is_full(),
-        request,
-    )
+    method_refusal(Method::from_code(request.code), found, is_full, request)
 }
 
 // The checks of one method: what a GET reads is there and acceptable, what a PUT or a POST writes has room.

@@ -1,6 +1,8 @@
 //! The tree.
-ghost use Rattle.std.specs.Prelude.{◌≡◌, ◌≤◌, ◌<◌, ◌==◌, false, length, nat_le, option_copied, IfOk, OnOk, OnErr};
+ghost use Rattle.std.specs.Prelude.{◌≡◌, ◌≤◌, ◌<◌, ◌==◌, false, length, nat_le, option_copied, IfOk, OnOk, OnErr, IsSome, Some};
+ghost use Rattle.std.specs.BTreeMap.{Updates, get_by};
 ghost use Rattle.std.specs.FinMap as map;
+ghost use Rattle.osc_model.specs.Path.{path_cmp};
 ghost use Rattle.osc_model.specs.Tree.{IsWithinLimits, most_resources, longest_payload};
 
 use osc_model::{Path, Resource, laws};
@@ -92,6 +94,17 @@ impl Tree {
         Ok(())
     }
 
+    /// Puts this in the place of what the path has; takes no memory.
+    pub(crate) fn replace(&mut self, path: &Path, resource: Resource)
+        requires short { length resource.payload ≤ longest_payload }
+        requires present { IsSome (map.get self.old path.now) }
+        ensures { self.new ≡ map.insert self.old path.now resource }
+    {
+        laws::paths_are_ordered();
+        laws::trees_stay_within_limits();
+        replace_in(&mut self.resources, path, resource);
+    }
+
     /// Leaves the path with nothing; takes no memory.
     pub(crate) fn remove(&mut self, path: &Path)
         ensures { self.new ≡ map.remove self.old path.now }
@@ -116,5 +129,15 @@ impl Tree {
         Ok(Tree {
             resources: self.resources.clone()?,
         })
+    }
+}
+
+// Writes over what the path has.
+fn replace_in(resources: &mut BTreeMap<Path, Resource>, path: &Path, resource: Resource)
+    requires { IsSome (get_by (path_cmp path.now) resources.old) }
+    ensures { Updates path_cmp resources.old resources.new path.now (Some resource) }
+{
+    if let Some(found) = resources.get_mut(path) {
+        *found = resource;
     }
 }
