@@ -2,7 +2,7 @@
 
 ghost use Rattle.std.specs.Prelude.{◌≡◌, ◌≢◌, ℕ, ◌≤◌, ◌<◌, ◌+◌, ◌++◌, ◌↔◌, List, [], ◌∷◌, length, max, IfOk, IsErr, OnOk, OnErr, Err, option_map};
 ghost use Rattle.osc_model.specs.declared.context.Side.TheVariants.{Client};
-ghost use Rattle.osc_context.specs.Derivation.{sender_of, recipient_of};
+ghost use Rattle.osc_context.specs.Derivation.{taken_of, sender_of, recipient_of};
 ghost use Rattle.osc_context.specs.Nonce.{greatest_number};
 ghost use Rattle.osc_cbor.specs.Spelling.{spelling};
 ghost use Rattle.osc_cbor.specs.View.{view};
@@ -110,7 +110,7 @@ impl ClientContext {
     /// `Exhausted` exactly where the greatest number has been taken or skipped; nothing is changed then.
     pub fn take_number(&mut self) -> Result<SendNumber, Exhausted>
         ensures refused { IsErr result ↔ (greatest_number < self.old.next) }
-        ensures number { IfOk result (λ number. number ≡ self.old.next) }
+        ensures number { IfOk result (λ taken. taken ≡ taken_of self.old.name Client self.old.next) }
         ensures next { OnOk result (self.new ≡ record self.old { next = self.old.next + 1 }) }
         ensures err { OnErr result (self.new ≡ self.old) }
     {
