@@ -3,13 +3,16 @@
 ghost use Rattle.std.specs.Prelude.{◌≡◌, None, IfOk};
 ghost use Rattle.osc_model.specs.declared.context.Side.TheVariants.{Client, Server};
 ghost use Rattle.osc_context.specs.Derivation.{sender_of, recipient_of};
+ghost use Rattle.osc_protect.specs.Protection.{IsFor};
 
 use osc_ccm::Ccm;
-use osc_coap::MessageRef;
+use osc_coap::{DATAGRAM_LIMIT, MessageRef};
 use osc_context::{RecipientContext, SenderContext, derive};
 use osc_model::{Bytes, ContextName, Side};
-use osc_protect::{ProtectedRequest, RequestTooLong, Room, protect_request, unprotect_request};
-use osc_window::Window;
+use osc_protect::{
+    MessageTooLong, OpenedRequest, ProtectedRequest, RequestRoom, Room, SealedRequestRef,
+    open_request, protect_request, read_request,
+};
 use std::alloc::{AllocError, Global};
 
 /// Protects the request so many times, each time under the next number, and answers how many bytes it made in all; 0 where
@@ -22,7 +25,7 @@ pub extern "C" fn osc_bench_protect(alloc: Global, request: &[u8], rounds: u64) 
     }
 }
 
-/// Protects the request once and opens it so many times, each time with a new window, and answers how many bytes of
+/// Protects the request once and opens it so many times, each time in new room, and answers how many bytes of
 /// plaintext came out in all; 0 where it is no message or there is no memory.
 #[unsafe(no_mangle)]
 pub extern "C" fn osc_bench_unprotect(alloc: Global, request: &[u8], rounds: u64) -> u64 {
@@ -56,14 +59,13 @@ fn protect_next(
     requires sender { sender.old ≡ sender_of name.now Client sender.old.next }
     ensures { sender.new ≡ sender_of name.now Client sender.new.next }
 {
-    let room = Room::new(alloc, name)?;
+    let room = Room::new(alloc, name, DATAGRAM_LIMIT)?;
     let Ok(number) = sender.take_number() else {
         return Ok(None);
     };
-    match protect_request::<Ccm<8>>(room, sender, number, request) {
+    match protect_request::<Ccm<8>>(room, number, request) {
         Ok(made) => Ok(Some(made)),
-        Err(RequestTooLong { room, number }) => {
-            drop(room);
+        Err(MessageTooLong { room: _, number }) => {
             number.spend();
             Ok(None)
         }
@@ -100,31 +102,49 @@ fn bytes_opened(alloc: Global, request: &MessageRef<'_>, rounds: u64) -> Result<
         return Ok(0);
     };
     let message = protected.message.message();
-    open_again(alloc, &name, &recipient, &message, rounds)
+    let Ok(sealed) = read_request(&message) else {
+        return Ok(0);
+    };
+    if !sealed.is_for(&name) {
+        return Ok(0);
+    }
+    open_again(alloc, &name, &recipient, &sealed, rounds)
 }
 
-// Opens the request so many times, each time with a new window.
+// Opens the request once.
+fn open_once(
+    alloc: Global,
+    name: &ContextName,
+    recipient: &RecipientContext,
+    sealed: &SealedRequestRef<'_>,
+) -> Result<usize, AllocError>
+    requires recipient { recipient.now ≡ recipient_of name.now Server }
+    requires named { IsFor name.now sealed.now }
+{
+    let room = RequestRoom::new(alloc, name, sealed.sealed().len())?;
+    match open_request::<Ccm<8>>(room, recipient, sealed) {
+        Ok(OpenedRequest { note, right }) => {
+            right.forgo();
+            Ok(note.plaintext.len())
+        }
+        Err(_) => Ok(0),
+    }
+}
+
+// Opens the request so many times, each time in new room.
 fn open_again(
     alloc: Global,
     name: &ContextName,
     recipient: &RecipientContext,
-    message: &MessageRef<'_>,
+    sealed: &SealedRequestRef<'_>,
     rounds: u64,
 ) -> Result<u64, AllocError>
-    requires { recipient.now ≡ recipient_of name.now Server }
+    requires recipient { recipient.now ≡ recipient_of name.now Server }
+    requires named { IsFor name.now sealed.now }
 {
     let mut opened = 0u64;
     for _ in 0..rounds {
-        let mut window = Window::new();
-        if let Ok(note) = unprotect_request::<Ccm<8>>(
-            alloc,
-            name,
-            recipient,
-            &mut window,
-            message,
-        ) {
-            opened = opened.wrapping_add(note.plaintext.len() as u64);
-        }
+        opened = opened.wrapping_add(open_once(alloc, name, recipient, sealed)? as u64);
     }
     Ok(opened)
 }
