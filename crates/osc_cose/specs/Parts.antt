@@ -2,6 +2,7 @@
 use Rattle.std.specs.Prelude.{ℕ, List, Option, Some, None, option_and_then}
 use Rattle.osc_cbor.specs.Data.{DataItem, Items, no_items, item}
 use Rattle.osc_cbor.specs.Parts.{as_bytes, as_array, as_map}
+use Rattle.osc_cose.specs.declared.encrypt0.Encrypt0.{Encrypt0}
 
 -- the items of an array of three
 abbrev pub three_of : Items → Option (DataItem × (DataItem × DataItem))
@@ -15,3 +16,7 @@ typed (a, (b, c)) =
 
 abbrev pub parts_of : DataItem → Option (List ℕ × (DataItem × List ℕ))
 parts_of d = option_and_then typed (option_and_then three_of (as_array d))
+
+-- the object of these parts
+abbrev pub object_of_parts : List ℕ → Option (List ℕ) → Option (List ℕ) → List ℕ → Encrypt0
+object_of_parts protected kid iv ciphertext = record { protected = protected; kid = kid; iv = iv; ciphertext = ciphertext }

@@ -17,11 +17,9 @@ mod writing;
 pub use encrypt0::Encrypt0;
 pub use error::{OpenError, ParseError, SealError};
 pub use laws::{one_text, what_is_written};
-pub use opening::open0;
+pub use opening::{open0, open0_into};
 pub use parsing::{object_of, parse0};
+pub use protected::names_algorithm;
 pub use sealing::seal0;
 pub use structure::enc_structure;
 pub use writing::write0;
-
-#[cfg(test)]
-mod tests;

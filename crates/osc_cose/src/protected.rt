@@ -1,12 +1,13 @@
 //! Protected headers.
 
-ghost use Rattle.std.specs.Prelude.{◌≡◌, ◌↔◌, Some, IfOk, IsTrue};
-ghost use Rattle.osc_cbor.specs.Data.{unsigned};
+ghost use Rattle.std.specs.Prelude.{◌≡◌, ◌↔◌, Some, IsTrue, MatchResult};
+ghost use Rattle.osc_cbor.specs.Data.{Pairs, map, unsigned};
+ghost use Rattle.osc_cbor.specs.Spelling.{IsWhole};
 ghost use Rattle.osc_cbor.specs.Parts as part;
 ghost use Rattle.osc_cbor.specs.View.{view};
 ghost use Rattle.osc_cose.specs.Encrypt0.{IsProtected, NamesAlgorithm};
 
-use osc_cbor::{Item, read_whole};
+use osc_cbor::{Item, is_whole_map, read_whole};
 use std::alloc::{AllocError, Global};
 
 /// The algorithm AES-CCM-16-64-128 (RFC 9053 section 4.2).
@@ -15,25 +16,25 @@ const ALGORITHM: u64 = 10;
 /// The label of the algorithm in a header (RFC 9052 section 3.1).
 const ALGORITHM_LABEL: u64 = 1;
 
-/// Whether the bytes are a protected header: empty, or one whole map.
-pub(crate) fn is_protected(alloc: Global, bytes: &[u8]) -> Result<bool, AllocError>
-    ensures { IfOk result (λ is. IsTrue is ↔ IsProtected bytes.now) }
+/// Whether the bytes are a protected header: empty, or one whole map. No memory is taken.
+pub(crate) fn is_protected(bytes: &[u8]) -> bool
+    ensures { IsTrue result ↔ IsProtected bytes.now }
+{
+    bytes.is_empty() || is_whole_map(bytes)
+}
+
+/// Whether the bytes are a protected header that names no other algorithm than AES-CCM-16-64-128. An error is want of memory,
+/// and comes only where they are a map.
+pub fn names_algorithm(alloc: Global, bytes: &[u8]) -> Result<bool, AllocError>
+    ensures { MatchResult result
+        (λ names. IsTrue names ↔ NamesAlgorithm bytes.now)
+        (λ _. (parameters : Pairs) × IsWhole bytes.now (map parameters)) }
 {
     if bytes.is_empty() {
         return Ok(true);
     }
-    Ok(match read_whole(alloc, bytes)? {
-        Some(item) => item.as_map().is_some(),
-        None => false,
-    })
-}
-
-/// Whether the bytes are a protected header that names no other algorithm than AES-CCM-16-64-128.
-pub(crate) fn names_algorithm(alloc: Global, bytes: &[u8]) -> Result<bool, AllocError>
-    ensures { IfOk result (λ names. IsTrue names ↔ NamesAlgorithm bytes.now) }
-{
-    if bytes.is_empty() {
-        return Ok(true);
+    if !is_whole_map(bytes) {
+        return Ok(false);
     }
     Ok(match read_whole(alloc, bytes)? {
         Some(item) => has_algorithm(&item),

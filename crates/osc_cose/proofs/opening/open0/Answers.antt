@@ -1,6 +1,8 @@
 use Rattle.std.proofs.Common.{sym, ◌∙◌, rules}
 use Rattle.std.proofs.lemmas.Bool.{false≢true}
+use Rattle.osc_cose.specs.Encrypt0.{IsProtected}
 use Rattle.osc_cose.proofs.OpenLemmas.{IfOk-always}
+use Rattle.osc_cose.proofs.ProtectedLemmas.{protected_from_names}
 use Rattle.osc_cose.proofs.opening.open0.Goals as goal
 
 pub returns-then-not-branch-clause-only : goal.returns-then-not-branch-clause-only
@@ -21,9 +23,25 @@ returns-clause-named g c =
 pub returns-clause-not_genuine : goal.returns-clause-not_genuine
 returns-clause-not_genuine g c = λ e.
     let is = rw c.as_slice-protected.ensures at c.in_ok-names_algorithm.ensures in
-    (is.0 c.if-not-branch.false, λ text s. c.open_text.ensures.not_genuine e text (search rules))
+    let none = c.open_text.ensures.not_genuine e in
+    (is.0 c.if-not-branch.false, search rules, λ text s. none.1 text (search rules))
 
 pub returns-clause-too_long : goal.returns-clause-too_long
 returns-clause-too_long g c = λ e.
     let is = rw c.as_slice-protected.ensures at c.in_ok-names_algorithm.ensures in
     (is.0 c.if-not-branch.false, search rules)
+
+pub returns-clause-memory : goal.returns-clause-memory
+returns-clause-memory g c = λ e.
+    let is = rw c.as_slice-protected.ensures at c.in_ok-names_algorithm.ensures in
+    protected_from_names _ (is.0 c.if-not-branch.false)
+
+pub returns-in_err-names_algorithm-clause-memory : goal.returns-in_err-names_algorithm-clause-memory
+returns-in_err-names_algorithm-clause-memory g c = λ e.
+    let map = rw c.as_slice-protected.ensures at c.in_err-names_algorithm.ensures in
+    IsProtected.holds map.0 map.1
+
+pub returns-in_err-enc_structure-clause-memory : goal.returns-in_err-enc_structure-clause-memory
+returns-in_err-enc_structure-clause-memory g c = λ e.
+    let is = rw c.as_slice-protected.ensures at c.in_ok-names_algorithm.ensures in
+    protected_from_names _ (is.0 c.if-not-branch.false)

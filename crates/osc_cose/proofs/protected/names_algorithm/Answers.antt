@@ -1,6 +1,7 @@
-use Rattle.std.proofs.Common.{◌≢◌, []}
+use Rattle.std.proofs.Common.{◌≢◌, [], sym, ◌∙◌}
+use Rattle.std.proofs.lemmas.Bool.{false≢true}
 use Rattle.osc_cbor.specs.View.{view}
-use Rattle.osc_cose.proofs.ProtectedLemmas.{names_from_value, value_from_names, none_names, some_bytes}
+use Rattle.osc_cose.proofs.ProtectedLemmas.{names_from_value, value_from_names, none_names, names_in_map, some_bytes}
 use Rattle.osc_cose.proofs.protected.names_algorithm.Goals as goal
 
 pub returns-in-Some : goal.returns-in-Some
@@ -18,3 +19,7 @@ returns-in-None c =
     let bytes = c.args.bytes.now in
     let none = rw c.in-None.is at c.in_ok-item.ensures in
     (λ e. cc, λ n. absurd (none_names bytes none (some_bytes bytes (cc)) n))
+
+pub returns-then-not-is_whole_map : goal.returns-then-not-is_whole_map
+returns-then-not-is_whole_map c =
+    (λ e. cc, λ n. absurd (false≢true (sym c.if-not-is_whole_map.true ∙ c.is_whole_map.ensures.1 (names_in_map c.args.bytes.now (some_bytes c.args.bytes.now (cc)) n))))
