@@ -12,6 +12,6 @@ code_if n true e h = eqb-true n 65 e
 code_if n false e h = absurd (false≢true h)
 
 -- the code that passed the test is 2.01
-pub code_is : (answered : Code) (b : Bool) → b ≡ not (nat_eq answered.0 65) → b ≡ false → answered ≡ code 2 1
+pub code_is : (came : Code) (b : Bool) → b ≡ not (nat_eq came.0 65) → b ≡ false → came ≡ code 2 1
 unfolding with_number
-code_is answered b e h = ap with_number (code_if answered.0 (nat_eq answered.0 65) (λ i. nat_eq answered.0 65) (sym h ∙ e))
+code_is came b e h = ap with_number (code_if came.0 (nat_eq came.0 65) (λ i. nat_eq came.0 65) (sym h ∙ e))

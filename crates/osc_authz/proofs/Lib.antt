@@ -10,3 +10,7 @@ mod PostLemmas
 mod OutcomeLemmas
 mod ExchangeLemmas
 mod AgreementLemmas
+mod Members
+mod ContextLaws
+mod MeantLaws
+mod OneNameLaws

@@ -12,7 +12,8 @@ use Rattle.osc_token.specs.declared.error.TokenError.{TokenError}
 use Rattle.osc_authz.specs.Agreement.{new_context, Agrees, Answers, refused, full, agreed}
 use Rattle.osc_authz.specs.Desk.{DeskState}
 use Rattle.osc_authz.specs.Exchange.{IsPost}
-use Rattle.osc_authz.specs.Post.{nonce_drawn, IsOpened, Posts}
+use Rattle.osc_authz.specs.Post.{IsOpened, Posts}
+use Rattle.osc_model.specs.Draw.{nonce_drawn}
 use Rattle.osc_authz.specs.Table.{IsFull, IsLeastFree, alive, with_pending}
 use Rattle.osc_authz.specs.declared.error.PostError.{PostError}
 use Rattle.osc_authz.specs.declared.error.PostError.TheVariants as post_error
@@ -92,47 +93,24 @@ IsOneToken IsSealing = (key bytes protected iv text others ivs other : List ℕ)
     → (protected ≡ others) × (iv ≡ ivs) × (text ≡ other)
 
 module _ (IsSealing : List ℕ → List ℕ → List ℕ → List ℕ → List ℕ → Type 0) (before : DeskState) (now : Moment) (body : List ℕ) (draw : Draw) where
-  answered : Note → Result PostAnswer PostError → Post
-  answered note answer = record { opened = Some note; answer = answer }
-
-  -- the five cases in three
-  data Outcome (post : Post) (after : DeskState) : Type 0 where
-    unread : ((token nonce1 client_id : List ℕ) → ¬ IsPost body token nonce1 client_id)
-        → post ≡ record { opened = None; answer = Err post_error.Fields } → after ≡ before → Outcome post after
-    unopened : (token nonce1 client_id : List ℕ) → IsPost body token nonce1 client_id
-        → ((protected iv text : List ℕ) → ¬ IsToken IsSealing before.key token protected iv text)
-        → post ≡ record { opened = None; answer = Err (post_error.Token TokenError.NotGenuine) } → after ≡ before → Outcome post after
-    opened : (nonce1 client_id protected iv text : List ℕ) (answer : Result PostAnswer PostError)
-        → IsOpened IsSealing before.key body nonce1 client_id protected iv text → Answers before now nonce1 client_id text draw answer after
-        → post ≡ answered (token_note before.key protected iv text) answer → Outcome post after
-
-  outcome : (post : Post) (after : DeskState) → Posts IsSealing before now body draw post after → Outcome post after
-  unfolding answered made_of
-  outcome post after (Posts.no_post none is same) = unread none is same
-  outcome post after (Posts.not_genuine token nonce1 client_id p none is same) = unopened token nonce1 client_id p none is same
-  outcome post after (Posts.refused nonce1 client_id protected iv text error o comes is same) =
-      opened nonce1 client_id protected iv text (Err (post_error.Token error)) o (refused error comes refl same) is
-  outcome post after (Posts.full nonce1 client_id protected iv text claims scope o comes many is same) =
-      opened nonce1 client_id protected iv text (Err post_error.Full) o (full claims scope comes many refl same) is
-  outcome post after (Posts.agreed nonce1 client_id protected iv text claims scope byte o comes room free is same) =
-      opened nonce1 client_id protected iv text (Ok (made_of (nonce_drawn draw) byte)) o
-      (agreed claims scope (made_of (nonce_drawn draw) byte) comes room (record { free = free; drawn = refl; added = same }) refl) is
+  abbrev post_of : Note → Result PostAnswer PostError → Post
+  post_of note answer = record { opened = Some note; answer = answer }
 
   module _ (one_post : IsOnePost) (one_token : IsOneToken IsSealing) (one_result : IsOneResult) where
-    outcome_once : (post posts : Post) (after afters : DeskState) → Outcome post after → Outcome posts afters → (post ≡ posts) × (after ≡ afters)
-    outcome_once post posts after afters (unread none is same) (unread none2 is2 same2) = (is ∙ sym is2, same ∙ sym same2)
-    outcome_once post posts after afters (unread none is same) (unopened token nonce1 client_id p none2 is2 same2) = absurd (none token nonce1 client_id p)
-    outcome_once post posts after afters (unread none is same) (opened nonce1 client_id protected iv text answer o answers is2) = absurd (none o.token nonce1 client_id o.is_post)
-    outcome_once post posts after afters (unopened token nonce1 client_id p none is same) (unread none2 is2 same2) = absurd (none2 token nonce1 client_id p)
-    outcome_once post posts after afters (unopened token nonce1 client_id p none is same) (unopened token2 nonces ids p2 none2 is2 same2) = (is ∙ sym is2, same ∙ sym same2)
-    outcome_once post posts after afters (unopened token nonce1 client_id p none is same) (opened nonces ids protected iv text answer o answers is2) =
+    pub posts_once : (post posts : Post) (after afters : DeskState) → Posts IsSealing before now body draw post after → Posts IsSealing before now body draw posts afters → (post ≡ posts) × (after ≡ afters)
+    posts_once post posts after afters (Posts.no_post none is same) (Posts.no_post none2 is2 same2) = (is ∙ sym is2, same ∙ sym same2)
+    posts_once post posts after afters (Posts.no_post none is same) (Posts.not_genuine token nonce1 client_id p none2 is2 same2) = absurd (none token nonce1 client_id p)
+    posts_once post posts after afters (Posts.no_post none is same) (Posts.opened nonce1 client_id protected iv text answer o answers is2) = absurd (none o.token nonce1 client_id o.is_post)
+    posts_once post posts after afters (Posts.not_genuine token nonce1 client_id p none is same) (Posts.no_post none2 is2 same2) = absurd (none2 token nonce1 client_id p)
+    posts_once post posts after afters (Posts.not_genuine token nonce1 client_id p none is same) (Posts.not_genuine token2 nonces ids p2 none2 is2 same2) = (is ∙ sym is2, same ∙ sym same2)
+    posts_once post posts after afters (Posts.not_genuine token nonce1 client_id p none is same) (Posts.opened nonces ids protected iv text answer o answers is2) =
         let t = one_post body o.token nonces ids token nonce1 client_id o.is_post p in
         absurd (none protected iv text (subst (λ x. IsToken IsSealing before.key x protected iv text) t.0 o.is_token))
-    outcome_once post posts after afters (opened nonce1 client_id protected iv text answer o answers is) (unread none2 is2 same2) = absurd (none2 o.token nonce1 client_id o.is_post)
-    outcome_once post posts after afters (opened nonces ids protected iv text answer o answers is) (unopened token nonce1 client_id p none is2 same2) =
+    posts_once post posts after afters (Posts.opened nonce1 client_id protected iv text answer o answers is) (Posts.no_post none2 is2 same2) = absurd (none2 o.token nonce1 client_id o.is_post)
+    posts_once post posts after afters (Posts.opened nonces ids protected iv text answer o answers is) (Posts.not_genuine token nonce1 client_id p none is2 same2) =
         let t = one_post body o.token nonces ids token nonce1 client_id o.is_post p in
         absurd (none protected iv text (subst (λ x. IsToken IsSealing before.key x protected iv text) t.0 o.is_token))
-    outcome_once post posts after afters (opened nonce1 client_id protected iv text answer o answers is) (opened nonces ids protected2 ivs text2 answer2 o2 answers2 is2) =
+    posts_once post posts after afters (Posts.opened nonce1 client_id protected iv text answer o answers is) (Posts.opened nonces ids protected2 ivs text2 answer2 o2 answers2 is2) =
         let t = one_post body o.token nonce1 client_id o2.token nonces ids o.is_post o2.is_post in
         let own = subst (λ x. IsToken IsSealing before.key x protected iv text) t.0 o.is_token in
         let u = one_token before.key o2.token protected iv text protected2 ivs text2 own o2.is_token in
@@ -143,8 +121,4 @@ module _ (IsSealing : List ℕ → List ℕ → List ℕ → List ℕ → List �
         subst (λ x. token_note before.key protected iv text ≡ token_note before.key x ivs text2) u.0
         (subst (λ x. token_note before.key protected iv text ≡ token_note before.key protected x text2) u.1
         (ap (token_note before.key protected iv) u.2)) in
-        (is ∙ ap₂ answered note once.0 ∙ sym is2, once.1)
-
-    pub posts_once : (post posts : Post) (after afters : DeskState)
-        → Posts IsSealing before now body draw post after → Posts IsSealing before now body draw posts afters → (post ≡ posts) × (after ≡ afters)
-    posts_once post posts after afters p q = outcome_once post posts after afters (outcome post after p) (outcome posts afters q)
+        (is ∙ ap₂ post_of note once.0 ∙ sym is2, once.1)

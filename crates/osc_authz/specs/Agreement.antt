@@ -1,18 +1,32 @@
--- What a post whose token opened comes to. No public contract rests on this.
+-- What a post whose token opened comes to.
 use Rattle.std.specs.Prelude.{◌≡◌, ℕ, List, [], ◌∷◌, Result, Ok, Err}
 use Rattle.osc_model.specs.Scope.{Scope}
+use Rattle.osc_model.specs.Draw.{nonce_drawn}
+use Rattle.osc_model.specs.declared.context.ContextName.{ContextName}
 use Rattle.osc_model.specs.declared.node.Draw.{Draw}
 use Rattle.osc_model.specs.declared.node.Moment.{Moment}
+use Rattle.osc_context.specs.MasterSalt.{master_salt}
 use Rattle.osc_token.specs.Claims.{ComesTo}
 use Rattle.osc_token.specs.declared.claims.Claims.{Claims}
+use Rattle.osc_token.specs.declared.claims.InputMaterial.{InputMaterial}
 use Rattle.osc_token.specs.declared.error.TokenError.{TokenError}
 use Rattle.osc_authz.specs.Desk.{DeskState}
 use Rattle.osc_authz.specs.Held.{Held}
-use Rattle.osc_authz.specs.Post.{exchanged_name, nonce_drawn}
 use Rattle.osc_authz.specs.Table.{alive, ids, IsFull, without_pending, with_pending, IsLeastFree}
 use Rattle.osc_authz.specs.declared.error.PostError.{PostError}
 use Rattle.osc_authz.specs.declared.error.PostError.TheVariants.{Token, Full}
 use Rattle.osc_authz.specs.declared.post.PostAnswer.{PostAnswer}
+
+-- The name of the context (RFC 9203 section 4.3): the client's sender ID is the server's recipient ID, and the server's the
+-- client's. The master salt has the nonces of both.
+abbrev pub exchanged_name : InputMaterial → List ℕ → List ℕ → List ℕ → List ℕ → ContextName
+exchanged_name material nonce1 nonce2 server_recipient_id client_recipient_id = record {
+  secret = material.secret;
+  salt = master_salt material.salt nonce1 nonce2;
+  id_context = material.id_context;
+  client_id = server_recipient_id;
+  server_id = client_recipient_id;
+}
 
 -- the context of these claims and both ends' nonces and IDs
 abbrev pub new_context : Claims → Scope → List ℕ → List ℕ → PostAnswer → Held

@@ -5,7 +5,7 @@ use Rattle.osc_model.specs.declared.code.Code.{Code}
 use Rattle.osc_model.specs.declared.context.ContextName.{ContextName}
 use Rattle.osc_context.specs.MasterSalt.{master_salt}
 use Rattle.osc_authz.specs.Exchange.{IsAnswer}
-use Rattle.osc_authz.specs.declared.client.ClientDesk.{ClientDesk}
+use Rattle.osc_authz.specs.declared.granted.ClientDesk.{ClientDesk}
 use Rattle.osc_authz.specs.Begun.{Begun, Made}
 use Rattle.osc_authz.specs.declared.error.FinishError.{FinishError}
 use Rattle.osc_authz.specs.declared.error.FinishError.TheVariants.{Fields, EqualIds}
@@ -26,12 +26,12 @@ made_name desk begun nonce2 server_id = record {
 }
 
 -- what an exchange comes to by an answer of this code and payload
-pub data Finishes (desk : ClientDesk) (begun : Begun) (answered : Code) (payload : List ℕ) (result : Result Made FinishError) : Type 0 where
-  another_code : answered ≢ code 2 1 → result ≡ Err Fields → Finishes desk begun answered payload result
-  no_answer : answered ≡ code 2 1 → ((nonce2 server_id : List ℕ) → ¬ IsAnswer payload nonce2 server_id)
-      → result ≡ Err Fields → Finishes desk begun answered payload result
-  equal_ids : (nonce2 : List ℕ) → answered ≡ code 2 1 → IsAnswer payload nonce2 (begun.recipient_id ∷ [])
-      → result ≡ Err EqualIds → Finishes desk begun answered payload result
-  made : (nonce2 server_id : List ℕ) → answered ≡ code 2 1 → IsAnswer payload nonce2 server_id
+pub data Finishes (desk : ClientDesk) (begun : Begun) (came : Code) (payload : List ℕ) (result : Result Made FinishError) : Type 0 where
+  another_code : came ≢ code 2 1 → result ≡ Err Fields → Finishes desk begun came payload result
+  no_answer : came ≡ code 2 1 → ((nonce2 server_id : List ℕ) → ¬ IsAnswer payload nonce2 server_id)
+      → result ≡ Err Fields → Finishes desk begun came payload result
+  equal_ids : (nonce2 : List ℕ) → came ≡ code 2 1 → IsAnswer payload nonce2 (begun.recipient_id ∷ [])
+      → result ≡ Err EqualIds → Finishes desk begun came payload result
+  made : (nonce2 server_id : List ℕ) → came ≡ code 2 1 → IsAnswer payload nonce2 server_id
       → server_id ≢ begun.recipient_id ∷ []
-      → result ≡ Ok (record { name = made_name desk begun nonce2 server_id; next = 0 }) → Finishes desk begun answered payload result
+      → result ≡ Ok (record { name = made_name desk begun nonce2 server_id; next = 0 }) → Finishes desk begun came payload result

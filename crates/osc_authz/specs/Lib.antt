@@ -10,3 +10,8 @@ pub mod Client
 pub mod Errors
 pub mod Payload
 pub mod Agreement
+pub mod Granted
+pub mod Members
+pub mod Contexts
+pub mod Agreed
+pub mod HoldsToken

@@ -1,12 +1,7 @@
 -- The fields of a payload, taken out of its item. No public contract rests on this.
-use Rattle.std.specs.Prelude.{◌≡◌, ℕ, nat_le, ◌&&◌, if◌then◌else◌, List, length, Option, Some, None, option_and_then}
+use Rattle.std.specs.Prelude.{ℕ, nat_le, ◌&&◌, if◌then◌else◌, List, length, Option, Some, None, option_and_then}
 use Rattle.osc_cbor.specs.Data.{DataItem}
 use Rattle.osc_cbor.specs.Parts.{as_bytes, value}
-use Rattle.osc_cbor.specs.Spelling.{IsWhole}
-
--- the bytes are this one item
-abbrev pub IsItem : List ℕ → DataItem → Type 0
-IsItem bytes d = IsWhole bytes d × ((other : DataItem) → IsWhole bytes other → d ≡ other)
 
 abbrev pub bytes_under : ℕ → DataItem → Option (List ℕ)
 bytes_under label d = option_and_then as_bytes (value label d)

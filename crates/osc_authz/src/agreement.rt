@@ -1,8 +1,7 @@
 //! The context that both ends of an exchange agree on (RFC 9203 section 4.3).
 
 ghost use Rattle.std.specs.Prelude.{◌≡◌, ◌≢◌, ◌≤◌, [], ◌∷◌, length, IfOk};
-ghost use Rattle.osc_authz.specs.Agreement.{new_context};
-ghost use Rattle.osc_authz.specs.Post.{exchanged_name};
+ghost use Rattle.osc_authz.specs.Agreement.{exchanged_name, new_context};
 
 use crate::context::ServerContext;
 use crate::derivation::derived;

@@ -1,40 +1,28 @@
 //! The client's end of an exchange.
 
-ghost use Rattle.std.specs.Prelude.{◌≡◌, ◌≢◌, ℕ, ◌≤◌, ◌<◌, ◌+◌, ◌++◌, ◌↔◌, List, [], ◌∷◌, length, max, IfOk, IsErr, OnOk, OnErr, Err, option_map};
+ghost use Rattle.std.specs.Prelude.{◌≡◌, ◌≢◌, ℕ, ◌≤◌, ◌<◌, ◌+◌, ◌++◌, ◌↔◌, List, [], ◌∷◌, length, max, IfOk, IsErr, OnOk, OnErr, Err, Some, option_map};
 ghost use Rattle.osc_model.specs.declared.context.Side.TheVariants.{Client};
 ghost use Rattle.osc_context.specs.Derivation.{taken_of, sender_of, recipient_of};
 ghost use Rattle.osc_context.specs.Nonce.{greatest_number};
 ghost use Rattle.osc_cbor.specs.Spelling.{spelling};
 ghost use Rattle.osc_cbor.specs.View.{view};
-ghost use Rattle.osc_model.specs.Code.{code};
+ghost use Rattle.osc_model.specs.Code.{code as code_of};
+ghost use Rattle.osc_model.specs.Draw.{nonce_drawn};
+ghost use Rattle.osc_token.specs.Reading.{IsItem};
 ghost use Rattle.osc_authz.specs.Begun.{Begun};
 ghost use Rattle.osc_authz.specs.Client.{Finishes, made_name, offered_id as offered};
 ghost use Rattle.osc_authz.specs.Exchange.{post_item};
-ghost use Rattle.osc_authz.specs.Payload.{IsItem};
-ghost use Rattle.osc_authz.specs.Post.{nonce_drawn as drawn};
+ghost use Rattle.osc_authz.specs.Payload.{answer_fields as fields_of};
 
 use crate::derivation::derived;
 use crate::error::FinishError;
+use crate::granted::ClientDesk;
 use crate::payload::{answer_fields, write_post};
-use crate::post::nonce_drawn;
 use osc_cbor::{Item, read_whole};
 use osc_context::{Exhausted, RecipientContext, SendNumber, SenderContext, joined_salt};
 use osc_model::{Bytes, Code, ContextName, Draw, Side};
 use std::alloc::{AllocError, Global};
 use std::marker::Model;
-
-/// What a client has been granted: the token, which it can't read, and the input material of its contexts.
-#[derive(Clone, Debug, PartialEq, Eq, Drop)]
-pub struct ClientDesk {
-    /// The token's bytes.
-    pub token: Bytes,
-    /// The master secret: 1 to 64 bytes.
-    pub secret: Bytes,
-    /// The salt that master salts begin with: 0 to 64 bytes.
-    pub salt: Bytes,
-    /// The id context: 0 to 64 bytes, where there is one.
-    pub id_context: Option<Bytes>,
-}
 
 /// An exchange that a client has begun. It can't be copied, and is used up when it is finished.
 #[derive(Debug, Drop)]
@@ -139,10 +127,10 @@ impl ClientDesk {
     /// Begins an exchange with the nonce of the draw, its first 8 bytes. The recipient ID that the client offers is `00`, or
     /// `01` where the context that it holds has that already. Takes no memory.
     pub fn start(&self, held: Option<&ClientContext>, draw: &Draw) -> OpenExchange
-        ensures { result ≡ record { nonce1 = drawn draw.now; recipient_id = offered (option_map (λ context. context.now) held.entry) } }
+        ensures { result ≡ record { nonce1 = nonce_drawn draw.now; recipient_id = offered (option_map (λ context. context.now) held.entry) } }
     {
         OpenExchange {
-            nonce1: nonce_drawn(draw),
+            nonce1: draw.nonce(),
             recipient_id: offered_id(held),
         }
     }
@@ -173,7 +161,7 @@ impl ClientDesk {
     /// # Errors
     ///
     /// `Fields` where the answer isn't 2.01 with a readable nonce and recipient ID, `EqualIds` where that is the client's
-    /// own. Want of memory alone hands the open exchange back.
+    /// own. Want of memory alone hands the open exchange back; it is no answer where the code isn't 2.01.
     pub fn finish(
         &self,
         alloc: Global,
@@ -182,23 +170,24 @@ impl ClientDesk {
         payload: &[u8],
     ) -> Result<ClientContext, FinishError>
         ensures finished { ((handed : Begun) → result ≢ Err (FinishError.Memory handed)) → Finishes self.now exchange code payload.now result }
-        ensures memory { (handed : Begun) → result ≡ Err (FinishError.Memory handed) → handed ≡ exchange }
+        ensures memory { (handed : Begun) → result ≡ Err (FinishError.Memory handed) → (handed ≡ exchange) × (code ≡ code_of 2 1) }
     {
-        match self.answered(alloc, &exchange, code, payload) {
+        match self.outcome_of(alloc, &exchange, code, payload) {
             Ok(made) => made,
             Err(_) => Err(FinishError::Memory(exchange)),
         }
     }
 
     /// What the exchange comes to by an answer of this code and payload. An error is want of memory.
-    fn answered(
+    fn outcome_of(
         &self,
         alloc: Global,
         exchange: &OpenExchange,
         code: Code,
         payload: &[u8],
     ) -> Result<Result<ClientContext, FinishError>, AllocError>
-        ensures { IfOk result (λ made. Finishes self.now exchange.now code payload.now made) }
+        ensures finished { IfOk result (λ made. Finishes self.now exchange.now code payload.now made) }
+        ensures memory { IsErr result → code ≡ code_of 2 1 }
     {
         if code != Code::CREATED {
             return Ok(Err(FinishError::Fields));
@@ -216,8 +205,10 @@ impl ClientDesk {
         exchange: &OpenExchange,
         item: &Item,
     ) -> Result<Result<ClientContext, FinishError>, AllocError>
-        ensures { (payload : List ℕ) → IsItem payload (view item.now)
-            → IfOk result (λ made. Finishes self.now exchange.now (code 2 1) payload made) }
+        ensures finished { (payload : List ℕ) → IsItem payload (view item.now)
+            → IfOk result (λ made. Finishes self.now exchange.now (code_of 2 1) payload made) }
+        ensures memory { IsErr result → (nonce2 server_id : List ℕ)
+            × (fields_of (view item.now) ≡ Some (nonce2, server_id)) × (server_id ≢ exchange.now.recipient_id ∷ []) }
     {
         let Some(answer) = answer_fields(item) else {
             return Ok(Err(FinishError::Fields));

@@ -1,11 +1,13 @@
 //! The server's end of exchanges.
 
-ghost use Rattle.std.specs.Prelude.{◌≡◌, ◌≤◌, ℕ, List, [], length, IfOk, OnErr, Some, option_map};
+ghost use Rattle.std.specs.Prelude.{◌≡◌, ◌≤◌, ℕ, List, [], length, IfOk, IsErr, IsSome, OnErr, Some, Ok, option_map};
 ghost use Rattle.osc_window.specs.Window.{IsFresh};
 ghost use Rattle.osc_cbor.specs.View.{view};
+ghost use Rattle.osc_token.specs.Claims.{ComesTo};
 ghost use Rattle.osc_authz.specs.Agreement.{Agrees, Answers};
 ghost use Rattle.osc_authz.specs.Held.{Held};
-ghost use Rattle.osc_authz.specs.Payload.{IsItem};
+ghost use Rattle.osc_authz.specs.Payload.{post_fields as fields_of};
+ghost use Rattle.osc_token.specs.Reading.{IsItem};
 ghost use Rattle.osc_authz.specs.Table.{IsTable, IsFull, accepted, alive, meant, with_id};
 ghost use Rattle.osc_authz.specs.Post.{Posts};
 
@@ -14,13 +16,13 @@ use crate::context::ServerContext;
 use crate::error::PostError;
 use crate::holding::Holding;
 use crate::payload::{PostFields, post_fields};
-use crate::post::{Post, PostAnswer, nonce_drawn};
+use crate::post::{Post, PostAnswer};
 use crate::table;
 use osc_cbor::{Item, read_whole};
 use osc_ccm::Aead;
 use osc_model::{Draw, Moment};
 use osc_scope::Scope;
-use osc_token::{Audience, Claims, judge, open_token};
+use osc_token::{Audience, Claims, TokenError, judge, open_token};
 use std::alloc::{AllocError, Global};
 use std::marker::Model;
 
@@ -113,19 +115,20 @@ impl ServerDesk {
         ensures posted { (body : List ℕ) → IsItem body (view item.now)
             → IfOk result (λ post. Posts A.is_sealing self.old now body draw.now post self.new) }
         ensures err { OnErr result (self.new ≡ self.old) }
+        ensures memory { IsErr result → IsSome (fields_of (view item.now)) }
     {
         let Some(fields) = post_fields(item) else {
             return Ok(Post::refused(PostError::Fields));
         };
-        match open_token::<A>(alloc, fields.token, &self.key) {
-            Ok(note) => {
+        match open_token::<A>(alloc, fields.token, &self.key)? {
+            Some(note) => {
                 let answer = self.answer(alloc, now, &fields, note.plaintext.as_slice(), draw)?;
                 Ok(Post {
                     opened: Some(note),
                     answer,
                 })
             }
-            Err(error) => Ok(Post::refused(PostError::of_token(error)?)),
+            None => Ok(Post::refused(PostError::Token(TokenError::NotGenuine))),
         }
     }
 
@@ -143,15 +146,33 @@ impl ServerDesk {
             Answers self.old now fields.now.nonce1.now fields.now.client_id.now text.now draw.now answer self.new) }
         ensures err { OnErr result (self.new ≡ self.old) }
     {
-        match judge(alloc, text, &self.audience, now) {
-            Ok((claims, scope)) => {
-                if table::is_full(&self.table, now, claims.material.id.as_slice()) {
-                    return Ok(Err(PostError::Full));
-                }
-                Ok(Ok(self.agree(alloc, now, fields, claims, scope, draw)?))
-            }
-            Err(error) => Ok(Err(PostError::of_token(error)?)),
+        match judge(alloc, text, &self.audience, now)? {
+            Ok((claims, scope)) => self.agree_unless_full(alloc, now, fields, claims, scope, draw),
+            Err(error) => Ok(Err(PostError::Token(error))),
         }
+    }
+
+    /// Adds the context of these claims, unless the table is full. Without memory nothing is changed; a full table is
+    /// refused without memory.
+    fn agree_unless_full(
+        &mut self,
+        alloc: Global,
+        now: Moment,
+        fields: &PostFields<'_>,
+        claims: Claims,
+        scope: Scope,
+        draw: &Draw,
+    ) -> Result<Result<PostAnswer, PostError>, AllocError>
+        requires { length fields.now.client_id.now ≤ 7 }
+        ensures answers { (text : List ℕ) → ComesTo text self.old.audience now (Ok (claims, scope))
+            → IfOk result (λ answer. Answers self.old now fields.now.nonce1.now fields.now.client_id.now text draw.now answer self.new) }
+        ensures memory { IsErr result → ¬ IsFull claims.material.id (alive now self.old.table) }
+        ensures err { OnErr result (self.new ≡ self.old) }
+    {
+        if table::is_full(&self.table, now, claims.material.id.as_slice()) {
+            return Ok(Err(PostError::Full));
+        }
+        Ok(Ok(self.agree(alloc, now, fields, claims, scope, draw)?))
     }
 
     /// Adds the context of these claims, and answers the nonce and the recipient ID of the server. All memory is taken
@@ -173,7 +194,7 @@ impl ServerDesk {
     {
         let token = claims.material.id.as_slice();
         let answer = PostAnswer {
-            nonce2: nonce_drawn(draw),
+            nonce2: draw.nonce(),
             recipient_id: table::free_id(&self.table, now, token, fields.client_id),
         };
         let (token, context) = context_of(alloc, claims, scope, fields, &answer)?;

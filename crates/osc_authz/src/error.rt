@@ -1,13 +1,12 @@
 //! Why a post is refused, or an exchange makes no context.
 
-ghost use Rattle.std.specs.Prelude.{◌≡◌, ◌↔◌, IfOk, IsErr};
+ghost use Rattle.std.specs.Prelude.{◌≡◌};
 ghost use Rattle.osc_authz.specs.Errors.{post_number, finish_number};
 ghost use Rattle.osc_authz.specs.Post.{code_of};
 
 use crate::client::OpenExchange;
 use osc_model::Code;
 use osc_token::TokenError;
-use std::alloc::AllocError;
 use thiserror::Error;
 
 /// Why a post to authz-info is refused: the first of these that stands.
@@ -16,7 +15,7 @@ pub enum PostError {
     /// Its payload isn't one whole map, or lacks a field, or has one of another type or length.
     #[error("a field is missing, or of another type or length")]
     Fields,
-    /// Its token is refused, for another reason than want of memory.
+    /// Its token is refused.
     #[error("the token is refused")]
     Token(TokenError),
     /// 64 other tokens have a live context.
@@ -25,17 +24,6 @@ pub enum PostError {
 }
 
 impl PostError {
-    /// The refusal of a post for its token; want of memory is none.
-    pub(crate) fn of_token(error: TokenError) -> Result<PostError, AllocError>
-        ensures refusal { IfOk result (λ refusal. refusal ≡ PostError.Token error) }
-        ensures memory { IsErr result ↔ error ≡ TokenError.Memory }
-    {
-        match error {
-            TokenError::Memory => Err(AllocError),
-            _ => Ok(PostError::Token(error)),
-        }
-    }
-
     /// The number by which programs name the refusal.
     pub fn number(self) -> u8
         ensures { result ≡ post_number self }
@@ -67,8 +55,21 @@ fn token_code(error: TokenError) -> Code
         TokenError::NotGenuine | TokenError::NotYet | TokenError::Expired => Code::UNAUTHORIZED,
         TokenError::Audience => Code::FORBIDDEN,
         TokenError::BadClaims | TokenError::BadScope => Code::BAD_REQUEST,
-        TokenError::Memory => Code::INTERNAL_SERVER_ERROR,
     }
+}
+
+/// Why no client is granted a token with this input material: the first of these that stands.
+#[derive(Clone, Copy, Debug, PartialEq, Eq, Error)]
+pub enum GrantError {
+    /// The master secret is empty, or longer than 64 bytes.
+    #[error("the secret has no byte, or more than 64")]
+    Secret,
+    /// The salt is longer than 64 bytes.
+    #[error("the salt has more than 64 bytes")]
+    Salt,
+    /// The id context is longer than 64 bytes.
+    #[error("the id context has more than 64 bytes")]
+    IdContext,
 }
 
 /// Why an exchange makes no context. It is used up, but for want of memory.

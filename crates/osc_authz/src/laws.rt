@@ -1,16 +1,29 @@
 //! Laws of the definitions, for the crates above. These functions do nothing: whoever calls one has its clauses for a proof.
 
-ghost use Rattle.std.specs.Prelude.{◌≡◌, ◌↔◌, ◌≤◌, ◌<◌, ◌^◌, ℕ, List, length, true};
+ghost use Rattle.std.specs.Prelude.{◌≡◌, ◌↔◌, ◌≤◌, ◌<◌, ◌^◌, ℕ, List, [], ◌∷◌, length, true, Option, Some, Ok, Result};
 ghost use Rattle.osc_cbor.specs.Spelling.{spelling};
+ghost use Rattle.osc_model.specs.Code.{code};
 ghost use Rattle.osc_model.specs.Grant.{HasBegun, IsNotOver};
 ghost use Rattle.osc_model.specs.declared.node.Moment.{Moment as AnyMoment};
 ghost use Rattle.osc_model.specs.declared.node.Draw.{Draw as AnyDraw};
+ghost use Rattle.osc_scope.specs.Entries.{Entry, scope_of};
+ghost use Rattle.osc_token.specs.declared.claims.Claims.{Claims as AnyClaims};
+ghost use Rattle.osc_authz.specs.Agreed.{IsAgreed};
+ghost use Rattle.osc_authz.specs.Begun.{Begun, Made};
+ghost use Rattle.osc_authz.specs.Client.{Finishes};
+ghost use Rattle.osc_authz.specs.Contexts.{IsLive, AreKept, HasAdded, HasTaken};
 ghost use Rattle.osc_authz.specs.Desk.{DeskState};
 ghost use Rattle.osc_authz.specs.Exchange.{IsPost, IsAnswer, post_item, answer_item};
 ghost use Rattle.osc_authz.specs.Held.{Held};
+ghost use Rattle.osc_authz.specs.HoldsToken.{HoldsToken};
+ghost use Rattle.osc_authz.specs.Members.{In};
 ghost use Rattle.osc_authz.specs.Post.{Posts};
-ghost use Rattle.osc_authz.specs.Table.{is_live};
+ghost use Rattle.osc_authz.specs.Table.{IsTable, accepted, alive, contexts, is_live, meant, with_pending};
+ghost use Rattle.osc_authz.specs.declared.error.FinishError.{FinishError as AnyFinishError};
+ghost use Rattle.osc_authz.specs.declared.granted.ClientDesk.{ClientDesk as AnyClient};
+ghost use Rattle.osc_authz.specs.declared.holding.Holding.{Holding};
 ghost use Rattle.osc_authz.specs.declared.post.Post.{Post as AnyPost};
+ghost use Rattle.osc_authz.specs.declared.post.PostAnswer.{PostAnswer as AnyAnswer};
 
 use osc_ccm::Aead;
 
@@ -43,6 +56,68 @@ pub fn live_in_its_time()
     ensures { (held : Held) (now : AnyMoment)
         → is_live now held ≡ true ↔ (HasBegun held.not_before now × IsNotOver held.expires now) }
 {}
+
+/// The context that a request means is held and live, and has the request's kid as its recipient ID.
+pub fn meant_contexts()
+    ensures { (now : AnyMoment) (kid : List ℕ) (kid_context : Option (List ℕ)) (table : List Holding) (context : Held)
+        → meant now kid kid_context table ≡ Some context
+        → In context (contexts table) × IsLive now context × (context.name.client_id ≡ kid) }
+{}
+
+/// Held contexts with one recipient ID are one context.
+pub fn one_context()
+    ensures { (table : List Holding) (context other : Held)
+        → IsTable table → In context (contexts table) → In other (contexts table)
+        → context.name.client_id ≡ other.name.client_id → context ≡ other }
+{}
+
+/// Where the token ids without a live context leave the table, no context comes, and each that lives stays.
+pub fn live_contexts()
+    ensures { (now : AnyMoment) (table : List Holding)
+        → AreKept now (contexts table) (contexts (alive now table)) }
+{}
+
+/// With one more pending context, where the token ids without a live context have left the table, each that lives stays, but
+/// for the one that was pending for the token id.
+pub fn one_more_context()
+    ensures { (now : AnyMoment) (token : List ℕ) (held : Held) (table : List Holding)
+        → HasAdded now held (contexts table) (contexts (with_pending token held (alive now table))) }
+{}
+
+/// Where the context with an ID accepts a number, its window takes the number, and no other context changes.
+pub fn numbers_taken()
+    ensures { (now : AnyMoment) (number : ℕ) (context : Held) (table : List Holding)
+        → IsTable table → In context (contexts table)
+        → HasTaken now number context (contexts table) (contexts (accepted context.name.client_id number table)) }
+{}
+
+/// A post that is answered 2.01 opened, was granted, and made a context.
+pub fn posts_that_agree<A: Aead>()
+    ensures { (before after : DeskState) (now : AnyMoment) (body : List ℕ) (draw : AnyDraw) (post : AnyPost) (answer : AnyAnswer)
+        → Posts A.is_sealing before now body draw post after → post.answer ≡ Ok answer
+        → IsAgreed A.is_sealing before now body draw post answer after }
+{}
+
+/// What a client that holds a token posts, and the server answers 2.01, gives one name at both ends: however the exchange
+/// finishes by that answer, it makes a context with the name of one that the server holds.
+pub fn one_name<A: Aead>()
+    ensures { (before after : DeskState) (now : AnyMoment) (draw : AnyDraw) (post : AnyPost) (answer : AnyAnswer)
+        (claims : AnyClaims) (entries : List Entry) (client : AnyClient) (begun : Begun) (finished : Result Made AnyFinishError)
+        → length draw.0 ≡ 32 → length begun.nonce1 ≡ 8 → HoldsToken A.is_sealing before.key claims entries client
+        → Posts A.is_sealing before now (spelling (post_item client.token begun.nonce1 (begun.recipient_id ∷ []))) draw post after
+        → post.answer ≡ Ok answer
+        → Finishes client begun (code 2 1) (spelling (answer_item answer.nonce2 (answer.recipient_id ∷ []))) finished
+        → (held : Held) × In held (contexts after.table) × (held.scope ≡ scope_of entries)
+        × (held.not_before ≡ claims.not_before) × (held.expires ≡ claims.expires)
+        × (finished ≡ Ok (record { name = held.name; next = 0 })) }
+{
+    posts_that_agree::<A>();
+    what_is_written();
+    one_payload();
+    osc_token::laws::minted_tokens::<A>();
+    osc_token::laws::minted_texts();
+    osc_token::laws::one_token::<A>();
+}
 
 /// A post comes to one outcome at most: one answer, and one table afterwards.
 pub fn one_outcome<A: Aead>()

@@ -10,17 +10,16 @@ mod context;
 mod derivation;
 mod desk;
 mod error;
+mod granted;
 mod holding;
 pub mod laws;
 mod payload;
 mod post;
 mod table;
 
-pub use client::{ClientContext, ClientDesk, OpenExchange};
+pub use client::{ClientContext, OpenExchange};
 pub use context::ServerContext;
 pub use desk::ServerDesk;
-pub use error::{FinishError, PostError};
+pub use error::{FinishError, GrantError, PostError};
+pub use granted::ClientDesk;
 pub use post::{Post, PostAnswer};
-
-#[cfg(test)]
-mod tests;

@@ -2,11 +2,10 @@
 
 ghost use Rattle.std.specs.Prelude.{◌≡◌, [], ◌∷◌, None, Err};
 ghost use Rattle.osc_authz.specs.Exchange.{answer_item};
-ghost use Rattle.osc_authz.specs.Post.{nonce_drawn as drawn};
 ghost use Rattle.osc_cbor.specs.Spelling.{spelling};
 
 use crate::error::PostError;
-use osc_model::{Draw, Note};
+use osc_model::Note;
 
 /// What a post to authz-info came to.
 #[derive(Debug, Drop)]
@@ -63,12 +62,4 @@ impl PostAnswer {
             self.recipient_id,
         ]
     }
-}
-
-/// The nonce that a draw gives to an exchange: its first 8 bytes.
-pub(crate) fn nonce_drawn(draw: &Draw) -> [u8; 8]
-    ensures { result ≡ drawn draw.now }
-{
-    let [a, b, c, d, e, f, g, h, ..] = draw.0;
-    [a, b, c, d, e, f, g, h]
 }

@@ -50,7 +50,7 @@ fn tokens_read(alloc: Global, rounds: u64) -> Result<u64, AllocError> {
     let audience = Audience::new(alloc, "s")?;
     let mut granted = 0u64;
     for _ in 0..rounds {
-        if read::<Ccm<8>>(alloc, &token, &KEY, &audience, Moment { ms: 0 }).is_ok() {
+        if read::<Ccm<8>>(alloc, &token, &KEY, &audience, Moment::START)?.is_ok() {
             granted = granted.wrapping_add(1);
         }
     }
@@ -60,15 +60,12 @@ fn tokens_read(alloc: Global, rounds: u64) -> Result<u64, AllocError> {
 // The payload of a post of the token of this id.
 fn post_of(alloc: Global, id: u8) -> Result<Vec<u8>, AllocError> {
     let token = token_of(alloc, id)?;
-    let client = ClientDesk {
-        token: Bytes::from_vec(token),
-        secret: Bytes::from_slice(alloc, &[id; 16])?,
-        salt: Bytes::new(alloc),
-        id_context: None,
-    };
-    let exchange = client.start(None, &Draw([id; 32]));
+    let secret = Bytes::from_slice(alloc, &[id; 16])?;
     let mut body = Vec::new(alloc);
-    client.write_post(alloc, &exchange, &mut body)?;
+    if let Ok(client) = ClientDesk::new(Bytes::from_vec(token), secret, Bytes::new(alloc), None) {
+        let exchange = client.start(None, &Draw([id; 32]));
+        client.write_post(alloc, &exchange, &mut body)?;
+    }
     Ok(body)
 }
 
@@ -76,7 +73,7 @@ fn contexts_made(alloc: Global, others: u8, rounds: u64) -> Result<u64, AllocErr
     let mut desk = ServerDesk::new(alloc, KEY, Audience::new(alloc, "s")?);
     for id in 0..others {
         let body = post_of(alloc, id)?;
-        desk.post::<Ccm<8>>(alloc, Moment { ms: 0 }, &body, &Draw([id; 32]))?;
+        desk.post::<Ccm<8>>(alloc, Moment::START, &body, &Draw([id; 32]))?;
     }
     let body = post_of(alloc, 255)?;
     posts_made(alloc, &mut desk, &body, rounds)
@@ -91,7 +88,7 @@ fn posts_made(
 ) -> Result<u64, AllocError> {
     let mut made = 0u64;
     for _ in 0..rounds {
-        let post = desk.post::<Ccm<8>>(alloc, Moment { ms: 0 }, body, &Draw([255; 32]))?;
+        let post = desk.post::<Ccm<8>>(alloc, Moment::START, body, &Draw([255; 32]))?;
         if post.answer.is_ok() {
             made = made.wrapping_add(1);
         }

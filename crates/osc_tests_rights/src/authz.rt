@@ -1,1 +1,444 @@
-//! Tests of `osc_authz`.
+//! Exchanges, and what the desk refuses.
+use osc_authz::{ClientContext, ClientDesk, GrantError, PostAnswer, PostError, ServerDesk};
+use osc_ccm::Ccm;
+use osc_model::{Bytes, Code, ContextName, Draw, Moment};
+use osc_token::{Audience, Claims, InputMaterial, MintError, TokenError, mint};
+use std::alloc::{AllocError, Global};
+use std::test::*;
+
+/// The key that the server shares with the issuer of tokens.
+const KEY: [u8; 16] = *b"@ABCDEFGHIJKLMNO";
+
+/// GET and POST on `/log`.
+const SCOPE: &[u8] = b"\x81\x82\x64/log\x03";
+
+/// The secret of the token of this id.
+fn secret_of(id: u8) -> [u8; 16] {
+    u128::from(id).to_be_bytes()
+}
+
+/// The IV of the token of this id.
+fn iv_of(id: u8) -> [u8; 13] {
+    let mut iv = [0; 13];
+    iv[12] = id;
+    iv
+}
+
+/// A draw whose nonce ends in this byte.
+fn drawn(last: u8) -> Draw {
+    let mut bytes = [0; 32];
+    bytes[7] = last;
+    Draw(bytes)
+}
+
+/// What a token says beside its id.
+#[derive(Clone, Copy)]
+struct Said {
+    audience: &'static str,
+    not_before: Option<u64>,
+    expires: Option<u64>,
+    scope: &'static [u8],
+}
+
+const RIGHT: Said = Said {
+    audience: "s",
+    not_before: None,
+    expires: None,
+    scope: SCOPE,
+};
+
+/// What is right, and counts until this second.
+fn until(expires: Option<u64>) -> Said {
+    Said { expires, ..RIGHT }
+}
+
+/// The token of this id.
+fn token_of(alloc: Global, id: u8, said: Said) -> Result<Vec<u8>, AllocError> {
+    let claims = Claims {
+        audience: Audience::new(alloc, said.audience)?,
+        not_before: said.not_before,
+        expires: said.expires,
+        material: InputMaterial {
+            id: Bytes::from_slice(alloc, &[id])?,
+            secret: Bytes::from_slice(alloc, &secret_of(id))?,
+            salt: Bytes::new(alloc),
+            id_context: None,
+        },
+        scope: Bytes::from_slice(alloc, said.scope)?,
+    };
+    let mut token = Vec::new(alloc);
+    match mint::<Ccm<8>>(alloc, &claims, &KEY, &iv_of(id), &mut token) {
+        Err(MintError::Memory) => Err(AllocError),
+        _ => Ok(token),
+    }
+}
+
+/// A client that was granted this token.
+fn client_of(alloc: Global, id: u8, said: Said) -> Result<ClientDesk, Fail> {
+    let token = Bytes::from_vec(token_of(alloc, id, said)?);
+    let secret = Bytes::from_slice(alloc, &secret_of(id))?;
+    Ok(
+        ClientDesk::new(token, secret, Bytes::new(alloc), None)
+            .ok()
+            .ok_or("not granted")?,
+    )
+}
+
+/// A post of the token of this id.
+fn post_of(alloc: Global, id: u8, said: Said) -> Result<Vec<u8>, Fail> {
+    let client = client_of(alloc, id, said)?;
+    let mut body = Vec::new(alloc);
+    client.write_post(alloc, &client.start(None, &drawn(1)), &mut body)?;
+    Ok(body)
+}
+
+fn desk_of(alloc: Global) -> Result<ServerDesk, AllocError> {
+    Ok(ServerDesk::new(alloc, KEY, Audience::new(alloc, "s")?))
+}
+
+/// What a post comes to: the server's recipient ID, or the number of the refusal, and whether the token opened.
+fn posted(
+    desk: &mut ServerDesk,
+    alloc: Global,
+    at: u64,
+    body: &[u8],
+) -> Result<(Result<u8, u8>, bool), AllocError> {
+    posted_with(desk, alloc, at, body, 2)
+}
+
+/// The same with a draw whose nonce ends in this byte.
+fn posted_with(
+    desk: &mut ServerDesk,
+    alloc: Global,
+    at: u64,
+    body: &[u8],
+    last: u8,
+) -> Result<(Result<u8, u8>, bool), AllocError> {
+    let now = Moment::new(at).unwrap_or(Moment::START);
+    let post = desk.post::<Ccm<8>>(alloc, now, body, &drawn(last))?;
+    let answer = match post.answer {
+        Ok(answer) => Ok(answer.recipient_id),
+        Err(error) => Err(error.number()),
+    };
+    Ok((answer, post.opened.is_some()))
+}
+
+/// Whether a live context has this recipient ID.
+fn is_found(desk: &ServerDesk, at: u64, id: u8) -> bool {
+    let now = Moment::new(at).unwrap_or(Moment::START);
+    desk.find(now, &[id], None).is_some()
+}
+
+/// A post of the token of id 1, with a nonce that ends in 1 and the ID 00. The token was sealed by another implementation.
+const POST: &[u8] =
+    b"\xa3\x01\x58\x46\x83\x43\xa1\x01\x0a\xa1\x05\x4d\0\0\0\0\0\0\0\0\0\0\0\0\x01\x58\x2f\x7a\x0e\xde\x21\x71\xa9\xef\x96\x11\xe8\xb2\x3a\xfd\x72\x3e\x78\x79\xca\xdf\xb8\x87\xe3\xcb\x88\x90\x1d\xd4\x04\x61\xe9\xf3\x01\x24\xce\xe0\x4d\x4a\x5e\x85\x93\x1d\x22\x4b\x7c\xe6\xb4\xe2\x18\x28\x48\0\0\0\0\0\0\0\x01\x18\x2b\x41\0";
+
+#[test]
+fn what_is_posted(rt: HostRuntime) -> Result<(), Fail> {
+    let body = post_of(rt.alloc(), 1, RIGHT)?;
+    assert_eq!(rt; body.as_slice(), POST);
+    Ok(())
+}
+
+/// What is answered to the post, where it isn't refused.
+fn answered(desk: &mut ServerDesk, alloc: Global) -> Result<Option<PostAnswer>, AllocError> {
+    let post = desk.post::<Ccm<8>>(alloc, Moment::START, POST, &drawn(2))?;
+    Ok(post.answer.ok())
+}
+
+#[test]
+fn what_is_answered(rt: HostRuntime) -> Result<(), Fail> {
+    let mut desk = desk_of(rt.alloc())?;
+    let answer = answered(&mut desk, rt.alloc())?.ok_or("refused")?;
+    assert_eq!(rt;
+        answer.payload(),
+        *b"\xa2\x18\x2a\x48\0\0\0\0\0\0\0\x02\x18\x2c\x41\x01"
+    );
+    Ok(())
+}
+
+/// The context that the client makes of an answer to the post.
+fn made_of(alloc: Global, answer: PostAnswer) -> Result<Option<ClientContext>, Fail> {
+    let client = client_of(alloc, 1, RIGHT)?;
+    let exchange = client.start(None, &drawn(1));
+    Ok(
+        client
+            .finish(alloc, exchange, Code::CREATED, &answer.payload())
+            .ok(),
+    )
+}
+
+/// Whether this is the name of the exchange's context.
+fn is_exchanged(name: &ContextName) -> bool {
+    name.client_id.as_slice() == [1].as_slice()
+        && name.server_id.as_slice() == [0].as_slice()
+        && name.salt.as_slice() == b"\x40\x48\0\0\0\0\0\0\0\x01\x48\0\0\0\0\0\0\0\x02".as_slice()
+        && name.secret.as_slice() == secret_of(1).as_slice()
+}
+
+#[test]
+fn both_ends_have_one_name(rt: HostRuntime) -> Result<(), Fail> {
+    let mut desk = desk_of(rt.alloc())?;
+    let answer = answered(&mut desk, rt.alloc())?.ok_or("refused")?;
+    let made = made_of(rt.alloc(), answer)?.ok_or("no context")?;
+    assert!(rt; is_exchanged(made.name()));
+    let held = desk.find(Moment::START, &[1], None).ok_or("not found")?;
+    assert!(rt; is_exchanged(held.name()));
+    Ok(())
+}
+
+/// Codes and payloads that make no context, and the number of the refusal.
+const NO_CONTEXTS: [(Code, &[u8], u8); 9] = [
+    (Code::CREATED, b"\xa2\x18\x2a\x41\x02\x18\x2c\x41\0", 20),
+    (Code::CHANGED, b"\xa2\x18\x2a\x41\x02\x18\x2c\x41\x01", 30),
+    (Code::CREATED, b"\xa2\x18\x2a\x40\x18\x2c\x41\x01", 30),
+    (
+        Code::CREATED,
+        b"\xa2\x18\x2a\x41\x02\x18\x2c\x4812345678",
+        30,
+    ),
+    (Code::CREATED, b"\xa1\x18\x2a\x41\x02", 30),
+    (Code::CREATED, b"\xa2\x18\x2a\x61a\x18\x2c\x41\x01", 30),
+    (Code::CREATED, b"\xa2\x18\x2a\x41\x02\x18\x2a\x41\x01", 30),
+    (Code::CREATED, b"\x80", 30),
+    (Code::CREATED, b"", 30),
+];
+
+#[test]
+fn other_answers_make_none(rt: HostRuntime) -> Result<(), Fail> {
+    let client = client_of(rt.alloc(), 1, RIGHT)?;
+    for (code, payload, number) in NO_CONTEXTS {
+        let exchange = client.start(None, &drawn(1));
+        let refused = client.finish(rt.alloc(), exchange, code, payload).err();
+        assert_eq!(rt; refused.map(|error| error.number()), Some(number));
+    }
+    Ok(())
+}
+
+/// A request of number 0 opens under this recipient ID, where there is such a context and the number is fresh.
+fn accepted(desk: &mut ServerDesk, id: u8) -> bool {
+    if let Some(context) = desk.get(&[id])
+        && context.window().is_fresh(0)
+    {
+        desk.accept(&[id], 0);
+        return true;
+    }
+    false
+}
+
+/// The post again with this draw, or a request under this recipient ID: which ID has a context then that waits or was
+/// confirmed.
+fn step(desk: &mut ServerDesk, alloc: Global, step: Step) -> Result<Option<u8>, AllocError> {
+    match step {
+        Step::Request(id) if accepted(desk, id) => Ok(Some(id)),
+        Step::Request(_) => Ok(None),
+        Step::Post(last) => Ok(posted_with(desk, alloc, 0, POST, last)?.0.ok()),
+    }
+}
+
+/// A post with a draw whose nonce ends in this byte, or a request under this recipient ID.
+#[derive(Clone, Copy)]
+enum Step {
+    Post(u8),
+    Request(u8),
+}
+
+/// Posts of one token and requests, the ID of each, and the last bytes of the salts of the contexts that 1, 2 and 3 name
+/// after it, which are those of the draws: of two posts without a request between the first one's context is gone.
+const STEPS: [(Step, u8, [Option<u8>; 3]); 6] = [
+    (Step::Post(2), 1, [Some(2), None, None]),
+    (Step::Request(1), 1, [Some(2), None, None]),
+    (Step::Post(3), 2, [Some(2), Some(3), None]),
+    (Step::Post(4), 2, [Some(2), Some(4), None]),
+    (Step::Request(2), 2, [None, Some(4), None]),
+    (Step::Post(5), 1, [Some(5), Some(4), None]),
+];
+
+/// The last byte of the salt of the live context with this recipient ID.
+fn salt_end(desk: &ServerDesk, id: u8) -> Option<u8> {
+    let context = desk.find(Moment::START, &[id], None)?;
+    context.name().salt.as_slice().last().copied()
+}
+
+#[test]
+fn the_newest_post_waits_for_a_request(rt: HostRuntime) -> Result<(), Fail> {
+    let mut desk = desk_of(rt.alloc())?;
+    for (event, id, salts) in STEPS {
+        assert_eq!(rt; step(&mut desk, rt.alloc(), event)?, Some(id));
+        assert_eq!(rt; [1, 2, 3].map(|id| salt_end(&desk, id)), salts);
+    }
+    desk.clear();
+    assert_eq!(rt; salt_end(&desk, 2), None);
+    Ok(())
+}
+
+/// A client of this secret, salt and id context, of so many bytes; why it isn't made.
+fn refused_grant(
+    alloc: Global,
+    secret: usize,
+    salt: usize,
+    id_context: usize,
+) -> Result<Option<GrantError>, AllocError> {
+    let secret = Bytes::from_vec(vec![in alloc; 7; secret]?);
+    let salt = Bytes::from_vec(vec![in alloc; 7; salt]?);
+    let id_context = Some(Bytes::from_vec(vec![in alloc; 7; id_context]?));
+    Ok(ClientDesk::new(Bytes::new(alloc), secret, salt, id_context).err())
+}
+
+#[test]
+fn lengths_of_grants(rt: HostRuntime) -> Result<(), Fail> {
+    for (secret, salt, id_context, refusal) in [
+        (1, 0, 0, None),
+        (64, 64, 64, None),
+        (0, 65, 65, Some(GrantError::Secret)),
+        (65, 0, 0, Some(GrantError::Secret)),
+        (1, 65, 65, Some(GrantError::Salt)),
+        (1, 64, 65, Some(GrantError::IdContext)),
+    ] {
+        assert_eq!(rt;
+            refused_grant(rt.alloc(), secret, salt, id_context)?,
+            refusal
+        );
+    }
+    Ok(())
+}
+
+/// A desk at which the token ids 1 to 64 have a context until 100 s, whose recipient IDs are 1 to 64 in this order.
+fn full_desk(alloc: Global) -> Result<ServerDesk, Fail> {
+    let mut desk = desk_of(alloc)?;
+    for id in 1..65u8 {
+        let body = post_of(alloc, id, until(Some(100)))?;
+        if posted(&mut desk, alloc, 0, &body)? != (Ok(id), true) {
+            return Err("another recipient ID".into());
+        }
+    }
+    Ok(desk)
+}
+
+/// Posts to the full desk: the token id, when it expires, the moment, and what the post comes to.
+const FURTHER: [(u8, Option<u64>, u64, Result<u8, u8>); 3] = [
+    (65, None, 99_999, Err(31)),
+    (64, Some(100), 99_999, Ok(64)),
+    (65, None, 100_000, Ok(1)),
+];
+
+#[test]
+fn sixty_four_tokens_have_contexts(rt: HostRuntime) -> Result<(), Fail> {
+    let mut desk = full_desk(rt.alloc())?;
+    for id in 1..65u8 {
+        assert!(rt; is_found(&desk, 99_999, id) && !is_found(&desk, 100_000, id));
+    }
+    for (id, expires, at, outcome) in FURTHER {
+        let body = post_of(rt.alloc(), id, until(expires))?;
+        assert_eq!(rt; posted(&mut desk, rt.alloc(), at, &body)?, (outcome, true));
+    }
+    Ok(())
+}
+
+/// Payloads that are no posts, and the post of an empty token, with the number of the refusal.
+const NO_POSTS: [(&[u8], u8); 10] = [
+    (b"", 30),
+    (b"\x80", 30),
+    (b"\xa0", 30),
+    (b"\xa3\x01\x40\x01\x40\x18\x2b\x40", 30),
+    (b"\xa3\x01\x60\x18\x28\x41\x01\x18\x2b\x40", 30),
+    (b"\xa3\x01\x40\x18\x28\x40\x18\x2b\x40", 30),
+    (b"\xa3\x01\x40\x18\x28\x41\x01\x18\x2b\x4812345678", 30),
+    (b"\xa2\x18\x28\x41\x01\x18\x2b\x40", 30),
+    (b"\xa3\x01\x40\x18\x28\x41\x01\x18\x2b\x40\0", 30),
+    (b"\xa3\x01\x40\x18\x28\x41\x01\x18\x2b\x40", 25),
+];
+
+/// Tokens that say another thing, and the number of the refusal at 10 s.
+const REFUSED: [(Said, u8); 4] = [
+    (
+        Said {
+            not_before: Some(11),
+            ..RIGHT
+        },
+        27,
+    ),
+    (
+        Said {
+            expires: Some(10),
+            ..RIGHT
+        },
+        26,
+    ),
+    (
+        Said {
+            audience: "t",
+            ..RIGHT
+        },
+        28,
+    ),
+    (
+        Said {
+            scope: b"",
+            ..RIGHT
+        },
+        24,
+    ),
+];
+
+/// What a post comes to at 10 s where there is one context, and whether that alone is there after it.
+fn posted_beside_one(alloc: Global, body: &[u8]) -> Result<((Result<u8, u8>, bool), bool), Fail> {
+    let mut desk = desk_of(alloc)?;
+    posted(&mut desk, alloc, 0, POST)?.0.ok().ok_or("refused")?;
+    let outcome = posted(&mut desk, alloc, 10_000, body)?;
+    Ok((outcome, is_found(&desk, 0, 1) && !is_found(&desk, 0, 2)))
+}
+
+#[test]
+fn no_posts_change_nothing(rt: HostRuntime) -> Result<(), Fail> {
+    for (body, number) in NO_POSTS {
+        assert_eq!(rt;
+            posted_beside_one(rt.alloc(), body)?,
+            ((Err(number), false), true)
+        );
+    }
+    Ok(())
+}
+
+#[test]
+fn refused_tokens_change_nothing(rt: HostRuntime) -> Result<(), Fail> {
+    for (said, number) in REFUSED {
+        let body = post_of(rt.alloc(), 2, said)?;
+        assert_eq!(rt;
+            posted_beside_one(rt.alloc(), &body)?,
+            ((Err(number), true), true)
+        );
+    }
+    Ok(())
+}
+
+#[test]
+fn codes_of_refusals(rt: HostRuntime) {
+    let codes = [
+        (PostError::Fields, Code::BAD_REQUEST),
+        (PostError::Token(TokenError::NotGenuine), Code::UNAUTHORIZED),
+        (PostError::Token(TokenError::BadClaims), Code::BAD_REQUEST),
+        (PostError::Token(TokenError::NotYet), Code::UNAUTHORIZED),
+        (PostError::Token(TokenError::Expired), Code::UNAUTHORIZED),
+        (PostError::Token(TokenError::Audience), Code::FORBIDDEN),
+        (PostError::Token(TokenError::BadScope), Code::BAD_REQUEST),
+        (PostError::Full, Code::SERVICE_UNAVAILABLE),
+    ];
+    for (error, code) in codes {
+        assert_eq!(rt; error.code(), code);
+    }
+}
+
+/// Run with each allocation refused in turn: the desk is as before, and the same post makes a context after it.
+#[test]
+fn a_refused_allocation_leaves_the_desk(rt: HostRuntime) {
+    let alloc = rt.alloc();
+    let Ok(mut desk) = desk_of(alloc) else {
+        return;
+    };
+    if posted(&mut desk, alloc, 0, POST).is_err() {
+        assert!(rt; !is_found(&desk, 0, 1));
+        assert_eq!(rt; posted(&mut desk, alloc, 0, POST).ok(), Some((Ok(1), true)));
+    }
+    assert!(rt; is_found(&desk, 0, 1));
+}

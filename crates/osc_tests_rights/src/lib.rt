@@ -5,4 +5,6 @@
 #[cfg(test)]
 mod authz;
 #[cfg(test)]
+mod claims;
+#[cfg(test)]
 mod token;

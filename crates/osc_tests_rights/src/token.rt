@@ -1,1 +1,268 @@
-//! Tests of `osc_token`.
+//! Tokens, byte by byte. What is sealed was computed by another implementation of AES-CCM.
+use osc_ccm::Ccm;
+use osc_cose::{seal0, write0};
+use osc_model::{Bytes, ContextName, Note, Side};
+use osc_token::{Audience, Claims, InputMaterial, MintError, mint, open_token};
+use std::alloc::{AllocError, Global};
+use std::test::Fail;
+
+const KEY: [u8; 16] = *b"@ABCDEFGHIJKLMNO";
+
+const IV: [u8; 13] = *b"\0\0\0\0\0\0\0\0\0\0\0\0\x01";
+
+/// The text of `claims`: {3: "s", 8: {4: {0: h'01', 2: h'00..01'}}, 9: h'8182642f6c6f6703'}.
+const TEXT: &[u8] =
+    b"\xa3\x03\x61s\x08\xa1\x04\xa2\0\x41\x01\x02\x50\0\0\0\0\0\0\0\0\0\0\0\0\0\0\0\x01\x09\x48\x81\x82\x64/log\x03";
+
+/// The sealing of the text under key and IV, with the protected header {1: 10}.
+const CIPHERTEXT: &[u8] =
+    b"\x7a\x0e\xde\x21\x71\xa9\xef\x96\x11\xe8\xb2\x3a\xfd\x72\x3e\x78\x79\xca\xdf\xb8\x87\xe3\xcb\x88\x90\x1d\xd4\x04\x61\xe9\xf3\x01\x24\xce\xe0\x4d\x4a\x5e\x85\x93\x1d\x22\x4b\x7c\xe6\xb4\xe2";
+
+/// The text with each optional part: exp 1704067200, nbf 1700000000, the salt 0a0b and the context 0c.
+const WHOLE_TEXT: &[u8] =
+    b"\xa5\x03\x61s\x04\x1a\x65\x92\0\x80\x05\x1a\x65\x53\xf1\0\x08\xa1\x04\xa4\0\x41\x01\x02\x50\0\0\0\0\0\0\0\0\0\0\0\0\0\0\0\x01\x05\x42\x0a\x0b\x06\x41\x0c\x09\x48\x81\x82\x64/log\x03";
+
+/// The claims of the text, with these optional parts.
+fn claims(
+    alloc: Global,
+    not_before: Option<u64>,
+    expires: Option<u64>,
+    salt: &[u8],
+    id_context: Option<Bytes>,
+) -> Result<Claims, AllocError> {
+    Ok(Claims {
+        audience: Audience::new(alloc, "s")?,
+        not_before,
+        expires,
+        material: InputMaterial {
+            id: Bytes::from_slice(alloc, b"\x01")?,
+            secret: Bytes::from_slice(alloc, b"\0\0\0\0\0\0\0\0\0\0\0\0\0\0\0\x01")?,
+            salt: Bytes::from_slice(alloc, salt)?,
+            id_context,
+        },
+        scope: Bytes::from_slice(alloc, b"\x81\x82\x64/log\x03")?,
+    })
+}
+
+/// The token of these claims.
+fn minted(
+    alloc: Global,
+    not_before: Option<u64>,
+    expires: Option<u64>,
+    salt: &[u8],
+    id_context: Option<Bytes>,
+) -> Result<Vec<u8>, MintError> {
+    let claims = claims(alloc, not_before, expires, salt, id_context)?;
+    let mut token = Vec::new(alloc);
+    mint::<Ccm<8>>(alloc, &claims, &KEY, &IV, &mut token)?;
+    Ok(token)
+}
+
+/// The note of the opening of the text.
+fn note(alloc: Global) -> Result<Note, AllocError> {
+    Ok(Note {
+        context: ContextName {
+            secret: Bytes::from_slice(alloc, &KEY)?,
+            salt: Bytes::new(alloc),
+            id_context: None,
+            client_id: Bytes::new(alloc),
+            server_id: Bytes::new(alloc),
+        },
+        side: Side::Server,
+        number: 0,
+        nonce: IV,
+        aad: Bytes::from_slice(alloc, b"\x83\x68Encrypt0\x43\xa1\x01\x0a\x40")?,
+        plaintext: Bytes::from_slice(alloc, TEXT)?,
+    })
+}
+
+/// The text that the bytes open to, where they are genuine.
+fn opened(alloc: Global, bytes: &[u8], key: &[u8; 16]) -> Result<Option<Bytes>, AllocError> {
+    match open_token::<Ccm<8>>(alloc, bytes, key)? {
+        Some(note) => Ok(Some(note.plaintext)),
+        None => Ok(None),
+    }
+}
+
+/// Whether the bytes open to a text.
+fn opens(alloc: Global, bytes: &[u8], key: &[u8; 16]) -> Result<bool, AllocError> {
+    Ok(opened(alloc, bytes, key)?.is_some())
+}
+
+/// A token of the text: what stands before its array, its unprotected header, and what is left over.
+struct Form {
+    before: &'static [u8],
+    unprotected: &'static [u8],
+    after: &'static [u8],
+}
+
+impl Form {
+    fn bytes(&self, alloc: Global) -> Result<Vec<u8>, AllocError> {
+        let mut bytes = Vec::from_slice(alloc, self.before)?;
+        bytes.extend_from_slice(b"\x83\x43\xa1\x01\x0a")?;
+        bytes.extend_from_slice(self.unprotected)?;
+        bytes.extend_from_slice(b"\x58\x2f")?;
+        bytes.extend_from_slice(CIPHERTEXT)?;
+        bytes.extend_from_slice(self.after)?;
+        Ok(bytes)
+    }
+}
+
+/// {5: IV}
+const UNPROTECTED: &[u8] = b"\xa1\x05\x4d\0\0\0\0\0\0\0\0\0\0\0\0\x01";
+
+/// Plain, under the tag 16, under both tags, and with a kid and another parameter.
+const FORMS: [Form; 4] = [
+    Form {
+        before: b"",
+        unprotected: UNPROTECTED,
+        after: b"",
+    },
+    Form {
+        before: b"\xd0",
+        unprotected: UNPROTECTED,
+        after: b"",
+    },
+    Form {
+        before: b"\xd8\x3d\xd0",
+        unprotected: UNPROTECTED,
+        after: b"",
+    },
+    Form {
+        before: b"",
+        unprotected: b"\xa3\x04\x42\x07\x08\x18\x63\xf6\x05\x4d\0\0\0\0\0\0\0\0\0\0\0\0\x01",
+        after: b"",
+    },
+];
+
+/// The tag 61 alone, no IV, one of 12 bytes, a kid that is a number, and a byte left over.
+const OTHER_FORMS: [Form; 5] = [
+    Form {
+        before: b"\xd8\x3d",
+        unprotected: UNPROTECTED,
+        after: b"",
+    },
+    Form {
+        before: b"",
+        unprotected: b"\xa0",
+        after: b"",
+    },
+    Form {
+        before: b"",
+        unprotected: b"\xa1\x05\x4c\0\0\0\0\0\0\0\0\0\0\0\x01",
+        after: b"",
+    },
+    Form {
+        before: b"",
+        unprotected: b"\xa2\x05\x4d\0\0\0\0\0\0\0\0\0\0\0\0\x01\x04\x01",
+        after: b"",
+    },
+    Form {
+        before: b"",
+        unprotected: UNPROTECTED,
+        after: b"\0",
+    },
+];
+
+/// Whether the form opens to the note.
+fn is_opened(alloc: Global, form: &Form) -> Result<bool, AllocError> {
+    let bytes = form.bytes(alloc)?;
+    let noted = open_token::<Ccm<8>>(alloc, &bytes, &KEY)?;
+    Ok(noted == Some(note(alloc)?))
+}
+
+#[test]
+fn opens_each_form(rt: HostRuntime) -> Result<(), Fail> {
+    for form in &FORMS {
+        assert!(rt; is_opened(rt.alloc(), form)?);
+    }
+    Ok(())
+}
+
+#[test]
+fn refuses_other_forms(rt: HostRuntime) -> Result<(), Fail> {
+    for form in &OTHER_FORMS {
+        let bytes = form.bytes(rt.alloc())?;
+        assert!(rt; !opens(rt.alloc(), &bytes, &KEY)?);
+    }
+    Ok(())
+}
+
+/// Nothing, arrays one level too deep, and bytes of one value.
+const NO_TOKENS: [&[u8]; 3] = [
+    b"",
+    b"\x81\x81\x81\x81\x81\x81\x81\x81\x81\0",
+    &[0xa7; 1152],
+];
+
+#[test]
+fn refuses_other_bytes(rt: HostRuntime) -> Result<(), Fail> {
+    for bytes in NO_TOKENS {
+        assert!(rt; !opens(rt.alloc(), bytes, &KEY)?);
+    }
+    Ok(())
+}
+
+#[test]
+fn refuses_other_sealings(rt: HostRuntime) -> Result<(), Fail> {
+    let mut bytes = FORMS[0].bytes(rt.alloc())?;
+    assert!(rt; !opens(rt.alloc(), &bytes, b"@ABCDEFGHIJKLMNP")?);
+    if let Some(byte) = bytes.last_mut() {
+        *byte ^= 1;
+    }
+    assert!(rt; !opens(rt.alloc(), &bytes, &KEY)?);
+    Ok(())
+}
+
+/// Protected headers, and whether a token that was sealed with one opens: another parameter, another algorithm, none.
+const HEADERS: [(&[u8], bool); 3] = [
+    (b"\xa2\x01\x0a\x18\x63\0", true),
+    (b"\xa1\x01\x0b", false),
+    (b"", false),
+];
+
+#[test]
+fn asks_for_the_algorithm(rt: HostRuntime) -> Result<(), Fail> {
+    for (protected, genuine) in HEADERS {
+        let object = seal0::<Ccm<8>>(rt.alloc(), &KEY, &IV, protected, b"", TEXT)?;
+        let mut bytes = Vec::new(rt.alloc());
+        write0(rt.alloc(), object, &mut bytes)?;
+        assert_eq!(rt; opens(rt.alloc(), &bytes, &KEY)?, genuine);
+    }
+    Ok(())
+}
+
+#[test]
+fn mints(rt: HostRuntime) -> Result<(), Fail> {
+    let token = minted(rt.alloc(), None, None, b"", None)?;
+    assert_eq!(rt; token.as_slice(), FORMS[0].bytes(rt.alloc())?.as_slice());
+    Ok(())
+}
+
+/// A token with each part.
+fn minted_whole(alloc: Global) -> Result<Vec<u8>, MintError> {
+    let id_context = Bytes::from_slice(alloc, b"\x0c")?;
+    minted(
+        alloc,
+        Some(1700000000),
+        Some(1704067200),
+        b"\x0a\x0b",
+        Some(id_context),
+    )
+}
+
+#[test]
+fn mints_each_part(rt: HostRuntime) -> Result<(), Fail> {
+    let token = minted_whole(rt.alloc())?;
+    let text = opened(rt.alloc(), &token, &KEY)?.ok_or("not opened")?;
+    assert_eq!(rt; text.as_slice(), WHOLE_TEXT);
+    Ok(())
+}
+
+#[test]
+fn refuses_long_claims(rt: HostRuntime) -> Result<(), Fail> {
+    let salt = vec![in rt.alloc(); 0; 65536]?;
+    let refused = minted(rt.alloc(), None, None, &salt, None).err();
+    assert_eq!(rt; refused, Some(MintError::TooLong));
+    Ok(())
+}

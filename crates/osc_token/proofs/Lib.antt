@@ -7,3 +7,5 @@ mod JudgingLemmas
 mod OutcomeLemmas
 mod FieldLemmas
 mod MintedLemmas
+mod SpelledClaims
+mod MintedTexts

@@ -15,30 +15,30 @@ use Rattle.osc_token.proofs.FieldLemmas.{Field, fields, value_at, IsSpelled, are
 
 -- ---- the items as fields
 
-abbrev salt_value : List ℕ → Option DataItem
+abbrev pub salt_value : List ℕ → Option DataItem
 salt_value [] = None
 salt_value (byte ∷ bytes) = Some (byte_string (byte ∷ bytes))
 
-abbrev material_fields : InputMaterial → List Field
+abbrev pub material_fields : InputMaterial → List Field
 material_fields m =
     (0, Some (byte_string m.id)) ∷ (2, Some (byte_string m.secret)) ∷ (5, salt_value m.salt) ∷ (6, option_map byte_string m.id_context) ∷ []
 
-material_is : (id secret salt : List ℕ) (context : Option (List ℕ))
+pub material_is : (id secret salt : List ℕ) (context : Option (List ℕ))
     → let m : InputMaterial = record { id = id; secret = secret; salt = salt; id_context = context } in material_item m ≡ map (fields (material_fields m))
 material_is id secret [] None = refl
 material_is id secret [] (Some context) = refl
 material_is id secret (byte ∷ salt) None = refl
 material_is id secret (byte ∷ salt) (Some context) = refl
 
-abbrev confirmation : InputMaterial → DataItem
+abbrev pub confirmation : InputMaterial → DataItem
 confirmation m = map (fields ((4, Some (material_item m)) ∷ []))
 
-abbrev claims_fields : Claims → List Field
+abbrev pub claims_fields : Claims → List Field
 claims_fields c =
     (3, Some (text_string c.audience)) ∷ (4, option_map unsigned c.expires) ∷ (5, option_map unsigned c.not_before)
     ∷ (8, Some (confirmation c.material)) ∷ (9, Some (byte_string c.scope)) ∷ []
 
-claims_are : (audience : List ℕ) (nbf exp : Option ℕ) (m : InputMaterial) (scope : List ℕ)
+pub claims_are : (audience : List ℕ) (nbf exp : Option ℕ) (m : InputMaterial) (scope : List ℕ)
     → let c : Claims = record { audience = audience; not_before = nbf; expires = exp; material = m; scope = scope } in claims_item c ≡ map (fields (claims_fields c))
 claims_are audience None None m scope = refl
 claims_are audience None (Some exp) m scope = refl

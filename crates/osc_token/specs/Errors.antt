@@ -12,7 +12,6 @@ token_number token.NotYet = 27
 token_number token.Expired = 26
 token_number token.Audience = 28
 token_number token.BadScope = 24
-token_number token.Memory = 9
 
 abbrev pub mint_number : MintError → ℕ
 mint_number mint.TooLong = 1

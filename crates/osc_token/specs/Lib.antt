@@ -5,3 +5,4 @@ pub mod Errors
 pub mod Minted
 pub mod Opening
 pub mod Reading
+pub mod Judging

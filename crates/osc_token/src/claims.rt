@@ -2,9 +2,10 @@
 
 use crate::audience::Audience;
 use osc_model::Bytes;
+use std::fmt;
 
 /// What the security contexts of a token's holder are derived from (OSCORE_Input_Material, RFC 9203 section 3.2.1).
-#[derive(Clone, Debug, PartialEq, Eq, Drop)]
+#[derive(Clone, PartialEq, Eq, Drop)]
 pub struct InputMaterial {
     /// The id of the material, by which the token is named: 0 to 64 bytes.
     pub id: Bytes,
@@ -16,8 +17,15 @@ pub struct InputMaterial {
     pub id_context: Option<Bytes>,
 }
 
+// The secret isn't printed.
+impl fmt::Debug for InputMaterial {
+    fn fmt<W: fmt::Write>(&self, f: &mut fmt::Formatter<W>) -> fmt::Result {
+        f.write_str("InputMaterial")
+    }
+}
+
 /// What a token claims (RFC 8392 section 3.1).
-#[derive(Clone, Debug, PartialEq, Eq, Drop)]
+#[derive(Clone, PartialEq, Eq, Drop)]
 pub struct Claims {
     /// For whom the token is.
     pub audience: Audience,
@@ -29,4 +37,11 @@ pub struct Claims {
     pub material: InputMaterial,
     /// What the holder may do, as the bytes of a scope (RFC 9200 section 5.8.1).
     pub scope: Bytes,
+}
+
+// Claims are a token's plaintext, and aren't printed.
+impl fmt::Debug for Claims {
+    fn fmt<W: fmt::Write>(&self, f: &mut fmt::Formatter<W>) -> fmt::Result {
+        f.write_str("Claims")
+    }
 }

@@ -2,14 +2,13 @@
 
 ghost use Rattle.std.specs.Prelude.{◌≡◌};
 ghost use Rattle.osc_token.specs.Errors.{token_number, mint_number};
-ghost use Rattle.osc_token.specs.declared.error.TokenError.TheVariants as token_variants;
 ghost use Rattle.osc_token.specs.declared.error.MintError.TheVariants as mint_variants;
 
 use std::alloc::AllocError;
 use thiserror::Error;
 
 /// Why a token is refused: the first of these that stands, in this order, but for `BadClaims`, which answers in the place
-/// of the claims and in that of their input material, and for `Memory`.
+/// of the claims and in that of their input material. Want of memory is no refusal: calls say it beside these.
 #[derive(Clone, Copy, Debug, PartialEq, Eq, Error)]
 pub enum TokenError {
     /// It isn't of the form of a token, or doesn't open under the key.
@@ -30,9 +29,6 @@ pub enum TokenError {
     /// Its scope is missing, or is none.
     #[error("the scope can't be read")]
     BadScope,
-    /// There was no memory.
-    #[error("out of memory")]
-    Memory,
 }
 
 impl TokenError {
@@ -47,16 +43,7 @@ impl TokenError {
             TokenError::Expired => 26,
             TokenError::Audience => 28,
             TokenError::BadScope => 24,
-            TokenError::Memory => 9,
         }
-    }
-}
-
-impl From<AllocError> for TokenError {
-    ghost from_gives = { λ _ e. e ≡ token_variants.Memory };
-
-    fn from(_error: AllocError) -> TokenError {
-        TokenError::Memory
     }
 }
 

@@ -1,27 +1,28 @@
 //! Judging claims.
 
-ghost use Rattle.std.specs.Prelude.{◌≡◌, ◌≢◌, ◌⊎◌, ◌↔◌, ℕ, List, Some, Err, IsTrue, IsFalse, IfOk, IfErr, option_copied, option_and_then};
+ghost use Rattle.std.specs.Prelude.{◌≡◌, ◌↔◌, ℕ, List, Some, Err, IsTrue, IsFalse, IfOk, IfErr, IsErr, option_copied, option_and_then};
 ghost use Rattle.osc_model.specs.Grant.{HasBegun, IsNotOver};
 ghost use Rattle.osc_cbor.specs.Data.{text_string};
 ghost use Rattle.osc_cbor.specs.Parts as part;
 ghost use Rattle.osc_cbor.specs.View.{view};
-ghost use Rattle.osc_scope.specs.Entries.{Entry, scope_of as scope_of_entries};
-ghost use Rattle.osc_token.specs.Claims.{ComesTo, HasScope};
-ghost use Rattle.osc_token.specs.Reading as spec;
+ghost use Rattle.osc_token.specs.Claims.{ComesTo};
+ghost use Rattle.osc_token.specs.Judging as spec;
+ghost use Rattle.osc_token.specs.Opening.{answer_of};
+ghost use Rattle.osc_token.specs.Reading as reading;
 
 use crate::audience::Audience;
 use crate::claims::Claims;
 use crate::error::TokenError;
 use crate::labels::{AUDIENCE, EXPIRES, NOT_BEFORE, SCOPE};
-use crate::material::material_in;
+use crate::material::{MaterialRef, material_in};
 use osc_cbor::{Item, read_whole};
 use osc_model::{Bytes, Moment};
 use osc_scope::{Scope, ScopeError};
-use std::alloc::Global;
+use std::alloc::{AllocError, Global};
 
 /// The time in which claims count, in whole seconds.
 #[derive(Clone, Copy)]
-struct Dates {
+pub(crate) struct Dates {
     not_before: Option<u64>,
     expires: Option<u64>,
 }
@@ -33,18 +34,18 @@ struct Dates {
 ///
 /// The first check that fails, in this order: the text is a map, whose dates are numbers (`BadClaims`); its time has begun
 /// (`NotYet`) and isn't over (`Expired`); it is for the audience (`Audience`); it has input material (`BadClaims`) and a
-/// scope (`BadScope`). `Memory` for want of memory.
+/// scope (`BadScope`). The outer error is want of memory.
 pub fn judge(
     alloc: Global,
     text: &[u8],
     audience: &Audience,
     now: Moment,
-) -> Result<(Claims, Scope), TokenError>
-    ensures { result ≢ Err TokenError.Memory → ComesTo text.now audience.now now result }
+) -> Result<Result<(Claims, Scope), TokenError>, AllocError>
+    ensures { IfOk result (λ outcome. ComesTo text.now audience.now now outcome) }
 {
     match read_whole(alloc, text)? {
         Some(claims) => judge_claims(alloc, &claims, audience, now),
-        None => Err(TokenError::BadClaims),
+        None => Ok(Err(TokenError::BadClaims)),
     }
 }
 
@@ -54,9 +55,38 @@ fn judge_claims(
     claims: &Item,
     audience: &Audience,
     now: Moment,
-) -> Result<(Claims, Scope), TokenError>
-    ensures { (text : List ℕ) → spec.IsItem text (view claims.now)
-        → result ≢ Err TokenError.Memory → ComesTo text audience.now now result }
+) -> Result<Result<(Claims, Scope), TokenError>, AllocError>
+    ensures judged { (text : List ℕ) → reading.IsItem text (view claims.now)
+        → IfOk result (λ outcome. ComesTo text audience.now now outcome) }
+    // Memory is taken for what the claims grant, and not to refuse them.
+    ensures memory { IsErr result → spec.IsGranting (view claims.now) audience.now now }
+{
+    let (dates, material) = match bound_in(claims, audience, now) {
+        Ok(bound) => bound,
+        Err(error) => return Ok(Err(error)),
+    };
+    let Some(bytes) = scope_bytes(claims) else {
+        return Ok(Err(TokenError::BadScope));
+    };
+    match scope_found(Scope::from_cbor(alloc, bytes))? {
+        Some(scope) => {
+            let claims = granted(alloc, audience, dates, &material, bytes)?;
+            Ok(Ok((claims, scope)))
+        }
+        None => Ok(Err(TokenError::BadScope)),
+    }
+}
+
+/// The dates and the input material of claims that are in their time and for this audience; else the first check that
+/// fails, as [`judge`] says. Takes no memory.
+fn bound_in<'a>(
+    claims: &'a Item,
+    audience: &Audience,
+    now: Moment,
+) -> Result<(Dates, MaterialRef<'a>), TokenError>
+    ensures bound { IfOk result (λ bound. spec.AreBound (view claims.now) audience.now now bound.0 bound.1) }
+    ensures refused { IfErr result (λ error. (text : List ℕ) → reading.IsItem text (view claims.now)
+        → ComesTo text audience.now now (Err error)) }
 {
     let Some(dates) = dates_in(claims) else {
         return Err(TokenError::BadClaims);
@@ -70,23 +100,40 @@ fn judge_claims(
     if !is_for(claims, audience) {
         return Err(TokenError::Audience);
     }
-    let Some(material) = material_in(claims) else {
-        return Err(TokenError::BadClaims);
-    };
-    let (bytes, scope) = scope_in(alloc, claims)?;
-    let granted = Claims {
+    match material_in(claims) {
+        Some(material) => Ok((dates, material)),
+        None => Err(TokenError::BadClaims),
+    }
+}
+
+/// The claims with these parts.
+fn granted(
+    alloc: Global,
+    audience: &Audience,
+    dates: Dates,
+    material: &MaterialRef<'_>,
+    scope: &[u8],
+) -> Result<Claims, AllocError>
+    ensures { IfOk result (λ claims. claims ≡ record {
+      audience = audience.now;
+      not_before = dates.not_before;
+      expires = dates.expires;
+      material = material.now;
+      scope = scope.now;
+    }) }
+{
+    Ok(Claims {
         audience: audience.clone()?,
         not_before: dates.not_before,
         expires: dates.expires,
         material: material.to_owned(alloc)?,
-        scope: Bytes::from_slice(alloc, bytes)?,
-    };
-    Ok((granted, scope))
+        scope: Bytes::from_slice(alloc, scope)?,
+    })
 }
 
 /// The dates of the claims, if they are a map whose dates are numbers.
 fn dates_in(claims: &Item) -> Option<Dates>
-    ensures { result ≡ spec.dates_in (view claims.now) }
+    ensures { result ≡ reading.dates_in (view claims.now) }
 {
     claims.as_map()?;
     Some(Dates {
@@ -97,7 +144,7 @@ fn dates_in(claims: &Item) -> Option<Dates>
 
 /// The date under a label, where it is there; none where it is no number.
 fn date(claims: &Item, label: u64) -> Option<Option<u64>>
-    ensures { result ≡ spec.date_of (part.value label (view claims.now)) }
+    ensures { result ≡ reading.date_of (part.value label (view claims.now)) }
 {
     match claims.value(label) {
         Some(value) => Some(Some(value.as_unsigned()?)),
@@ -135,25 +182,15 @@ fn is_for(claims: &Item, audience: &Audience) -> bool
     }
 }
 
-/// The bytes of the scope, and what they are.
-///
-/// # Errors
-///
-/// `BadScope` where there is none, else `Memory`.
-fn scope_in(alloc: Global, claims: &Item) -> Result<(&[u8], Scope), TokenError>
-    ensures found { IfOk result (λ x. (entries : List Entry)
-        × HasScope (spec.pairs_in (view claims.now)) x.0.now entries × (x.1 ≡ scope_of_entries entries)) }
-    ensures refused { IfErr result (λ e. ((e ≡ TokenError.BadScope)
-        × ((bytes : List ℕ) (entries : List Entry) → ¬ HasScope (spec.pairs_in (view claims.now)) bytes entries))
-        ⊎ (e ≡ TokenError.Memory)) }
+/// The scope, where one was read. An error is want of memory, which is the answer there alone.
+fn scope_found(read: Result<Scope, ScopeError>) -> Result<Option<Scope>, AllocError>
+    ensures answer { IfOk result (λ scope. scope ≡ answer_of read) }
+    ensures memory { IsErr result ↔ (read ≡ Err ScopeError.Memory) }
 {
-    let Some(bytes) = scope_bytes(claims) else {
-        return Err(TokenError::BadScope);
-    };
-    match Scope::from_cbor(alloc, bytes) {
-        Ok(scope) => Ok((bytes, scope)),
-        Err(ScopeError::BadScope) => Err(TokenError::BadScope),
-        Err(ScopeError::Memory) => Err(TokenError::Memory),
+    match read {
+        Ok(scope) => Ok(Some(scope)),
+        Err(ScopeError::BadScope) => Ok(None),
+        Err(ScopeError::Memory) => Err(AllocError),
     }
 }
 

@@ -10,7 +10,7 @@ ghost use Rattle.osc_cbor.specs.Spelling.{spelling};
 ghost use Rattle.osc_cose.specs.Encrypt0.{enc_structure, object_item};
 ghost use Rattle.osc_scope.specs.Entries.{Entry, IsScope, scope_of};
 ghost use Rattle.osc_token.specs.Claims.{ComesTo};
-ghost use Rattle.osc_token.specs.Minted.{HasLawfulParts};
+ghost use Rattle.osc_token.specs.Minted.{FitTheirTypes, HasLawfulParts};
 ghost use Rattle.osc_token.specs.Token.{IsToken, algorithm_header, claims_item, token_object};
 ghost use Rattle.osc_token.specs.declared.claims.Claims.{Claims as AnyClaims};
 ghost use Rattle.osc_token.specs.declared.error.TokenError.{TokenError as AnyError};
@@ -35,6 +35,36 @@ pub fn minted_claims()
         → ComesTo (spelling (claims_item claims)) claims.audience now (Ok (claims, scope_of entries)) }
 {
     osc_cbor::laws::what_is_written();
+}
+
+/// The text of minted claims, of any lengths that fit their types, comes to the claims and what their scope is, or to nothing.
+pub fn minted_texts()
+    ensures { (claims read : AnyClaims) (entries : List Entry) (granted : Permissions) (audience : List ℕ) (now : AnyMoment)
+        → FitTheirTypes claims → IsScope claims.scope entries
+        → ComesTo (spelling (claims_item claims)) audience now (Ok (read, granted))
+        → (read ≡ claims) × (granted ≡ scope_of entries) }
+{
+    osc_cbor::laws::what_is_written();
+    osc_cbor::laws::one_item();
+    osc_scope::laws::one_scope();
+}
+
+/// What was minted is opened and judged to its claims: whatever text the token opens to, in the time of the claims it comes
+/// to them and to what their scope is, and to nothing else.
+pub fn what_was_minted<A: Aead>()
+    ensures { (key iv ciphertext protected ivs text : List ℕ) (claims : AnyClaims) (entries : List Entry) (now : AnyMoment) (outcome : Result (AnyClaims × Permissions) AnyError)
+        → length iv ≡ 13 → length ciphertext < 2 ^ 64
+        → A.is_sealing key iv (enc_structure algorithm_header []) (spelling (claims_item claims)) ciphertext
+        → HasLawfulParts claims → IsScope claims.scope entries
+        → HasBegun claims.not_before now → IsNotOver claims.expires now
+        → IsToken A.is_sealing key (spelling (object_item (token_object iv ciphertext))) protected ivs text
+        → ComesTo text claims.audience now outcome
+        → outcome ≡ Ok (claims, scope_of entries) }
+{
+    minted_tokens::<A>();
+    minted_claims();
+    one_token::<A>();
+    one_outcome();
 }
 
 /// Bytes are a token of one text at most under a key.

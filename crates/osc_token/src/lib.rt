@@ -22,8 +22,3 @@ pub use judging::judge;
 pub use minting::mint;
 pub use opening::open_token;
 pub use reading::read;
-
-#[cfg(test)]
-mod judging_tests;
-#[cfg(test)]
-mod tests;

@@ -30,7 +30,7 @@ const AES_CCM: u64 = 10;
 const LONGEST: usize = 64;
 
 /// Input material, lent by the claims.
-#[derive(Clone, Debug, Drop)]
+#[derive(Drop)]
 pub(crate) struct MaterialRef<'a> {
     id: &'a [u8],
     secret: &'a [u8],

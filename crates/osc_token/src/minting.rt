@@ -1,11 +1,11 @@
 //! Minting tokens.
 
-ghost use Rattle.std.specs.Prelude.{◌≡◌, ◌≤◌, ◌<◌, ℕ, List, [], ◌++◌, length, IfOk, OnOk, OnErr, Err};
-ghost use Rattle.osc_ccm.specs.declared.aead.TheConstants.{TEXT_LIMIT};
+ghost use Rattle.std.specs.Prelude.{◌≡◌, ◌↔◌, ◌≤◌, ◌<◌, ℕ, List, [], ◌++◌, length, IfOk, OnOk, OnErr, Err};
 ghost use Rattle.osc_cbor.specs.Data.{byte_string, map, pair, unsigned, no_pairs};
 ghost use Rattle.osc_cbor.specs.Spelling.{spelling};
 ghost use Rattle.osc_cbor.specs.View.{view};
 ghost use Rattle.osc_cose.specs.Encrypt0.{enc_structure, object_item};
+ghost use Rattle.osc_token.specs.Minted.{most_claims};
 ghost use Rattle.osc_token.specs.Token.{algorithm_header, claims_item, material_item, token_object};
 
 use crate::claims::{Claims, InputMaterial};
@@ -21,6 +21,9 @@ use std::alloc::{AllocError, Global};
 
 /// The protected header of a token, {1: 10}: the algorithm AES-CCM-16-64-128 (RFC 9053 section 4.2).
 const ALGORITHM_HEADER: [u8; 3] = *b"\xa1\x01\x0a";
+
+/// The most bytes that claims may have, so that the cipher takes them.
+const CLAIMS_LIMIT: usize = 65535;
 
 /// Appends the token of these claims, sealed under the key that its issuer and the server share: a COSE_Encrypt0 object
 /// without tags and without a kid. Claims and fields that aren't there, and an empty salt, are left out.
@@ -40,8 +43,8 @@ pub fn mint<A: Aead>(
     ensures minted { OnOk result ((ciphertext : List ℕ)
         × A.is_sealing key.now iv.now (enc_structure algorithm_header []) (spelling (claims_item claims.now)) ciphertext
         × (out.new.items ≡ out.old.items ++ spelling (object_item (token_object iv.now ciphertext)))) }
-    ensures short { OnOk result (length (spelling (claims_item claims.now)) ≤ TEXT_LIMIT) }
-    ensures too_long { result ≡ Err MintError.TooLong → TEXT_LIMIT < length (spelling (claims_item claims.now)) }
+    ensures short { OnOk result (length (spelling (claims_item claims.now)) ≤ most_claims) }
+    ensures too_long { result ≡ Err MintError.TooLong → most_claims < length (spelling (claims_item claims.now)) }
     ensures err { OnErr result (out.new.items ≡ out.old.items) }
 {
     let text = text_of(alloc, claims)?;
@@ -49,7 +52,7 @@ pub fn mint<A: Aead>(
     Ok(write0(alloc, object, out)?)
 }
 
-/// The object of a text.
+/// The object of a text, for which memory is taken where the text isn't too long.
 fn seal<A: Aead>(
     alloc: Global,
     key: &[u8; 16],
@@ -59,8 +62,11 @@ fn seal<A: Aead>(
     ensures sealed { IfOk result (λ object.
         A.is_sealing key.now iv.now (enc_structure algorithm_header []) text.now object.ciphertext) }
     ensures is_token { IfOk result (λ object. object ≡ token_object iv.now object.ciphertext) }
-    ensures too_long { result ≡ Err MintError.TooLong → TEXT_LIMIT < length text.now }
+    ensures too_long { (result ≡ Err MintError.TooLong) ↔ (most_claims < length text.now) }
 {
+    if text.len() > CLAIMS_LIMIT {
+        return Err(MintError::TooLong);
+    }
     match seal0::<A>(alloc, key, iv, &ALGORITHM_HEADER, b"", text) {
         Ok(object) => Ok(object),
         Err(SealError::TooLong) => Err(MintError::TooLong),

@@ -1,15 +1,14 @@
 //! Opening tokens.
 
-ghost use Rattle.std.specs.Prelude.{◌≡◌, ◌≢◌, ◌⊎◌, ℕ, List, [], length, IfOk, IfErr, IfSome, Ok, Err, Some, None};
+ghost use Rattle.std.specs.Prelude.{◌≡◌, ◌≢◌, ◌⊎◌, ◌↔◌, ℕ, List, [], length, IfOk, IfSome, IsErr, Ok, Err, Some, None};
 ghost use Rattle.osc_cbor.specs.Data.{DataItem};
 ghost use Rattle.osc_cbor.specs.Spelling.{IsWhole};
 ghost use Rattle.osc_cbor.specs.View.{view};
 ghost use Rattle.osc_cose.specs.Encrypt0.{IsObject, NamesAlgorithm, enc_structure as structure};
 ghost use Rattle.osc_cose.specs.declared.encrypt0.Encrypt0.{Encrypt0 as AnyObject};
-ghost use Rattle.osc_token.specs.Opening.{HoldsText, has_tag as is_tagged, unfound as refusal_unfound, unopened as refusal_unopened};
+ghost use Rattle.osc_token.specs.Opening.{HoldsText, answer_of, has_tag as is_tagged};
 ghost use Rattle.osc_token.specs.Token.{IsToken, token_name, token_note, without_cwt_tag as unwrapped};
 
-use crate::error::TokenError;
 use osc_cbor::{Item, read_whole};
 use osc_ccm::Aead;
 use osc_cose::{Encrypt0, OpenError, ParseError, enc_structure, object_of, open0};
@@ -23,49 +22,50 @@ const CWT_TAG: u64 = 61;
 const ENCRYPT0_TAG: u64 = 16;
 
 /// Opens a token under the key that its issuer and the server share, and answers the note of the opening, whose plaintext
-/// is the text of the claims. A token is a COSE_Encrypt0 object, with or without the tag 16, and that with or without the
-/// tag 61 round it, whose protected header has the algorithm AES-CCM-16-64-128 and whose IV has 13 bytes. Other header
-/// parameters are ignored.
-///
-/// # Errors
-///
-/// `NotGenuine` where the bytes are no such object or its ciphertext is the sealing of no text, else `Memory`.
-pub fn open_token<A: Aead>(alloc: Global, bytes: &[u8], key: &[u8; 16]) -> Result<Note, TokenError>
+/// is the text of the claims; none where the token isn't genuine. A token is a COSE_Encrypt0 object, with or without the
+/// tag 16, and that with or without the tag 61 round it, whose protected header has the algorithm AES-CCM-16-64-128 and
+/// whose IV has 13 bytes, and whose ciphertext is the sealing of a text. Other header parameters are ignored. An error is
+/// want of memory.
+pub fn open_token<A: Aead>(
+    alloc: Global,
+    bytes: &[u8],
+    key: &[u8; 16],
+) -> Result<Option<Note>, AllocError>
     // What opens is a token of the text ..
-    ensures opened { IfOk result (λ note. (protected iv text : List ℕ)
-        × IsToken A.is_sealing key.now bytes.now protected iv text × (note ≡ token_note key.now protected iv text)) }
+    ensures opened { IfOk result (λ found. IfSome found (λ note. (protected iv text : List ℕ)
+        × IsToken A.is_sealing key.now bytes.now protected iv text × (note ≡ token_note key.now protected iv text))) }
     // .. and each token opens.
     ensures only { (protected iv text : List ℕ) → IsToken A.is_sealing key.now bytes.now protected iv text
-        → (result ≡ Ok (token_note key.now protected iv text)) ⊎ (result ≡ Err TokenError.Memory) }
-    ensures refused { IfErr result (λ error. (error ≡ TokenError.NotGenuine) ⊎ (error ≡ TokenError.Memory)) }
+        → IfOk result (λ found. found ≡ Some (token_note key.now protected iv text)) }
 {
-    let object = object_in(alloc, bytes)?;
-    open_object::<A>(alloc, &object, key)
-}
-
-/// The object that the bytes are, with or without the tag of a CWT.
-fn object_in(alloc: Global, bytes: &[u8]) -> Result<Encrypt0, TokenError>
-    ensures found { IfOk result (λ object. (d : DataItem) × IsWhole bytes.now d × IsObject (unwrapped d) object) }
-    ensures only { (d : DataItem) (object : AnyObject) → IsWhole bytes.now d → IsObject (unwrapped d) object
-        → (result ≡ Ok object) ⊎ (result ≡ Err TokenError.Memory) }
-    ensures refused { IfErr result (λ error. (error ≡ TokenError.NotGenuine) ⊎ (error ≡ TokenError.Memory)) }
-{
-    match read_whole(alloc, bytes)? {
-        Some(item) => match object_of(alloc, without_cwt_tag(&item)) {
-            Ok(object) => Ok(object),
-            Err(error) => Err(unfound(error)),
-        },
-        None => Err(TokenError::NotGenuine),
+    match object_in(alloc, bytes)? {
+        Some(object) => open_object::<A>(alloc, &object, key),
+        None => Ok(None),
     }
 }
 
-/// Why a token isn't opened, where no object is found in it.
-fn unfound(error: ParseError) -> TokenError
-    ensures { result ≡ refusal_unfound error }
+/// The object that the bytes are, with or without the tag of a CWT.
+fn object_in(alloc: Global, bytes: &[u8]) -> Result<Option<Encrypt0>, AllocError>
+    ensures found { IfOk result (λ found. IfSome found (λ object.
+        (d : DataItem) × IsWhole bytes.now d × IsObject (unwrapped d) object)) }
+    ensures only { (d : DataItem) (object : AnyObject) → IsWhole bytes.now d → IsObject (unwrapped d) object
+        → IfOk result (λ found. found ≡ Some object) }
 {
-    match error {
-        ParseError::Shape => TokenError::NotGenuine,
-        ParseError::Memory => TokenError::Memory,
+    match read_whole(alloc, bytes)? {
+        Some(item) => object_found(object_of(alloc, without_cwt_tag(&item))),
+        None => Ok(None),
+    }
+}
+
+/// The object, where one was found. An error is want of memory, which is the answer there alone.
+fn object_found(found: Result<Encrypt0, ParseError>) -> Result<Option<Encrypt0>, AllocError>
+    ensures answer { IfOk result (λ object. object ≡ answer_of found) }
+    ensures memory { IsErr result ↔ (found ≡ Err ParseError.Memory) }
+{
+    match found {
+        Ok(object) => Ok(Some(object)),
+        Err(ParseError::Shape) => Ok(None),
+        Err(ParseError::Memory) => Err(AllocError),
     }
 }
 
@@ -94,21 +94,24 @@ fn open_object<A: Aead>(
     alloc: Global,
     object: &Encrypt0,
     key: &[u8; 16],
-) -> Result<Note, TokenError>
-    ensures opened { IfOk result (λ note. (iv text : List ℕ)
-        × HoldsText A.is_sealing key.now object.now iv text × (note ≡ token_note key.now object.now.protected iv text)) }
+) -> Result<Option<Note>, AllocError>
+    ensures opened { IfOk result (λ found. IfSome found (λ note. (iv text : List ℕ)
+        × HoldsText A.is_sealing key.now object.now iv text × (note ≡ token_note key.now object.now.protected iv text))) }
     ensures only { (iv text : List ℕ) → HoldsText A.is_sealing key.now object.now iv text
-        → (result ≡ Ok (token_note key.now object.now.protected iv text)) ⊎ (result ≡ Err TokenError.Memory) }
-    ensures refused { IfErr result (λ error. (error ≡ TokenError.NotGenuine) ⊎ (error ≡ TokenError.Memory)) }
+        → IfOk result (λ found. found ≡ Some (token_note key.now object.now.protected iv text)) }
+    // Where header or IV are others, no memory is taken.
+    ensures plain { (object.now.protected ≡ []) ⊎ ((iv : List ℕ) → object.now.iv ≡ Some iv → length iv ≢ 13) → result ≡ Ok None }
 {
     if object.protected.is_empty() {
-        return Err(TokenError::NotGenuine);
+        return Ok(None);
     }
     let Some(iv) = iv_of(object) else {
-        return Err(TokenError::NotGenuine);
+        return Ok(None);
     };
-    let text = open_text::<A>(alloc, object, key, iv)?;
-    Ok(note(alloc, key, object.protected.as_slice(), iv, text)?)
+    match open_text::<A>(alloc, object, key, iv)? {
+        Some(text) => Ok(Some(note(alloc, key, object.protected.as_slice(), iv, text)?)),
+        None => Ok(None),
+    }
 }
 
 /// The object's IV, where it has one of 13 bytes.
@@ -119,33 +122,31 @@ fn iv_of(object: &Encrypt0) -> Option<&[u8; 13]>
     object.iv.as_ref()?.as_slice().try_into().ok()
 }
 
-/// The text of the object's ciphertext.
+/// The text of the object's ciphertext, where it is the sealing of one.
 fn open_text<A: Aead>(
     alloc: Global,
     object: &Encrypt0,
     key: &[u8; 16],
     iv: &[u8; 13],
-) -> Result<Bytes, TokenError>
-    ensures opened { IfOk result (λ text. NamesAlgorithm object.now.protected
-        × A.is_sealing key.now iv.now (structure object.now.protected []) text object.now.ciphertext) }
+) -> Result<Option<Bytes>, AllocError>
+    ensures opened { IfOk result (λ found. IfSome found (λ text. NamesAlgorithm object.now.protected
+        × A.is_sealing key.now iv.now (structure object.now.protected []) text object.now.ciphertext)) }
     ensures only { (text : List ℕ) → NamesAlgorithm object.now.protected
         → A.is_sealing key.now iv.now (structure object.now.protected []) text object.now.ciphertext
-        → (result ≡ Ok text) ⊎ (result ≡ Err TokenError.Memory) }
-    ensures refused { IfErr result (λ error. (error ≡ TokenError.NotGenuine) ⊎ (error ≡ TokenError.Memory)) }
+        → IfOk result (λ found. found ≡ Some text) }
 {
-    match open0::<A>(alloc, object, key, iv, b"") {
-        Ok(text) => Ok(text),
-        Err(error) => Err(unopened(error)),
-    }
+    text_opened(open0::<A>(alloc, object, key, iv, b""))
 }
 
-/// Why a token isn't opened, where its object isn't.
-fn unopened(error: OpenError) -> TokenError
-    ensures { result ≡ refusal_unopened error }
+/// The text, where one was opened. An error is want of memory, which is the answer there alone.
+fn text_opened(opened: Result<Bytes, OpenError>) -> Result<Option<Bytes>, AllocError>
+    ensures answer { IfOk result (λ text. text ≡ answer_of opened) }
+    ensures memory { IsErr result ↔ (opened ≡ Err OpenError.Memory) }
 {
-    match error {
-        OpenError::Algorithm | OpenError::TooLong | OpenError::NotGenuine => TokenError::NotGenuine,
-        OpenError::Memory => TokenError::Memory,
+    match opened {
+        Ok(text) => Ok(Some(text)),
+        Err(OpenError::Algorithm | OpenError::TooLong | OpenError::NotGenuine) => Ok(None),
+        Err(OpenError::Memory) => Err(AllocError),
     }
 }
 

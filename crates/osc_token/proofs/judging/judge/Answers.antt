@@ -4,9 +4,9 @@ use Rattle.osc_token.proofs.judging.judge.Goals as goal
 pub returns-in-Some : goal.returns-in-Some
 returns-in-Some c =
     let found = rw c.in-Some.is at c.in_ok-claims.ensures in
-    λ known. c.judge_claims.ensures c.args.text.now (record { whole = found.0; only = found.1 }) known
+    c.judge_claims.ensures.judged c.args.text.now (record { whole = found.0; only = found.1 })
 
 pub returns-in-None : goal.returns-in-None
 returns-in-None c =
     let none = rw c.in-None.is at c.in_ok-claims.ensures in
-    λ known. no_item c.args.text.now c.args.audience.now c.args.now none
+    no_item c.args.text.now c.args.audience.now c.args.now none

@@ -1,8 +1,8 @@
-use Rattle.std.proofs.Common.{inr, ap, Err, ◌∙◌, sym, subst}
+use Rattle.std.proofs.Common.{ap, ◌∙◌, sym, subst}
 use Rattle.osc_cose.specs.Encrypt0.{IsObject}
-use Rattle.osc_token.specs.Opening.{unfound}
+use Rattle.osc_cose.specs.declared.error.ParseError.TheVariants.{Memory}
 use Rattle.osc_token.specs.Token.{without_cwt_tag}
-use Rattle.osc_token.proofs.OpeningLemmas.{refused_only}
+use Rattle.osc_token.proofs.OpeningLemmas.{only_of}
 use Rattle.osc_token.proofs.opening.object_in.Goals as goal
 
 pub returns-in-Some-clause-only : goal.returns-in-Some-clause-only
@@ -10,5 +10,5 @@ returns-in-Some-clause-only c =
     let found = rw c.in-Some.is at c.in_ok-item.ensures in
     λ d object whole is_object.
     let same = sym (c.without_cwt_tag.ensures ∙ ap without_cwt_tag (found.1 d whole)) in
-    let is = refused_only _ _ _ _ c.in-Err.is (c.object_of.ensures.only object (subst (λ x. IsObject x object) same is_object)) in
-    inr (ap Err (c.unfound.ensures ∙ ap unfound is))
+    only_of object Memory c.object_of.result c.object_found.result c.object_found.ensures.answer c.object_found.ensures.memory
+    (c.object_of.ensures.only object (subst (λ x. IsObject x object) same is_object))

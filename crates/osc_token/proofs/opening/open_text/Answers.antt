@@ -1,9 +1,11 @@
-use Rattle.std.proofs.Common.{inr, ap, Err, ◌∙◌}
-use Rattle.osc_token.specs.Opening.{unopened}
-use Rattle.osc_token.proofs.OpeningLemmas.{refused_only}
+use Rattle.osc_cose.specs.declared.error.OpenError.TheVariants.{Memory}
+use Rattle.osc_token.proofs.OpeningLemmas.{found_of, only_of, both_ok}
 use Rattle.osc_token.proofs.opening.open_text.Goals as goal
 
-pub returns-in-Err-clause-only : goal.returns-in-Err-clause-only
-returns-in-Err-clause-only g c = λ text named sealed.
-    let is = refused_only _ _ _ _ c.in-Err.is (c.open0.ensures.only text named sealed) in
-    inr (ap Err (c.unopened.ensures ∙ ap unopened is))
+pub returns-clause-opened : goal.returns-clause-opened
+returns-clause-opened g c =
+    found_of _ c.open0.result c.text_opened.result c.text_opened.ensures.answer (both_ok _ _ c.open0.result c.open0.ensures.named c.open0.ensures.opened)
+
+pub returns-clause-only : goal.returns-clause-only
+returns-clause-only g c = λ text named sealed.
+    only_of text Memory c.open0.result c.text_opened.result c.text_opened.ensures.answer c.text_opened.ensures.memory (c.open0.ensures.only text named sealed)

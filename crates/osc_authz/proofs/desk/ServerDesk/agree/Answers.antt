@@ -8,7 +8,7 @@ invariant_of-self-2 c =
     let table = ap (λ desk. desk.table) c.self.view_is in
     let fields = c.args.fields.now in
     agreed_is_table c.args.now c.args.claims c.args.scope fields.nonce1.now fields.client_id.now
-    (record { nonce2 = c.nonce_drawn.result; recipient_id = c.free_id.result })
+    (record { nonce2 = c.nonce.result; recipient_id = c.free_id.result })
     c.args.self.now.table c.deref.result.now c.reserve.new.self.items c.add_pending.new.table.items c.as_slice-token.result.now
     c.in_ok-token.token c.in_ok-token.context (subst IsTable table c.self.invariant) c.requires.room
     c.as_slice-token.ensures (c.deref.ensures.value ∙ table) c.free_id.ensures

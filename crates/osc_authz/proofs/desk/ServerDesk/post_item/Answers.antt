@@ -1,6 +1,5 @@
-use Rattle.std.proofs.Common.{rules, ◌≢◌, refl, sym, ap}
+use Rattle.std.proofs.Common.{refl, sym, ap}
 use Rattle.osc_cbor.specs.View.{view}
-use Rattle.osc_token.specs.declared.error.TokenError.{TokenError}
 use Rattle.osc_authz.specs.Post.{Posts}
 use Rattle.osc_authz.proofs.PayloadLemmas.{no_post, post_from_fields}
 use Rattle.osc_authz.proofs.PostLemmas.{opened_post, unopened_post}
@@ -8,24 +7,23 @@ use Rattle.osc_authz.proofs.desk.ServerDesk.post_item.Goals as goal
 
 pub returns-in_default-clause-posted : goal.returns-in_default-clause-posted
 returns-in_default-clause-posted g c = λ body item.
-    Posts.no_post (no_post body (view c.args.item.now) item.1 (sym c.in_default.ensures)) c.refused.ensures refl
+    Posts.no_post (no_post body (view c.args.item.now) item.only (sym c.in_default.ensures)) c.refused.ensures refl
 
-pub returns-in_ok-answer-in-Ok-clause-posted : goal.returns-in_ok-answer-in-Ok-clause-posted
-returns-in_ok-answer-in-Ok-clause-posted g c = λ body item.
+pub returns-in_ok-answer-in-Some-2-clause-posted :
+    goal.returns-in_ok-answer-in-Some-2-clause-posted
+returns-in_ok-answer-in-Some-2-clause-posted g c = λ body item.
     let fields = c.in-Some.fields in
-    let is_post = post_from_fields body (view c.args.item.now) fields.token.now fields.nonce1.now fields.client_id.now item.0 (sym c.in-Some.ensures) in
-    let found = c.in-Ok.ensures.opened in
+    let is_post = post_from_fields body (view c.args.item.now) fields.token.now fields.nonce1.now fields.client_id.now item.whole (sym c.in-Some.ensures) in
+    let found = rw c.in-Some-2.is at c.in_ok-note.ensures.opened in
     opened_post g.A.Aead.is_sealing c.args.self.now c.answer.new.self c.args.now body c.args.draw.now
     fields.token.now fields.nonce1.now fields.client_id.now c.self.inside.key (ap (λ desk. desk.key) c.self.view_is) is_post
-    found.0 found.1 found.2 c.in-Ok.note c.in_ok-answer-in-Ok.answer found.3 found.4
-    (rw (← c.as_slice.ensures) c.in_ok-answer-in-Ok.ensures.answers)
+    found.0 found.1 found.2 c.in-Some-2.note c.in_ok-answer-in-Some-2.answer found.3 found.4
+    (rw (← c.as_slice.ensures) c.in_ok-answer-in-Some-2.ensures.answers)
 
-pub returns-in_ok-of_token-in-Err-clause-posted : goal.returns-in_ok-of_token-in-Err-clause-posted
-returns-in_ok-of_token-in-Err-clause-posted g c = λ body item.
+pub returns-in-None-clause-posted : goal.returns-in-None-clause-posted
+returns-in-None-clause-posted g c = λ body item.
     let fields = c.in-Some.fields in
-    let is_post = post_from_fields body (view c.args.item.now) fields.token.now fields.nonce1.now fields.client_id.now item.0 (sym c.in-Some.ensures) in
-    let apart : c.in-Err.error ≢ TokenError.Memory = search rules in
+    let is_post = post_from_fields body (view c.args.item.now) fields.token.now fields.nonce1.now fields.client_id.now item.whole (sym c.in-Some.ensures) in
     unopened_post g.A.Aead.is_sealing c.args.self.now c.args.self.now c.args.now body c.args.draw.now
     fields.token.now fields.nonce1.now fields.client_id.now c.self.inside.key (ap (λ desk. desk.key) c.self.view_is) is_post
-    c.in-Err.error _ c.in-Err.ensures.only c.in-Err.ensures.refused apart
-    (cc (c.refused-in-Err.ensures, c.in_ok-of_token-in-Err.ensures.refusal)) refl
+    c.refused-in-None.result c.in_ok-note.field-0 c.in_ok-note.ensures.only c.in-None.is c.refused-in-None.ensures refl

@@ -1,0 +1,50 @@
+-- The context that a request means, and those with one recipient ID.
+use Rattle.std.proofs.Common.{◌≡◌, ℕ, ◌/◌, ◌≤◌, ◌<◌, Bool, true, false, cond, if◌then◌else◌, ◌&&◌, nat_le, nat_lt, List, [], ◌∷◌, find, Option, Some, None, refl, sym, ap, ◌∙◌, inl, inr, subst, leb-true, ltb-true}
+use Rattle.std.specs.Option.{option_map_or, ForSome}
+use Rattle.std.proofs.lemmas.Bool.{and_parts}
+use Rattle.std.proofs.lemmas.Slice.Eq.{bytes_eq-Decides}
+use Rattle.osc_model.specs.declared.node.Moment.{Moment}
+use Rattle.osc_authz.specs.Contexts.{IsLive}
+use Rattle.osc_authz.specs.Held.{Held}
+use Rattle.osc_authz.specs.Members.{In}
+use Rattle.osc_authz.specs.Table.{contexts, has_id, is_live, is_named, if_meant, meant}
+use Rattle.osc_authz.specs.declared.holding.Holding.{Holding}
+
+-- ---- what a request means
+
+found : (p : Held → Bool) (cs : List Held) (c : Held) → find p cs ≡ Some c → In c cs × (p c ≡ true)
+found p [] c e = absurd (cc)
+found p (x ∷ cs) c e = by (p x) refl e (found p cs c)
+  where
+    by : (b : Bool) → p x ≡ b → cond b (Some x) (find p cs) ≡ Some c → (find p cs ≡ Some c → In c cs × (p c ≡ true)) → In c (x ∷ cs) × (p c ≡ true)
+    by true t e rest = let same : x ≡ c = cc in (inl (sym same), ap p (sym same) ∙ t)
+    by false t e rest = let r = rest e in (inr r.0, r.1)
+
+live_tested : (begins ends : Option ℕ) (t : ℕ) → option_map_or (λ s. nat_le s t) begins true ≡ true → option_map_or (λ s. nat_lt t s) ends true ≡ true → ForSome begins (λ s. s ≤ t) × ForSome ends (λ s. t < s)
+live_tested begins ends t b e = (one begins b, two ends e)
+  where
+    one : (o : Option ℕ) → option_map_or (λ s. nat_le s t) o true ≡ true → ForSome o (λ s. s ≤ t)
+    one None h s is = absurd (cc)
+    one (Some n) h s is = let same : n ≡ s = cc in subst (λ (x : ℕ). x ≤ t) same (leb-true n t h)
+
+    two : (o : Option ℕ) → option_map_or (λ s. nat_lt t s) o true ≡ true → ForSome o (λ s. t < s)
+    two None h s is = absurd (cc)
+    two (Some n) h s is = let same : n ≡ s = cc in subst (λ (x : ℕ). t < x) same (ltb-true t n h)
+
+-- the context is held, lives and has the ID
+pub meant_is : (now : Moment) (kid : List ℕ) (kid_context : Option (List ℕ)) (table : List Holding) (c : Held) → meant now kid kid_context table ≡ Some c
+    → In c (contexts table) × IsLive now c × (c.name.client_id ≡ kid)
+meant_is now kid kid_context table c e = by (find (has_id kid) (contexts table)) refl e
+  where
+    passed : (d : Held) (b : Bool) → (is_live now d && is_named kid_context d) ≡ b → (if b then Some d else None) ≡ Some c → (d ≡ c) × (is_live now d ≡ true)
+    passed d true t e = (cc, (and_parts (is_live now d) (is_named kid_context d) t).0)
+    passed d false t e = absurd (cc)
+
+    by : (o : Option Held) → find (has_id kid) (contexts table) ≡ o → if_meant now kid_context o ≡ Some c → In c (contexts table) × IsLive now c × (c.name.client_id ≡ kid)
+    by None is e = absurd (cc)
+    by (Some d) is e =
+        let p = passed d (is_live now d && is_named kid_context d) refl e in
+        let f = found (has_id kid) (contexts table) c (is ∙ ap (λ (x : Held). Some x) p.0) in
+        let parts = and_parts (option_map_or (λ s. nat_le s (now.ms / 1000)) c.not_before true) (option_map_or (λ s. nat_lt (now.ms / 1000) s) c.expires true) (ap (is_live now) (sym p.0) ∙ p.1) in
+        let live = live_tested c.not_before c.expires (now.ms / 1000) parts.0 parts.1 in
+        (f.0, record { begun = live.0; not_over = live.1 }, sym ((bytes_eq-Decides kid c.name.client_id).0 f.1))

@@ -1,0 +1,178 @@
+-- A post that is answered 2.01, and the name that both ends have by it.
+use Rattle.std.proofs.Common.{◌≡◌, ◌≢◌, ℕ, ◌<◌, ◌≤◌, ◌^◌, List, [], ◌∷◌, length, take, Option, Some, None, Result, Ok, Err, refl, sym, ap, ◌∙◌, subst, arith, length-take}
+use Rattle.osc_model.specs.Code.{code}
+use Rattle.osc_model.specs.Draw.{nonce_drawn}
+use Rattle.osc_model.specs.Scope.{Scope}
+use Rattle.osc_model.specs.declared.context.ContextName.{ContextName}
+use Rattle.osc_model.specs.declared.node.Draw.{Draw}
+use Rattle.osc_model.specs.declared.node.Moment.{Moment}
+use Rattle.osc_cbor.specs.Spelling.{spelling}
+use Rattle.osc_context.specs.MasterSalt.{master_salt}
+use Rattle.osc_cose.specs.Encrypt0.{enc_structure, object_item}
+use Rattle.osc_scope.specs.Entries.{Entry, IsScope, scope_of}
+use Rattle.osc_token.specs.Claims.{ComesTo}
+use Rattle.osc_token.specs.Minted.{FitTheirTypes}
+use Rattle.osc_token.specs.Token.{IsToken, algorithm_header, claims_item, token_object}
+use Rattle.osc_token.specs.declared.claims.Claims.{Claims}
+use Rattle.osc_authz.specs.Agreed.{IsAgreed}
+use Rattle.osc_authz.specs.Agreement.{new_context, Agrees, Answers, refused, full, agreed}
+use Rattle.osc_authz.specs.Begun.{Begun, Made}
+use Rattle.osc_authz.specs.Client.{Finishes, made_name}
+use Rattle.osc_authz.specs.Desk.{DeskState}
+use Rattle.osc_authz.specs.Exchange.{IsPost, IsAnswer, post_item, answer_item}
+use Rattle.osc_authz.specs.Held.{Held}
+use Rattle.osc_authz.specs.HoldsToken.{HoldsToken}
+use Rattle.osc_authz.specs.Members.{In}
+use Rattle.osc_authz.specs.Post.{IsOpened, Posts}
+use Rattle.osc_authz.specs.Table.{alive, contexts, with_pending}
+use Rattle.osc_authz.specs.declared.error.FinishError.{FinishError}
+use Rattle.osc_authz.specs.declared.error.PostError.{PostError}
+use Rattle.osc_authz.specs.declared.granted.ClientDesk.{ClientDesk}
+use Rattle.osc_authz.specs.declared.post.Post.{Post}
+use Rattle.osc_authz.specs.declared.post.PostAnswer.{PostAnswer}
+use Rattle.osc_authz.proofs.ContextLaws.{table_added}
+
+-- ---- a post that is answered 2.01
+
+abbrev ok_answer : PostAnswer → Result PostAnswer PostError
+ok_answer answer = Ok answer
+
+one_answer_of : (a b : PostAnswer) → ok_answer a ≡ ok_answer b → a ≡ b
+one_answer_of a b e = cc
+
+no_answer : (post : Post) (answer : PostAnswer) (opened : _) (e : PostError) → post ≡ record { opened = opened; answer = Err e } → post.answer ≡ Ok answer → ⊥
+no_answer post answer opened e is ok = let refused : post.answer ≡ Err e = ap (λ (p : Post). p.answer) is in cc (refused, ok)
+
+not_refused : (answer : Result PostAnswer PostError) (made : PostAnswer) (e : PostError) → answer ≡ Err e → answer ≡ Ok made → ⊥
+not_refused answer made e is ok = cc
+
+pub agreed_post : (IsSealing : List ℕ → List ℕ → List ℕ → List ℕ → List ℕ → Type 0) (before after : DeskState) (now : Moment) (body : List ℕ) (draw : Draw) (post : Post) (answer : PostAnswer)
+    → Posts IsSealing before now body draw post after → post.answer ≡ Ok answer → IsAgreed IsSealing before now body draw post answer after
+agreed_post IsSealing before after now body draw post answer (Posts.no_post none is same) ok = absurd (no_answer post answer _ _ is ok)
+agreed_post IsSealing before after now body draw post answer (Posts.not_genuine token nonce1 client_id posts none is same) ok = absurd (no_answer post answer _ _ is ok)
+agreed_post IsSealing before after now body draw post answer (Posts.opened nonce1 client_id protected iv text its o answers is) ok = by answers
+  where
+    answer_is : its ≡ Ok answer
+    answer_is = sym (ap (λ (p : Post). p.answer) is) ∙ ok
+
+    by : Answers before now nonce1 client_id text draw its after → IsAgreed IsSealing before now body draw post answer after
+    by (refused error comes e unchanged) = absurd (not_refused its answer _ e answer_is)
+    by (full claims scope comes many e unchanged) = absurd (not_refused its answer _ e answer_is)
+    by (agreed claims scope made comes room agrees e) = record {
+      nonce1 = nonce1;
+      client_id = client_id;
+      protected = protected;
+      iv = iv;
+      text = text;
+      claims = claims;
+      scope = scope;
+      opened = o;
+      granted = comes;
+      agrees = subst (λ m. Agrees before now nonce1 client_id claims scope draw m after) (one_answer_of made answer (sym e ∙ answer_is)) agrees;
+      noted = ap (λ (p : Post). p.opened) is;
+    }
+
+-- ---- one name
+
+same_name : (a b : ContextName) → a.secret ≡ b.secret → a.salt ≡ b.salt → a.id_context ≡ b.id_context → a.client_id ≡ b.client_id → a.server_id ≡ b.server_id → a ≡ b
+same_name a b secret salt id_context client_id server_id =
+    λ i. record { secret = secret i; salt = salt i; id_context = id_context i; client_id = client_id i; server_id = server_id i }
+
+same_salt : (a b n m p q : List ℕ) → a ≡ b → n ≡ m → p ≡ q → master_salt a n p ≡ master_salt b m q
+same_salt a b n m p q salt one two = λ i. master_salt (salt i) (one i) (two i)
+
+module _ (IsSealing : List ℕ → List ℕ → List ℕ → List ℕ → List ℕ → Type 0)
+    (agreed_posts : (before after : DeskState) (now : Moment) (body : List ℕ) (draw : Draw) (post : Post) (answer : PostAnswer)
+    → Posts IsSealing before now body draw post after → post.answer ≡ Ok answer → IsAgreed IsSealing before now body draw post answer after)
+    (written_post : (token nonce1 client_id : List ℕ) → length token < 2 ^ 64 → 1 ≤ length nonce1 → length nonce1 ≤ 64 → length client_id ≤ 7
+    → IsPost (spelling (post_item token nonce1 client_id)) token nonce1 client_id)
+    (written_answer : (nonce2 server_id : List ℕ) → 1 ≤ length nonce2 → length nonce2 ≤ 64 → length server_id ≤ 7
+    → IsAnswer (spelling (answer_item nonce2 server_id)) nonce2 server_id)
+    (one_post : (body token nonce1 client_id others nonces ids : List ℕ) → IsPost body token nonce1 client_id → IsPost body others nonces ids
+    → (token ≡ others) × (nonce1 ≡ nonces) × (client_id ≡ ids))
+    (one_answer : (payload nonce2 server_id nonces ids : List ℕ) → IsAnswer payload nonce2 server_id → IsAnswer payload nonces ids
+    → (nonce2 ≡ nonces) × (server_id ≡ ids))
+    (minted_tokens : (key iv text ciphertext : List ℕ) → length iv ≡ 13 → length ciphertext < 2 ^ 64
+    → IsSealing key iv (enc_structure algorithm_header []) text ciphertext
+    → IsToken IsSealing key (spelling (object_item (token_object iv ciphertext))) algorithm_header iv text)
+    (minted_texts : (claims read : Claims) (entries : List Entry) (granted : Scope) (audience : List ℕ) (now : Moment)
+    → FitTheirTypes claims → IsScope claims.scope entries → ComesTo (spelling (claims_item claims)) audience now (Ok (read, granted))
+    → (read ≡ claims) × (granted ≡ scope_of entries))
+    (one_token : (key bytes protected iv text others ivs other : List ℕ) → IsToken IsSealing key bytes protected iv text → IsToken IsSealing key bytes others ivs other
+    → (protected ≡ others) × (iv ≡ ivs) × (text ≡ other))
+    (before after : DeskState) (now : Moment) (draw : Draw) (post : Post) (answer : PostAnswer)
+    (claims : Claims) (entries : List Entry) (client : ClientDesk) (begun : Begun) (finished : Result Made FinishError)
+    (size : length draw.0 ≡ 32) (nonce_size : length begun.nonce1 ≡ 8) (holds : HoldsToken IsSealing before.key claims entries client)
+    (posts : Posts IsSealing before now (spelling (post_item client.token begun.nonce1 (begun.recipient_id ∷ []))) draw post after)
+    (ok : post.answer ≡ Ok answer) where
+  abbrev a : IsAgreed IsSealing before now (spelling (post_item client.token begun.nonce1 (begun.recipient_id ∷ []))) draw post answer after
+  a = agreed_posts before after now (spelling (post_item client.token begun.nonce1 (begun.recipient_id ∷ []))) draw post answer posts ok
+
+  posted : (a.opened.token ≡ client.token) × (a.nonce1 ≡ begun.nonce1) × (a.client_id ≡ begun.recipient_id ∷ [])
+  posted =
+      one_post _ a.opened.token a.nonce1 a.client_id client.token begun.nonce1 (begun.recipient_id ∷ []) a.opened.is_post
+      (written_post client.token begun.nonce1 (begun.recipient_id ∷ []) holds.token_size (omega (arith, nonce_size)) (omega (arith, nonce_size)) (omega arith))
+
+  text_is : a.text ≡ spelling (claims_item claims)
+  text_is =
+      (one_token before.key _ a.protected a.iv a.text algorithm_header holds.iv (spelling (claims_item claims))
+      (subst (λ x. IsToken IsSealing before.key x a.protected a.iv a.text) (posted.0 ∙ holds.token) a.opened.is_token)
+      (minted_tokens before.key holds.iv (spelling (claims_item claims)) holds.ciphertext holds.iv_size holds.short holds.sealed)).2
+
+  granted : (a.claims ≡ claims) × (a.scope ≡ scope_of entries)
+  granted =
+      minted_texts claims a.claims entries a.scope before.audience now holds.fit holds.is_scope
+      (subst (λ x. ComesTo x before.audience now (Ok (a.claims, a.scope))) text_is a.granted)
+
+  abbrev its : Held
+  its = new_context a.claims a.scope a.nonce1 a.client_id answer
+
+  held : In its (contexts after.table)
+  held =
+      subst (λ (d : DeskState). In its (contexts d.table)) (sym a.agrees.added) (table_added a.claims.material.id its now before.table).here
+
+  nonce2_size : length answer.nonce2 ≡ 8
+  nonce2_size =
+      let sized : length (nonce_drawn draw) ≡ 8 = omega (arith, size, length-take 8 draw.0) in
+      ap length a.agrees.drawn ∙ sized
+
+  answered : IsAnswer (spelling (answer_item answer.nonce2 (answer.recipient_id ∷ []))) answer.nonce2 (answer.recipient_id ∷ [])
+  answered = written_answer answer.nonce2 (answer.recipient_id ∷ []) (omega (arith, nonce2_size)) (omega (arith, nonce2_size)) (omega arith)
+
+  apart : answer.recipient_id ∷ [] ≢ begun.recipient_id ∷ []
+  apart same = a.agrees.free.free (0, omega arith, posted.2 ∙ sym same)
+
+  name : (nonce2 server_id : List ℕ) → nonce2 ≡ answer.nonce2 → server_id ≡ answer.recipient_id ∷ [] → made_name client begun nonce2 server_id ≡ its.name
+  name nonce2 server_id two id =
+      same_name (made_name client begun nonce2 server_id) its.name
+      (holds.secret ∙ sym (ap (λ (c : Claims). c.material.secret) granted.0))
+      (same_salt client.salt a.claims.material.salt begun.nonce1 a.nonce1 nonce2 answer.nonce2
+      (holds.salt ∙ sym (ap (λ (c : Claims). c.material.salt) granted.0)) (sym posted.1) two)
+      (holds.id_context ∙ sym (ap (λ (c : Claims). c.material.id_context) granted.0))
+      id
+      (sym posted.2)
+
+  abbrev ok_made : ContextName → Result Made FinishError
+  ok_made n = Ok (record { name = n; next = 0 })
+
+  by : Finishes client begun (code 2 1) (spelling (answer_item answer.nonce2 (answer.recipient_id ∷ []))) finished → finished ≡ ok_made its.name
+  by (Finishes.another_code other e) = absurd (other refl)
+  by (Finishes.no_answer came none e) = absurd (none answer.nonce2 (answer.recipient_id ∷ []) answered)
+  by (Finishes.equal_ids nonce2 came is e) =
+      absurd (apart (sym (one_answer _ nonce2 (begun.recipient_id ∷ []) answer.nonce2 (answer.recipient_id ∷ []) is answered).1))
+  by (Finishes.made nonce2 server_id came is other e) =
+      let same = one_answer _ nonce2 server_id answer.nonce2 (answer.recipient_id ∷ []) is answered in
+      e ∙ ap ok_made (name nonce2 server_id same.0 same.1)
+
+  pub one_name : Finishes client begun (code 2 1) (spelling (answer_item answer.nonce2 (answer.recipient_id ∷ []))) finished
+      → (its : Held) × In its (contexts after.table) × (its.scope ≡ scope_of entries)
+      × (its.not_before ≡ claims.not_before) × (its.expires ≡ claims.expires)
+      × (finished ≡ Ok (record { name = its.name; next = 0 }))
+  one_name finishes = (
+    its,
+    held,
+    granted.1,
+    ap (λ (c : Claims). c.not_before) granted.0,
+    ap (λ (c : Claims). c.expires) granted.0,
+    by finishes,
+  )
