@@ -15,6 +15,3 @@ pub use laws::one_script;
 pub use line::{Line, Script};
 pub use node::Node;
 pub use read::{ScriptError, read_script};
-
-#[cfg(test)]
-mod tests;
