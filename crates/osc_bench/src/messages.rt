@@ -1,10 +1,10 @@
 //! Messages read, and datagrams served.
 
-ghost use Rattle.std.specs.Prelude.{◌≡◌, ◌≤◌, ◌<◌, ◌^◌, length, IsTrue};
+ghost use Rattle.std.specs.Prelude.{◌≡◌, ◌≤◌, length, IsTrue};
 ghost use Rattle.osc_coap.specs.Message.{Message, Spells};
 
 use osc_coap::MessageRef;
-use osc_model::{Bytes, Draw, Method, Moment, Path, Peer, Resource};
+use osc_model::{Bytes, Draw, Method, Moment, Path, Peer, Resource, Step};
 use osc_scope::Scope;
 use osc_server::Server;
 use osc_tree::Tree;
@@ -70,25 +70,41 @@ fn fits(datagram: &[u8]) -> bool
 fn server_of(alloc: Global, resources: u16) -> Result<Server, AllocError> {
     let mut tree = Tree::new(alloc);
     let mut open_scope = Scope::new(alloc);
+    fill(alloc, &mut tree, &mut open_scope, resources)?;
+    Server::new(alloc, tree, open_scope)
+}
+
+// Puts and opens so many resources, as many as there is room for.
+fn fill(
+    alloc: Global,
+    tree: &mut Tree,
+    open_scope: &mut Scope,
+    resources: u16,
+) -> Result<(), AllocError> {
     for number in 0..resources {
         let text = format!(in alloc; "/r{number:03}")?;
-        let path = Path::from_text(alloc, text.as_bytes())?;
-        if let Some(path) = path
-            && !tree.is_full()
-        {
-            let payload = Bytes::from_slice(alloc, b"21.5")?;
+        if let Some(path) = Path::from_text(alloc, text.as_bytes())? {
             open_scope.allow(alloc, path.clone()?, Method::Get)?;
-            tree.put(
-                alloc,
-                path,
-                Resource {
-                    format: None,
-                    payload,
-                },
-            )?;
+            put(alloc, tree, path)?;
         }
     }
-    Server::new(alloc, tree, open_scope)
+    Ok(())
+}
+
+// Puts a resource of four bytes at the path, where the tree has room for it.
+fn put(alloc: Global, tree: &mut Tree, path: Path) -> Result<(), AllocError> {
+    if tree.is_full() {
+        return Ok(());
+    }
+    let payload = Bytes::from_slice(alloc, b"21.5")?;
+    tree.put(
+        alloc,
+        path,
+        Resource {
+            format: None,
+            payload,
+        },
+    )
 }
 
 // Serves so many datagrams, which are this one but for their message IDs: those that come behind its own.
@@ -141,17 +157,20 @@ fn bytes_sent(
     server: &mut Server,
     now: Moment,
     datagram: &[u8],
-) -> Result<u64, AllocError>
-    requires { now.ms < 2 ^ 63 }
-{
+) -> Result<u64, AllocError> {
     let from = Peer {
         address: [127, 0, 0, 1],
         port: 9000,
     };
     let step = server.on_datagram(alloc, now, from, datagram, &Draw([0; 32]))?;
+    Ok(length_of(&step))
+}
+
+// How many bytes the step sends.
+fn length_of(step: &Step) -> u64 {
     let mut sent = 0u64;
     for datagram in step.out.as_slice() {
         sent = sent.wrapping_add(datagram.bytes.len() as u64);
     }
-    Ok(sent)
+    sent
 }
