@@ -2,8 +2,8 @@
 #![tactic(auto)]
 
 use osc_programs::{
-    Ended, TokenWords, Words, WordsError, drawn_iv, ended_by, fault_line, read_words, sim, status,
-    token,
+    Ended, TokenWords, Words, WordsError, ended_by, ended_by_io, fault_line, iv_of, read_words,
+    sim, started_by_io, status, token, token_fault,
 };
 use std::process::ExitCode;
 use std::{env, io};
@@ -30,24 +30,14 @@ fn run(rt: &HostRuntime) -> io::Result<Ended> {
 
 /// The token goes to the standard output, and the one line of a fault to the standard error.
 fn print_token(rt: &HostRuntime, words: &TokenWords) -> io::Result<Ended> {
-    let Ok(iv) = iv_of(rt, words) else {
-        return Ok(Ended::Failed);
+    let ended = match iv_of(rt, words) {
+        Ok(iv) => token(rt.alloc(), words, &iv, &mut io::writer(rt)),
+        Err(error) => ended_by_io(&error),
     };
-    let ended = token(rt.alloc(), words, &iv, &mut io::writer(rt));
-    match ended {
-        Ended::BadCommandLine => rt.eprintln("error: the claims have more than 65535 bytes")?,
-        Ended::OutOfMemory => rt.eprintln("out of memory")?,
-        _ => {}
+    if let Some(line) = token_fault(ended) {
+        rt.eprintln(line)?;
     }
     Ok(ended)
-}
-
-/// The IV that was asked for, or a random one.
-fn iv_of(rt: &HostRuntime, words: &TokenWords) -> io::Result<[u8; 13]> {
-    match words.iv {
-        Some(iv) => Ok(iv),
-        None => drawn_iv(rt),
-    }
 }
 
 /// Help goes to the standard output, and the one line of a fault to the standard error.
@@ -62,13 +52,9 @@ fn explain(rt: &HostRuntime, error: &WordsError) -> io::Result<Ended> {
 
 /// The command line could not be read, or nothing could be said of it.
 fn stopped(rt: &HostRuntime, error: &io::Error) -> Ended {
-    match error.kind() {
-        io::ErrorKind::OutOfMemory => {
-            let _written = rt.eprintln("out of memory");
-            Ended::OutOfMemory
-        }
-        // A word that isn't UTF-8.
-        io::ErrorKind::InvalidData => Ended::BadCommandLine,
-        _ => Ended::Failed,
+    let ended = started_by_io(error);
+    if ended == Ended::OutOfMemory {
+        let _written = rt.eprintln("out of memory");
     }
+    ended
 }

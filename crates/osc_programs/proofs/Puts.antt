@@ -5,13 +5,12 @@ use Rattle.std.specs.List.{sum_by}
 use Rattle.std.proofs.lemmas.List.Sums.{sum_by-append}
 use Rattle.std.specs.Cmp.Lexicographic.{nat_list_cmp_total}
 use Rattle.osc_model.specs.Tree.{Tree, longest_payload}
-use Rattle.osc_model.specs.declared.node.Moment.{Moment}
 use Rattle.osc_model.specs.declared.resource.Resource.{Resource}
 use Rattle.osc_script.specs.Line.{Says, is_put}
 use Rattle.osc_script.specs.Script.{StandFor}
 use Rattle.osc_script.specs.declared.line.Line.{Line}
 use Rattle.osc_script.specs.declared.line.Line.TheVariants.{Skipped, Put, Open, At, Inject}
-use Rattle.osc_programs.specs.SetUp.{CanPutAll, AreInTime}
+use Rattle.osc_programs.specs.SetUp.{CanPutAll}
 
 count_put : (above : List Line) (line : Line) → count_by is_put (above ++ line ∷ []) ≡ count_by is_put above + cond (is_put line) 1 0
 count_put above line = let count : Line → ℕ = λ l. cond (is_put l) 1 0 in sum_by-append count above (line ∷ []) ∙ ap (λ n. sum_by count above + n) (zero-add (count line))
@@ -46,21 +45,6 @@ puts_fit above (t ∷ ts) (Open path ∷ lines) tree h s =
 puts_fit above (t ∷ ts) (At moment ∷ lines) tree h s =
     let count = count_put above (At moment) in
     (tt, puts_fit (above ++ At moment ∷ []) ts lines tree (omega arith) s.1)
-puts_fit above (t ∷ ts) (Inject bytes ∷ lines) tree h s =
-    let count = count_put above (Inject bytes) in
-    (tt, puts_fit (above ++ Inject bytes ∷ []) ts lines tree (omega arith) s.1)
-
-at_in_time : (text : List ℕ) (moment : Moment) → Says text (At moment) → moment.ms < 2 ^ 63
-at_in_time text moment says = elim says.1 [
-  | inl skipped ↦ let no : At moment ≡ Skipped = skipped.1 in cc
-  | inr said ↦ said.1.3
-]
-
-pub times_fit : (above : List Line) (texts : List (List ℕ)) (lines : List Line) → StandFor above texts lines → AreInTime lines
-times_fit above texts [] s = tt
-times_fit above [] (line ∷ lines) s = absurd s
-times_fit above (t ∷ ts) (At moment ∷ lines) s = (at_in_time t moment s.0.0, times_fit (above ++ At moment ∷ []) ts lines s.1)
-times_fit above (t ∷ ts) (Skipped ∷ lines) s = (tt, times_fit (above ++ Skipped ∷ []) ts lines s.1)
-times_fit above (t ∷ ts) (Put path resource ∷ lines) s = (tt, times_fit (above ++ Put path resource ∷ []) ts lines s.1)
-times_fit above (t ∷ ts) (Open path ∷ lines) s = (tt, times_fit (above ++ Open path ∷ []) ts lines s.1)
-times_fit above (t ∷ ts) (Inject bytes ∷ lines) s = (tt, times_fit (above ++ Inject bytes ∷ []) ts lines s.1)
+puts_fit above (t ∷ ts) (Inject from to bytes ∷ lines) tree h s =
+    let count = count_put above (Inject from to bytes) in
+    (tt, puts_fit (above ++ Inject from to bytes ∷ []) ts lines tree (omega arith) s.1)

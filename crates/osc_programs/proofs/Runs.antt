@@ -6,7 +6,7 @@ use Rattle.osc_model.specs.declared.step.Datagram.{Datagram}
 use Rattle.osc_script.specs.declared.line.Line.{Line}
 use Rattle.osc_programs.specs.Simulation.{Prints, PrintsLine}
 use Rattle.osc_programs.specs.Trace.{PrintsSent, PrintAllSent}
-use Rattle.osc_programs.specs.declared.node.Node.{Node}
+use Rattle.osc_script.specs.declared.node.Node.{Node}
 use Rattle.osc_programs.specs.declared.simulate.Progress.{Progress}
 
 -- what is left at an item, and behind it

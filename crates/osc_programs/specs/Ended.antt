@@ -1,5 +1,7 @@
--- The exit statuses of the programs.
-use Rattle.std.specs.Prelude.{ℕ}
+-- How the programs end: their exit statuses, and what ends them.
+use Rattle.std.specs.Prelude.{ℕ, List, Option, Some, None, codes}
+use Rattle.std.specs.declared.io.ErrorKind.{ErrorKind}
+use Rattle.std.specs.declared.io.ErrorKind.TheVariants as kind
 use Rattle.osc_programs.specs.declared.ended.Ended.{Ended}
 use Rattle.osc_programs.specs.declared.ended.Ended.TheVariants.{Done, BadCommandLine, BadLine, OutOfMemory, Failed}
 
@@ -9,3 +11,19 @@ status_of BadCommandLine = 2
 status_of (BadLine number) = 2
 status_of OutOfMemory = 3
 status_of Failed = 4
+
+-- want of memory is told apart from other faults of an input or an output
+abbrev pub ended_by_io : ErrorKind → Ended
+ended_by_io kind.OutOfMemory = OutOfMemory
+ended_by_io _ = Failed
+
+-- while the command line is read, a word that isn't UTF-8 is a bad one
+abbrev pub started_by_io : ErrorKind → Ended
+started_by_io kind.InvalidData = BadCommandLine
+started_by_io error = ended_by_io error
+
+-- what is told where no token was printed
+abbrev pub token_fault_of : Ended → Option (List ℕ)
+token_fault_of BadCommandLine = Some (codes "error: the claims have more than 65535 bytes")
+token_fault_of OutOfMemory = Some (codes "out of memory")
+token_fault_of ended = None

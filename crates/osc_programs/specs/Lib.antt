@@ -1,4 +1,3 @@
-pub mod Node
 pub mod Draw
 pub mod Ended
 pub mod Text

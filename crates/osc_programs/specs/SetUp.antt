@@ -1,9 +1,9 @@
 -- What a caller knows of the lines: no public contract names it.
-use Rattle.std.specs.Prelude.{◌≤◌, ◌<◌, ◌^◌, List, [], ◌∷◌, length}
+use Rattle.std.specs.Prelude.{◌≤◌, ◌<◌, List, [], ◌∷◌, length}
 use Rattle.std.specs.FinMap as map
 use Rattle.osc_model.specs.Tree.{Tree, longest_payload, most_resources}
 use Rattle.osc_script.specs.declared.line.Line.{Line}
-use Rattle.osc_script.specs.declared.line.Line.TheVariants.{Put, At}
+use Rattle.osc_script.specs.declared.line.Line.TheVariants.{Put}
 use Rattle.osc_programs.specs.Simulation.{tree_after}
 
 -- a put fits into the tree
@@ -14,12 +14,3 @@ CanPut tree line = Unit {0}
 abbrev pub CanPutAll : Tree → List Line → Type 0
 CanPutAll tree [] = Unit {0}
 CanPutAll tree (line ∷ lines) = CanPut tree line × CanPutAll (tree_after tree line) lines
-
--- moments are below 2^63
-abbrev pub IsInTime : Line → Type 0
-IsInTime (At moment) = moment.ms < 2 ^ 63
-IsInTime line = Unit {0}
-
-abbrev pub AreInTime : List Line → Type 0
-AreInTime [] = Unit {0}
-AreInTime (line ∷ lines) = IsInTime line × AreInTime lines

@@ -7,6 +7,9 @@ use Rattle.osc_model.specs.Scope.{Scope}
 use Rattle.osc_model.specs.declared.code.Method.TheVariants.{Get}
 use Rattle.osc_model.specs.declared.step.Step.{Step}
 use Rattle.osc_script.specs.Script.{IsScript}
+use Rattle.osc_script.specs.Node.{address_of}
+use Rattle.osc_script.specs.declared.node.Node.{Node}
+use Rattle.osc_script.specs.declared.node.Node.TheVariants.{Server, Stranger}
 use Rattle.osc_script.specs.declared.line.Line.{Line}
 use Rattle.osc_script.specs.declared.line.Line.TheVariants.{Put, Open, At, Inject}
 use Rattle.osc_message.specs.Endpoint.{fresh}
@@ -18,9 +21,7 @@ use Rattle.osc_server.specs.Case.{case_of}
 use Rattle.osc_server.specs.Table.{Answers}
 use Rattle.osc_server.specs.declared.case.Case.{Case}
 use Rattle.osc_programs.specs.Draw.{draw_of}
-use Rattle.osc_programs.specs.Node.{address_of}
-use Rattle.osc_programs.specs.Trace.{PrintsStep, end_text}
-use Rattle.osc_programs.specs.declared.node.Node.TheVariants.{Server, Stranger}
+use Rattle.osc_programs.specs.Trace.{PrintsStep, or_nothing, end_text}
 use Rattle.osc_programs.specs.declared.simulate.Progress.{Progress}
 
 -- the resources that the set-up lines put
@@ -50,27 +51,35 @@ first_server lines = record {
   next_id = None;
 }
 
--- where a run begins: moment 0, no event, and nothing sent
-abbrev pub beginning : State → Progress
-beginning server = record { server = server; now = record { 0 = 0 }; events = 0; sent = 0 }
+-- a run begins so: at moment 0, with no event, and nothing sent
+pub record Begins (beginning : State) (at : Progress) : Type 0 where
+  pub server : at.server ≡ beginning
+  pub moment : at.now.ms ≡ 0
+  pub events : at.events ≡ 0
+  pub sent : at.sent ≡ 0
 
--- which case a datagram from the stranger is to the server, as far as the run has come
-abbrev pub case_at : Progress → Received → Case
-case_at at received = case_of at.server.open_scope (heard at.server.endpoint.seen at.now (address_of Stranger) received)
+-- which case a datagram from this node is to the server, as far as the run has come
+abbrev pub case_at : Progress → Node → Received → Case
+case_at at from received = case_of at.server.open_scope (heard at.server.endpoint.seen at.now (address_of from) received)
 
--- A datagram comes to the server from the stranger: an event, with the draw of its number. The server's step prints as
--- this text, and this is how far the run has come then.
-abbrev pub Happens : Bool → Progress → List ℕ → List ℕ → Progress → Type 0
-Happens with_bytes old bytes text new =
+-- A datagram comes to the server from this node, with the draw of the event that was counted last. The server's step
+-- prints as this text, and this is how far the run has come then.
+abbrev pub Serves : Bool → Progress → Node → List ℕ → List ℕ → Progress → Type 0
+Serves with_bytes old from bytes text new =
     (step : Step) × (received : Received) × (server : State) × Receives bytes received
-    × Answers old.server old.now (address_of Stranger) (draw_of (old.events + 1)) (case_at old received) step server
+    × Answers old.server old.now (address_of from) (draw_of old.events) (case_at old from received) step server
     × PrintsStep with_bytes old.sent Server step text
-    × (new ≡ record { server = server; now = old.now; events = old.events + 1; sent = old.sent + length step.out })
+    × (new ≡ record old { server = server; sent = old.sent + length step.out })
+
+-- A datagram comes to a node from a node: an event. The stranger does nothing with it.
+abbrev pub Happens : Bool → Progress → Node → Node → List ℕ → List ℕ → Progress → Type 0
+Happens with_bytes old from Server bytes text new = Serves with_bytes (record old { events = old.events + 1 }) from bytes text new
+Happens with_bytes old from Stranger bytes text new = (text ≡ or_nothing []) × (new ≡ record old { events = old.events + 1 })
 
 -- a moment is set, an event prints its step, and any other line changes and prints nothing
 abbrev pub PrintsLine : Bool → Progress → Line → List ℕ → Progress → Type 0
 PrintsLine with_bytes old (At moment) text new = (text ≡ []) × (new ≡ record old { now = moment })
-PrintsLine with_bytes old (Inject bytes) text new = Happens with_bytes old bytes text new
+PrintsLine with_bytes old (Inject from to bytes) text new = Happens with_bytes old from to bytes text new
 PrintsLine with_bytes old line text new = (text ≡ []) × (new ≡ old)
 
 -- the lines one after another
@@ -82,7 +91,7 @@ Prints with_bytes old (line ∷ lines) text last =
 -- the trace of a script: what its events print, and the end lines
 abbrev pub IsTrace : Bool → List Line → List ℕ → Type 0
 IsTrace with_bytes lines text =
-    (events : List ℕ) × (last : Progress) × Prints with_bytes (beginning (first_server lines)) lines events last
+    (events : List ℕ) × (first last : Progress) × Begins (first_server lines) first × Prints with_bytes first lines events last
     × (text ≡ events ++ end_text last.server.tree)
 
 -- what a script's text prints

@@ -9,9 +9,9 @@ use Rattle.osc_model.specs.Tree.{Tree}
 use Rattle.osc_model.specs.declared.resource.Resource.{Resource}
 use Rattle.osc_model.specs.declared.step.Datagram.{Datagram}
 use Rattle.osc_model.specs.declared.step.Step.{Step}
-use Rattle.osc_programs.specs.Node.{name_of, address_of}
+use Rattle.osc_script.specs.Node.{name_of, address_of}
+use Rattle.osc_script.specs.declared.node.Node.{Node}
 use Rattle.osc_programs.specs.Text.{line, code_text, format_text, short_text}
-use Rattle.osc_programs.specs.declared.node.Node.{Node}
 
 -- FROM>TO
 abbrev pub way_text : Node → Node → List ℕ

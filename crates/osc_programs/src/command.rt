@@ -63,7 +63,7 @@ fn program<'a>(alloc: Global) -> Result<Command<'a>, AllocError>
     let sim = sim_command(alloc)?;
     let token = token_command(alloc)?;
     Command::new(alloc, "osc")
-        .about("CoAP nodes that are protected by OSCORE")
+        .about("Runs scripts of a CoAP server, and prints tokens")
         .subcommand_required(true)
         .disable_help_subcommand(true)
         .subcommand(sim)?

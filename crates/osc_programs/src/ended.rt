@@ -1,6 +1,9 @@
 //! How a program ends.
-ghost use Rattle.std.specs.Prelude.{◌≡◌};
-ghost use Rattle.osc_programs.specs.Ended.{status_of};
+ghost use Rattle.std.specs.IoError.{error_kind};
+ghost use Rattle.std.specs.Prelude.{◌≡◌, option_map};
+ghost use Rattle.osc_programs.specs.Ended as spec;
+
+use std::io::{self, ErrorKind};
 
 /// How a program ended.
 #[derive(Clone, Copy, Debug, PartialEq, Eq)]
@@ -17,12 +20,43 @@ pub enum Ended {
 /// The exit status: 0, 2 for a bad command line or a bad line, 3 for want of memory, and 4 for an input or an output
 /// that failed.
 pub fn status(ended: Ended) -> u8
-    ensures { result ≡ status_of ended }
+    ensures { result ≡ spec.status_of ended }
 {
     match ended {
         Ended::Done => 0,
         Ended::BadCommandLine | Ended::BadLine(_) => 2,
         Ended::OutOfMemory => 3,
         Ended::Failed => 4,
+    }
+}
+
+/// How a program ends whose input or output failed so: want of memory is told apart.
+pub fn ended_by_io(error: &io::Error) -> Ended
+    ensures { result ≡ spec.ended_by_io (error_kind error.now) }
+{
+    match error.kind() {
+        ErrorKind::OutOfMemory => Ended::OutOfMemory,
+        _ => Ended::Failed,
+    }
+}
+
+/// How a program ends that could not read its command line, or not tell of its fault: a word that isn't UTF-8 is a bad one.
+pub fn started_by_io(error: &io::Error) -> Ended
+    ensures { result ≡ spec.started_by_io (error_kind error.now) }
+{
+    match error.kind() {
+        ErrorKind::InvalidData => Ended::BadCommandLine,
+        _ => ended_by_io(error),
+    }
+}
+
+/// The line that tells on the standard error why no token was printed, if one does.
+pub fn token_fault(ended: Ended) -> Option<&'static str>
+    ensures { option_map (λ line. line.now) result ≡ spec.token_fault_of ended }
+{
+    match ended {
+        Ended::BadCommandLine => Some("error: the claims have more than 65535 bytes"),
+        Ended::OutOfMemory => Some("out of memory"),
+        _ => None,
     }
 }

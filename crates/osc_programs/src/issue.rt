@@ -1,5 +1,5 @@
 //! A token's words in, the token out.
-ghost use Rattle.std.specs.Prelude.{◌≡◌, ◌≢◌, ◌⊎◌, ◌<◌, ◌≤◌, ℕ, List, [], IfOk, Err, length, string_bytes};
+ghost use Rattle.std.specs.Prelude.{◌≡◌, ◌≢◌, ◌⊎◌, ◌<◌, ◌≤◌, ℕ, List, [], IfOk, IfSome, None, Ok, Err, length, string_bytes};
 ghost use Rattle.std.specs.Io.KnownBytes.{Appends};
 ghost use Rattle.rand_core.specs.Stream.{fill_bytes};
 ghost use Rattle.osc_cbor.specs.Spelling.{spelling};
@@ -61,8 +61,20 @@ pub fn drawn_iv<S: RandomSource>(source: &S) -> io::Result<[u8; 13]>
     Ok(iv)
 }
 
-// Writes all of it.
-fn written<W: Write>(writer: &mut W, text: &[u8]) -> Ended
+/// The IV that the words ask for, or one that is drawn.
+pub fn iv_of<S: RandomSource>(source: &S, words: &TokenWords) -> io::Result<[u8; 13]>
+    ensures asked { IfSome words.now.iv (λ iv. result ≡ Ok iv) }
+    ensures drawn { words.now.iv ≡ None → IfOk result (λ iv. (seed : List ℕ) × (length seed ≡ 32)
+        × (iv ≡ (fill_bytes 13 (⟦<StdRng as Rng>⟧.stream (⟦<StdRng as SeedableRng>⟧.of_seed seed))).0)) }
+{
+    match words.iv {
+        Some(iv) => Ok(iv),
+        None => drawn_iv(source),
+    }
+}
+
+/// Writes all of it.
+pub(crate) fn written<W: Write>(writer: &mut W, text: &[u8]) -> Ended
     ensures done { result ≡ Ended.Done → Appends (W.contents writer.old) (W.contents writer.new) text.now }
     ensures cases { (result ≡ Ended.Done) ⊎ (result ≡ Ended.Failed) }
 {

@@ -5,7 +5,6 @@ mod command;
 mod draw;
 mod ended;
 mod issue;
-mod node;
 mod set_up;
 mod simulate;
 mod token_option;
@@ -15,12 +14,9 @@ mod values;
 mod words;
 
 pub use command::read_words;
-pub use ended::{Ended, status};
-pub use issue::{drawn_iv, token};
-pub use simulate::sim;
+pub use ended::{Ended, ended_by_io, started_by_io, status, token_fault};
+pub use issue::{drawn_iv, iv_of, token};
+pub use simulate::{run_script, sim};
 pub use token_option::TokenOption;
 pub use token_words::TokenWords;
 pub use words::{Words, WordsError, ended_by, fault_line};
-
-#[cfg(test)]
-mod tests;

@@ -1,23 +1,26 @@
 //! A script in, its trace out.
-ghost use Rattle.std.specs.Prelude.{◌≡◌, ◌≢◌, ◌≤◌, ◌<◌, ◌+◌, ◌^◌, ℕ, List, IfOk, IfSome, OnOk, Ok};
+ghost use Rattle.std.specs.Prelude.{◌≡◌, ◌≢◌, ◌⊎◌, ◌≤◌, ◌<◌, ◌+◌, ◌++◌, ◌^◌, ℕ, List, IfOk, IfSome, OnOk, Err, length};
 ghost use Rattle.std.specs.FinMap as map;
+ghost use Rattle.std.specs.List.{All};
 ghost use Rattle.std.specs.Io.KnownBytes.{Appends};
 ghost use Rattle.osc_script.specs.Script.{IsFirstBad};
-ghost use Rattle.osc_programs.specs.SetUp.{CanPutAll, IsInTime, AreInTime};
+ghost use Rattle.osc_programs.specs.SetUp.{CanPutAll};
 ghost use Rattle.osc_programs.specs.Simulation as spec;
 ghost use Rattle.osc_programs.specs.Simulation.{Simulates};
-ghost use Rattle.osc_programs.specs.Trace.{bad_line_text};
+ghost use Rattle.osc_programs.specs.Trace.{CanPrint, PrintsStep, bad_line_text, end_text};
+ghost use Rattle.osc_programs.specs.declared.simulate.Progress.{Progress as AnyProgress};
 
 use crate::draw::draw_of;
-use crate::ended::Ended;
-use crate::node::Node;
+use crate::ended::{Ended, ended_by_io};
+use crate::issue::written;
 use crate::set_up::first_server;
 use crate::trace::{bad_line_text, end_text, step_text};
-use osc_model::Moment;
-use osc_script::{Line, ScriptError, read_script};
+use osc_model::{Moment, Step};
+use osc_script::{Line, Node, ScriptError, read_script};
 use osc_server::Server;
+use osc_tree::Tree;
 use std::alloc::{AllocError, Global};
-use std::io::{self, ErrorKind, Read, Write};
+use std::io::{Read, Write};
 
 /// Runs the script that the reader gives, and writes its trace: each event's lines, with the bytes of its datagrams
 /// where `with_bytes` says so, and then the end lines. A script with a bad line does nothing: the line's number is all
@@ -34,108 +37,123 @@ pub fn sim<R: Read, W: Write>(
         × Appends (W.contents writer.old) (W.contents writer.new) (bad_line_text n)) }
     ensures words { result ≢ Ended.BadCommandLine }
 {
-    match run(alloc, reader, writer, with_bytes) {
-        Ok(ended) => ended,
-        Err(error) => stopped(&error, writer),
+    let (ended, text) = run(alloc, reader, with_bytes);
+    match ended {
+        Ended::OutOfMemory => told_last(writer, &text),
+        _ => ended_when_written(writer, &text, ended),
     }
 }
 
-// How a run ends that an error stopped.
-fn stopped<W: Write>(error: &io::Error, writer: &mut W) -> Ended
-    ensures done { result ≢ Ended.Done }
-    ensures bad { (n : ℕ) → result ≢ Ended.BadLine n }
-    ensures words { result ≢ Ended.BadCommandLine }
+// The lines so far, and that memory was wanting; where this fails too, the first fault counts.
+fn told_last<W: Write>(writer: &mut W, text: &[u8]) -> Ended
+    ensures { result ≡ Ended.OutOfMemory }
 {
-    if error.kind() == ErrorKind::OutOfMemory {
-        // Where this fails too, the first fault counts.
-        let _written = writer.write_all(b"out of memory\n");
-        return Ended::OutOfMemory;
-    }
-    Ended::Failed
+    let _lines = writer.write_all(text);
+    let _last = writer.write_all(b"out of memory\n");
+    Ended::OutOfMemory
 }
 
-fn run<R: Read, W: Write>(
-    alloc: Global,
-    reader: &mut R,
-    writer: &mut W,
-    with_bytes: bool,
-) -> io::Result<Ended>
-    ensures done { result ≡ Ok Ended.Done → IfSome (R.remaining reader.old) (λ script. (text : List ℕ) × Simulates with_bytes script text
-        × Appends (W.contents writer.old) (W.contents writer.new) text) }
-    ensures bad { (n : ℕ) → result ≡ Ok (Ended.BadLine n) → IfSome (R.remaining reader.old) (λ script. IsFirstBad script n
-        × Appends (W.contents writer.old) (W.contents writer.new) (bad_line_text n)) }
-    ensures words { result ≢ Ok Ended.BadCommandLine }
+// The same end, where the text is written.
+fn ended_when_written<W: Write>(writer: &mut W, text: &[u8], ended: Ended) -> Ended
+    ensures written { result ≢ Ended.Failed → Appends (W.contents writer.old) (W.contents writer.new) text.now }
+    ensures same { (result ≡ ended) ⊎ (result ≡ Ended.Failed) }
+{
+    match written(writer, text) {
+        Ended::Done => ended,
+        _ => Ended::Failed,
+    }
+}
+
+// How the run of the reader's script ends, and its trace, or as much of it as there was memory for.
+fn run<R: Read>(alloc: Global, reader: &mut R, with_bytes: bool) -> (Ended, Vec<u8>)
+    ensures done { result.0 ≡ Ended.Done → IfSome (R.remaining reader.old) (λ script. Simulates with_bytes script result.1.items) }
+    ensures bad { (n : ℕ) → result.0 ≡ Ended.BadLine n → IfSome (R.remaining reader.old) (λ script. IsFirstBad script n × (result.1.items ≡ bad_line_text n)) }
+    ensures words { result.0 ≢ Ended.BadCommandLine }
 {
     let mut script = Vec::new(alloc);
-    reader.read_to_end(&mut script)?;
-    run_script(alloc, &script, writer, with_bytes)
+    match reader.read_to_end(&mut script) {
+        Ok(_) => run_alone(alloc, &script, with_bytes),
+        Err(error) => (ended_by_io(&error), Vec::new(alloc)),
+    }
 }
 
-fn run_script<W: Write>(
+fn run_alone(alloc: Global, script: &[u8], with_bytes: bool) -> (Ended, Vec<u8>)
+    ensures done { result.0 ≡ Ended.Done → Simulates with_bytes script.now result.1.items }
+    ensures bad { (n : ℕ) → result.0 ≡ Ended.BadLine n → IsFirstBad script.now n × (result.1.items ≡ bad_line_text n) }
+    ensures words { result.0 ≢ Ended.BadCommandLine }
+{
+    let mut text = Vec::new(alloc);
+    let ended = run_script(alloc, script, with_bytes, &mut text);
+    (ended, text)
+}
+
+/// Runs the script of these bytes, and puts its trace behind what `text` has: each event's lines, with the bytes of its
+/// datagrams where `with_bytes` says so, and then the end lines; of a script with a bad line that line's number alone. For
+/// want of memory the lines so far stand there.
+pub fn run_script(alloc: Global, script: &[u8], with_bytes: bool, text: &mut Vec<u8>) -> Ended
+    ensures done { result ≡ Ended.Done → (printed : List ℕ) × Simulates with_bytes script.now printed × (text.new.items ≡ text.old.items ++ printed) }
+    ensures bad { (n : ℕ) → result ≡ Ended.BadLine n → IsFirstBad script.now n × (text.new.items ≡ text.old.items ++ bad_line_text n) }
+    ensures words { result ≢ Ended.BadCommandLine }
+    ensures streams { result ≢ Ended.Failed }
+{
+    match trace_script(alloc, script, with_bytes, text) {
+        Ok(()) => Ended::Done,
+        Err(ScriptError::BadLine(number)) => trace_bad_line(alloc, number, text),
+        Err(ScriptError::OutOfMemory) => Ended::OutOfMemory,
+    }
+}
+
+fn trace_bad_line(alloc: Global, number: u64, text: &mut Vec<u8>) -> Ended
+    ensures { ((result ≡ Ended.BadLine number) × (text.new.items ≡ text.old.items ++ bad_line_text number)) ⊎ (result ≡ Ended.OutOfMemory) }
+{
+    let Ok(line) = bad_line_text(alloc, number) else {
+        return Ended::OutOfMemory;
+    };
+    match text.extend_from_slice(line.as_bytes()) {
+        Ok(()) => Ended::BadLine(number),
+        Err(_) => Ended::OutOfMemory,
+    }
+}
+
+fn trace_script(
     alloc: Global,
     script: &[u8],
-    writer: &mut W,
     with_bytes: bool,
-) -> io::Result<Ended>
-    ensures done { result ≡ Ok Ended.Done → (text : List ℕ) × Simulates with_bytes script.now text × Appends (W.contents writer.old) (W.contents writer.new) text }
-    ensures bad { (n : ℕ) → result ≡ Ok (Ended.BadLine n) → IsFirstBad script.now n × Appends (W.contents writer.old) (W.contents writer.new) (bad_line_text n) }
-    ensures words { result ≢ Ok Ended.BadCommandLine }
+    text: &mut Vec<u8>,
+) -> Result<(), ScriptError>
+    ensures done { OnOk result ((printed : List ℕ) × Simulates with_bytes script.now printed × (text.new.items ≡ text.old.items ++ printed)) }
+    ensures bad { (n : ℕ) → result ≡ Err (ScriptError.BadLine n) → IsFirstBad script.now n × (text.new.items ≡ text.old.items) }
 {
-    match read_script(alloc, script) {
-        Ok(script) => {
-            run_lines(alloc, script.lines(), writer, with_bytes)?;
-            Ok(Ended::Done)
-        }
-        Err(ScriptError::BadLine(number)) => {
-            let line = bad_line_text(alloc, number)?;
-            writer.write_all(line.as_bytes())?;
-            writer.flush()?;
-            Ok(Ended::BadLine(number))
-        }
-        Err(ScriptError::OutOfMemory) => Err(AllocError)?,
-    }
+    let script = read_script(alloc, script)?;
+    trace_said(alloc, script.lines(), with_bytes, text)
 }
 
-fn run_lines<W: Write>(
+// The trace of these lines.
+fn trace_said(
     alloc: Global,
     lines: &[Line],
-    writer: &mut W,
     with_bytes: bool,
-) -> io::Result<()>
-    requires puts { CanPutAll map.empty lines.now }
-    requires times { AreInTime lines.now }
-    ensures { OnOk result ((text : List ℕ) × spec.IsTrace with_bytes lines.now text × Appends (W.contents writer.old) (W.contents writer.new) text) }
+    text: &mut Vec<u8>,
+) -> Result<(), ScriptError>
+    requires { CanPutAll map.empty lines.now }
+    ensures done { OnOk result ((printed : List ℕ) × spec.IsTrace with_bytes lines.now printed × (text.new.items ≡ text.old.items ++ printed)) }
+    ensures bad { (n : ℕ) → result ≢ Err (ScriptError.BadLine n) }
+{
+    Ok(trace_lines(alloc, lines, with_bytes, text)?)
+}
+
+fn trace_lines(
+    alloc: Global,
+    lines: &[Line],
+    with_bytes: bool,
+    text: &mut Vec<u8>,
+) -> Result<(), AllocError>
+    requires { CanPutAll map.empty lines.now }
+    ensures { OnOk result ((printed : List ℕ) × spec.IsTrace with_bytes lines.now printed × (text.new.items ≡ text.old.items ++ printed)) }
 {
     let server = first_server(alloc, lines)?;
-    let last = run_events(alloc, server, lines, writer, with_bytes)?;
-    writer.write_all(&end_text(alloc, last.server.tree())?)?;
-    writer.flush()?;
-    Ok(())
-}
-
-// Does what the lines say, and answers how far the run came.
-fn run_events<W: Write>(
-    alloc: Global,
-    server: Server,
-    lines: &[Line],
-    writer: &mut W,
-    with_bytes: bool,
-) -> io::Result<Progress>
-    requires { AreInTime lines.now }
-    ensures { IfOk result (λ last. (text : List ℕ) × spec.Prints with_bytes (spec.beginning server) lines.now text last
-        × Appends (W.contents writer.old) (W.contents writer.new) text) }
-{
-    let mut progress = Progress {
-        server,
-        now: Moment { ms: 0 },
-        events: 0,
-        sent: 0,
-    };
-    for line in lines {
-        let text = line_text(alloc, &mut progress, line, with_bytes)?;
-        writer.write_all(&text)?;
-    }
-    Ok(progress)
+    let mut progress = Progress::beginning(server);
+    trace_from(alloc, &mut progress, lines, with_bytes, text)
 }
 
 // How far a run has come.
@@ -149,6 +167,63 @@ pub(crate) struct Progress {
     sent: u64,
 }
 
+impl Progress {
+    fn beginning(server: Server) -> Progress
+        ensures { spec.Begins server result }
+    {
+        Progress {
+            server,
+            now: Moment::START,
+            events: 0,
+            sent: 0,
+        }
+    }
+}
+
+// The events of a run that begins, and its end lines.
+fn trace_from(
+    alloc: Global,
+    progress: &mut Progress,
+    lines: &[Line],
+    with_bytes: bool,
+    text: &mut Vec<u8>,
+) -> Result<(), AllocError>
+    requires events { progress.old.events ≡ 0 }
+    requires sent { progress.old.sent ≡ 0 }
+    ensures { OnOk result ((printed : List ℕ) × (last : AnyProgress) × spec.Prints with_bytes progress.old lines.now printed last
+        × (text.new.items ≡ text.old.items ++ (printed ++ end_text last.server.tree))) }
+{
+    trace_events(alloc, progress, lines, with_bytes, text)?;
+    trace_end(alloc, progress.server.tree(), text)?;
+    Ok(())
+}
+
+// Does what the lines say.
+fn trace_events(
+    alloc: Global,
+    progress: &mut Progress,
+    lines: &[Line],
+    with_bytes: bool,
+    text: &mut Vec<u8>,
+) -> Result<(), AllocError>
+    requires events { progress.old.events ≡ 0 }
+    requires sent { progress.old.sent ≡ 0 }
+    ensures { OnOk result ((printed : List ℕ) × spec.Prints with_bytes progress.old lines.now printed progress.new × (text.new.items ≡ text.old.items ++ printed)) }
+{
+    for line in lines {
+        let more = line_text(alloc, progress, line, with_bytes)?;
+        text.extend_from_slice(&more)?;
+    }
+    Ok(())
+}
+
+fn trace_end(alloc: Global, tree: &Tree, text: &mut Vec<u8>) -> Result<(), AllocError>
+    ensures { OnOk result (text.new.items ≡ text.old.items ++ end_text tree.now) }
+{
+    let lines = end_text(alloc, tree)?;
+    Ok(text.extend_from_slice(&lines)?)
+}
+
 // Does what the line says: the text that it prints.
 fn line_text(
     alloc: Global,
@@ -156,12 +231,9 @@ fn line_text(
     line: &Line,
     with_bytes: bool,
 ) -> Result<Vec<u8>, AllocError>
-    requires now { progress.old.now.ms < 2 ^ 63 }
-    requires moment { IsInTime line.now }
     requires events { progress.old.events + 1 < 2 ^ 64 }
     requires sent { progress.old.sent + 1 < 2 ^ 64 }
     ensures prints { IfOk result (λ text. spec.PrintsLine with_bytes progress.old line.now text.items progress.new) }
-    ensures now { progress.new.now.ms < 2 ^ 63 }
     ensures events { progress.new.events ≤ progress.old.events + 1 }
     ensures sent { progress.new.sent ≤ progress.old.sent + 1 }
 {
@@ -170,33 +242,68 @@ fn line_text(
             progress.now = *moment;
             Ok(Vec::new(alloc))
         }
-        Line::Inject { bytes } => inject(alloc, progress, bytes.as_slice(), with_bytes),
+        Line::Inject { from, to, bytes } => {
+            inject(alloc, progress, *from, *to, bytes.as_slice(), with_bytes)
+        }
         _ => Ok(Vec::new(alloc)),
     }
 }
 
-// A datagram comes to the server from the stranger.
+// A datagram comes to a node from a node.
 fn inject(
     alloc: Global,
     progress: &mut Progress,
+    from: Node,
+    to: Node,
     bytes: &[u8],
     with_bytes: bool,
 ) -> Result<Vec<u8>, AllocError>
-    requires now { progress.old.now.ms < 2 ^ 63 }
     requires events { progress.old.events + 1 < 2 ^ 64 }
     requires sent { progress.old.sent + 1 < 2 ^ 64 }
-    ensures happens { IfOk result (λ text. spec.Happens with_bytes progress.old bytes.now text.items progress.new) }
-    ensures now { progress.new.now ≡ progress.old.now }
+    ensures happens { IfOk result (λ text. spec.Happens with_bytes progress.old from to bytes.now text.items progress.new) }
     ensures events { progress.new.events ≡ progress.old.events + 1 }
     ensures sent { progress.new.sent ≤ progress.old.sent + 1 }
 {
     progress.events += 1;
+    match to {
+        Node::Server => serve(alloc, progress, from, bytes, with_bytes),
+        Node::Stranger => Vec::from_slice(alloc, b"nothing\n"),
+    }
+}
+
+// A datagram comes to the server from this node, in the event that was counted last.
+fn serve(
+    alloc: Global,
+    progress: &mut Progress,
+    from: Node,
+    bytes: &[u8],
+    with_bytes: bool,
+) -> Result<Vec<u8>, AllocError>
+    requires { progress.old.sent + 1 < 2 ^ 64 }
+    ensures serves { IfOk result (λ text. spec.Serves with_bytes progress.old from bytes.now text.items progress.new) }
+    ensures events { progress.new.events ≡ progress.old.events }
+    ensures sent { progress.new.sent ≤ progress.old.sent + 1 }
+{
     let draw = draw_of(progress.events);
-    let from = Node::Stranger.address();
     let step = progress
         .server
-        .on_datagram(alloc, progress.now, from, bytes, &draw)?;
-    let text = step_text(alloc, with_bytes, progress.sent, Node::Server, &step)?;
-    progress.sent += step.out.as_slice().len() as u64;
-    Ok(text)
+        .on_datagram(alloc, progress.now, from.address(), bytes, &draw)?;
+    counted_text(alloc, &mut progress.sent, &step, with_bytes)
+}
+
+// What the server's step prints, behind so many datagrams; its own are counted too.
+fn counted_text(
+    alloc: Global,
+    sent: &mut u64,
+    step: &Step,
+    with_bytes: bool,
+) -> Result<Vec<u8>, AllocError>
+    requires printable { All CanPrint step.now.out }
+    requires few { sent.old + length step.now.out < 2 ^ 64 }
+    ensures prints { IfOk result (λ text. PrintsStep with_bytes sent.old Node.Server step.now text.items) }
+    ensures sent { sent.new ≡ sent.old + length step.now.out }
+{
+    let before = *sent;
+    *sent += step.out.as_slice().len() as u64;
+    step_text(alloc, with_bytes, before, Node::Server, step)
 }

@@ -5,11 +5,11 @@ ghost use Rattle.std.specs.List.{All};
 ghost use Rattle.osc_programs.specs.Text as text;
 ghost use Rattle.osc_programs.specs.Trace as spec;
 
-use crate::node::Node;
 use osc_coap::MessageRef;
 use osc_model::{Datagram, Path, Resource, Step};
 use osc_options::has_option;
 use osc_options::numbers::OSCORE;
+use osc_script::Node;
 use osc_tree::Tree;
 use std::alloc::{AllocError, Global};
 use std::fmt;
