@@ -22,6 +22,3 @@ pub use item::Item;
 pub use reader::read;
 pub use whole::{is_whole, is_whole_map, read_whole};
 pub use writer::write;
-
-#[cfg(test)]
-mod tests;
