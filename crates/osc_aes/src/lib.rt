@@ -58,6 +58,3 @@ impl Aes128 {
         state
     }
 }
-
-#[cfg(test)]
-mod tests;

@@ -19,6 +19,3 @@ mod stream;
 pub use aead::{AAD_LIMIT, Aead, TAG_LIMIT, TEXT_LIMIT};
 pub use ccm::Ccm;
 pub use error::{OpenError, SealError};
-
-#[cfg(test)]
-mod tests;

@@ -15,6 +15,3 @@ pub use error::OutputTooLong;
 pub use hkdf::{expand, extract};
 pub use laws::{a_shorter_output_begins_a_longer, lengths};
 pub use mac::hmac;
-
-#[cfg(test)]
-mod tests;

@@ -6,7 +6,7 @@ ghost use Rattle.std.proofs.Common.{lit≤, ap, sym, ◌∙◌};
 ghost use Rattle.std.proofs.lemmas.List.{append_cancel_right, length-append};
 ghost use Rattle.osc_ccm.specs.Limits.{IsInRange};
 
-use crate::{AAD_LIMIT, Aead, OpenError, SealError, TEXT_LIMIT, block};
+use osc_ccm::{AAD_LIMIT, Aead, OpenError, SealError, TEXT_LIMIT};
 
 #[derive(Drop)]
 pub struct Marked {
@@ -63,7 +63,7 @@ impl Aead for Marked {
         if sealed.len() < 16 {
             return Err(OpenError::NotGenuine);
         }
-        if !block::is_same(&sealed[length..], &self.key) {
+        if &sealed[length..] != self.key.as_slice() {
             return Err(OpenError::NotGenuine);
         }
         out[..length].copy_from_slice(&sealed[..length]);
