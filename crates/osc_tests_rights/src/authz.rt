@@ -228,30 +228,30 @@ fn accepted(desk: &mut ServerDesk, id: u8) -> bool {
 
 /// The post again with this draw, or a request under this recipient ID: which ID has a context then that waits or was
 /// confirmed.
-fn step(desk: &mut ServerDesk, alloc: Global, step: Step) -> Result<Option<u8>, AllocError> {
-    match step {
-        Step::Request(id) if accepted(desk, id) => Ok(Some(id)),
-        Step::Request(_) => Ok(None),
-        Step::Post(last) => Ok(posted_with(desk, alloc, 0, POST, last)?.0.ok()),
+fn step(desk: &mut ServerDesk, alloc: Global, event: Event) -> Result<Option<u8>, AllocError> {
+    match event {
+        Event::Request(id) if accepted(desk, id) => Ok(Some(id)),
+        Event::Request(_) => Ok(None),
+        Event::Post(last) => Ok(posted_with(desk, alloc, 0, POST, last)?.0.ok()),
     }
 }
 
 /// A post with a draw whose nonce ends in this byte, or a request under this recipient ID.
 #[derive(Clone, Copy)]
-enum Step {
+enum Event {
     Post(u8),
     Request(u8),
 }
 
 /// Posts of one token and requests, the ID of each, and the last bytes of the salts of the contexts that 1, 2 and 3 name
 /// after it, which are those of the draws: of two posts without a request between the first one's context is gone.
-const STEPS: [(Step, u8, [Option<u8>; 3]); 6] = [
-    (Step::Post(2), 1, [Some(2), None, None]),
-    (Step::Request(1), 1, [Some(2), None, None]),
-    (Step::Post(3), 2, [Some(2), Some(3), None]),
-    (Step::Post(4), 2, [Some(2), Some(4), None]),
-    (Step::Request(2), 2, [None, Some(4), None]),
-    (Step::Post(5), 1, [Some(5), Some(4), None]),
+const STEPS: [(Event, u8, [Option<u8>; 3]); 6] = [
+    (Event::Post(2), 1, [Some(2), None, None]),
+    (Event::Request(1), 1, [Some(2), None, None]),
+    (Event::Post(3), 2, [Some(2), Some(3), None]),
+    (Event::Post(4), 2, [Some(2), Some(4), None]),
+    (Event::Request(2), 2, [None, Some(4), None]),
+    (Event::Post(5), 1, [Some(5), Some(4), None]),
 ];
 
 /// The last byte of the salt of the live context with this recipient ID.
