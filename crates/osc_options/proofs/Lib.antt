@@ -4,3 +4,5 @@ pub mod SplitLaws
 pub mod AddLaws
 pub mod ReplyAgainLaws
 pub mod SplitLengths
+pub mod OnePassLaws
+pub mod RequestAgainLaws

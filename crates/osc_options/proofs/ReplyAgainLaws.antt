@@ -5,11 +5,13 @@ use Rattle.std.proofs.lemmas.Bool.{cases_lt, cases_eq, lt-ltb, le-ltb, ne_eqb}
 use Rattle.std.proofs.lemmas.Bool.Decides.{nat_tests}
 use Rattle.osc_model.specs.declared.reply.Reply.{Reply}
 use Rattle.osc_coap.specs.Code.{is_response_code}
-use Rattle.osc_coap.specs.Message.{NumberAndValue}
+use Rattle.osc_coap.specs.Message.{NumberAndValue, Message, AreOptions}
+use Rattle.osc_coap.specs.Plaintext.{Plaintext, HasPlaintextSpelling}
+use Rattle.osc_options.specs.Split.{inner_options, plaintext_of}
 use Rattle.osc_coap.specs.Building.{payload_of}
 use Rattle.osc_options.specs.Recognised.{recognised}
 use Rattle.osc_options.specs.Requests.{uint, value}
-use Rattle.osc_options.specs.Replies.{uint_bytes, etag_option, format_option, reply_options}
+use Rattle.osc_options.specs.Replies.{uint_bytes, etag_option, format_option, reply_options, with_reply}
 use Rattle.osc_options.specs.PlaintextRequests.{unheeded}
 use Rattle.osc_options.specs.PlaintextReplies.{reply_plaintext, etag_in, reply_in}
 
@@ -101,3 +103,29 @@ reply_again reply least most tag number =
     ∙ ap (λ (t : Option (List ℕ)). made reply t (option_map uint (value 12 (recognised 0 options))) (unwrap_or (payload_of reply.payload) [])) etag
     ∙ ap (λ (n : Option ℕ). made reply reply.etag n (unwrap_or (payload_of reply.payload) [])) format
     ∙ ap (made reply reply.etag reply.format) payload
+
+-- ---- a reply in a message
+
+-- all its options are encrypted
+all_inner : (etag : Option (List ℕ)) (format : Option ℕ) → inner_options (etag_option etag ++ format_option format) ≡ etag_option etag ++ format_option format
+all_inner None None = refl
+all_inner None (Some n) = refl
+all_inner (Some tag) None = refl
+all_inner (Some tag) (Some n) = refl
+
+pub reply_inside : (message : Message) (reply : Reply) → plaintext_of (with_reply message reply) ≡ reply_plaintext reply
+reply_inside message reply = ap (λ (options : List NumberAndValue). record { code = reply.code.0; options = options; payload = payload_of reply.payload }) (all_inner reply.etag reply.format)
+
+options_lawful : (etag : Option (List ℕ)) (format : Option ℕ) → IfSome etag (λ tag. length tag ≡ 8) → AreOptions 0 (etag_option etag ++ format_option format)
+options_lawful None None h = tt
+options_lawful None (Some n) h = (record { rises = omega arith; number = omega arith; size = omega (arith, uint_short n) }, tt)
+options_lawful (Some tag) None h = (record { rises = omega arith; number = omega arith; size = omega (arith, h) }, tt)
+options_lawful (Some tag) (Some n) h =
+    (record { rises = omega arith; number = omega arith; size = omega (arith, h) }, (record { rises = omega arith; number = omega arith; size = omega (arith, uint_short n) }, tt))
+
+payload_lawful : (bytes : List ℕ) → IfSome (payload_of bytes) (λ b. 0 < length b)
+payload_lawful [] = tt
+payload_lawful (b ∷ bytes) = omega arith
+
+pub reply_lawful : (reply : Reply) → IfSome reply.etag (λ tag. length tag ≡ 8) → HasPlaintextSpelling (reply_plaintext reply)
+reply_lawful reply h = record { options = options_lawful reply.etag reply.format h; payload = payload_lawful reply.payload }

@@ -1,13 +1,23 @@
 //! Laws of the definitions, for the crates above. These functions do nothing: whoever calls one has its clauses for
 //! a proof.
-ghost use Rattle.std.specs.Prelude.{◌≡◌, ◌<◌, ◌≤◌, ◌+◌, ◌++◌, ℕ, List, Some, IfSome, false, length};
+ghost use Rattle.std.specs.Prelude.{◌≡◌, ◌<◌, ◌≤◌, ◌+◌, ◌++◌, ℕ, List, Some, None, Ok, IfSome, false, true, length};
 ghost use Rattle.osc_model.specs.declared.reply.Reply.{Reply};
+ghost use Rattle.osc_model.specs.declared.request.Request.{Request as AnyRequest};
+ghost use Rattle.osc_coap.specs.Code.{is_request_code};
 ghost use Rattle.osc_coap.specs.Message.{NumberAndValue, Message, AreOptions, HasSpelling, spelling};
 ghost use Rattle.osc_coap.specs.Plaintext.{Plaintext, HasPlaintextSpelling, plaintext_spelling};
 ghost use Rattle.osc_coap.specs.Length.{options_length};
-ghost use Rattle.osc_options.specs.Split.{AreInOrder, of_number, merge, plaintext_of, protected, unprotected, has_oscore};
+ghost use Rattle.osc_options.specs.Split.{AreInOrder, of_number, inner_options, merge, plaintext_of, protected, unprotected, has_oscore};
+ghost use Rattle.osc_options.specs.Recognised.{unrecognised_critical};
+ghost use Rattle.osc_options.specs.Requests.{IsWithinTable, request_of, request_options, with_request};
+ghost use Rattle.osc_options.specs.PlaintextRequests.{request_of_plaintext};
+ghost use Rattle.osc_options.specs.Replies.{with_reply};
 ghost use Rattle.osc_options.specs.PlaintextReplies.{reply_plaintext, reply_in};
 
+use crate::numbers::{
+    ACCEPT, CONTENT_FORMAT, ETAG, IF_MATCH, IF_NONE_MATCH, LOCATION_PATH, LOCATION_QUERY, MAX_AGE,
+    OSCORE, PROXY_SCHEME, PROXY_URI, SIZE1, URI_HOST, URI_PATH, URI_PORT, URI_QUERY,
+};
 use osc_coap::laws::{fewer_options, length_of_plaintext, length_of_spelling};
 
 /// A message that was split is merged again, whatever the protected message says beside it.
@@ -69,9 +79,50 @@ pub fn length_of_split()
     length_of_plaintext();
 }
 
+/// The constants of `numbers` are the registered numbers (RFC 7252 section 12.2, RFC 8613 section 11.1).
+pub fn registered_numbers()
+    ensures if_match { IF_MATCH ≡ 1 }
+    ensures uri_host { URI_HOST ≡ 3 }
+    ensures etag { ETAG ≡ 4 }
+    ensures if_none_match { IF_NONE_MATCH ≡ 5 }
+    ensures uri_port { URI_PORT ≡ 7 }
+    ensures location_path { LOCATION_PATH ≡ 8 }
+    ensures oscore { OSCORE ≡ 9 }
+    ensures uri_path { URI_PATH ≡ 11 }
+    ensures content_format { CONTENT_FORMAT ≡ 12 }
+    ensures max_age { MAX_AGE ≡ 14 }
+    ensures uri_query { URI_QUERY ≡ 15 }
+    ensures accept { ACCEPT ≡ 17 }
+    ensures location_query { LOCATION_QUERY ≡ 20 }
+    ensures proxy_uri { PROXY_URI ≡ 35 }
+    ensures proxy_scheme { PROXY_SCHEME ≡ 39 }
+    ensures size1 { SIZE1 ≡ 60 }
+{}
+
+/// A reply that was written into a message is encrypted whole: its options are all of class E, and its plaintext has a
+/// spelling.
+pub fn a_written_reply()
+    ensures plaintext { (message : Message) (reply : Reply)
+        → plaintext_of (with_reply message reply) ≡ reply_plaintext reply }
+    ensures spelled { (reply : Reply) → IfSome reply.etag (λ tag. length tag ≡ 8) → HasPlaintextSpelling (reply_plaintext reply) }
+{}
+
 /// A reply that was written into a plaintext is read of it again.
 pub fn a_reply_is_read_again()
     ensures { (reply : Reply) → 64 ≤ reply.code.0 → reply.code.0 < 192
         → IfSome reply.etag (λ tag. length tag ≡ 8) → IfSome reply.format (λ format. format < 65536)
         → reply_in (reply_plaintext reply) ≡ Some reply }
+{}
+
+/// A request that was written into a message is understood and read of it again, also of what is encrypted of the message.
+pub fn a_request_is_read_again()
+    ensures understood { (request : AnyRequest) → IsWithinTable request
+        → unrecognised_critical 0 (request_options request) ≡ None }
+    ensures message { (message : Message) (request : AnyRequest) → IsWithinTable request
+        → request_of (with_request message request) ≡ request }
+    ensures inside { (request : AnyRequest) → IsWithinTable request
+        → inner_options (request_options request) ≡ request_options request }
+    ensures plaintext { (message : Message) (request : AnyRequest) → IsWithinTable request
+        → is_request_code request.code.0 ≡ true
+        → request_of_plaintext (plaintext_of (with_request message request)) ≡ Ok request }
 {}

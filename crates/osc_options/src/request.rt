@@ -1,7 +1,7 @@
 //! The request that a message or a plaintext is (RFC 7252 section 5.10, RFC 8613 section 5.3).
-ghost use Rattle.std.specs.Prelude.{◌≡◌, ◌≤◌, ◌↔◌, length, is_some, Err, IsTrue, IsOk, IfOk, IfSome};
-ghost use Rattle.std.specs.Option.{option_map, option_copied};
-ghost use Rattle.osc_model.specs.Path.{path_of};
+ghost use Rattle.std.specs.Prelude.{◌≡◌, ◌≤◌, ◌∷◌, ◌++◌, List, length, take, map, Err, IsOk, OnOk, IfOk, IfSome};
+ghost use Rattle.std.specs.Option.{option_map, option_or, option_copied};
+ghost use Rattle.osc_coap.specs.Message.{NumberAndValue};
 ghost use Rattle.osc_coap.specs.Plaintext.{Plaintext, SpellsPlaintext};
 ghost use Rattle.osc_options.specs.Table.{rule_of};
 ghost use Rattle.osc_options.specs.Recognised.{recognised};
@@ -11,7 +11,7 @@ ghost use Rattle.osc_options.specs.PlaintextRequests.{request_of_plaintext, IsMe
 use crate::error::PlaintextError;
 use crate::inside::unheeded;
 use crate::numbers::{ACCEPT, CONTENT_FORMAT, IF_MATCH, IF_NONE_MATCH, URI_PATH};
-use crate::recognised::{first_value, recognised_options};
+use crate::recognised::{RecognisedOptions, first_value, recognised_options};
 use arrayvec::ArrayVec;
 use osc_coap::{MessageRef, Options, PlaintextRef, is_request_code};
 use osc_model::{Bytes, Code, ETags, Path, Request};
@@ -38,33 +38,102 @@ pub(crate) fn uint_of(options: &Options<'_>, number: u16) -> Option<u16>
     Some(uint(value))
 }
 
-/// The path that the Uri-Path options make, if they make one.
-fn path(alloc: Global, options: &Options<'_>) -> Result<Option<Path>, AllocError>
-    ensures { IfOk result (λ path. path ≡ path_of (values_in 11 (recognised 0 options.now))) }
+/// The whole number that a value holds, if there is one.
+fn uint_in(value: Option<&[u8]>) -> Option<u16>
+    requires { IfSome value (λ v. length v.now ≤ 2) }
+    ensures { result ≡ option_map number_of (option_map (λ v. v.now) value.entry) }
 {
-    let mut segments: ArrayVec<&[u8], 8> = ArrayVec::new();
-    for (number, value) in recognised_options(options.rest()) {
-        if number == URI_PATH {
-            if segments.is_full() {
-                return Ok(None);
-            }
-            segments.push(value);
-        }
+    match value {
+        Some(value) => Some(uint(value)),
+        None => None,
     }
-    Path::from_segments(alloc, segments.as_slice())
 }
 
-/// The values of the If-Match options.
-fn if_match(alloc: Global, options: &Options<'_>) -> Result<ETags, AllocError>
-    ensures { IfOk result (λ tags. tags ≡ values_in 1 (recognised 0 options.now)) }
+/// Adds the value of a Uri-Path option, while there is room.
+fn add_segment<'a>(segments: &mut ArrayVec<&'a [u8], 9>, number: u16, value: &'a [u8])
+    ensures { (rest : List NumberAndValue)
+        → take 9 (map (λ s. s.now) segments.new.items ++ values_in 11 rest)
+        ≡ take 9 (map (λ s. s.now) segments.old.items ++ values_in 11 ((number, value.now) ∷ rest)) }
 {
-    let mut tags = ETags::new(alloc);
-    for (number, value) in recognised_options(options.rest()) {
-        if number == IF_MATCH {
-            tags.push(alloc, Bytes::from_slice(alloc, value)?)?;
-        }
+    if number != URI_PATH {
+        return;
     }
-    Ok(tags)
+    if segments.is_full() {
+        return;
+    }
+    segments.push(value);
+}
+
+/// Adds the value of an If-Match option.
+fn add_tag(alloc: Global, tags: &mut ETags, number: u16, value: &[u8]) -> Result<(), AllocError>
+    ensures { OnOk result ((rest : List NumberAndValue)
+        → tags.new ++ values_in 1 rest ≡ tags.old ++ values_in 1 ((number, value.now) ∷ rest)) }
+{
+    if number != IF_MATCH {
+        return Ok(());
+    }
+    tags.push(alloc, Bytes::from_slice(alloc, value)?)?;
+    Ok(())
+}
+
+/// The value of the first option of the wanted number, among those that were known and this one.
+fn first_of<'a>(
+    known: Option<&'a [u8]>,
+    wanted: u16,
+    number: u16,
+    value: &'a [u8],
+) -> Option<&'a [u8]>
+    ensures { (rest : List NumberAndValue)
+        → option_or (option_map (λ v. v.now) result) (value_in wanted rest)
+        ≡ option_or (option_map (λ v. v.now) known.entry) (value_in wanted ((number, value.now) ∷ rest)) }
+{
+    if known.is_some() {
+        return known;
+    }
+    if number != wanted {
+        return None;
+    }
+    Some(value)
+}
+
+/// The values that a request is made of.
+#[derive(Drop)]
+struct Fields<'a> {
+    /// The first nine segments: a path has eight at most.
+    segments: ArrayVec<&'a [u8], 9>,
+    format: Option<&'a [u8]>,
+    accept: Option<&'a [u8]>,
+    if_match: ETags,
+    if_none_match: Option<&'a [u8]>,
+}
+
+/// The values that a request is made of, in one pass over the options; refused only for want of memory.
+fn fields_of<'a>(alloc: Global, options: RecognisedOptions<'a>) -> Result<Fields<'a>, AllocError>
+    ensures segments { IfOk result (λ f. take 9 (map (λ s. s.now) f.segments.items) ≡ take 9 (values_in 11 options.entry)) }
+    ensures format { IfOk result (λ f. option_map (λ v. v.now) f.format ≡ value_in 12 options.entry) }
+    ensures accept { IfOk result (λ f. option_map (λ v. v.now) f.accept ≡ value_in 17 options.entry) }
+    ensures tags { IfOk result (λ f. f.if_match ≡ values_in 1 options.entry) }
+    ensures none_match { IfOk result (λ f. option_map (λ v. v.now) f.if_none_match ≡ value_in 5 options.entry) }
+{
+    let mut segments = ArrayVec::new();
+    let mut if_match = ETags::new(alloc);
+    let mut format = None;
+    let mut accept = None;
+    let mut if_none_match = None;
+    for (number, value) in options {
+        add_tag(alloc, &mut if_match, number, value)?;
+        add_segment(&mut segments, number, value);
+        format = first_of(format, CONTENT_FORMAT, number, value);
+        accept = first_of(accept, ACCEPT, number, value);
+        if_none_match = first_of(if_none_match, IF_NONE_MATCH, number, value);
+    }
+    Ok(Fields {
+        segments,
+        format,
+        accept,
+        if_match,
+        if_none_match,
+    })
 }
 
 /// The request of a code, recognised options and a payload; refused only for want of memory.
@@ -76,14 +145,20 @@ fn request_in(
 ) -> Result<Request, AllocError>
     ensures { IfOk result (λ request. request ≡ asked_by code options.now (option_copied payload.entry)) }
 {
-    let known = recognised_options(options.rest());
+    let Fields {
+        segments,
+        format,
+        accept,
+        if_match,
+        if_none_match,
+    } = fields_of(alloc, recognised_options(options.rest()))?;
     Ok(Request {
         code: Code(code),
-        path: path(alloc, options)?,
-        format: uint_of(options, CONTENT_FORMAT),
-        accept: uint_of(options, ACCEPT),
-        if_match: if_match(alloc, options)?,
-        if_none_match: first_value(known, IF_NONE_MATCH).is_some(),
+        path: Path::from_segments(alloc, segments.as_slice())?,
+        format: uint_in(format),
+        accept: uint_in(accept),
+        if_match,
+        if_none_match: if_none_match.is_some(),
         payload: Bytes::from_slice(alloc, payload.unwrap_or(&[]))?,
     })
 }
