@@ -2,7 +2,8 @@
 
 ghost use Rattle.std.specs.Prelude.{◌≡◌, ◌⊎◌, List, IfOk, Ok, Err, option_map};
 ghost use Rattle.std.specs.List.{All};
-ghost use Rattle.osc_cbor.specs.Data.{array};
+ghost use Rattle.osc_cbor.specs.Data.{DataItem, array};
+ghost use Rattle.osc_cbor.specs.Spelling.{IsWhole};
 ghost use Rattle.osc_cbor.specs.View.{view, items_view};
 ghost use Rattle.osc_scope.specs.Entries.{Entry, IsLawful, IsScope, scope_of, entry_item, entry_items};
 ghost use Rattle.osc_scope.specs.Reading.{two_of, pair_of, entry_with, AreEntries};
@@ -21,13 +22,16 @@ impl Scope {
     ///
     /// # Errors
     ///
-    /// `BadScope` where the bytes are none: a text that is no path, or a set that is empty or has another bit, too.
+    /// `BadScope` where the bytes are none: a text that is no path, or a set that is empty or has another bit, too. Want of
+    /// memory where they are one CBOR item.
     pub fn from_cbor(alloc: Global, bytes: &[u8]) -> Result<Scope, ScopeError>
         // What is read is the scope of its entries ..
         ensures found { IfOk result (λ scope. (entries : List Entry) × IsScope bytes.now entries × (scope ≡ scope_of entries)) }
         // .. and each scope's bytes are read.
         ensures only { (entries : List Entry) → IsScope bytes.now entries
             → (result ≡ Ok (scope_of entries)) ⊎ (result ≡ Err ScopeError.Memory) }
+        // Bytes that are no item take no memory.
+        ensures needs_memory { result ≡ Err ScopeError.Memory → (item : DataItem) × IsWhole bytes.now item }
     {
         match read_whole(alloc, bytes)? {
             Some(item) => scope_in(alloc, &item),

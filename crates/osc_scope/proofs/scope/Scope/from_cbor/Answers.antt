@@ -14,3 +14,8 @@ pub returns-in-None-clause-only : goal.returns-in-None-clause-only
 returns-in-None-clause-only c =
     let none = rw c.in-None.is at c.in_ok-item.ensures in
     λ entries s. absurd (none (array (entry_items entries)) s.whole)
+
+pub returns-in-Some-clause-needs_memory : goal.returns-in-Some-clause-needs_memory
+returns-in-Some-clause-needs_memory c =
+    let found = rw c.in-Some.is at c.in_ok-item.ensures in
+    λ wanting. (view c.in-Some.item, found.0)
