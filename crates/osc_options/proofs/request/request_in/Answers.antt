@@ -30,7 +30,7 @@ returns c =
     let segments : path_of (map (λ s. s.now) fields.segments.items) ≡ path_of (values 11 (recognised 0 c.args.options.now)) =
     same_path (map (λ s. s.now) fields.segments.items) (values 11 c.recognised_options.result) said.segments ∙ ap (λ (o : List (ℕ × List ℕ)). path_of (values 11 o)) known in
     let path : c.in_ok-from_segments.field-0 ≡ path_of (values 11 (recognised 0 c.args.options.now)) =
-    c.in_ok-from_segments.ensures ∙ ap (λ s. path_of (map (λ s. s.now) s)) c.as_slice.ensures.value ∙ segments in
+    c.in_ok-from_segments.ensures.path ∙ ap (λ s. path_of (map (λ s. s.now) s)) c.as_slice.ensures.value ∙ segments in
     let format : c.uint_in.result ≡ option_map uint (value 12 (recognised 0 c.args.options.now)) = c.uint_in.ensures ∙ ap (option_map uint) (said.format ∙ ap (value 12) known) in
     let accept : c.uint_in-2.result ≡ option_map uint (value 17 (recognised 0 c.args.options.now)) = c.uint_in-2.ensures ∙ ap (option_map uint) (said.accept ∙ ap (value 17) known) in
     let tags : fields.if_match ≡ values 1 (recognised 0 c.args.options.now) = said.tags ∙ ap (values 1) known in
