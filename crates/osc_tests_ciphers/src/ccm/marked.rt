@@ -1,12 +1,19 @@
 //! A cipher that hides nothing: the text, then the key. It meets the law of `Aead`, so generic code
 //! can be called at it.
 
-ghost use Rattle.std.specs.Prelude.{◌≡◌, ℕ, ◌+◌, ◌++◌, List, length};
+ghost use Rattle.std.specs.Prelude.{◌≡◌, ◌↔◌, ℕ, ◌+◌, ◌++◌, List, length, IsTrue};
 ghost use Rattle.std.proofs.Common.{lit≤, ap, sym, ◌∙◌};
 ghost use Rattle.std.proofs.lemmas.List.{append_cancel_right, length-append};
 ghost use Rattle.osc_ccm.specs.Limits.{IsInRange};
 
 use osc_ccm::{AAD_LIMIT, Aead, OpenError, SealError, TEXT_LIMIT};
+
+fn is_same(one: &[u8], other: &[u8]) -> bool
+    requires { length one.now ≡ length other.now }
+    ensures { IsTrue result ↔ (one.now ≡ other.now) }
+{
+    one == other
+}
 
 #[derive(Drop)]
 pub struct Marked {
@@ -63,7 +70,7 @@ impl Aead for Marked {
         if sealed.len() < 16 {
             return Err(OpenError::NotGenuine);
         }
-        if &sealed[length..] != self.key.as_slice() {
+        if !is_same(&sealed[length..], &self.key) {
             return Err(OpenError::NotGenuine);
         }
         out[..length].copy_from_slice(&sealed[..length]);
