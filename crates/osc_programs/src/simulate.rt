@@ -104,7 +104,8 @@ pub fn run_script(alloc: Global, script: &[u8], with_bytes: bool, text: &mut Vec
 }
 
 fn trace_bad_line(alloc: Global, number: u64, text: &mut Vec<u8>) -> Ended
-    ensures { ((result ≡ Ended.BadLine number) × (text.new.items ≡ text.old.items ++ bad_line_text number)) ⊎ (result ≡ Ended.OutOfMemory) }
+    ensures bad { (n : ℕ) → result ≡ Ended.BadLine n → (number ≡ n) × (text.new.items ≡ text.old.items ++ bad_line_text n) }
+    ensures cases { (result ≡ Ended.BadLine number) ⊎ (result ≡ Ended.OutOfMemory) }
 {
     let Ok(line) = bad_line_text(alloc, number) else {
         return Ended::OutOfMemory;

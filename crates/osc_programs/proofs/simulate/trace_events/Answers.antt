@@ -1,4 +1,4 @@
-use Rattle.std.proofs.Common.{◌≡◌, ◌∙◌, [], ◌+◌, ◌++◌, ap, sym, subst, drop, arith, append_assoc, append-nil}
+use Rattle.std.proofs.Common.{◌≡◌, ◌∙◌, [], ◌+◌, ◌++◌, ap, sym, drop, arith, append_assoc, append-nil}
 use Rattle.std.proofs.Math.ListN.{drop_of_length-le}
 use Rattle.osc_programs.specs.Simulation.{Prints}
 use Rattle.osc_programs.proofs.Runs.{drop_item, lines_more, lines_end}
