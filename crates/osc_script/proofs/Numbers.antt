@@ -1,7 +1,7 @@
 -- A word spells a number exactly where one is read, and it is that one.
-use Rattle.std.proofs.Common.{◌≡◌, ℕ, ◌^◌, ◌<◌, ◌+◌, ◌≢◌, ◌&&◌, Bool, true, false, cond, List, length, get_or, Option, Some, None, Result, Ok, Err, codes, ltb, nat_lt, refl, sym, ap, ◌∙◌, subst, inl, inr, MatchResult, Bor, arith, bytes_eq, ltb-true, lt-ltb, IsUtf8}
+use Rattle.std.proofs.Common.{◌≡◌, ℕ, ◌^◌, ◌<◌, ◌≢◌, ◌&&◌, true, cond, List, length, get_or, Option, Some, None, Result, Ok, Err, codes, nat_lt, refl, sym, ap, ◌∙◌, subst, inl, inr, MatchResult, Bor, arith, bytes_eq, ltb-true, lt-ltb, IsUtf8}
 use Rattle.std.specs.Str.{all_ascii_digits}
-use Rattle.std.specs.Str.Parse.{IsNumeral, digits_value, ParsesUnsigned}
+use Rattle.std.specs.Str.Parse.{digits_value, ParsesUnsigned}
 use Rattle.std.specs.Result.{result_ok}
 use Rattle.std.proofs.lemmas.Bool.{and_parts, cases_Bool}
 use Rattle.std.proofs.lemmas.Option.{cond_some}
@@ -10,8 +10,8 @@ use Rattle.std.proofs.lemmas.Str.Ascii.{IsAscii-from_reads}
 use Rattle.std.proofs.lemmas.Str.Parse.{IsNumeralModel, numerals_by_value, tells_all_ascii_digits, digit_at, parse_plain}
 use Rattle.std.proofs.lemmas.Slice.Eq.{bytes_eq-Decides}
 use Rattle.osc_script.specs.Words.{SpellsNumber, SpellsFormat}
-use Rattle.osc_script.specs.Reading.{◌>>=◌, number_in, short_number_in, format_in}
-use Rattle.osc_script.proofs.Found.{step_found, test_held, none_unless}
+use Rattle.osc_script.specs.Reading.{number_in, short_number_in, format_in}
+use Rattle.osc_script.proofs.Found.{step_found, none_unless}
 
 digits_model : IsNumeralModel (λ ds. all_ascii_digits ds ≡ true) (digits_value 10)
 digits_model = numerals_by_value (λ ds. all_ascii_digits ds ≡ true) tells_all_ascii_digits

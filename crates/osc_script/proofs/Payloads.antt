@@ -1,5 +1,5 @@
 -- A word spells bytes exactly where they are read, and they are those.
-use Rattle.std.proofs.Common.{◌≡◌, ℕ, zero, suc, ◌+◌, ◌*◌, ◌<◌, ◌==◌, Bool, true, false, cond, List, [], ◌∷◌, ◌++◌, length, get_or, replicate, Option, Some, None, Result, Ok, Err, codes, nat_lt, refl, sym, ap, subst, ◌∙◌, arith, inl, inr, ◌⊎◌, Bor, map, drop, add-one, drop-cons, drop_of_length-le, ◌≤◌, append_assoc, append-nil, eqb-true, bytes_eq, ltb-true, lt-ltb}
+use Rattle.std.proofs.Common.{◌≡◌, ℕ, ◌+◌, ◌*◌, ◌<◌, ◌==◌, Bool, true, false, List, [], ◌∷◌, ◌++◌, length, get_or, replicate, Option, Some, None, Result, Ok, Err, codes, nat_lt, refl, sym, ap, subst, ◌∙◌, arith, inl, inr, ◌⊎◌, Bor, map, drop, add-one, drop-cons, drop_of_length-le, ◌≤◌, append_assoc, append-nil, eqb-true, bytes_eq, ltb-true, lt-ltb}
 use Rattle.std.specs.Prelude.{slice_index}
 use Rattle.std.specs.List.{slice_split}
 use Rattle.std.proofs.lemmas.Bool.{cases_Bool}
@@ -10,7 +10,7 @@ use Rattle.hex.specs.declared.error.FromHexError.{FromHexError}
 use Rattle.hex.proofs.HexLemmas.{decode_of-ok}
 use Rattle.osc_script.specs.Words.{SpellsNumber, SpellsHex, SpellsRepeated, SpellParts, SpellsBytes}
 use Rattle.osc_script.specs.Reading.{◌>>=◌, number_in, decoded, hex_in, repeated_in, part_in, parts_in, bytes_in}
-use Rattle.osc_script.proofs.Found.{step_found, test_held, none_unless}
+use Rattle.osc_script.proofs.Found.{step_found, test_held}
 use Rattle.osc_script.proofs.Numbers.{number_found, number_again}
 
 decoded_ok : (r : Result (List ℕ) FromHexError) (bytes : List ℕ) → decoded r ≡ Some bytes → r ≡ Ok bytes
