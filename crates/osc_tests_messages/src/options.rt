@@ -252,7 +252,11 @@ fn an_encrypted_reply(rt: HostRuntime) -> Result<(), Fail> {
 fn printed(rt: HostRuntime) -> Result<(), Fail> {
     let alloc = rt.alloc();
     for (error, number, text) in [
-        (PlaintextError::Format, 13, "the plaintext is no such message"),
+        (
+            PlaintextError::Format,
+            13,
+            "the plaintext is no such message",
+        ),
         (
             PlaintextError::BadOption(3),
             15,
