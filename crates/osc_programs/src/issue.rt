@@ -3,7 +3,7 @@ ghost use Rattle.std.specs.Prelude.{◌≡◌, ◌≢◌, ◌⊎◌, ◌<◌, �
 ghost use Rattle.std.specs.Io.KnownBytes.{Appends};
 ghost use Rattle.rand_core.specs.Stream.{fill_bytes};
 ghost use Rattle.osc_cbor.specs.Spelling.{spelling};
-ghost use Rattle.osc_ccm.specs.declared.aead.TheConstants.{TEXT_LIMIT};
+ghost use Rattle.osc_token.specs.Minted.{most_claims};
 ghost use Rattle.osc_token.specs.Token.{claims_item};
 ghost use Rattle.osc_programs.specs.TokenLine as spec;
 
@@ -24,9 +24,9 @@ use std::random::RandomSource;
 pub fn token<W: Write>(alloc: Global, words: &TokenWords, iv: &[u8; 13], writer: &mut W) -> Ended
     ensures done { result ≡ Ended.Done → (text : List ℕ) × spec.IsTokenLine words.now.claims words.now.key iv.now text
         × Appends (W.contents writer.old) (W.contents writer.new) text }
-    ensures too_long { result ≡ Ended.BadCommandLine → (TEXT_LIMIT < length (spelling (claims_item words.now.claims)))
+    ensures too_long { result ≡ Ended.BadCommandLine → (most_claims < length (spelling (claims_item words.now.claims)))
         × Appends (W.contents writer.old) (W.contents writer.new) [] }
-    ensures never_too_long { TEXT_LIMIT < length (spelling (claims_item words.now.claims))
+    ensures never_too_long { most_claims < length (spelling (claims_item words.now.claims))
         → (result ≡ Ended.BadCommandLine) ⊎ (result ≡ Ended.OutOfMemory) }
     ensures memory { result ≡ Ended.OutOfMemory → Appends (W.contents writer.old) (W.contents writer.new) [] }
     ensures lines { (n : ℕ) → result ≢ Ended.BadLine n }
@@ -40,8 +40,8 @@ pub fn token<W: Write>(alloc: Global, words: &TokenWords, iv: &[u8; 13], writer:
 
 fn token_line(alloc: Global, words: &TokenWords, iv: &[u8; 13]) -> Result<String, MintError>
     ensures line { IfOk result (λ line. spec.IsTokenLine words.now.claims words.now.key iv.now (string_bytes line)) }
-    ensures short { IfOk result (λ _. length (spelling (claims_item words.now.claims)) ≤ TEXT_LIMIT) }
-    ensures too_long { result ≡ Err MintError.TooLong → TEXT_LIMIT < length (spelling (claims_item words.now.claims)) }
+    ensures short { IfOk result (λ _. length (spelling (claims_item words.now.claims)) ≤ most_claims) }
+    ensures too_long { result ≡ Err MintError.TooLong → most_claims < length (spelling (claims_item words.now.claims)) }
 {
     let mut bytes = Vec::new(alloc);
     mint::<Ccm<8>>(alloc, &words.claims, &words.key, iv, &mut bytes)?;
