@@ -157,7 +157,7 @@ static int oscore(void) {
         return 1;
     }
     timed("protect_request, 64 bytes", protect, 20000);
-    timed("unprotect_request, 64 bytes", unprotect, 20000);
+    timed("open_request, 64 bytes", unprotect, 20000);
     return 0;
 }
 
