@@ -241,14 +241,25 @@ fn uncounted_at(
     Ok(protect_uncounted::<Ccm<8>>(room, &sender, 20, &message, text).ok())
 }
 
+/// The bytes of that request, if it fits a datagram.
+fn uncounted_bytes(alloc: Global, text: &[u8]) -> Result<Option<Vec<u8>>, Fail> {
+    let name = name_of(alloc, &CONTEXTS[0])?;
+    match uncounted_at(alloc, &name, REQUESTS[0].message, text)? {
+        Some(made) => Ok(Some(Vec::from_slice(alloc, made.message.bytes())?)),
+        None => Ok(None),
+    }
+}
+
 #[test]
 fn uncounted_requests(rt: HostRuntime) -> Result<(), Fail> {
-    let alloc = rt.alloc();
-    let name = name_of(alloc, &CONTEXTS[0])?;
-    let made = uncounted_at(alloc, &name, REQUESTS[0].message, REQUEST_TEXT)?;
-    assert!(rt; made.is_some_and(|made| made.message.bytes() == REQUESTS[0].protected));
-    let made = uncounted_at(alloc, &name, REQUESTS[0].message, &[7; 1152])?;
-    assert!(rt; made.is_none());
+    let bytes = uncounted_bytes(rt.alloc(), REQUEST_TEXT)?;
+    assert!(rt; bytes.is_some_and(|bytes| bytes.as_slice() == REQUESTS[0].protected));
+    Ok(())
+}
+
+#[test]
+fn texts_that_are_too_long(rt: HostRuntime) -> Result<(), Fail> {
+    assert!(rt; uncounted_bytes(rt.alloc(), &[7; 1152])?.is_none());
     Ok(())
 }
 
