@@ -11,12 +11,11 @@
 mod cipher;
 mod field;
 mod key_expansion;
-mod laws;
+pub mod laws;
 mod sub_bytes;
 
 use cipher::cipher;
 use key_expansion::{Words, key_expansion};
-pub use laws::{a_block_is_sixteen_bytes, each_word_of_the_schedule, one_inverse};
 use std::marker::Model;
 
 /// A key of AES-128, expanded. Contracts see it as the 16 bytes of the key.

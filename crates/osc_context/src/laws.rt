@@ -44,7 +44,7 @@ pub fn derived_lengths()
     ensures key { (name : AnyName) (side : AnySide) → length (key_of name side) ≡ 16 }
     ensures common_iv { (name : AnyName) → length (common_iv_of name) ≡ 13 }
 {
-    osc_hkdf::lengths();
+    osc_hkdf::laws::lengths();
 }
 
 /// Master salts that are equal were joined of equal parts.

@@ -5,7 +5,7 @@
 
 mod encrypt0;
 mod error;
-mod laws;
+pub mod laws;
 mod opening;
 mod parsing;
 mod parts;
@@ -16,7 +16,6 @@ mod writing;
 
 pub use encrypt0::Encrypt0;
 pub use error::{OpenError, ParseError, SealError};
-pub use laws::{one_text, what_is_written};
 pub use opening::{open0, open0_into};
 pub use parsing::{object_of, parse0};
 pub use protected::names_algorithm;

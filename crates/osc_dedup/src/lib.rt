@@ -5,8 +5,7 @@
 //! stranger can make them collide: with at most 64 entries that costs no more than a walk over all of them.
 #![tactic(auto)]
 
-mod laws;
+pub mod laws;
 mod table;
 
-pub use laws::{expiring, one_table};
 pub use table::{Duplicates, Noted};

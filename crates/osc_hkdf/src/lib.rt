@@ -8,10 +8,9 @@
 
 mod error;
 mod hkdf;
-mod laws;
+pub mod laws;
 mod mac;
 
 pub use error::OutputTooLong;
 pub use hkdf::{expand, extract};
-pub use laws::{a_shorter_output_begins_a_longer, lengths};
 pub use mac::hmac;

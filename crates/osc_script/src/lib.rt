@@ -1,7 +1,7 @@
 //! Scripts of the simulation: what each line says, and where it may stand.
 #![tactic(auto)]
 
-mod laws;
+pub mod laws;
 mod line;
 mod node;
 mod place;
@@ -11,7 +11,6 @@ mod split;
 mod text;
 mod words;
 
-pub use laws::one_script;
 pub use line::{Line, Script};
 pub use node::Node;
 pub use read::{ScriptError, read_script};

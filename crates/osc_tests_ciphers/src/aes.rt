@@ -42,7 +42,7 @@ fn published_examples(rt: HostRuntime) {
         let got = cipher.encrypt(block.to_be_bytes());
         assert_eq!(rt; u128::from_be_bytes(got), want, "block {block}");
     }
-    a_block_is_sixteen_bytes();
-    one_inverse();
-    each_word_of_the_schedule();
+    laws::a_block_is_sixteen_bytes();
+    laws::one_inverse();
+    laws::each_word_of_the_schedule();
 }

@@ -148,7 +148,7 @@ fn published_codes(rt: HostRuntime) {
     for (key, text, code) in CODES {
         assert_eq!(rt; hmac(key, text), code, "at {text:?}");
     }
-    lengths();
+    laws::lengths();
 }
 
 #[test]
@@ -160,7 +160,7 @@ fn published_outputs(rt: HostRuntime) {
         assert!(rt; expand(&prk, info, &mut out[..length]).is_ok());
         assert_eq!(rt; &out[..length], output, "at {info:?}");
     }
-    a_shorter_output_begins_a_longer();
+    laws::a_shorter_output_begins_a_longer();
 }
 
 /// 8160 bytes are filled, and 8161 are refused and stay as they were.

@@ -24,7 +24,7 @@ pub fn minted_tokens<A: Aead>()
         → IsToken A.is_sealing key (spelling (object_item (token_object iv ciphertext))) algorithm_header iv text }
 {
     osc_cbor::laws::what_is_written();
-    osc_cose::what_is_written();
+    osc_cose::laws::what_is_written();
 }
 
 /// Where no check fails, the text of minted claims comes to the claims.
