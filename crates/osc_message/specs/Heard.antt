@@ -1,10 +1,11 @@
 -- What a datagram is to the message layer, beside what was heard before (RFC 7252 sections 4.2, 4.3 and 4.5).
-use Rattle.std.specs.Prelude.{ℕ, ◌/◌, Bool, ◌||◌, ◌&&◌, ◌==◌, nat_lt, nat_le, if◌then◌else◌, List, Option, Some, None, option_and_then}
+use Rattle.std.specs.Prelude.{ℕ, ◌/◌, Bool, ◌||◌, ◌==◌, nat_le, if◌then◌else◌, List, Option, Some, None, option_and_then}
 use Rattle.osc_model.specs.declared.bytes.Bytes.{Bytes}
 use Rattle.osc_model.specs.declared.node.Moment.{Moment}
 use Rattle.osc_model.specs.declared.node.Peer.{Peer}
 use Rattle.osc_coap.specs.declared.kind.Kind.{Kind}
 use Rattle.osc_coap.specs.declared.kind.Kind.TheVariants.{Confirmable, Acknowledgement, Reset as ResetKind}
+use Rattle.osc_coap.specs.Code.{is_request_code}
 use Rattle.osc_coap.specs.Message.{Message as CoapMessage}
 use Rattle.osc_dedup.specs.declared.table.Noted.{Noted}
 use Rattle.osc_dedup.specs.Table.{Entry, looked}
@@ -13,10 +14,7 @@ use Rattle.osc_message.specs.declared.received.Received.TheVariants as received
 use Rattle.osc_message.specs.declared.heard.Heard.{Heard}
 use Rattle.osc_message.specs.declared.heard.Heard.TheVariants.{Ignored, Reset, Repeat, Empty, Message}
 
--- requests are of class 0, but for 0.00; classes 1, 6 and 7 are reserved; the others are responses (section 3)
-abbrev pub is_request : ℕ → Bool
-is_request code = nat_lt 0 code && nat_lt code 32
-
+-- classes 1, 6 and 7 are reserved (section 3)
 abbrev pub is_reserved : ℕ → Bool
 is_reserved code = (code / 32 == 1) || nat_le 192 code
 
@@ -44,7 +42,7 @@ new_or_repeated message (Some noted) = repeated message.kind message.id
 -- A request or response: a confirmable or non-confirmable one is looked up; a response in an acknowledgement is none that
 -- could be repeated; requests in acknowledgements, and Resets that aren't empty, are ignored.
 abbrev pub carried : List Entry → Moment → Peer → Kind → CoapMessage → Heard
-carried seen now from Acknowledgement message = if is_request message.code then Ignored else Message message
+carried seen now from Acknowledgement message = if is_request_code message.code then Ignored else Message message
 carried seen now from ResetKind message = Ignored
 carried seen now from kind message = new_or_repeated message (looked now from message.id seen)
 

@@ -2,11 +2,11 @@
 use Rattle.std.specs.Prelude.{ℕ, Bool, true, false, not, if◌then◌else◌, List, [], Option, Some, None}
 use Rattle.osc_model.specs.Code.{code}
 use Rattle.osc_model.specs.declared.node.Draw.{Draw}
+use Rattle.osc_coap.specs.Code.{is_request_code}
 use Rattle.osc_coap.specs.declared.kind.Kind.{Kind}
 use Rattle.osc_coap.specs.declared.kind.Kind.TheVariants.{Confirmable, NonConfirmable, Acknowledgement, Reset as ResetKind}
 use Rattle.osc_coap.specs.Message.{Message}
 use Rattle.osc_coap.specs.Building.{bare}
-use Rattle.osc_message.specs.Heard.{is_request}
 use Rattle.osc_message.specs.Endpoint.{EndpointState, own_id, id_taken}
 
 abbrev pub is_confirmable : Kind → Bool
@@ -33,7 +33,7 @@ acknowledgement message = if is_confirmable message.kind then Some (empty_acknow
 -- (Bad Option) in its acknowledgement, a confirmable response is rejected, and all else is ignored.
 abbrev pub bad_option : Message → Option Message
 bad_option message =
-    if not (is_request message.code) then rejection message
+    if not (is_request_code message.code) then rejection message
     else if is_confirmable message.kind then Some (bare Acknowledgement (code 4 2).0 message.id message.token) else None
 
 -- ---- replies

@@ -1,10 +1,10 @@
 //! What a datagram is to the message layer (RFC 7252 sections 4.2, 4.3 and 4.5).
 ghost use Rattle.std.specs.Prelude.{◌≡◌};
 ghost use Rattle.osc_dedup.specs.Table.{looked};
-ghost use Rattle.osc_message.specs.Heard.{heard as heard_as, is_request as is_request_of, is_reserved as is_reserved_of, rejected, empty_heard, new_or_repeated, carried, message_heard};
+ghost use Rattle.osc_message.specs.Heard.{heard as heard_as, is_reserved as is_reserved_of, rejected, empty_heard, new_or_repeated, carried, message_heard};
 
 use crate::received::Received;
-use osc_coap::{Kind, MessageRef};
+use osc_coap::{Kind, MessageRef, is_request_code};
 use osc_dedup::Duplicates;
 use osc_model::{Moment, Peer};
 
@@ -21,13 +21,6 @@ pub enum Heard<'a> {
     Empty(Kind, u16),
     /// A request or a response that wasn't heard before.
     Message(MessageRef<'a>),
-}
-
-/// Whether this is the code of a request (RFC 7252 section 3).
-pub fn is_request(code: u8) -> bool
-    ensures { result ≡ is_request_of code }
-{
-    0 < code && code < 32
 }
 
 /// Whether this is a code of a reserved class.
@@ -85,7 +78,7 @@ fn hear_carried<'a>(
     ensures { result ≡ carried seen.now now from message.entry.kind message.entry }
 {
     match message.kind() {
-        Kind::Acknowledgement if is_request(message.code()) => Heard::Ignored,
+        Kind::Acknowledgement if is_request_code(message.code()) => Heard::Ignored,
         Kind::Acknowledgement => Heard::Message(message),
         Kind::Reset => Heard::Ignored,
         _ => hear_unless_seen(seen, now, from, message),

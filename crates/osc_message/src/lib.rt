@@ -23,7 +23,7 @@ pub use confirmable::initial_timeout;
 pub use due::Due;
 pub use endpoint::{Endpoint, QueueFull};
 pub use handling::Handling;
-pub use heard::{Heard, is_request};
+pub use heard::Heard;
 pub use name::{MessageName, MessageNames};
 pub use outbox::{Buffer, Outbox, ReplyRoom};
 pub use received::{Received, receive};

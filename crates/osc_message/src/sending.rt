@@ -2,8 +2,7 @@
 ghost use Rattle.std.specs.Prelude.{◌≡◌};
 ghost use Rattle.osc_message.specs.Sending.{is_confirmable as is_confirmable_of, reset as reset_message, empty_acknowledgement as empty_acknowledgement_of, rejection as rejection_of, acknowledgement as acknowledgement_of, bad_option as bad_option_of, reply_kind as reply_kind_of};
 
-use crate::heard::is_request;
-use osc_coap::{Kind, MessageBuilder, MessageRef};
+use osc_coap::{Kind, MessageBuilder, MessageRef, is_request_code};
 use osc_model::Code;
 
 /// Whether the kind is that of a confirmable message.
@@ -57,7 +56,7 @@ pub fn acknowledgement(message: &MessageRef<'_>) -> Option<MessageBuilder>
 pub fn bad_option(message: &MessageRef<'_>) -> Option<MessageBuilder>
     ensures { result ≡ bad_option_of message.now }
 {
-    if !is_request(message.code()) {
+    if !is_request_code(message.code()) {
         return rejection(message);
     }
     if !is_confirmable(message.kind()) {

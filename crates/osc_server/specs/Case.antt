@@ -3,6 +3,7 @@ use Rattle.std.specs.Prelude.{ℕ, Bool, true, false, ◌==◌, ◌&&◌, ◌||�
 use Rattle.std.specs.List.{list_any}
 use Rattle.osc_model.specs.Scope.{Scope}
 use Rattle.osc_model.specs.declared.request.Request.{Request}
+use Rattle.osc_coap.specs.Code.{is_request_code}
 use Rattle.osc_coap.specs.Message.{NumberAndValue, Message as CoapMessage}
 use Rattle.osc_coap.specs.declared.kind.Kind.{Kind}
 use Rattle.osc_coap.specs.declared.kind.Kind.TheVariants.{Confirmable}
@@ -13,7 +14,6 @@ use Rattle.osc_scope.specs.declared.verdict.Verdict.{Verdict}
 use Rattle.osc_scope.specs.declared.verdict.Verdict.TheVariants.{Granted}
 use Rattle.osc_message.specs.declared.heard.Heard.{Heard}
 use Rattle.osc_message.specs.declared.heard.Heard.TheVariants as heard
-use Rattle.osc_message.specs.Heard.{is_request}
 use Rattle.osc_server.specs.declared.case.Case.{Case}
 use Rattle.osc_server.specs.declared.case.Case.TheVariants.{Ignored, Reset, Repeated, Empty, BadOption, ProxyAsked, OpenGet, Unauthorised}
 
@@ -50,7 +50,7 @@ request_case open_scope message =
 -- A server sends no request, so it waits for no response: a confirmable one is rejected (sections 4.2 and 5.3.2).
 abbrev pub message_case : Scope → CoapMessage → Case
 message_case open_scope message =
-    if is_request message.code then request_case open_scope message
+    if is_request_code message.code then request_case open_scope message
     else if is_confirmable message.kind then Reset message.id else Ignored
 
 abbrev pub case_of : Scope → Heard → Case

@@ -1,12 +1,11 @@
 //! Which case a datagram is.
 ghost use Rattle.std.specs.Prelude.{◌≡◌, ◌||◌, is_some, if◌then◌else◌, IfOk, OnErr, IsTrue};
-ghost use Rattle.osc_message.specs.Heard.{is_request as is_request_of};
 ghost use Rattle.osc_options.specs.Requests.{request_of};
 ghost use Rattle.osc_options.specs.Recognised.{unrecognised_critical};
 ghost use Rattle.osc_server.specs.Case as spec;
 ghost use Rattle.osc_server.specs.Parts.{AsksGet, unrefused_case as spec_unrefused};
 
-use osc_coap::{Kind, MessageRef};
+use osc_coap::{Kind, MessageRef, is_request_code};
 use osc_message::Heard;
 use osc_model::Request;
 use osc_options::numbers::{OSCORE, PROXY_SCHEME, PROXY_URI};
@@ -36,13 +35,6 @@ pub enum Case<'a> {
 }
 
 const GET: u8 = 1;
-
-/// Whether the code is a method's (RFC 7252 section 12.1).
-fn is_request(code: u8) -> bool
-    ensures { result ≡ is_request_of code }
-{
-    0 < code && code < 32
-}
 
 /// Whether a message of this kind waits for an acknowledgement.
 pub fn is_confirmable(kind: Kind) -> bool
@@ -139,7 +131,7 @@ fn message_case<'a>(
     ensures get { IfOk result AsksGet }
     ensures needs_memory { OnErr result (spec.IsAnswered (spec.message_case open_scope.now message.entry)) }
 {
-    if is_request(message.code()) {
+    if is_request_code(message.code()) {
         request_case(alloc, open_scope, message)
     } else if is_confirmable(message.kind()) {
         Ok(Case::Reset(message.id()))
