@@ -1,5 +1,5 @@
 -- From the lines of a script to the lines of its trace.
-use Rattle.std.specs.Prelude.{◌≡◌, ℕ, ◌+◌, Bool, List, [], ◌∷◌, ◌++◌, length, None}
+use Rattle.std.specs.Prelude.{◌≡◌, ℕ, ◌+◌, Bool, List, [], ◌∷◌, ◌++◌, length}
 use Rattle.std.specs.FinMap as map
 use Rattle.std.specs.FinSet as set
 use Rattle.osc_model.specs.Tree.{Tree}
@@ -48,7 +48,6 @@ first_server lines = record {
   tree = tree_from map.empty lines;
   open_scope = scope_from set.empty lines;
   endpoint = fresh;
-  next_id = None;
 }
 
 -- a run begins so: at moment 0, with no event, and nothing sent

@@ -1,6 +1,6 @@
 -- What answered each message that is noted was a message.
 use Rattle.std.proofs.Common.{◌≡◌, ℕ, ◌+◌, ◌-◌, Bool, true, false, cond, List, [], ◌∷◌, length, find, drop, Option, Some, None, refl, subst, arith}
-use Rattle.std.specs.Prelude.{not, ◌&&◌, option_and_then}
+use Rattle.std.specs.Prelude.{not, ◌&&◌, if◌then◌else◌, option_and_then}
 use Rattle.std.specs.List.{All}
 use Rattle.std.specs.Option.{ForSome, option_map}
 use Rattle.std.proofs.lemmas.List.Elements.{All-nil, All-head, All-tail, All-push, All-filter, All-drop}
@@ -11,12 +11,14 @@ use Rattle.osc_coap.specs.Message.{Message}
 use Rattle.osc_dedup.specs.declared.table.Noted.{Noted}
 use Rattle.osc_dedup.specs.Table.{most_entries, Entry, is_alive, is_of, staying, with_note, alive}
 use Rattle.osc_model.specs.declared.bytes.Bytes.{Bytes}
+use Rattle.osc_model.specs.declared.node.Draw.{Draw}
 use Rattle.osc_model.specs.declared.node.Moment.{Moment}
 use Rattle.osc_model.specs.declared.node.Peer.{Peer}
 use Rattle.osc_message.specs.declared.handling.Handling.TheVariants.{Answered}
 use Rattle.osc_message.specs.declared.heard.Heard.TheVariants as heard
-use Rattle.osc_message.specs.Endpoint.{EndpointState, noted, settled}
+use Rattle.osc_message.specs.Endpoint.{EndpointState, id_taken, noted, settled}
 use Rattle.osc_message.specs.Heard.{noted_reply}
+use Rattle.osc_message.specs.Sending.{is_confirmable, replied}
 use Rattle.osc_server.specs.Parts.{IsMessage, KeepsMessages, SendsTo}
 
 abbrev IsKept : Entry → Type 0
@@ -45,6 +47,14 @@ these bytes message = λ same e. subst IsMessage (same_Some bytes same e) messag
 pub answered_kept : (state : EndpointState) (now : Moment) (peer : Peer) (message : Message) (bytes : Bytes) → IsMessage bytes → KeepsMessages state.seen → KeepsMessages (settled state now peer (heard.Message message) (Answered (Some bytes))).seen
 answered_kept state now peer message bytes spelled kept =
     noted_kept state.seen now peer message.kind message.id (Some bytes) (these bytes spelled) kept
+
+-- a reply that takes a message ID notes nothing yet
+pub replied_kept : (draw : Draw) (request : Message) (state : EndpointState) → KeepsMessages state.seen → KeepsMessages (replied draw request state).seen
+replied_kept draw request state kept = by (is_confirmable request.kind)
+  where
+    by : (b : Bool) → KeepsMessages (if b then state else id_taken draw state).seen
+    by true = kept
+    by false = kept
 
 -- ---- what is noted
 

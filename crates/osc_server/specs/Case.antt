@@ -5,8 +5,6 @@ use Rattle.osc_model.specs.Scope.{Scope}
 use Rattle.osc_model.specs.declared.request.Request.{Request}
 use Rattle.osc_coap.specs.Code.{is_request_code}
 use Rattle.osc_coap.specs.Message.{NumberAndValue, Message as CoapMessage}
-use Rattle.osc_coap.specs.declared.kind.Kind.{Kind}
-use Rattle.osc_coap.specs.declared.kind.Kind.TheVariants.{Confirmable}
 use Rattle.osc_options.specs.Requests.{request_of}
 use Rattle.osc_options.specs.Recognised.{unrecognised_critical}
 use Rattle.osc_scope.specs.Verdict.{verdict_of}
@@ -14,12 +12,9 @@ use Rattle.osc_scope.specs.declared.verdict.Verdict.{Verdict}
 use Rattle.osc_scope.specs.declared.verdict.Verdict.TheVariants.{Granted}
 use Rattle.osc_message.specs.declared.heard.Heard.{Heard}
 use Rattle.osc_message.specs.declared.heard.Heard.TheVariants as heard
+use Rattle.osc_message.specs.Sending.{is_confirmable}
 use Rattle.osc_server.specs.declared.case.Case.{Case}
 use Rattle.osc_server.specs.declared.case.Case.TheVariants.{Ignored, Reset, Repeated, Empty, BadOption, ProxyAsked, OpenGet, Unauthorised}
-
-abbrev pub is_confirmable : Kind → Bool
-is_confirmable Confirmable = true
-is_confirmable kind = false
 
 abbrev pub has_option : ℕ → List NumberAndValue → Bool
 has_option number options = list_any (λ option. option.0 == number) options

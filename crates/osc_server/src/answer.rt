@@ -1,63 +1,32 @@
 //! The messages and the datagrams that answer.
-ghost use Rattle.std.specs.Prelude.{◌≡◌, ◌+◌, ◌%◌, [], ◌∷◌, IfOk, IfSome};
+ghost use Rattle.std.specs.Prelude.{◌≡◌, [], ◌∷◌, IfOk};
 ghost use Rattle.osc_coap.specs.Message.{HasSpelling, spelling};
 ghost use Rattle.osc_model.specs.Step.{sends};
 ghost use Rattle.osc_server.specs.Parts.{IsShort};
-ghost use Rattle.osc_server.specs.Table.{datagram, reset as reset_message, own_id as own_id_of, reply_to as reply_to_of, next_id_after as next_id_after_of};
+ghost use Rattle.osc_server.specs.Table.{datagram, reply_to as reply_to_of};
 
-use crate::case::is_confirmable;
 use osc_coap::laws::length_of_spelling;
-use osc_coap::{Kind, MessageBuilder, MessageRef};
+use osc_coap::{MessageBuilder, MessageRef};
+use osc_message::{Endpoint, ReplyRoom, reply_kind};
 use osc_model::{Bytes, Datagram, Datagrams, Draw, Peer, Reply, Step};
 use osc_options::reply_message;
 use std::alloc::{AllocError, Global};
 
-/// The Reset message that rejects the message of this ID (RFC 7252 section 4.2).
-pub fn reset(id: u16) -> MessageBuilder
-    ensures { result ≡ reset_message id }
-{
-    MessageBuilder::start(Kind::Reset, 0, id, &[])
-}
-
-/// The message ID of the server's next own message (RFC 7252 section 4.4): at first it is drawn.
-fn own_id(draw: &Draw, next_id: Option<u16>) -> u16
-    ensures { result ≡ own_id_of draw.now next_id }
-{
-    match next_id {
-        Some(id) => id,
-        None => draw.message_id(),
-    }
-}
-
 /// The message that carries the reply: the acknowledgement of a confirmable request (RFC 7252 section 5.2.1), and a message
 /// of the server's own for another (section 5.2.3).
 pub fn reply_to(
-    next_id: Option<u16>,
+    endpoint: &Endpoint,
     draw: &Draw,
     request: &MessageRef<'_>,
     reply: &Reply,
 ) -> MessageBuilder
     requires { IsShort reply.now }
-    ensures { result ≡ reply_to_of next_id draw.now request.now reply.now }
+    ensures { result ≡ reply_to_of endpoint.now draw.now request.now reply.now }
 {
     length_of_spelling();
-    let (kind, id) = if is_confirmable(request.kind()) {
-        (Kind::Acknowledgement, request.id())
-    } else {
-        (Kind::NonConfirmable, own_id(draw, next_id))
-    };
+    let kind = reply_kind(request.kind());
+    let id = endpoint.reply_id(draw, request);
     reply_message(kind, id, request.token(), reply).unwrap()
-}
-
-/// The message ID that the server's next own message takes once this request is answered.
-pub fn next_id_after(next_id: Option<u16>, draw: &Draw, request: &MessageRef<'_>) -> Option<u16>
-    ensures { result ≡ next_id_after_of next_id draw.now request.now }
-{
-    if is_confirmable(request.kind()) {
-        next_id
-    } else {
-        Some(own_id(draw, next_id).wrapping_add(1))
-    }
 }
 
 /// The step that sends these bytes to the peer.
@@ -88,6 +57,8 @@ pub fn sending_and_noted(
     ensures noted { IfOk result (λ both. both.1 ≡ spelling message.now) }
     ensures lawful { IfOk result (λ _. HasSpelling message.now) }
 {
-    let noted = Bytes::from_slice(alloc, message.bytes())?;
-    Ok((sending(alloc, to, message)?, noted))
+    let bytes = message.bytes();
+    let room = ReplyRoom::new(alloc, bytes.len())?;
+    let (out, noted) = room.fill(to, bytes);
+    Ok((Step::sending(out), noted))
 }

@@ -6,7 +6,7 @@ ghost use Rattle.osc_server.specs.Case as spec;
 ghost use Rattle.osc_server.specs.Parts.{AsksGet, unrefused_case as spec_unrefused};
 
 use osc_coap::{Kind, MessageRef, is_request_code};
-use osc_message::Heard;
+use osc_message::{Heard, is_confirmable};
 use osc_model::Request;
 use osc_options::numbers::{OSCORE, PROXY_SCHEME, PROXY_URI};
 use osc_options::{has_option, request_of_message, unrecognised_critical};
@@ -35,16 +35,6 @@ pub enum Case<'a> {
 }
 
 const GET: u8 = 1;
-
-/// Whether a message of this kind waits for an acknowledgement.
-pub fn is_confirmable(kind: Kind) -> bool
-    ensures { result ≡ spec.is_confirmable kind }
-{
-    match kind {
-        Kind::Confirmable => true,
-        _ => false,
-    }
-}
 
 /// Whether the request is a GET that the open scope grants.
 fn is_open(open_scope: &Scope, request: &Request) -> bool

@@ -1,5 +1,5 @@
 //! The server.
-ghost use Rattle.std.specs.Prelude.{◌≡◌, ◌≤◌, ◌<◌, [], ◌∷◌, None, length, IfOk, OnErr};
+ghost use Rattle.std.specs.Prelude.{◌≡◌, ◌≤◌, ◌<◌, [], ◌∷◌, length, IfOk, OnErr};
 ghost use Rattle.std.specs.List.{All};
 ghost use Rattle.osc_coap.specs.Message.{Message, Spells};
 ghost use Rattle.osc_message.specs.declared.handling.Handling.TheVariants.{Dropped};
@@ -15,10 +15,10 @@ ghost use Rattle.osc_server.specs.Case.{IsAnswered, case_of as case_in};
 ghost use Rattle.osc_server.specs.Parts.{AsksGet, IsShort, SendsTo, KeepsMessages};
 ghost use Rattle.osc_server.specs.Table.{Answers, Replies, again};
 
-use crate::answer::{next_id_after, reply_to, reset, sending, sending_and_noted, sending_bytes};
+use crate::answer::{reply_to, sending, sending_and_noted, sending_bytes};
 use crate::case::{Case, case_of};
 use osc_coap::{Kind, MessageRef};
-use osc_message::{Endpoint, Handling, Heard};
+use osc_message::{Endpoint, Handling, Heard, reset};
 use osc_model::{Code, Datagrams, Draw, Moment, Peer, Reply, Request, Step};
 use osc_scope::Scope;
 use osc_tree::Tree;
@@ -31,8 +31,6 @@ pub struct Server {
     tree: Tree,
     open_scope: Scope,
     endpoint: Endpoint,
-    // The message ID of the next message of its own, once it has sent one.
-    next_id: Option<u16>,
 }
 
 impl Model for Server {
@@ -46,7 +44,7 @@ impl Model for Server {
 
     ghost coded = { Prim.hlevel (codes, coded_scope, coded_tree) };
 
-    ghost view = { λ s. record { tree = s.tree; open_scope = s.open_scope; endpoint = s.endpoint; next_id = s.next_id } };
+    ghost view = { λ s. record { tree = s.tree; open_scope = s.open_scope; endpoint = s.endpoint } };
 
     ghost invariant = { λ s. KeepsMessages s.endpoint.seen };
 }
@@ -55,14 +53,13 @@ impl Server {
     /// A server of these resources, on which the open scope's GETs need no protection. It has heard nothing yet; the room
     /// for what it hears is taken here.
     pub fn new(alloc: Global, tree: Tree, open_scope: Scope) -> Result<Server, AllocError>
-        ensures { IfOk result (λ server. server ≡ record { tree = tree; open_scope = open_scope; endpoint = fresh; next_id = None }) }
+        ensures { IfOk result (λ server. server ≡ record { tree = tree; open_scope = open_scope; endpoint = fresh }) }
     {
         let endpoint = Endpoint::new(alloc)?;
         Ok(Server {
             tree,
             open_scope,
             endpoint,
-            next_id: None,
         })
     }
 
@@ -212,9 +209,9 @@ impl Server {
         ensures sent { IfOk result (λ step. SendsTo from step.out) }
         ensures err { OnErr result (self.new ≡ self.old) }
     {
-        let message = reply_to(self.next_id, draw, &request, reply);
+        let message = reply_to(&self.endpoint, draw, &request, reply);
         let (step, noted) = sending_and_noted(alloc, from, &message)?;
-        self.next_id = next_id_after(self.next_id, draw, &request);
+        self.endpoint.take_reply_id(draw, &request);
         self.endpoint.settle(
             now,
             from,
