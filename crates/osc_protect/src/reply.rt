@@ -60,12 +60,16 @@ impl ReplyRight {
         self.number
     }
 
-    /// Gives the right up without a reply.
-    pub fn forgo(self) {
+    /// Gives the right up without a reply: the number of the request.
+    pub fn forgo(self) -> u64
+        ensures value { result ≡ self.number }
+        ensures lawful { result ≤ greatest_number }
+    {
         let ReplyRight {
             context: _context,
-            number: _,
+            number,
         } = self;
+        number
     }
 
     /// Uses the right up: the name of the context, and the number of the request.
