@@ -2,7 +2,7 @@
 use Rattle.std.proofs.Common.{◌≡◌, ℕ, ◌+◌, ◌≤◌, List, [], ◌∷◌, length, None, refl, ap, ◌∙◌, sym, arith, replicate}
 use Rattle.std.proofs.lemmas.List.{length-replicate}
 use Rattle.osc_coap.specs.Message.{Message, spelling}
-use Rattle.osc_coap.specs.Length.{payload_length, spelled_length}
+use Rattle.osc_coap.specs.Length.{payload_length}
 use Rattle.osc_coap.specs.Building.{payload_of, with_payload}
 use Rattle.osc_options.specs.Split.{protected}
 

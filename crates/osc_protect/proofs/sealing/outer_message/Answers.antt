@@ -1,6 +1,6 @@
 use Rattle.std.proofs.Common.{refl, arith}
 use Rattle.osc_protect.proofs.LengthLemmas.{protected_length, built_length}
-use Rattle.std.proofs.Common.{ℕ, replicate}
+use Rattle.std.proofs.Common.{replicate}
 use Rattle.osc_protect.proofs.sealing.outer_message.Goals as goal
 
 pub returns-in_default-clause-fits : goal.returns-in_default-clause-fits

@@ -1,4 +1,4 @@
-use Rattle.std.proofs.Common.{◌≡◌, ℕ, ◌+◌, length, replicate, ap, ◌∙◌, arith}
+use Rattle.std.proofs.Common.{ℕ, ◌+◌, length, replicate, ap, arith}
 use Rattle.std.proofs.lemmas.List.{length-replicate}
 use Rattle.osc_protect.proofs.LengthLemmas.{same_length, least_length}
 use Rattle.osc_protect.proofs.sealing.seal.Goals as goal
