@@ -1,87 +1,15 @@
 -- What look-ups over a table find.
-use Rattle.std.proofs.Common.{◌≡◌, ℕ, zero, suc, ◌+◌, ◌-◌, ◌<◌, ◌≤◌, Bool, true, false, not, cond, ◌&&◌, ◌||◌, List, [], ◌∷◌, ◌++◌, length, map, get_or, set, take, drop, Option, Some, None, refl, sym, ap, ap₂, ◌∙◌, inl, inr, below_more, arith, position, nat_lt}
-use Rattle.std.specs.List.{All, AllByRecursion, Contains, IsDistinct, find, list_any, position_or_len}
-use Rattle.std.specs.Option.{IfSome, option_map_or}
-use Rattle.std.specs.Bool.{Decides}
+use Rattle.std.proofs.Common.{◌≡◌, ℕ, zero, suc, ◌+◌, ◌-◌, ◌<◌, ◌≤◌, Bool, true, false, not, cond, List, [], ◌∷◌, ◌++◌, length, map, get_or, set, take, drop, Option, Some, None, refl, sym, ap, ap₂, ◌∙◌, arith, position, nat_lt}
+use Rattle.std.specs.List.{All, AllByRecursion, IsDistinct, find, position_or_len}
+use Rattle.std.specs.Option.{IfSome}
 use Rattle.std.specs.Str.{bytes_eq}
-use Rattle.std.proofs.lemmas.Bool.{both_ways, cases_lt, ltb-true, ltb-false}
+use Rattle.std.proofs.lemmas.Bool.{both_ways, ltb-true, ltb-false}
 use Rattle.std.proofs.lemmas.List.{length-map, length-take-le, get_or-append_right, get_or-drop}
 use Rattle.std.proofs.lemmas.List.Elements.{All-from_recursion, recursion_from_All}
-use Rattle.std.proofs.lemmas.List.Folds.{list_any-append}
-use Rattle.std.proofs.lemmas.Map.Made.{is_member-Decides}
 use Rattle.std.proofs.lemmas.Slice.Eq.{bytes_eq-Decides}
-use Rattle.osc_model.specs.declared.node.Moment.{Moment}
 use Rattle.osc_authz.specs.declared.holding.Holding.{Holding}
 use Rattle.osc_authz.specs.Held.{Held}
-use Rattle.osc_authz.specs.InUse.{keeps_id}
-use Rattle.osc_authz.specs.Table.{IsTable, alive, contexts, has_id, holds_live, ids, listed, with_id, without_pending, without_pending_in, with_pending}
-use Rattle.osc_authz.proofs.Parts.{part_filter, part_length}
-use Rattle.osc_authz.proofs.Pigeon.{crowded}
-use Rattle.osc_authz.proofs.TableLaws.{two_each}
-
--- ---- which recipient IDs are in use
-
-any_listed : (id : List ℕ) (context : Option Held) → list_any (has_id id) (listed context) ≡ option_map_or (has_id id) context false
-any_listed id None = refl
-any_listed id (Some held) = by (has_id id held)
-  where
-    by : (b : Bool) → (b || false) ≡ b
-    by true = refl
-    by false = refl
-
-any_in : (id : List ℕ) (holding : Holding) → list_any (has_id id) (listed holding.confirmed ++ listed holding.pending) ≡ (option_map_or (has_id id) holding.confirmed false || option_map_or (has_id id) holding.pending false)
-any_in id holding =
-    list_any-append (has_id id) (listed holding.confirmed) (listed holding.pending) ∙ ap₂ (λ (x : Bool) (y : Bool). x || y) (any_listed id holding.confirmed) (any_listed id holding.pending)
-
-kept_in : (token id : List ℕ) (holding : Holding)
-    → keeps_id token id holding ≡ list_any (has_id id) (listed (without_pending_in token holding).confirmed ++ listed (without_pending_in token holding).pending)
-kept_in token id holding = by (bytes_eq token holding.id)
-  where
-    by : (b : Bool) → (option_map_or (has_id id) holding.confirmed false || (not b && option_map_or (has_id id) holding.pending false))
-        ≡ list_any (has_id id) (listed (cond b (record holding { pending = None }) holding).confirmed ++ listed (cond b (record holding { pending = None }) holding).pending)
-    by true = sym (any_in id (record holding { pending = None }))
-    by false = sym (any_in id holding)
-
-kept_any : (token id : List ℕ) (table : List Holding) → list_any (keeps_id token id) table ≡ list_any (has_id id) (contexts (without_pending token table))
-kept_any token id [] = refl
-kept_any token id (holding ∷ table) =
-    let changed : Holding = without_pending_in token holding in
-    ap₂ (λ (x : Bool) (y : Bool). x || y) (kept_in token id holding) (kept_any token id table)
-    ∙ sym (list_any-append (has_id id) (listed changed.confirmed ++ listed changed.pending) (contexts (without_pending token table)))
-
-any_id : (id : List ℕ) (held : List Held) → list_any (bytes_eq id) (map (λ context. context.name.client_id) held) ≡ list_any (has_id id) held
-any_id id [] = refl
-any_id id (x ∷ xs) = ap (λ b. has_id id x || b) (any_id id xs)
-
--- the test tells which IDs are taken
-pub is_taken_decides : (token client_id id : List ℕ) (table : List Holding)
-    → Decides (bytes_eq id client_id || list_any (keeps_id token id) table) (Contains (client_id ∷ ids (without_pending token table)) id)
-is_taken_decides token client_id id table =
-    let same : (bytes_eq id client_id || list_any (keeps_id token id) table) ≡ list_any (bytes_eq id) (client_id ∷ ids (without_pending token table)) =
-    ap (λ b. bytes_eq id client_id || b) (kept_any token id table ∙ sym (any_id id (contexts (without_pending token table))))
-    in
-    rw same (is_member-Decides bytes_eq-Decides (client_id ∷ ids (without_pending token table)) id)
-
--- where a byte and all lower ones are taken, there is a greater byte
-pub one_is_free : (now : Moment) (token client_id : List ℕ) (table : List Holding) (byte : ℕ) → IsTable table
-    → ((lower : ℕ) → lower < byte → Contains (client_id ∷ ids (without_pending token (alive now table))) (lower ∷ []))
-    → Contains (client_id ∷ ids (without_pending token (alive now table))) (byte ∷ []) → byte + 1 < 256
-one_is_free now token client_id table byte is_table below here =
-    elim (cases_lt (byte + 1) 256) [
-      | inl less ↦ less
-      | inr none ↦ absurd (omega (arith, crowded 256 taken (λ k less. all k (omega (arith, less, none))), few))
-    ]
-  where
-    taken : List (List ℕ)
-    taken = client_id ∷ ids (without_pending token (alive now table))
-
-    all : (k : ℕ) → k < byte + 1 → Contains taken (k ∷ [])
-    all = below_more (λ k. Contains taken (k ∷ [])) byte below here
-
-    few : length taken ≤ 129
-    few =
-        let known : List Holding = without_pending token (alive now table) in
-        omega (arith, length-map (contexts known) (λ held. held.name.client_id), two_each known, length-map (alive now table) (without_pending_in token), part_length (part_filter (holds_live now) table), is_table.few)
+use Rattle.osc_authz.specs.Table.{IsTable, contexts, has_id, listed, with_id, with_pending}
 
 -- ---- a request opened
 

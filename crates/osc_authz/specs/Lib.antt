@@ -2,7 +2,7 @@
 pub mod Exchange
 pub mod Held
 pub mod Table
-pub mod InUse
+pub mod Marks
 pub mod Desk
 pub mod Post
 pub mod Begun

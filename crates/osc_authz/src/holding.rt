@@ -4,7 +4,6 @@ ghost use Rattle.std.specs.Prelude.{◌≡◌, ◌++◌, true, false, find, opti
 ghost use Rattle.std.specs.Option.{option_map_or, IfSome};
 ghost use Rattle.osc_window.specs.Window.{IsFresh};
 ghost use Rattle.osc_authz.specs.Table.{is_live as is_live_of, holds_live as holds_live_of, listed, has_id, taking, accepted_in};
-ghost use Rattle.osc_authz.specs.InUse.{keeps_id as keeps_id_of};
 
 use crate::context::ServerContext;
 use osc_model::{Bytes, Moment};
@@ -73,13 +72,6 @@ impl Holding {
         } else {
             None
         }
-    }
-
-    /// Whether a context has this recipient ID, once the pending one of this token id has gone.
-    pub fn keeps_id(&self, token: &[u8], id: &[u8]) -> bool
-        ensures { result ≡ keeps_id_of token.now id.now self.now }
-    {
-        is_of(&self.confirmed, id) || (!self.is_of_token(token) && is_of(&self.pending, id))
     }
 
     /// The window of the context with this recipient ID takes this fresh number. If it was pending, it is confirmed, and the

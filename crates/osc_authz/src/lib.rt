@@ -13,6 +13,7 @@ mod error;
 mod granted;
 mod holding;
 pub mod laws;
+mod marks;
 mod payload;
 mod post;
 mod table;

@@ -1,14 +1,14 @@
 //! The table of a desk: look-ups, what is full, which recipient ID is free, and one more pending context.
 
-ghost use Rattle.std.specs.Prelude.{◌≡◌, ◌↔◌, ◌<◌, ◌≤◌, ◌∷◌, [], true, length, option_map, bytes_eq, position, IsTrue};
-ghost use Rattle.std.specs.List.{All, Contains, list_any};
+ghost use Rattle.std.specs.Prelude.{◌≡◌, ◌↔◌, ◌<◌, ◌≤◌, ◌∷◌, true, length, option_map, bytes_eq, position, IsTrue};
+ghost use Rattle.std.specs.List.{All};
 ghost use Rattle.std.specs.Vec.{vec_len, vec_capacity};
 ghost use Rattle.osc_window.specs.Window.{IsFresh};
 ghost use Rattle.osc_authz.specs.Table.{IsTable, IsFull, IsLeastFree, accepted, alive, contexts, has_id, has_token, ids, with_id as with_id_of, without_pending, with_pending};
-ghost use Rattle.osc_authz.specs.InUse.{keeps_id};
 
 use crate::context::ServerContext;
 use crate::holding::Holding;
+use crate::marks::{least_unmarked, mark, mark_staying};
 use osc_model::{Bytes, Moment};
 
 /// How many token ids have a context at most.
@@ -50,11 +50,14 @@ pub(crate) fn free_id(table: &[Holding], now: Moment, token: &[u8], client_id: &
     requires { IsTable table.now }
     ensures { IsLeastFree (client_id.now ∷ ids (without_pending token.now (alive now table.now))) result }
 {
-    let mut byte = 0;
-    while is_taken(table, now, token, client_id, byte) {
-        byte += 1;
+    let mut marks = [false; 256];
+    mark(&mut marks, client_id);
+    mark_staying(&mut marks, table, now, token);
+    match least_unmarked(&marks) {
+        Some(byte) => byte as u8,
+        // 128 contexts and the client have fewer IDs than there are bytes.
+        None => unreachable!(),
     }
-    byte
 }
 
 /// Lets the token ids without a live context go, and adds this pending one, for which there is room.
@@ -89,25 +92,6 @@ fn has_alive(table: &[Holding], now: Moment, token: &[u8]) -> bool
         .iter()
         .filter(|holding| holding.holds_live(now))
         .any(|holding| holding.is_of_token(token))
-}
-
-/// Whether the byte is a recipient ID in use, once the dead and the pending context of this token id have gone, or the
-/// client's ID.
-fn is_taken(table: &[Holding], now: Moment, token: &[u8], client_id: &[u8], byte: u8) -> bool
-    ensures { IsTrue result ↔ Contains (client_id.now ∷ ids (without_pending token.now (alive now table.now))) (byte ∷ []) }
-{
-    let id = [byte];
-    id.as_slice() == client_id || is_in_use(table, now, token, &id)
-}
-
-/// Whether a recipient ID is in use, once the dead and the pending context of this token id have gone.
-fn is_in_use(table: &[Holding], now: Moment, token: &[u8], id: &[u8]) -> bool
-    ensures { result ≡ list_any (keeps_id token.now id.now) (alive now table.now) }
-{
-    table
-        .iter()
-        .filter(|holding| holding.holds_live(now))
-        .any(|holding| holding.keeps_id(token, id))
 }
 
 /// Lets the token ids without a live context go.

@@ -1,13 +1,14 @@
-use Rattle.std.proofs.Common.{below_more, ◌+◌, ◌<◌, arith}
-use Rattle.osc_authz.proofs.Lookups.{one_is_free}
+use Rattle.std.proofs.Common.{sym, ◌∙◌}
+use Rattle.osc_authz.specs.Table.{alive, ids, without_pending}
+use Rattle.osc_authz.proofs.MarkLemmas.{least_is_free, one_is_unmarked}
 use Rattle.osc_authz.proofs.table.free_id.Goals as goal
 
-pub overflow_add-byte : goal.overflow_add-byte
-overflow_add-byte c =
-    let free : c.loop-now.byte + 1 < 256 =
-    one_is_free c.args.now c.args.token.now c.args.client_id.now c.args.table.now c.loop-now.byte c.requires c.loop-now.invariant (c.is_taken.ensures.0 c.loop-now-test.true)
-    in
-    omega arith
+pub unreachable-requires : goal.unreachable-requires
+unreachable-requires c =
+    one_is_unmarked c.args.now c.args.token.now c.args.client_id.now c.args.table.now c.mark.new.marks c.mark_staying.new.marks c.requires
+    c.mark.ensures c.mark_staying.ensures c.mark_staying.array_long (sym c.least_unmarked.ensures ∙ c.in-None.is)
 
-pub loop-now-preserved : goal.loop-now-preserved
-loop-now-preserved c = below_more _ _ c.loop-now.invariant (c.is_taken.ensures.0 c.loop-now-test.true)
+pub returns : goal.returns
+returns c =
+    least_is_free c.args.client_id.now (ids (without_pending c.args.token.now (alive c.args.now c.args.table.now))) c.mark.new.marks c.mark_staying.new.marks c.in-Some.byte
+    c.mark.ensures c.mark_staying.ensures c.mark_staying.array_long (sym c.least_unmarked.ensures ∙ c.in-Some.is)

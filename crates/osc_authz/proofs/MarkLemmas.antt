@@ -1,0 +1,126 @@
+-- Marks of the recipient IDs in use.
+use Rattle.std.proofs.Common.{◌≡◌, ℕ, ◌<◌, ◌≤◌, Bool, true, false, not, cond, ◌||◌, List, [], ◌∷◌, ◌++◌, Some, None, length, map, position, nat_lt, replicate, get_or, drop, drop-cons, add-one, suc, ◌+◌, refl, sym, ap, ◌∙◌, arith}
+use Rattle.std.specs.List.{Contains, position_or_len}
+use Rattle.std.specs.Bool.{Decides}
+use Rattle.std.specs.Str.{bytes_eq}
+use Rattle.std.proofs.Math.Bool.{or_assoc, or_comm}
+use Rattle.std.proofs.lemmas.Bool.{both_ways, ltb-false, not-true, not-false}
+use Rattle.std.proofs.lemmas.List.{length-map, get_or-replicate}
+use Rattle.std.proofs.lemmas.List.Quantifiers.{position-Some}
+use Rattle.std.proofs.lemmas.List.Sums.{fails_before_first}
+use Rattle.std.proofs.lemmas.Map.Made.{is_member-Decides}
+use Rattle.std.proofs.lemmas.Slice.Eq.{bytes_eq-Decides}
+use Rattle.osc_model.specs.declared.node.Moment.{Moment}
+use Rattle.osc_authz.specs.declared.holding.Holding.{Holding}
+use Rattle.osc_authz.specs.Held.{Held}
+use Rattle.osc_authz.specs.Marks.{AddsMarks, is_among, is_marked}
+use Rattle.osc_authz.specs.Table.{IsTable, IsLeastFree, alive, contexts, holds_live, ids, listed, without_pending, without_pending_in}
+use Rattle.osc_authz.proofs.Parts.{part_filter, part_length}
+use Rattle.osc_authz.proofs.Pigeon.{crowded}
+use Rattle.osc_authz.proofs.TableLaws.{two_each}
+
+-- ---- the IDs of some holdings, and of those behind them
+
+among_more : (held rest : List Held) (byte : ℕ)
+    → is_among (map (λ context. context.name.client_id) (held ++ rest)) byte
+    ≡ (is_among (map (λ context. context.name.client_id) (held ++ [])) byte || is_among (map (λ context. context.name.client_id) rest) byte)
+among_more [] rest byte = refl
+among_more (x ∷ xs) rest byte =
+    ap (λ b. bytes_eq (byte ∷ []) x.name.client_id || b) (among_more xs rest byte)
+    ∙ sym (or_assoc (bytes_eq (byte ∷ []) x.name.client_id) (is_among (map (λ context. context.name.client_id) (xs ++ [])) byte) (is_among (map (λ context. context.name.client_id) rest) byte))
+
+pub staying_more : (now : Moment) (token : List ℕ) (holding : Holding) (table : List Holding) (byte : ℕ)
+    → is_among (ids (without_pending token (alive now (holding ∷ table)))) byte
+    ≡ (is_among (ids (without_pending token (alive now (holding ∷ [])))) byte || is_among (ids (without_pending token (alive now table))) byte)
+staying_more now token holding table byte = by (holds_live now holding)
+  where
+    rest : List Holding
+    rest = alive now table
+
+    changed : Holding
+    changed = without_pending_in token holding
+
+    by : (b : Bool) → is_among (ids (without_pending token (cond b (holding ∷ rest) rest))) byte
+        ≡ (is_among (ids (without_pending token (cond b (holding ∷ []) []))) byte || is_among (ids (without_pending token rest)) byte)
+    by true = among_more (listed changed.confirmed ++ listed changed.pending) (contexts (without_pending token rest)) byte
+    by false = refl
+
+-- what is yet to be marked, once one more holding has been gone over
+pub marked_more : (now : Moment) (token : List ℕ) (table : List Holding) (i : ℕ) (holding : Holding) (byte : ℕ) (old new all : Bool)
+    → i < length table → holding ≡ get_or table i holding
+    → new ≡ (is_among (ids (without_pending token (alive now (holding ∷ [])))) byte || old)
+    → (is_among (ids (without_pending token (alive now (drop i table)))) byte || old) ≡ all
+    → (is_among (ids (without_pending token (alive now (drop (i + 1) table)))) byte || new) ≡ all
+marked_more now token table i holding byte old new all within is marked before =
+    ap (λ b. staying rest || b) marked
+    ∙ sym (or_assoc (staying rest) (staying (holding ∷ [])) old)
+    ∙ ap (λ b. b || old) (or_comm (staying rest) (staying (holding ∷ [])) ∙ sym (staying_more now token holding rest byte))
+    ∙ ap (λ holdings. staying holdings || old) (sym parts)
+    ∙ before
+  where
+    rest : List Holding
+    rest = drop (i + 1) table
+
+    staying : List Holding → Bool
+    staying = λ holdings. is_among (ids (without_pending token (alive now holdings))) byte
+
+    parts : drop i table ≡ holding ∷ rest
+    parts = rw (add-one, drop-cons table i holding) (ap (λ h. h ∷ drop (suc i) table) (sym is))
+
+-- ---- a free byte
+
+-- Where a client's ID and others were marked, each byte is marked exactly where it is one of these IDs.
+all_marked : (client_id : List ℕ) (others : List (List ℕ)) (one all : List Bool)
+    → AddsMarks (client_id ∷ []) (replicate 256 false) one → AddsMarks others one all
+    → (byte : ℕ) → byte < 256 → Decides (is_marked all byte) (Contains (client_id ∷ others) (byte ∷ []))
+all_marked client_id others one all first then byte small =
+    rw (same (bytes_eq (byte ∷ []) client_id) (is_among others byte) (is_marked (replicate 256 false) byte) (is_marked one byte) (is_marked all byte) (get_or-replicate 256 byte false false small) (first byte small) (then byte small))
+    (is_member-Decides bytes_eq-Decides (client_id ∷ others) (byte ∷ []))
+  where
+    same : (mine among before middle after : Bool) → before ≡ false → middle ≡ ((mine || false) || before) → after ≡ (among || middle) → after ≡ (mine || among)
+    same true true before middle after e f g = cc
+    same true false before middle after e f g = cc
+    same false true before middle after e f g = cc
+    same false false before middle after e f g = cc
+
+pub least_is_free : (client_id : List ℕ) (others : List (List ℕ)) (one all : List Bool) (byte : ℕ)
+    → AddsMarks (client_id ∷ []) (replicate 256 false) one → AddsMarks others one all → length all ≡ 256
+    → position not all ≡ Some byte → IsLeastFree (client_id ∷ others) byte
+least_is_free client_id others one all byte first then size found = record {
+  small = small;
+  free = λ there. both_ways (is_marked all byte) (not-true (is_marked all byte) at.1) ((marked byte small).1 there);
+  least = λ lower below. (marked lower (omega (arith, below, small))).0 (not-false (is_marked all lower) (at.2 lower below));
+}
+  where
+    at : (byte < length all) × (not (get_or all byte false) ≡ true) × ((k : ℕ) → k < byte → not (get_or all k false) ≡ false)
+    at = position-Some not all byte false found
+
+    small : byte < 256
+    small = omega (arith, at.0, size)
+
+    marked : (k : ℕ) → k < 256 → Decides (is_marked all k) (Contains (client_id ∷ others) (k ∷ []))
+    marked = all_marked client_id others one all first then
+
+-- A table has too few contexts for all bytes to be marked.
+pub one_is_unmarked : (now : Moment) (token client_id : List ℕ) (table : List Holding) (one all : List Bool) → IsTable table
+    → AddsMarks (client_id ∷ []) (replicate 256 false) one → AddsMarks (ids (without_pending token (alive now table))) one all → length all ≡ 256
+    → position not all ≡ None → ⊥
+one_is_unmarked now token client_id table one all is_table first then size none =
+    omega (arith, crowded 256 (client_id ∷ others) each, few)
+  where
+    others : List (List ℕ)
+    others = ids (without_pending token (alive now table))
+
+    past : (place : ℕ) (inside : Bool) → nat_lt place (length all) ≡ inside → cond inside (Some place) None ≡ None → length all ≤ place
+    past place true is found = absurd (cc)
+    past place false is found = ltb-false place (length all) is
+
+    each : (k : ℕ) → k < 256 → Contains (client_id ∷ others) (k ∷ [])
+    each k small =
+        let end : length all ≤ position_or_len not all = past (position_or_len not all) (nat_lt (position_or_len not all) (length all)) refl none in
+        (all_marked client_id others one all first then k small).0 (not-false (is_marked all k) (fails_before_first not all k false (omega (arith, small, size, end))))
+
+    few : length (client_id ∷ others) ≤ 129
+    few =
+        let known : List Holding = without_pending token (alive now table) in
+        omega (arith, length-map (contexts known) (λ held. held.name.client_id), two_each known, length-map (alive now table) (without_pending_in token), part_length (part_filter (holds_live now) table), is_table.few)
