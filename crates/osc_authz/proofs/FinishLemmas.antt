@@ -1,5 +1,5 @@
 -- What an exchange comes to.
-use Rattle.std.proofs.Common.{◌≡◌, ℕ, ◌+◌, ◌*◌, Bool, true, false, not, nat_eq, ◌==◌, eqb-true, sym, ap, ◌∙◌}
+use Rattle.std.proofs.Common.{◌≡◌, ℕ, Bool, true, false, not, nat_eq, eqb-true, sym, ap, ◌∙◌}
 use Rattle.std.proofs.lemmas.Bool.{false≢true}
 use Rattle.osc_model.specs.Code.{code}
 use Rattle.osc_model.specs.declared.code.Code.{Code}

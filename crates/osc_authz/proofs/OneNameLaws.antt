@@ -1,5 +1,5 @@
 -- A post that is answered 2.01, and the name that both ends have by it.
-use Rattle.std.proofs.Common.{◌≡◌, ◌≢◌, ℕ, ◌<◌, ◌≤◌, ◌^◌, List, [], ◌∷◌, length, take, Option, Some, None, Result, Ok, Err, refl, sym, ap, ◌∙◌, subst, arith, length-take}
+use Rattle.std.proofs.Common.{◌≡◌, ◌≢◌, ℕ, ◌<◌, ◌≤◌, ◌^◌, List, [], ◌∷◌, length, Result, Ok, Err, refl, sym, ap, ◌∙◌, subst, arith, length-take}
 use Rattle.osc_model.specs.Code.{code}
 use Rattle.osc_model.specs.Draw.{nonce_drawn}
 use Rattle.osc_model.specs.Scope.{Scope}
@@ -23,8 +23,8 @@ use Rattle.osc_authz.specs.Exchange.{IsPost, IsAnswer, post_item, answer_item}
 use Rattle.osc_authz.specs.Held.{Held}
 use Rattle.osc_authz.specs.HoldsToken.{HoldsToken}
 use Rattle.osc_authz.specs.Members.{In}
-use Rattle.osc_authz.specs.Post.{IsOpened, Posts}
-use Rattle.osc_authz.specs.Table.{alive, contexts, with_pending}
+use Rattle.osc_authz.specs.Post.{Posts}
+use Rattle.osc_authz.specs.Table.{contexts}
 use Rattle.osc_authz.specs.declared.error.FinishError.{FinishError}
 use Rattle.osc_authz.specs.declared.error.PostError.{PostError}
 use Rattle.osc_authz.specs.declared.granted.ClientDesk.{ClientDesk}

@@ -1,5 +1,5 @@
 -- A post comes to one outcome.
-use Rattle.std.proofs.Common.{◌≡◌, ℕ, List, Some, None, Result, Ok, Err, refl, sym, ap, ap₂, subst, ◌∙◌, arith, inl, inr}
+use Rattle.std.proofs.Common.{◌≡◌, ℕ, List, Some, Result, Ok, Err, sym, ap, ap₂, subst, ◌∙◌, arith, inl, inr}
 use Rattle.std.proofs.lemmas.Bool.{cases_lt}
 use Rattle.osc_model.specs.Scope.{Scope}
 use Rattle.osc_model.specs.declared.node.Draw.{Draw}
@@ -12,8 +12,7 @@ use Rattle.osc_token.specs.declared.error.TokenError.{TokenError}
 use Rattle.osc_authz.specs.Agreement.{new_context, Agrees, Answers, refused, full, agreed}
 use Rattle.osc_authz.specs.Desk.{DeskState}
 use Rattle.osc_authz.specs.Exchange.{IsPost}
-use Rattle.osc_authz.specs.Post.{IsOpened, Posts}
-use Rattle.osc_model.specs.Draw.{nonce_drawn}
+use Rattle.osc_authz.specs.Post.{Posts}
 use Rattle.osc_authz.specs.Table.{IsFull, IsLeastFree, alive, with_pending}
 use Rattle.osc_authz.specs.declared.error.PostError.{PostError}
 use Rattle.osc_authz.specs.declared.error.PostError.TheVariants as post_error

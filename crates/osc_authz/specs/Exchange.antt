@@ -1,5 +1,5 @@
 -- The payloads of an exchange at authz-info (RFC 9203 sections 4.1 and 4.2): maps, whose other keys are ignored.
-use Rattle.std.specs.Prelude.{◌≡◌, ◌≢◌, ◌⊎◌, ℕ, ◌≤◌, if◌then◌else◌, List, [], ◌∷◌, length, take, bytes_eq, Option, Some, None, Result, Ok, Err}
+use Rattle.std.specs.Prelude.{◌≡◌, ℕ, ◌≤◌, List, length, Some}
 use Rattle.osc_cbor.specs.Data.{DataItem, unsigned, byte_string, map, Pairs, no_pairs, pair, value_under}
 use Rattle.osc_cbor.specs.Spelling.{IsWhole}
 

@@ -1,5 +1,5 @@
 -- What a post to authz-info does: the checks in their order, of which the first that fails answers.
-use Rattle.std.specs.Prelude.{◌≡◌, ℕ, List, Option, Some, None, Result, Err}
+use Rattle.std.specs.Prelude.{◌≡◌, ℕ, List, Some, None, Result, Err}
 use Rattle.osc_model.specs.declared.code.Code.{Code}
 use Rattle.osc_model.specs.Code.{code}
 use Rattle.osc_model.specs.declared.node.Draw.{Draw}
