@@ -6,7 +6,7 @@ use Rattle.std.proofs.lemmas.Bool.Decides.{nat_tests}
 use Rattle.osc_model.specs.declared.reply.Reply.{Reply}
 use Rattle.osc_coap.specs.Code.{is_response_code}
 use Rattle.osc_coap.specs.Message.{NumberAndValue, Message, AreOptions}
-use Rattle.osc_coap.specs.Plaintext.{Plaintext, HasPlaintextSpelling}
+use Rattle.osc_coap.specs.Plaintext.{HasPlaintextSpelling}
 use Rattle.osc_options.specs.Split.{inner_options, plaintext_of}
 use Rattle.osc_coap.specs.Building.{payload_of}
 use Rattle.osc_options.specs.Recognised.{recognised}

@@ -1,10 +1,10 @@
 -- A request that is written is read again.
-use Rattle.std.proofs.Common.{◌≡◌, ℕ, ◌<◌, ◌≤◌, Bool, true, false, ◌&&◌, not, cond, ◌==◌, nat_le, List, [], ◌∷◌, ◌++◌, length, drop, map, Option, Some, None, Ok, refl, sym, ap, subst, ◌∙◌, append_assoc, append-nil, arith}
+use Rattle.std.proofs.Common.{◌≡◌, ℕ, ◌<◌, ◌≤◌, Bool, true, false, ◌&&◌, cond, ◌==◌, nat_le, List, [], ◌∷◌, ◌++◌, length, drop, Option, Some, None, Ok, refl, sym, ap, ◌∙◌, append_assoc, append-nil, arith}
 use Rattle.std.specs.Prelude.{IfSome, option_map, unwrap_or, is_some}
 use Rattle.std.specs.List.{AllByRecursion, slice_split, onto_first, list_all}
 use Rattle.std.proofs.lemmas.Bool.{ne_eqb}
 use Rattle.std.proofs.lemmas.Bool.Decides.{nat_tests}
-use Rattle.osc_model.specs.Path.{is_segment, are_segments, path_text, path_of, IsPath}
+use Rattle.osc_model.specs.Path.{is_segment, path_text, path_of, IsPath}
 use Rattle.osc_model.specs.declared.request.Request.{Request}
 use Rattle.osc_model.proofs.Segments.{parts_from_is_path}
 use Rattle.osc_coap.specs.Code.{is_request_code}
