@@ -6,3 +6,4 @@ pub mod ReplyAgainLaws
 pub mod SplitLengths
 pub mod OnePassLaws
 pub mod RequestAgainLaws
+pub mod WrittenRequestLaws

@@ -12,6 +12,7 @@ mod recognised;
 mod reply;
 mod request;
 mod table;
+mod written_request;
 
 pub use error::PlaintextError;
 pub use merging::{Merged, merge};
@@ -21,3 +22,4 @@ pub use recognised::{has_option, unrecognised_critical, value_of};
 pub use reply::{error_message, reply_message, reply_of};
 pub use request::{request_of, request_of_message};
 pub use table::{Class, Rule, class_of, is_critical, is_unsafe, rule_of};
+pub use written_request::request_message;

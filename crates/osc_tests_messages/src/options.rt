@@ -1,7 +1,10 @@
 //! Tests of `osc_options`.
-use osc_coap::{Kind, MessageRef, PlaintextRef};
-use osc_model::{Bytes, Code, Reply};
+ghost use Rattle.std.specs.Prelude.{◌<◌, IfOk};
+
+use osc_coap::{Kind, MessageBuilder, MessageRef, PlaintextRef};
+use osc_model::{Bytes, Code, ETags, Path, Reply, Request};
 use osc_options::*;
+use std::alloc::{AllocError, Global};
 use std::test::*;
 
 /// Number, the marks C, U and R, and the least and the greatest length (RFC 7252 table 4, RFC 8613 table 1).
@@ -116,6 +119,73 @@ fn replies(rt: HostRuntime) -> Result<(), Fail> {
             .ok_or("room")?;
         assert!(rt; message.bytes().starts_with(b"\x61\x45\x12\x34t"));
         assert!(rt; message.bytes().ends_with(expected));
+    }
+    Ok(())
+}
+
+fn two_tags(alloc: Global) -> Result<ETags, AllocError> {
+    let mut tags = ETags::new(alloc);
+    tags.push(alloc, Bytes::from_slice(alloc, b"e")?)?;
+    tags.push(alloc, Bytes::new(alloc))?;
+    Ok(tags)
+}
+
+/// A PUT with each option that a request may have: of the tags one is empty, the length of a segment of 13 bytes has an
+/// extension, and the number 0 has no bytes (RFC 7252 sections 3.1 and 3.2).
+fn a_put(alloc: Global) -> Result<Request, AllocError>
+    ensures { IfOk result (λ request. 0 < request.code.0) }
+{
+    Ok(Request {
+        code: Code(3),
+        path: Path::from_text(alloc, b"/a/temperature-1")?,
+        format: Some(300),
+        accept: Some(0),
+        if_match: two_tags(alloc)?,
+        if_none_match: true,
+        payload: Bytes::from_slice(alloc, b"hi")?,
+    })
+}
+
+/// The same request as a datagram with the token "t".
+const PUT: &[u8] =
+    b"\x41\x03\x12\x34t\x11e\x00\x40\x61a\x0d\x00temperature-1\x12\x01\x2c\x50\xffhi";
+
+fn written(request: &Request) -> Option<MessageBuilder>
+    requires { 0 < request.now.code.0 }
+{
+    request_message(Kind::Confirmable, 0x1234, b"t", request).ok()
+}
+
+#[test]
+fn a_written_request(rt: HostRuntime) -> Result<(), Fail> {
+    let message = written(&a_put(rt.alloc())?).ok_or("room")?;
+    assert_eq!(rt; message.bytes(), PUT);
+    let request = request_of_message(rt.alloc(), &message.message())?;
+    assert!(rt; request == a_put(rt.alloc())?);
+    Ok(())
+}
+
+fn a_post(alloc: Global, payload: &[u8]) -> Result<Request, AllocError>
+    ensures { IfOk result (λ request. 0 < request.code.0) }
+{
+    Ok(Request {
+        code: Code(2),
+        path: Path::from_text(alloc, b"/a")?,
+        format: None,
+        accept: None,
+        if_match: ETags::new(alloc),
+        if_none_match: false,
+        payload: Bytes::from_slice(alloc, payload)?,
+    })
+}
+
+/// Beside the payload there are eight bytes: four of header, one of token, two of option and the marker.
+#[test]
+fn a_request_too_long(rt: HostRuntime) -> Result<(), Fail> {
+    let longer = [b'x'; 1145];
+    for (payload, expected) in [(&longer[1..], Some(1152)), (&longer[..], None)] {
+        let message = written(&a_post(rt.alloc(), payload)?);
+        assert_eq!(rt; message.map(|m| m.bytes().len()), expected);
     }
     Ok(())
 }
