@@ -1,5 +1,5 @@
 -- Messages that every node sends (RFC 7252 sections 4.2, 4.3 and 5.2).
-use Rattle.std.specs.Prelude.{ℕ, Bool, true, false, not, if◌then◌else◌, List, [], Option, Some, None}
+use Rattle.std.specs.Prelude.{ℕ, Bool, true, false, not, if◌then◌else◌, [], Option, Some, None}
 use Rattle.osc_model.specs.Code.{code}
 use Rattle.osc_model.specs.declared.node.Draw.{Draw}
 use Rattle.osc_coap.specs.Code.{is_request_code}

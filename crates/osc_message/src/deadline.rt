@@ -7,6 +7,7 @@ ghost use Rattle.osc_message.specs.Ticks.{due_of as due_of_spec, is_kept, acts};
 
 use crate::confirmable::Open;
 use crate::due::{Due, due_at, due_of_waiting};
+use osc_model::Moment;
 
 /// When something is due of a message, in ms, or none where nothing will be as things stand.
 fn deadline_of(all: &[Open], earlier: &[Open], message: &Open) -> Option<u64>
@@ -42,4 +43,12 @@ pub(crate) fn deadline(all: &[Open]) -> Option<u64>
         first = first_of(first, deadline_of(all, &all[..index], &all[index]));
     }
     first
+}
+
+/// Whether a tick does anything at this moment; the work grows with the square of the number of open messages.
+pub(crate) fn is_due(now: Moment, all: &[Open]) -> bool
+    requires { All IsBounded all.now }
+    ensures { result ≡ acts now all.now }
+{
+    deadline(all).is_some_and(|first| first <= now.ms)
 }

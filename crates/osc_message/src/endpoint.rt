@@ -224,7 +224,7 @@ impl Endpoint {
     }
 
     /// Sends what is due at this moment, gives up what nobody acknowledged, and lets the notes go whose lifetime has ended.
-    /// Without memory for what is sent all stays as it was.
+    /// Where nothing is sent or given up no memory is taken; without memory all stays as it was.
     ///
     /// The work grows with the square of the number of open messages.
     pub fn on_tick(&mut self, alloc: Global, now: Moment) -> Result<Ticked, AllocError>
@@ -233,6 +233,7 @@ impl Endpoint {
         ensures given_up { IfOk result (λ done. done.given_up ≡ tick_gives_up now self.old.sending) }
         ensures ok { OnOk result (self.new ≡ after_tick now self.old) }
         ensures err { OnErr result (self.new ≡ self.old) }
+        ensures needs_memory { OnErr result (acts now self.old.sending ≡ true) }
     {
         let done = tick(&mut self.sending, alloc, now)?;
         self.seen.expire(now);

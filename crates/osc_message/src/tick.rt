@@ -1,12 +1,13 @@
 //! What a tick does to the open messages (RFC 7252 sections 4.2 and 4.8): first what takes memory, then the changes.
-ghost use Rattle.std.specs.Prelude.{◌≡◌, ◌≤◌, ◌<◌, ◌+◌, ◌^◌, ◌∷◌, ◌++◌, List, length, take, drop, map, Some, IfOk, OnOk, OnErr, vec_len, vec_capacity};
+ghost use Rattle.std.specs.Prelude.{◌≡◌, ◌≤◌, ◌<◌, ◌+◌, ◌^◌, true, [], ◌∷◌, ◌++◌, List, length, take, drop, map, Some, IfOk, OnOk, OnErr, vec_len, vec_capacity};
 ghost use Rattle.std.specs.List.{All, filter_map, zip};
 ghost use Rattle.std.specs.Option.{option_to_list};
 ghost use Rattle.osc_message.specs.Bounds.{IsBounded, IsSound};
-ghost use Rattle.osc_message.specs.Ticks.{datagram_of, name_of as name_in, started_of, given_up_of, sent_again, after, dues_of, ticked, tick_sends, tick_starts, tick_gives_up};
+ghost use Rattle.osc_message.specs.Ticks.{datagram_of, name_of as name_in, started_of, given_up_of, sent_again, after, dues_of, ticked, tick_sends, tick_starts, tick_gives_up, acts};
 ghost use Rattle.osc_message.specs.declared.confirmable.Open.{Open as AnyOpen};
 
 use crate::confirmable::{Open, Sent};
+use crate::deadline::is_due;
 use crate::due::{Due, due_of};
 use crate::name::{MessageName, MessageNames};
 use osc_model::{Datagram, Datagrams, Moment};
@@ -158,12 +159,20 @@ pub struct Ticked {
     pub given_up: MessageNames,
 }
 
-/// Does what is due; without memory all stays as it was.
-pub(crate) fn tick(
-    sending: &mut Vec<Open>,
-    alloc: Global,
-    now: Moment,
-) -> Result<Ticked, AllocError>
+impl Ticked {
+    fn nothing(alloc: Global) -> Ticked
+        ensures { result ≡ record { out = []; started = []; given_up = [] } }
+    {
+        Ticked {
+            out: Datagrams::new(alloc),
+            started: MessageNames::new(alloc),
+            given_up: MessageNames::new(alloc),
+        }
+    }
+}
+
+/// Plans what is due, and makes it; without memory for the plan all stays as it was.
+fn act(sending: &mut Vec<Open>, alloc: Global, now: Moment) -> Result<Ticked, AllocError>
     requires { IsSound sending.old.items }
     ensures out { IfOk result (λ done. done.out ≡ tick_sends now sending.old.items) }
     ensures started { IfOk result (λ done. done.started ≡ tick_starts now sending.old.items) }
@@ -185,4 +194,27 @@ pub(crate) fn tick(
         started,
         given_up,
     })
+}
+
+/// Does what is due. Where nothing is, no memory is taken; without memory all stays as it was.
+pub(crate) fn tick(
+    sending: &mut Vec<Open>,
+    alloc: Global,
+    now: Moment,
+) -> Result<Ticked, AllocError>
+    requires { IsSound sending.old.items }
+    ensures out { IfOk result (λ done. done.out ≡ tick_sends now sending.old.items) }
+    ensures started { IfOk result (λ done. done.started ≡ tick_starts now sending.old.items) }
+    ensures given_up { IfOk result (λ done. done.given_up ≡ tick_gives_up now sending.old.items) }
+    ensures items { OnOk result (sending.new.items ≡ ticked now sending.old.items) }
+    ensures sound { IsSound sending.new.items }
+    ensures capacity { vec_capacity sending.new ≡ vec_capacity sending.old }
+    ensures err { OnErr result (sending.new ≡ sending.old) }
+    ensures needs_memory { OnErr result (acts now sending.old.items ≡ true) }
+{
+    if is_due(now, sending) {
+        act(sending, alloc, now)
+    } else {
+        Ok(Ticked::nothing(alloc))
+    }
 }

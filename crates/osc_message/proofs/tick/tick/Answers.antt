@@ -1,20 +1,19 @@
-use Rattle.std.proofs.Common.{◌≡◌, ap, length, arith}
-use Rattle.osc_message.specs.Ticks.{dues_of}
-use Rattle.osc_message.proofs.Sound.{due_part, each_due, done_ticked, sound_ticked}
+use Rattle.std.proofs.Common.{◌≡◌, false, ap, sym, ◌∙◌}
+use Rattle.osc_message.specs.Ticks.{acts}
+use Rattle.osc_message.proofs.Idle.{idle_sends, idle_starts, idle_gives_up, idle_ticked}
 use Rattle.osc_message.proofs.tick.tick.Goals as goal
 
-pub apply-requires-clause-each : goal.apply-requires-clause-each
-apply-requires-clause-each c =
-    let planned : c.deref-2.result.now ≡ due_part (dues_of c.args.now c.args.sending.now.items) = cc (c.deref-2.ensures.value, c.in_ok-dues.ensures.dues, c.deref.ensures.value) in
-    omega (arith, each_due c.args.now c.args.sending.now.items c.deref-2.result.now planned, c.deref.ensures.len, ap length c.deref.ensures.value)
+idle : (c : goal.After-nothing) → acts c.args.now c.args.sending.now.items ≡ false
+idle c = ap (acts c.args.now) (sym c.deref.ensures.value) ∙ sym c.is_due.ensures ∙ c.if-is_due.false
 
-pub returns-clause-items : goal.returns-clause-items
-returns-clause-items c =
-    let planned : c.deref-2.result.now ≡ due_part (dues_of c.args.now c.args.sending.now.items) = cc (c.deref-2.ensures.value, c.in_ok-dues.ensures.dues, c.deref.ensures.value) in
-    done_ticked c.args.now c.args.sending.now.items c.deref-2.result.now c.apply.new.sending.items planned c.apply.ensures.items
+pub returns-else-is_due-clause-out : goal.returns-else-is_due-clause-out
+returns-else-is_due-clause-out c = ap (λ done. done.out) c.nothing.ensures ∙ sym (idle_sends c.args.now c.args.sending.now.items (idle c))
 
-pub returns-clause-sound : goal.returns-clause-sound
-returns-clause-sound c =
-    let planned : c.deref-2.result.now ≡ due_part (dues_of c.args.now c.args.sending.now.items) = cc (c.deref-2.ensures.value, c.in_ok-dues.ensures.dues, c.deref.ensures.value) in
-    rw (done_ticked c.args.now c.args.sending.now.items c.deref-2.result.now c.apply.new.sending.items planned c.apply.ensures.items)
-    (sound_ticked c.args.now c.args.sending.now.items c.requires)
+pub returns-else-is_due-clause-started : goal.returns-else-is_due-clause-started
+returns-else-is_due-clause-started c = ap (λ done. done.started) c.nothing.ensures ∙ sym (idle_starts c.args.now c.args.sending.now.items (idle c))
+
+pub returns-else-is_due-clause-given_up : goal.returns-else-is_due-clause-given_up
+returns-else-is_due-clause-given_up c = ap (λ done. done.given_up) c.nothing.ensures ∙ sym (idle_gives_up c.args.now c.args.sending.now.items (idle c))
+
+pub returns-else-is_due-clause-items : goal.returns-else-is_due-clause-items
+returns-else-is_due-clause-items c = sym (idle_ticked c.args.now c.args.sending.now.items (idle c))
