@@ -1,5 +1,6 @@
 //! Exchanges, and what the desk refuses.
 use osc_authz::{ClientContext, ClientDesk, GrantError, PostAnswer, PostError, ServerDesk};
+use osc_cbor::{Item, write};
 use osc_ccm::Ccm;
 use osc_model::{Bytes, Code, ContextName, Draw, Moment};
 use osc_token::{Audience, Claims, InputMaterial, MintError, TokenError, mint};
@@ -331,6 +332,46 @@ fn sixty_four_tokens_have_contexts(rt: HostRuntime) -> Result<(), Fail> {
     for (id, expires, at, outcome) in FURTHER {
         let body = post_of(rt.alloc(), id, until(expires))?;
         assert_eq!(rt; posted(&mut desk, rt.alloc(), at, &body)?, (outcome, true));
+    }
+    Ok(())
+}
+
+/// A post of the token of this id, which counts until this second, of a client that has this recipient ID.
+fn post_from(alloc: Global, id: u8, expires: u64, client_id: &[u8]) -> Result<Vec<u8>, AllocError> {
+    let token = token_of(alloc, id, until(Some(expires)))?;
+    let fields = vec![in alloc;
+        (Item::Unsigned(1), Item::Bytes(token)),
+        (Item::Unsigned(40), Item::Bytes(vec![in alloc; 1]?)),
+        (
+            Item::Unsigned(43),
+            Item::Bytes(Vec::from_slice(alloc, client_id)?)
+        ),
+    ]?;
+    let mut body = Vec::new(alloc);
+    write(&Item::Map(fields), &mut body)?;
+    Ok(body)
+}
+
+/// Posts to one desk: the token id, the second at which it expires, the client's recipient ID, the moment in milliseconds,
+/// and the server's recipient ID. That is the least byte that isn't the client's and that no other context has; the last
+/// three posts find the IDs of a dead context, of a pending one that they replace, and of such a one that the client has.
+const OFFERED: [(u8, u64, &[u8], u64, u8); 8] = [
+    (1, 100, b"\0", 0, 1),
+    (2, 50, b"\0", 0, 2),
+    (3, 100, b"", 0, 0),
+    (4, 100, b"\x03", 0, 4),
+    (5, 100, b"\x05\x03", 0, 3),
+    (6, 100, b"\0", 50_000, 2),
+    (1, 100, b"\0", 50_000, 1),
+    (5, 100, b"\x03", 50_000, 5),
+];
+
+#[test]
+fn least_bytes_are_given_out(rt: HostRuntime) -> Result<(), Fail> {
+    let mut desk = desk_of(rt.alloc())?;
+    for (token, expires, client_id, at, id) in OFFERED {
+        let body = post_from(rt.alloc(), token, expires, client_id)?;
+        assert_eq!(rt; posted(&mut desk, rt.alloc(), at, &body)?, (Ok(id), true));
     }
     Ok(())
 }
