@@ -31,6 +31,11 @@ segments_back segment (next ∷ segments) lawful =
     slice_split_at (λ b. b == 47) segment 47 (next ++ path_text segments) (no_slash segment (both _ _ lawful).0) refl
     ∙ ap (λ rest. segment ∷ rest) (segments_back next segments (both _ _ lawful).1)
 
+-- behind its first slash a path's text is cut into its segments
+pub segments_again : (segments : List (List ℕ)) → are_segments segments ≡ true → parts (drop 1 (path_text segments)) ≡ segments
+segments_again [] lawful = cc
+segments_again (segment ∷ segments) lawful = segments_back segment segments (both _ _ lawful).1
+
 text_more : (b : ℕ) (rest : List ℕ) (cut : List (List ℕ)) → path_text cut ≡ 47 ∷ rest → path_text (onto_first b cut) ≡ 47 ∷ b ∷ rest
 text_more b rest [] e = cc
 text_more b rest (part ∷ cut) e = ap (λ text. 47 ∷ b ∷ drop 1 text) e

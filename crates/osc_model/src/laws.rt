@@ -1,10 +1,11 @@
 //! Laws of the definitions, for the crates above. These functions do nothing: whoever calls one has its clauses for a proof.
-ghost use Rattle.std.specs.Prelude.{◌≡◌, ◌≤◌, ◌<◌, ℕ, List, [], ◌∷◌, ◌++◌, length, Option, None, Result, true, false, ◌==◌, ◌&&◌, bytes_eq};
+ghost use Rattle.std.specs.Prelude.{◌≡◌, ◌≤◌, ◌<◌, ℕ, List, [], ◌∷◌, ◌++◌, length, drop, Option, None, Result, true, false, ◌==◌, ◌&&◌, bytes_eq};
 ghost use Rattle.std.specs.Cmp.{IsTotalOrder};
+ghost use Rattle.std.specs.List.{slice_split};
 ghost use Rattle.std.specs.FinMap as map;
 ghost use Rattle.std.specs.FinMap.{IsAntisymmetric};
 ghost use Rattle.std.specs.Ordering.{eq_by_cmp};
-ghost use Rattle.osc_model.specs.Path.{path_cmp};
+ghost use Rattle.osc_model.specs.Path.{path_cmp, path_text, are_segments};
 ghost use Rattle.osc_model.specs.Tree.{Tree, IsWithinLimits, longest_payload, most_resources};
 ghost use Rattle.osc_model.specs.Scope.{Scope, permission_cmp, allows, names};
 ghost use Rattle.osc_model.specs.Checks.{AllowsWrite, refusal};
@@ -24,6 +25,12 @@ use crate::code::Code;
 pub fn paths_are_ordered()
     ensures total { IsTotalOrder path_cmp }
     ensures exact { IsAntisymmetric path_cmp }
+{}
+
+/// A path's text, cut at its slashes, gives its segments again.
+pub fn paths_are_cut_at_slashes()
+    ensures { (segments : List (List ℕ)) → are_segments segments ≡ true
+        → slice_split (λ b. b == 47) (drop 1 (path_text segments)) ≡ segments }
 {}
 
 /// Pairs of a path and a method are in a total order, in which no two tie.

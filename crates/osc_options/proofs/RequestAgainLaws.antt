@@ -1,12 +1,11 @@
 -- A request that is written is read again.
-use Rattle.std.proofs.Common.{◌≡◌, ℕ, ◌<◌, ◌≤◌, Bool, true, false, ◌&&◌, cond, ◌==◌, nat_le, List, [], ◌∷◌, ◌++◌, length, drop, Option, Some, None, Ok, refl, sym, ap, ◌∙◌, append_assoc, append-nil, arith}
+use Rattle.std.proofs.Common.{◌≡◌, ℕ, ◌<◌, ◌≤◌, Bool, true, false, ◌&&◌, ◌==◌, nat_le, List, [], ◌∷◌, ◌++◌, length, Option, Some, None, Ok, refl, sym, ap, subst, ◌∙◌, append_assoc, append-nil, arith}
 use Rattle.std.specs.Prelude.{IfSome, option_map, unwrap_or, is_some}
-use Rattle.std.specs.List.{AllByRecursion, slice_split, onto_first, list_all}
+use Rattle.std.specs.List.{AllByRecursion, list_all}
 use Rattle.std.proofs.lemmas.Bool.{ne_eqb}
 use Rattle.std.proofs.lemmas.Bool.Decides.{nat_tests}
-use Rattle.osc_model.specs.Path.{is_segment, path_text, path_of, IsPath}
+use Rattle.osc_model.specs.Path.{is_segment, are_segments, path_text, path_of, IsPath}
 use Rattle.osc_model.specs.declared.request.Request.{Request}
-use Rattle.osc_model.proofs.Segments.{parts_from_is_path}
 use Rattle.osc_coap.specs.Code.{is_request_code}
 use Rattle.osc_coap.specs.Message.{NumberAndValue, Message}
 use Rattle.osc_coap.specs.Building.{payload_of}
@@ -99,35 +98,24 @@ few_bytes (s ∷ segments) e =
     let sizes = (both (nat_le 1 (length s) && nat_le (length s) 32) _ (both _ _ first.0).0).0 in
     (few (length s) ((both (nat_le 1 (length s)) (nat_le (length s) 32) sizes).1), few_bytes segments first.1)
 
-abbrev parts : List ℕ → List (List ℕ)
-parts rest = slice_split (λ b. b == 47) rest
+-- a path's text, cut at its slashes, gives its segments again
+abbrev pub CutLaw : Type 0
+CutLaw = (segments : List (List ℕ)) → are_segments segments ≡ true → segments_of (path_text segments) ≡ segments
 
-same_byte : (m n : ℕ) → (m == n) ≡ true → m ≡ n
-same_byte m n e = grind (arith, nat_tests)
-
-text_more : (b : ℕ) (rest : List ℕ) (cut : List (List ℕ)) → path_text cut ≡ 47 ∷ rest → path_text (onto_first b cut) ≡ 47 ∷ b ∷ rest
-text_more b rest [] e = absurd cc
-text_more b rest (part ∷ cut) e = ap (λ text. 47 ∷ b ∷ drop 1 text) e
-
-text_next : (b : ℕ) (rest : List ℕ) (is_slash : Bool) → (b == 47) ≡ is_slash → path_text (parts rest) ≡ 47 ∷ rest → path_text (cond is_slash ([] ∷ parts rest) (onto_first b (parts rest))) ≡ 47 ∷ b ∷ rest
-text_next b rest true e text = ap (λ more. 47 ∷ more) text ∙ ap (λ c. 47 ∷ c ∷ rest) (sym (same_byte b 47 e))
-text_next b rest false e text = text_more b rest (parts rest) text
-
-text_back : (rest : List ℕ) → path_text (parts rest) ≡ 47 ∷ rest
-text_back [] = refl
-text_back (b ∷ rest) = text_next b rest (b == 47) refl (text_back rest)
+cut : CutLaw → (text : List ℕ) (path : IsPath text) → segments_of text ≡ path.segments
+cut law text path = ap segments_of path.spelled ∙ law path.segments path.lawful
 
 -- a path's segments make it again
-path_back : (text : List ℕ) → IsPath text → path_of (segments_of text) ≡ Some text
-path_back text path =
-    let cut = parts_from_is_path text path in
-    rw cut.1 (ap (λ (t : List ℕ). Some t) (text_back (drop 1 text) ∙ sym cut.0))
+path_back : CutLaw → (text : List ℕ) → IsPath text → path_of (segments_of text) ≡ Some text
+path_back law text path = ap path_of (cut law text path) ∙ rw path.lawful (ap (λ (t : List ℕ). Some t) (sym path.spelled))
 
-path_known : (path : Option (List ℕ)) (rest : List NumberAndValue) → IfSome path IsPath → KnownFrom 11 rest → KnownFrom 5 (path_options path ++ rest)
-path_known None rest is others before le = others before (omega arith)
-path_known (Some text) rest is others before le =
-    let cut = parts_from_is_path text is in
-    segments_known (segments_of text) rest (few_bytes (segments_of text) ((both _ _ cut.1).1)) others before (omega arith)
+path_bytes : CutLaw → (text : List ℕ) → IsPath text → AllByRecursion (λ s. length s ≤ 255) (segments_of text)
+path_bytes law text path =
+    subst (λ (segments : List (List ℕ)). AllByRecursion (λ s. length s ≤ 255) segments) (sym (cut law text path)) (few_bytes path.segments (both _ _ path.lawful).1)
+
+path_known : CutLaw → (path : Option (List ℕ)) (rest : List NumberAndValue) → IfSome path IsPath → KnownFrom 11 rest → KnownFrom 5 (path_options path ++ rest)
+path_known law None rest is others before le = others before (omega arith)
+path_known law (Some text) rest is others before le = segments_known (segments_of text) rest (path_bytes law text is) others before (omega arith)
 
 -- ---- all of them
 
@@ -143,9 +131,9 @@ regrouped r =
     let e = uint_options 17 r.accept in
     append_assoc (a ++ b ++ c) d e ∙ append_assoc (a ++ b) c (d ++ e) ∙ append_assoc a b (c ++ (d ++ e))
 
-all_known : (r : Request) → IsWithinTable r → AreKnown 0 (grouped r)
-all_known r is =
-    tags_known r.if_match _ is.tags (none_known r.if_none_match _ (path_known r.path _ is.path (format_known r.format _ (accept_known r.accept)))) 0 (omega arith)
+all_known : CutLaw → (r : Request) → IsWithinTable r → AreKnown 0 (grouped r)
+all_known law r is =
+    tags_known r.if_match _ is.tags (none_known r.if_none_match _ (path_known law r.path _ is.path (format_known r.format _ (accept_known r.accept)))) 0 (omega arith)
 
 -- ---- their values
 
@@ -189,14 +177,14 @@ tags_again r =
     ∙ ap (λ (l : List (List ℕ)). r.if_match ++ l) (none_other 1 r.if_none_match _ refl ∙ path_other 1 r.path _ refl ∙ uint_none 1 r.format r.accept refl refl)
     ∙ append-nil r.if_match
 
-segments_again : (path : Option (List ℕ)) (format accept : Option ℕ) → IfSome path IsPath → path_of (values 11 (path_options path ++ (uint_options 12 format ++ uint_options 17 accept))) ≡ path
-segments_again None format accept is = ap path_of (uint_none 11 format accept refl refl)
-segments_again (Some text) format accept is =
+segments_again : CutLaw → (path : Option (List ℕ)) (format accept : Option ℕ) → IfSome path IsPath → path_of (values 11 (path_options path ++ (uint_options 12 format ++ uint_options 17 accept))) ≡ path
+segments_again law None format accept is = ap path_of (uint_none 11 format accept refl refl)
+segments_again law (Some text) format accept is =
     ap path_of (each_same 11 (segments_of text) _ refl ∙ ap (λ (l : List (List ℕ)). segments_of text ++ l) (uint_none 11 format accept refl refl) ∙ append-nil (segments_of text))
-    ∙ path_back text is
+    ∙ path_back law text is
 
-path_again : (r : Request) → IfSome r.path IsPath → path_of (values 11 (grouped r)) ≡ r.path
-path_again r is = ap path_of (each_other 1 11 r.if_match _ refl ∙ none_other 11 r.if_none_match _ refl) ∙ segments_again r.path r.format r.accept is
+path_again : CutLaw → (r : Request) → IfSome r.path IsPath → path_of (values 11 (grouped r)) ≡ r.path
+path_again law r is = ap path_of (each_other 1 11 r.if_match _ refl ∙ none_other 11 r.if_none_match _ refl) ∙ segments_again law r.path r.format r.accept is
 
 format_again : (format accept : Option ℕ) → IfSome format (λ n. n < 65536) → option_map uint (value 12 (uint_options 12 format ++ uint_options 17 accept)) ≡ format
 format_again None None lt = refl
@@ -225,14 +213,14 @@ payload_again (b ∷ bytes) = refl
 
 -- ---- the whole
 
-known_options : (r : Request) → IsWithinTable r → recognised 0 (request_options r) ≡ grouped r
-known_options r is = ap (recognised 0) (regrouped r) ∙ known_all 0 (grouped r) (all_known r is)
+known_options : CutLaw → (r : Request) → IsWithinTable r → recognised 0 (request_options r) ≡ grouped r
+known_options law r is = ap (recognised 0) (regrouped r) ∙ known_all 0 (grouped r) (all_known law r is)
 
-pub request_again : (m : Message) (r : Request) → IsWithinTable r → request_of (with_request m r) ≡ r
-request_again m r is =
-    let known = known_options r is in
+pub request_again : CutLaw → (m : Message) (r : Request) → IsWithinTable r → request_of (with_request m r) ≡ r
+request_again law m r is =
+    let known = known_options law r is in
     let tags = ap (values 1) known ∙ tags_again r in
-    let path = ap (λ (o : List NumberAndValue). path_of (values 11 o)) known ∙ path_again r is.path in
+    let path = ap (λ (o : List NumberAndValue). path_of (values 11 o)) known ∙ path_again law r is.path in
     let first : (n : ℕ) → (1 == n) ≡ false → (5 == n) ≡ false → (11 == n) ≡ false → value n (recognised 0 (request_options r)) ≡ value n (uint_options 12 r.format ++ uint_options 17 r.accept) =
     λ n a b c. ap (value n) known ∙ each_first 1 n r.if_match _ a ∙ none_first n r.if_none_match _ b ∙ path_first n r.path _ c in
     let format = ap (option_map uint) (first 12 refl refl refl) ∙ format_again r.format r.accept is.format in
@@ -240,14 +228,14 @@ request_again m r is =
     let none = ap (λ (o : List NumberAndValue). is_some (value 5 o)) known ∙ ap is_some (each_first 1 5 r.if_match _ refl) ∙ none_again r.if_none_match r.path r.format r.accept in
     λ i. record { code = r.code; path = path i; format = format i; accept = accept i; if_match = tags i; if_none_match = none i; payload = payload_again r.payload i }
 
-pub request_understood : (r : Request) → IsWithinTable r → unrecognised_critical 0 (request_options r) ≡ None
-request_understood r is = ap (unrecognised_critical 0) (regrouped r) ∙ known_critical 0 (grouped r) (all_known r is)
+pub request_understood : CutLaw → (r : Request) → IsWithinTable r → unrecognised_critical 0 (request_options r) ≡ None
+request_understood law r is = ap (unrecognised_critical 0) (regrouped r) ∙ known_critical 0 (grouped r) (all_known law r is)
 
-pub request_inside : (r : Request) → IsWithinTable r → inner_options (request_options r) ≡ request_options r
-request_inside r is = ap inner_options (regrouped r) ∙ known_inner 0 (grouped r) (all_known r is) ∙ sym (regrouped r)
+pub request_inside : CutLaw → (r : Request) → IsWithinTable r → inner_options (request_options r) ≡ request_options r
+request_inside law r is = ap inner_options (regrouped r) ∙ known_inner 0 (grouped r) (all_known law r is) ∙ sym (regrouped r)
 
-pub plaintext_again : (m : Message) (r : Request) → IsWithinTable r → is_request_code r.code.0 ≡ true → request_of_plaintext (plaintext_of (with_request m r)) ≡ Ok r
-plaintext_again m r is code =
-    let inside = request_inside r is in
-    let heeds = ap (unheeded 0) (regrouped r) ∙ known_heeded 0 (grouped r) (all_known r is) in
-    rw (inside, code, heeds) (ap (λ (x : Request). Ok x) (request_again m r is))
+pub plaintext_again : CutLaw → (m : Message) (r : Request) → IsWithinTable r → is_request_code r.code.0 ≡ true → request_of_plaintext (plaintext_of (with_request m r)) ≡ Ok r
+plaintext_again law m r is code =
+    let inside = request_inside law r is in
+    let heeds = ap (unheeded 0) (regrouped r) ∙ known_heeded 0 (grouped r) (all_known law r is) in
+    rw (inside, code, heeds) (ap (λ (x : Request). Ok x) (request_again law m r is))

@@ -19,6 +19,7 @@ use crate::numbers::{
     OSCORE, PROXY_SCHEME, PROXY_URI, SIZE1, URI_HOST, URI_PATH, URI_PORT, URI_QUERY,
 };
 use osc_coap::laws::{fewer_options, length_of_plaintext, length_of_spelling};
+use osc_model::laws::paths_are_cut_at_slashes;
 
 /// A message that was split is merged again, whatever the protected message says beside it.
 pub fn merging_what_was_split()
@@ -125,4 +126,6 @@ pub fn a_request_is_read_again()
     ensures plaintext { (message : Message) (request : AnyRequest) → IsWithinTable request
         → is_request_code request.code.0 ≡ true
         → request_of_plaintext (plaintext_of (with_request message request)) ≡ Ok request }
-{}
+{
+    paths_are_cut_at_slashes();
+}
