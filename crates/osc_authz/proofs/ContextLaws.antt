@@ -1,48 +1,118 @@
 -- What becomes of the contexts in a desk's table.
-use Rattle.std.proofs.Common.{◌≡◌, ◌≢◌, ◌⊎◌, ℕ, ◌/◌, ◌≤◌, ◌<◌, Bool, true, false, cond, ◌&&◌, ◌||◌, nat_le, nat_lt, List, [], ◌∷◌, ◌++◌, map, Option, Some, None, option_map, bytes_eq, refl, sym, ap, ◌∙◌, inl, inr, ⊎_elim, subst, le-leb, lt-ltb}
+use Rattle.std.proofs.Common.{◌≡◌, ◌≢◌, ◌⊎◌, ℕ, ◌/◌, ◌≤◌, ◌<◌, Bool, true, false, cond, ◌&&◌, ◌||◌, nat_le, nat_lt, List, [], ◌∷◌, ◌++◌, map, Option, Some, None, option_map, bytes_eq, refl, sym, ap, ap₂, ◌∙◌, inl, inr, ⊎_elim, subst, le-leb, lt-ltb}
 use Rattle.std.specs.Option.{option_map_or, ForSome}
-use Rattle.std.specs.List.{AllByRecursion, IsDistinct}
+use Rattle.std.proofs.lemmas.List.{map-append}
+use Rattle.std.specs.List.{IsDistinct}
 use Rattle.std.proofs.lemmas.Slice.Eq.{bytes_eq-Decides}
 use Rattle.osc_model.specs.declared.node.Moment.{Moment}
 use Rattle.osc_authz.specs.Held.{Held}
-use Rattle.osc_authz.specs.Table.{listed, contexts, ids, is_live, holds_live, alive, has_id, taking, accepted_in, accepted, with_pending, IsTable}
+use Rattle.osc_authz.specs.Table.{listed, contexts, is_live, holds_live, alive, has_id, taking, accepted_in, accepted, with_pending, IsTable}
 use Rattle.osc_authz.specs.declared.holding.Holding.{Holding}
 use Rattle.osc_authz.specs.Members.{In}
-use Rattle.osc_authz.specs.Contexts.{IsLive, AreKept, HasAdded, HasTaken}
-use Rattle.osc_authz.proofs.Members.{in_front, in_back, in_either}
+use Rattle.osc_authz.specs.Contexts.{OfToken, pending_of, of_token, of_tokens, IsConfirmedOf, IsPendingOf, confirmed_by, IsLive, AreKept, HasAdded, HasTaken}
+use Rattle.osc_authz.proofs.Members.{in_front, in_back, in_either, mapped_in, in_mapped, in_filter, filtered_in, one_of_text}
 
 -- ---- where a context stands
 
-data Place (c : Held) (h : Holding) (table : List Holding) : Type 0 where
-  Confirmed : h.confirmed ≡ Some c → Place c h table
-  Pending : h.pending ≡ Some c → Place c h table
-  Later : In c (contexts table) → Place c h table
+-- the confirmed or the pending one of a holding
+abbrev slot : Bool → Holding → Option Held
+slot true h = h.confirmed
+slot false h = h.pending
 
-in_listed : (c : Held) (o : Option Held) → In c (listed o) → o ≡ Some c
-in_listed c None m = absurd m
-in_listed c (Some d) (inl e) = ap (λ (x : Held). Some x) (sym e)
-in_listed c (Some d) (inr m) = absurd m
+-- a holding of the table has the context
+record Stands (c : OfToken) (table : List Holding) : Type 0 where
+  holding : Holding
+  among : In holding table
+  token : c.token ≡ holding.id
+  here : slot c.is_confirmed holding ≡ Some c.held
 
-listed_in : (c : Held) (o : Option Held) → o ≡ Some c → In c (listed o)
-listed_in c o e = subst (λ (x : Option Held). In c (listed x)) (sym e) (inl refl)
+alike : (c : OfToken) (token : List ℕ) (is_confirmed : Bool) (held : Held) → c.token ≡ token → c.is_confirmed ≡ is_confirmed → c.held ≡ held
+    → c ≡ record { token = token; is_confirmed = is_confirmed; held = held }
+alike c token is_confirmed held t k h = λ i. record { token = t i; is_confirmed = k i; held = h i }
 
-place : (c : Held) (h : Holding) (table : List Holding) → In c (contexts (h ∷ table)) → Place c h table
-place c h table m =
+in_one : (c : OfToken) (token : List ℕ) (b : Bool) (o : Option Held) → In c (of_token token b o) → (c.token ≡ token) × (c.is_confirmed ≡ b) × (o ≡ Some c.held)
+in_one c token b None m = absurd m
+in_one c token b (Some d) (inl e) = (ap (λ (x : OfToken). x.token) e, ap (λ (x : OfToken). x.is_confirmed) e, ap (λ (x : OfToken). Some x.held) (sym e))
+in_one c token b (Some d) (inr m) = absurd m
+
+one_in : (c : OfToken) (token : List ℕ) (b : Bool) (o : Option Held) → c.token ≡ token → c.is_confirmed ≡ b → o ≡ Some c.held → In c (of_token token b o)
+one_in c token b o t k e = subst (λ (x : Option Held). In c (of_token token b x)) (sym e) (inl (alike c token b c.held t k refl))
+
+stands : (table : List Holding) (c : OfToken) → In c (of_tokens table) → Stands c table
+stands [] c m = absurd m
+stands (h ∷ table) c m =
     ⊎_elim
-    (λ (a : In c (listed h.confirmed ++ listed h.pending)). ⊎_elim
-    (λ (b : In c (listed h.confirmed)). Confirmed (in_listed c h.confirmed b))
-    (λ (b : In c (listed h.pending)). Pending (in_listed c h.pending b))
-    (in_either c (listed h.confirmed) (listed h.pending) a))
-    (λ (a : In c (contexts table)). Later a)
-    (in_either c (listed h.confirmed ++ listed h.pending) (contexts table) m)
+    (λ (a : In c (of_token h.id true h.confirmed ++ of_token h.id false h.pending)). ⊎_elim
+    (λ (x : In c (of_token h.id true h.confirmed)). at true (in_one c h.id true h.confirmed x))
+    (λ (x : In c (of_token h.id false h.pending)). at false (in_one c h.id false h.pending x))
+    (in_either c (of_token h.id true h.confirmed) (of_token h.id false h.pending) a))
+    (λ (a : In c (of_tokens table)). let s = stands table c a in record { holding = s.holding; among = inr s.among; token = s.token; here = s.here })
+    (in_either c (of_token h.id true h.confirmed ++ of_token h.id false h.pending) (of_tokens table) m)
+  where
+    at : (b : Bool) → (c.token ≡ h.id) × (c.is_confirmed ≡ b) × (slot b h ≡ Some c.held) → Stands c (h ∷ table)
+    at b p = record { holding = h; among = inl refl; token = p.0; here = ap (λ x. slot x h) p.1 ∙ p.2 }
 
-placed : (c : Held) (h : Holding) (table : List Holding) → Place c h table → In c (contexts (h ∷ table))
-placed c h table (Confirmed e) = in_front c (listed h.confirmed ++ listed h.pending) (contexts table) (in_front c (listed h.confirmed) (listed h.pending) (listed_in c h.confirmed e))
-placed c h table (Pending e) = in_front c (listed h.confirmed ++ listed h.pending) (contexts table) (in_back c (listed h.confirmed) (listed h.pending) (listed_in c h.pending e))
-placed c h table (Later m) = in_back c (listed h.confirmed ++ listed h.pending) (contexts table) m
+stood_at : (table : List Holding) (c : OfToken) (h : Holding) → In h table → c.token ≡ h.id → slot c.is_confirmed h ≡ Some c.held → In c (of_tokens table)
+stood_at [] c h m t e = absurd m
+stood_at (g ∷ table) c h (inl same) t e = subst (λ (x : Holding). In c (of_tokens (x ∷ table))) same (by c.is_confirmed refl e)
+  where
+    by : (b : Bool) → c.is_confirmed ≡ b → slot b h ≡ Some c.held → In c (of_tokens (h ∷ table))
+    by true k e =
+        in_front c (of_token h.id true h.confirmed ++ of_token h.id false h.pending) (of_tokens table) (in_front c (of_token h.id true h.confirmed) (of_token h.id false h.pending) (one_in c h.id true h.confirmed t k e))
+    by false k e =
+        in_front c (of_token h.id true h.confirmed ++ of_token h.id false h.pending) (of_tokens table) (in_back c (of_token h.id true h.confirmed) (of_token h.id false h.pending) (one_in c h.id false h.pending t k e))
+stood_at (g ∷ table) c h (inr m) t e = in_back c (of_token g.id true g.confirmed ++ of_token g.id false g.pending) (of_tokens table) (stood_at table c h m t e)
+
+stood : (table : List Holding) (c : OfToken) → Stands c table → In c (of_tokens table)
+stood table c s = stood_at table c s.holding s.among s.token s.here
 
 one_of : (c d : Held) (o : Option Held) → o ≡ Some c → o ≡ Some d → c ≡ d
 one_of c d o e f = let both : Some c ≡ Some d = sym e ∙ f in cc
+
+-- ---- the same without their tokens
+
+abbrev held_in : OfToken → Held
+held_in c = c.held
+
+held_of_one : (token : List ℕ) (b : Bool) (o : Option Held) → map held_in (of_token token b o) ≡ listed o
+held_of_one token b None = refl
+held_of_one token b (Some d) = refl
+
+held_of_tokens : (table : List Holding) → map held_in (of_tokens table) ≡ contexts table
+held_of_tokens [] = refl
+held_of_tokens (h ∷ table) =
+    let confirmed : List OfToken = of_token h.id true h.confirmed in
+    let pending : List OfToken = of_token h.id false h.pending in
+    let mine : map held_in (confirmed ++ pending) ≡ listed h.confirmed ++ listed h.pending =
+    map-append held_in confirmed pending ∙ ap₂ (λ (x y : List Held). x ++ y) (held_of_one h.id true h.confirmed) (held_of_one h.id false h.pending) in
+    map-append held_in (confirmed ++ pending) (of_tokens table) ∙ ap₂ (λ (x y : List Held). x ++ y) mine (held_of_tokens table)
+
+pub is_held : (table : List Holding) (c : OfToken) → In c (of_tokens table) → In c.held (contexts table)
+is_held table c m = subst (In c.held) (held_of_tokens table) (mapped_in held_in (of_tokens table) c m)
+
+pub held_of : (table : List Holding) (d : Held) → In d (contexts table) → (c : OfToken) × In c (of_tokens table) × (d ≡ c.held)
+held_of table d m = in_mapped held_in (of_tokens table) d (subst (In d) (sym (held_of_tokens table)) m)
+
+-- ---- IDs that stand once
+
+abbrev id_in : OfToken → List ℕ
+id_in c = c.held.name.client_id
+
+ids_of_held : (cs : List OfToken) → map (λ d. d.name.client_id) (map held_in cs) ≡ map id_in cs
+ids_of_held [] = refl
+ids_of_held (c ∷ cs) = ap (λ ids. id_in c ∷ ids) (ids_of_held cs)
+
+pub one_held : (table : List Holding) (c d : Held) → IsTable table → In c (contexts table) → In d (contexts table) → c.name.client_id ≡ d.name.client_id → c ≡ d
+one_held table c d is_table m n e = one_of_text (λ (x : Held). x.name.client_id) (contexts table) c d is_table.own_ids m n e
+
+pub one_of_token : (table : List Holding) (c d : OfToken) → IsTable table → In c (of_tokens table) → In d (of_tokens table) → c.held.name.client_id ≡ d.held.name.client_id → c ≡ d
+one_of_token table c d is_table m n e =
+    let ids_are : map (λ x. x.name.client_id) (contexts table) ≡ map id_in (of_tokens table) =
+    ap (map (λ x. x.name.client_id)) (sym (held_of_tokens table)) ∙ ids_of_held (of_tokens table) in
+    one_of_text id_in (of_tokens table) c d (subst (IsDistinct bytes_eq) ids_are is_table.own_ids) m n e
+
+one_holding : (table : List Holding) (g h : Holding) → IsTable table → In g table → In h table → g.id ≡ h.id → g ≡ h
+one_holding table g h is_table m n e = one_of_text (λ (x : Holding). x.id) table g h is_table.own_tokens m n e
 
 -- ---- those that live
 
@@ -67,136 +137,142 @@ second_or true b e = refl
 second_or false b e = e
 
 -- a holding with a context that lives
-holds : (now : Moment) (c : Held) (h : Holding) → is_live now c ≡ true → (h.confirmed ≡ Some c) ⊎ (h.pending ≡ Some c) → holds_live now h ≡ true
-holds now c h live (inl e) = first_or (option_map_or (is_live now) h.confirmed false) (option_map_or (is_live now) h.pending false) (ap (λ (o : Option Held). option_map_or (is_live now) o false) e ∙ live)
-holds now c h live (inr e) = second_or (option_map_or (is_live now) h.confirmed false) (option_map_or (is_live now) h.pending false) (ap (λ (o : Option Held). option_map_or (is_live now) o false) e ∙ live)
+holds : (now : Moment) (d : Held) (h : Holding) (b : Bool) → is_live now d ≡ true → slot b h ≡ Some d → holds_live now h ≡ true
+holds now d h true live e = first_or (option_map_or (is_live now) h.confirmed false) (option_map_or (is_live now) h.pending false) (ap (λ (o : Option Held). option_map_or (is_live now) o false) e ∙ live)
+holds now d h false live e = second_or (option_map_or (is_live now) h.confirmed false) (option_map_or (is_live now) h.pending false) (ap (λ (o : Option Held). option_map_or (is_live now) o false) e ∙ live)
 
-of_alive : (now : Moment) (table : List Holding) (c : Held) → In c (contexts (alive now table)) → In c (contexts table)
-of_alive now [] c m = m
-of_alive now (h ∷ table) c m = by (holds_live now h) (of_alive now table c) m
-  where
-    by : (b : Bool) → (In c (contexts (alive now table)) → In c (contexts table)) → In c (contexts (cond b (h ∷ alive now table) (alive now table))) → In c (contexts (h ∷ table))
-    by false later m = placed c h table (Later (later m))
-    by true later m = at (place c h (alive now table) m)
-      where
-        at : Place c h (alive now table) → In c (contexts (h ∷ table))
-        at (Confirmed e) = placed c h table (Confirmed e)
-        at (Pending e) = placed c h table (Pending e)
-        at (Later m) = placed c h table (Later (later m))
+of_alive : (now : Moment) (table : List Holding) (c : OfToken) → In c (of_tokens (alive now table)) → In c (of_tokens table)
+of_alive now table c m =
+    let s = stands (alive now table) c m in
+    stood table c (record { holding = s.holding; among = (in_filter (holds_live now) table s.holding s.among).0; token = s.token; here = s.here })
 
-is_alive : (now : Moment) (table : List Holding) (c : Held) → is_live now c ≡ true → In c (contexts table) → In c (contexts (alive now table))
-is_alive now [] c live m = m
-is_alive now (h ∷ table) c live m = at (place c h table m) (is_alive now table c live)
-  where
-    first : holds_live now h ≡ true → Place c h (alive now table) → In c (contexts (alive now (h ∷ table)))
-    first e p = rw e (placed c h (alive now table) p)
+is_alive : (now : Moment) (table : List Holding) (c : OfToken) → In c (of_tokens table) → IsLive now c.held → In c (of_tokens (alive now table))
+is_alive now table c m live =
+    let s = stands table c m in
+    let its = holds now c.held s.holding c.is_confirmed (lives now c.held live) s.here in
+    stood (alive now table) c (record { holding = s.holding; among = filtered_in (holds_live now) table s.holding s.among its; token = s.token; here = s.here })
 
-    later : (b : Bool) → In c (contexts (alive now table)) → In c (contexts (cond b (h ∷ alive now table) (alive now table)))
-    later true m = placed c h (alive now table) (Later m)
-    later false m = m
-
-    at : Place c h table → (In c (contexts table) → In c (contexts (alive now table))) → In c (contexts (alive now (h ∷ table)))
-    at (Confirmed e) rest = first (holds now c h live (inl e)) (Confirmed e)
-    at (Pending e) rest = first (holds now c h live (inr e)) (Pending e)
-    at (Later m) rest = later (holds_live now h) (rest m)
-
-pub kept : (now : Moment) (table : List Holding) → AreKept now (contexts table) (contexts (alive now table))
-kept now table = record { only = of_alive now table; live = λ c m live. is_alive now table c (lives now c live) m }
+pub kept : (now : Moment) (table : List Holding) → AreKept now (of_tokens table) (of_tokens (alive now table))
+kept now table = record { only = of_alive now table; live = is_alive now table }
 
 -- ---- one more
 
 module _ (token : List ℕ) (held : Held) where
-  -- the one whose place it takes
-  abbrev replaced : List Holding → Option Held
-  replaced [] = None
-  replaced (h ∷ table) = cond (bytes_eq token h.id) h.pending (replaced table)
+  -- a holding beside one more pending context: one of before, or the token id's, whose confirmed one is that of before
+  data With (g : Holding) (table : List Holding) : Type 0 where
+    Other : In g table → With g table
+    Changed : g.id ≡ token → g.pending ≡ Some held
+        → ((d : Held) → g.confirmed ≡ Some d → (h : Holding) × In h table × (h.id ≡ token) × (h.confirmed ≡ Some d))
+        → With g table
 
-  from_pending : (table : List Holding) (c : Held) → In c (contexts (with_pending token held table)) → (c ≡ held) ⊎ In c (contexts table)
-  from_pending [] c m = at (place c (record { id = token; confirmed = None; pending = Some held }) [] m)
+  later : (g h : Holding) (table : List Holding) → With g table → With g (h ∷ table)
+  later g h table (Other m) = Other (inr m)
+  later g h table (Changed id pending from) = Changed id pending (λ d e. let r = from d e in (r.0, inr r.1, r.2, r.3))
+
+  nothing : (d : Held) → None ≡ Some d → ⊥
+  nothing d e = cc
+
+  with_one : (table : List Holding) (g : Holding) → In g (with_pending token held table) → With g table
+  with_one [] g (inl e) = Changed (ap (λ (x : Holding). x.id) e) (ap (λ (x : Holding). x.pending) e) (λ d k. absurd (nothing d (sym (ap (λ (x : Holding). x.confirmed) e) ∙ k)))
+  with_one [] g (inr m) = absurd m
+  with_one (h ∷ table) g m = by (bytes_eq token h.id) refl m (with_one table g)
     where
-      at : Place c (record { id = token; confirmed = None; pending = Some held }) [] → (c ≡ held) ⊎ ⊥
-      at (Confirmed e) = absurd (cc)
-      at (Pending e) = inl (one_of c held (Some held) e refl)
-      at (Later m) = absurd m
-  from_pending (h ∷ table) c m = by (bytes_eq token h.id) (from_pending table c) m
+      by : (b : Bool) → bytes_eq token h.id ≡ b → In g (cond b ((record h { pending = Some held }) ∷ table) (h ∷ with_pending token held table))
+          → (In g (with_pending token held table) → With g table) → With g (h ∷ table)
+      by true same (inl e) rest =
+          let is : h.id ≡ token = sym ((bytes_eq-Decides token h.id).0 same) in
+          Changed (ap (λ (x : Holding). x.id) e ∙ is) (ap (λ (x : Holding). x.pending) e) (λ d k. (h, inl refl, is, sym (ap (λ (x : Holding). x.confirmed) e) ∙ k))
+      by true same (inr m) rest = Other (inr m)
+      by false other (inl e) rest = Other (inl e)
+      by false other (inr m) rest = later g h table (rest m)
+
+  has_new : (table : List Holding) → (g : Holding) × In g (with_pending token held table) × (g.id ≡ token) × (g.pending ≡ Some held)
+  has_new [] = (record { id = token; confirmed = None; pending = Some held }, inl refl, refl, refl)
+  has_new (h ∷ table) = by (bytes_eq token h.id) refl (has_new table)
     where
-      here : Place c (record h { pending = Some held }) table → (c ≡ held) ⊎ In c (contexts (h ∷ table))
-      here (Confirmed e) = inr (placed c h table (Confirmed e))
-      here (Pending e) = inl (one_of c held (Some held) e refl)
-      here (Later m) = inr (placed c h table (Later m))
+      by : (b : Bool) → bytes_eq token h.id ≡ b → (g : Holding) × In g (with_pending token held table) × (g.id ≡ token) × (g.pending ≡ Some held)
+          → (g : Holding) × In g (cond b ((record h { pending = Some held }) ∷ table) (h ∷ with_pending token held table)) × (g.id ≡ token) × (g.pending ≡ Some held)
+      by true same rest = (record h { pending = Some held }, inl refl, sym ((bytes_eq-Decides token h.id).0 same), refl)
+      by false other rest = (rest.0, inr rest.1, rest.2, rest.3)
 
-      there : (In c (contexts (with_pending token held table)) → (c ≡ held) ⊎ In c (contexts table)) → Place c h (with_pending token held table) → (c ≡ held) ⊎ In c (contexts (h ∷ table))
-      there rest (Confirmed e) = inr (placed c h table (Confirmed e))
-      there rest (Pending e) = inr (placed c h table (Pending e))
-      there rest (Later m) = ⊎_elim (λ (e : c ≡ held). inl e) (λ (i : In c (contexts table)). inr (placed c h table (Later i))) (rest m)
+  -- what becomes of a holding
+  record StillIn (h : Holding) (table : List Holding) : Type 0 where
+    new : Holding
+    among : In new table
+    id : new.id ≡ h.id
+    confirmed : new.confirmed ≡ h.confirmed
+    pending : (h.id ≡ token) ⊎ (new.pending ≡ h.pending)
 
-      by : (b : Bool) → (In c (contexts (with_pending token held table)) → (c ≡ held) ⊎ In c (contexts table))
-          → In c (contexts (cond b ((record h { pending = Some held }) ∷ table) (h ∷ with_pending token held table))) → (c ≡ held) ⊎ In c (contexts (h ∷ table))
-      by true rest m = here (place c (record h { pending = Some held }) table m)
-      by false rest m = there rest (place c h (with_pending token held table) m)
-
-  has_pending : (table : List Holding) → In held (contexts (with_pending token held table))
-  has_pending [] = inl refl
-  has_pending (h ∷ table) = by (bytes_eq token h.id) (has_pending table)
+  stays : (table : List Holding) (h : Holding) → In h table → StillIn h (with_pending token held table)
+  stays [] h m = absurd m
+  stays (k ∷ table) h m = by (bytes_eq token k.id) refl m (stays table h)
     where
-      by : (b : Bool) → In held (contexts (with_pending token held table)) → In held (contexts (cond b ((record h { pending = Some held }) ∷ table) (h ∷ with_pending token held table)))
-      by true rest = placed held (record h { pending = Some held }) table (Pending refl)
-      by false rest = placed held h (with_pending token held table) (Later rest)
+      by : (b : Bool) → bytes_eq token k.id ≡ b → In h (k ∷ table) → (In h table → StillIn h (with_pending token held table))
+          → StillIn h (cond b ((record k { pending = Some held }) ∷ table) (k ∷ with_pending token held table))
+      by true same (inl e) rest = record {
+        new = record k { pending = Some held };
+        among = inl refl;
+        id = ap (λ (x : Holding). x.id) (sym e);
+        confirmed = ap (λ (x : Holding). x.confirmed) (sym e);
+        pending = inl (ap (λ (x : Holding). x.id) e ∙ sym ((bytes_eq-Decides token k.id).0 same));
+      }
+      by true same (inr m) rest = record { new = h; among = inr m; id = refl; confirmed = refl; pending = inr refl }
+      by false other (inl e) rest = record {
+        new = k;
+        among = inl refl;
+        id = ap (λ (x : Holding). x.id) (sym e);
+        confirmed = ap (λ (x : Holding). x.confirmed) (sym e);
+        pending = inr (ap (λ (x : Holding). x.pending) (sym e));
+      }
+      by false other (inr m) rest = let r = rest m in record { new = r.new; among = inr r.among; id = r.id; confirmed = r.confirmed; pending = r.pending }
 
-  keeps_pending : (table : List Holding) (c : Held) → In c (contexts table) → In c (contexts (with_pending token held table)) ⊎ (replaced table ≡ Some c)
-  keeps_pending [] c m = absurd m
-  keeps_pending (h ∷ table) c m = by (bytes_eq token h.id) (place c h table m) (keeps_pending table c)
-    where
-      by : (b : Bool) → Place c h table → (In c (contexts table) → In c (contexts (with_pending token held table)) ⊎ (replaced table ≡ Some c))
-          → In c (contexts (cond b ((record h { pending = Some held }) ∷ table) (h ∷ with_pending token held table))) ⊎ (cond b h.pending (replaced table) ≡ Some c)
-      by true (Confirmed e) rest = inl (placed c (record h { pending = Some held }) table (Confirmed e))
-      by true (Pending e) rest = inr e
-      by true (Later m) rest = inl (placed c (record h { pending = Some held }) table (Later m))
-      by false (Confirmed e) rest = inl (placed c h (with_pending token held table) (Confirmed e))
-      by false (Pending e) rest = inl (placed c h (with_pending token held table) (Pending e))
-      by false (Later m) rest =
-          ⊎_elim
-          (λ (i : In c (contexts (with_pending token held table))). inl (placed c h (with_pending token held table) (Later i)))
-          (λ (e : replaced table ≡ Some c). inr e)
-          (rest m)
+  -- where a context of the table with one more came from
+  came_from : (table : List Holding) (c : OfToken) (g : Holding) → c.token ≡ g.id → With g table → (b : Bool) → c.is_confirmed ≡ b → slot b g ≡ Some c.held
+      → (c ≡ pending_of token held) ⊎ In c (of_tokens table)
+  came_from table c g t (Other m) b k e = inr (stood table c (record { holding = g; among = m; token = t; here = ap (λ x. slot x g) k ∙ e }))
+  came_from table c g t (Changed id pending from) true k e =
+      let r = from c.held e in
+      inr (stood table c (record { holding = r.0; among = r.1; token = t ∙ id ∙ sym r.2; here = ap (λ x. slot x r.0) k ∙ r.3 }))
+  came_from table c g t (Changed id pending from) false k e = inl (alike c token false held (t ∙ id) k (one_of c.held held g.pending e pending))
 
-  pub table_added : (now : Moment) (table : List Holding) → HasAdded now held (contexts table) (contexts (with_pending token held (alive now table)))
-  table_added now table = record {
-    only = λ c m. ⊎_elim (λ (e : c ≡ held). inl e) (λ (i : In c (contexts (alive now table))). inr (of_alive now table c i)) (from_pending (alive now table) c m);
+  only_one : (table : List Holding) (c : OfToken) → In c (of_tokens (with_pending token held table)) → (c ≡ pending_of token held) ⊎ In c (of_tokens table)
+  only_one table c m =
+      let s = stands (with_pending token held table) c m in
+      came_from table c s.holding s.token (with_one table s.holding s.among) c.is_confirmed refl s.here
+
+  pub has_pending : (table : List Holding) → In (pending_of token held) (of_tokens (with_pending token held table))
+  has_pending table =
+      let g = has_new table in
+      stood (with_pending token held table) (pending_of token held) (record { holding = g.0; among = g.1; token = sym g.2; here = g.3 })
+
+  no_other : (table : List Holding) → IsTable (with_pending token held table) → (c : OfToken) → In c (of_tokens (with_pending token held table)) → IsPendingOf token c → c ≡ pending_of token held
+  no_other table is_table c m is =
+      let s = stands (with_pending token held table) c m in
+      let g = has_new table in
+      let one : s.holding ≡ g.0 = one_holding (with_pending token held table) s.holding g.0 is_table s.among g.1 (sym s.token ∙ is.0 ∙ sym g.2) in
+      let its : g.0.pending ≡ Some c.held = ap (λ (x : Holding). x.pending) (sym one) ∙ sym (ap (λ b. slot b s.holding) is.1) ∙ s.here in
+      alike c token false held is.0 is.1 (one_of c.held held g.0.pending its g.3)
+
+  stays_or : (table : List Holding) (c : OfToken) → Stands c table → (b : Bool) → c.is_confirmed ≡ b → In c (of_tokens (with_pending token held table)) ⊎ IsPendingOf token c
+  stays_or table c s true k =
+      let r = stays table s.holding s.among in
+      inl (stood (with_pending token held table) c (record { holding = r.new; among = r.among; token = s.token ∙ sym r.id; here = ap (λ b. slot b r.new) k ∙ r.confirmed ∙ sym (ap (λ b. slot b s.holding) k) ∙ s.here }))
+  stays_or table c s false k =
+      let r = stays table s.holding s.among in
+      ⊎_elim
+      (λ (e : s.holding.id ≡ token). inr (s.token ∙ e, k))
+      (λ (e : r.new.pending ≡ s.holding.pending).
+      inl (stood (with_pending token held table) c (record { holding = r.new; among = r.among; token = s.token ∙ sym r.id; here = ap (λ b. slot b r.new) k ∙ e ∙ sym (ap (λ b. slot b s.holding) k) ∙ s.here })))
+      r.pending
+
+  pub table_added : (now : Moment) (table : List Holding) → IsTable (with_pending token held (alive now table))
+      → HasAdded now token held (of_tokens table) (of_tokens (with_pending token held (alive now table)))
+  table_added now table is_table = record {
+    only = λ c m. ⊎_elim (λ (e : c ≡ pending_of token held). inl e) (λ (i : In c (of_tokens (alive now table))). inr (of_alive now table c i)) (only_one (alive now table) c m);
     here = has_pending (alive now table);
-    gone = replaced (alive now table);
-    live = λ c m live. keeps_pending (alive now table) c (is_alive now table c (lives now c live) m);
+    replaced = no_other (alive now table) is_table;
+    live = λ c m live. stays_or (alive now table) c (stands (alive now table) c (is_alive now table c m live)) c.is_confirmed refl;
   }
-
--- ---- IDs that stand once
-
-all_at : (P : List ℕ → Type 0) (cs : List Held) (c : Held) → AllByRecursion P (map (λ d. d.name.client_id) cs) → In c cs → P c.name.client_id
-all_at P [] c all m = absurd m
-all_at P (x ∷ cs) c all (inl e) = subst (λ (y : Held). P y.name.client_id) (sym e) all.0
-all_at P (x ∷ cs) c all (inr m) = all_at P cs c all.1 m
-
-unlike : (a b : List ℕ) → bytes_eq a b ≡ false → a ≡ b → ⊥
-unlike a b e same = absurd (cc (e, (bytes_eq-Decides a b).1 same))
-
-pub one_id : (cs : List Held) (c d : Held) → IsDistinct bytes_eq (map (λ x. x.name.client_id) cs) → In c cs → In d cs → c.name.client_id ≡ d.name.client_id → c ≡ d
-unfolding IsDistinct
-one_id [] c d distinct m n e = absurd m
-one_id (x ∷ cs) c d distinct (inl a) (inl b) e = a ∙ sym b
-one_id (x ∷ cs) c d distinct (inl a) (inr n) e = absurd (unlike x.name.client_id d.name.client_id (all_at (λ y. bytes_eq x.name.client_id y ≡ false) cs d distinct.0 n) (ap (λ (y : Held). y.name.client_id) (sym a) ∙ e))
-one_id (x ∷ cs) c d distinct (inr m) (inl b) e = absurd (unlike x.name.client_id c.name.client_id (all_at (λ y. bytes_eq x.name.client_id y ≡ false) cs c distinct.0 m) (ap (λ (y : Held). y.name.client_id) (sym b) ∙ sym e))
-one_id (x ∷ cs) c d distinct (inr m) (inr n) e = one_id cs c d distinct.1 m n e
-
-apart : (front behind : List Held) (c d : Held) → IsDistinct bytes_eq (map (λ x. x.name.client_id) (front ++ behind)) → In c front → In d behind → c.name.client_id ≡ d.name.client_id → ⊥
-unfolding IsDistinct
-apart [] behind c d distinct m n e = absurd m
-apart (x ∷ front) behind c d distinct (inl a) n e =
-    unlike x.name.client_id d.name.client_id (all_at (λ y. bytes_eq x.name.client_id y ≡ false) (front ++ behind) d distinct.0 (in_back d front behind n)) (ap (λ (y : Held). y.name.client_id) (sym a) ∙ e)
-apart (x ∷ front) behind c d distinct (inr m) n e = apart front behind c d distinct.1 m n e
-
-distinct_behind : (front behind : List Held) → IsDistinct bytes_eq (map (λ x. x.name.client_id) (front ++ behind)) → IsDistinct bytes_eq (map (λ x. x.name.client_id) behind)
-unfolding IsDistinct
-distinct_behind [] behind distinct = distinct
-distinct_behind (x ∷ front) behind distinct = distinct_behind front behind distinct.1
 
 -- ---- a number taken
 
@@ -218,118 +294,126 @@ module _ (id : List ℕ) (number : ℕ) where
   some_tested None e = absurd (cc)
   some_tested (Some d) e = (d, refl, e)
 
-  -- where a context came from
-  data From (c : Held) (old : List Held) : Type 0 where
-    Took : (d : Held) → In d old → has_id id d ≡ true → c ≡ taking number d → From c old
-    Same : In c old → has_id id c ≡ false → From c old
-
-  behind : (c : Held) (h : Holding) (table : List Holding) → From c (contexts table) → From c (contexts (h ∷ table))
-  behind c h table (Took d m e is) = Took d (placed d h table (Later m)) e is
-  behind c h table (Same m e) = Same (placed c h table (Later m)) e
-
   abbrev branch : Bool → Bool → Holding → Holding
   branch a b h = cond a (record h { confirmed = option_map (taking number) h.pending; pending = None }) (cond b (record h { confirmed = option_map (taking number) h.confirmed }) h)
 
-  from_accepted : (table : List Holding) (c : Held) → In c (contexts (accepted id number table)) → From c (contexts table)
-  from_accepted [] c m = absurd m
-  from_accepted (h ∷ table) c m = by (tested h.pending) refl (tested h.confirmed) refl (place c (accepted_in id number h) (accepted id number table) m) (from_accepted table c)
-    where
-      by : (a : Bool) → tested h.pending ≡ a → (b : Bool) → tested h.confirmed ≡ b → Place c (branch a b h) (accepted id number table)
-          → (In c (contexts (accepted id number table)) → From c (contexts table)) → From c (contexts (h ∷ table))
-      by true p b q (Confirmed e) rest = let d = some_mapped (taking number) h.pending c e in Took d.0 (placed d.0 h table (Pending d.1)) (test_of h.pending d.0 true p d.1) d.2
-      by true p b q (Pending e) rest = absurd (cc)
-      by true p b q (Later m) rest = behind c h table (rest m)
-      by false p true q (Confirmed e) rest = let d = some_mapped (taking number) h.confirmed c e in Took d.0 (placed d.0 h table (Confirmed d.1)) (test_of h.confirmed d.0 true q d.1) d.2
-      by false p true q (Pending e) rest = Same (placed c h table (Pending e)) (test_of h.pending c false p e)
-      by false p true q (Later m) rest = behind c h table (rest m)
-      by false p false q (Confirmed e) rest = Same (placed c h table (Confirmed e)) (test_of h.confirmed c false q e)
-      by false p false q (Pending e) rest = Same (placed c h table (Pending e)) (test_of h.pending c false p e)
-      by false p false q (Later m) rest = behind c h table (rest m)
+  branch_id : (a b : Bool) (h : Holding) → (branch a b h).id ≡ h.id
+  branch_id true b h = refl
+  branch_id false true h = refl
+  branch_id false false h = refl
 
-  has_accepted : (x : Held) → has_id id x ≡ true → (table : List Holding) → ((d : Held) → In d (contexts table) → has_id id d ≡ true → d ≡ x) → In x (contexts table) → In (taking number x) (contexts (accepted id number table))
-  has_accepted x its [] one m = absurd m
-  has_accepted x its (h ∷ table) one m =
-      by (tested h.pending) refl (tested h.confirmed) refl (place x h table m) (has_accepted x its table (λ d i e. one d (placed d h table (Later i)) e))
-    where
-      first : (a b : Bool) → (branch a b h).confirmed ≡ Some (taking number x) → In (taking number x) (contexts (branch a b h ∷ accepted id number table))
-      first a b e = placed (taking number x) (branch a b h) (accepted id number table) (Confirmed e)
+  -- where a holding's context came from
+  data From (h : Holding) (k : Bool) (d : Held) : Type 0 where
+    Took : (j : Bool) (e : Held) → slot j h ≡ Some e → has_id id e ≡ true → k ≡ true → d ≡ taking number e → From h k d
+    Same : slot k h ≡ Some d → has_id id d ≡ false → From h k d
 
-      by : (a : Bool) → tested h.pending ≡ a → (b : Bool) → tested h.confirmed ≡ b → Place x h table
-          → (In x (contexts table) → In (taking number x) (contexts (accepted id number table))) → In (taking number x) (contexts (branch a b h ∷ accepted id number table))
-      by true p b q (Confirmed e) rest =
-          let d = some_tested h.pending p in
-          let same : d.0 ≡ x = one d.0 (placed d.0 h table (Pending d.1)) d.2 in
-          first true b (mapped (taking number) h.pending x (d.1 ∙ ap (λ (y : Held). Some y) same))
-      by true p b q (Pending e) rest = first true b (mapped (taking number) h.pending x e)
-      by true p b q (Later m) rest = placed (taking number x) (branch true b h) (accepted id number table) (Later (rest m))
-      by false p true q (Confirmed e) rest = first false true (mapped (taking number) h.confirmed x e)
-      by false p true q (Pending e) rest = absurd (cc (its, test_of h.pending x false p e))
-      by false p true q (Later m) rest = placed (taking number x) (branch false true h) (accepted id number table) (Later (rest m))
-      by false p false q (Confirmed e) rest = absurd (cc (its, test_of h.confirmed x false q e))
-      by false p false q (Pending e) rest = absurd (cc (its, test_of h.pending x false p e))
-      by false p false q (Later m) rest = placed (taking number x) (branch false false h) (accepted id number table) (Later (rest m))
+  from : (h : Holding) (a : Bool) → tested h.pending ≡ a → (b : Bool) → tested h.confirmed ≡ b → (k : Bool) (d : Held) → slot k (branch a b h) ≡ Some d → From h k d
+  from h true p b q true d e = let x = some_mapped (taking number) h.pending d e in Took false x.0 x.1 (test_of h.pending x.0 true p x.1) refl x.2
+  from h true p b q false d e = absurd (cc)
+  from h false p true q true d e = let x = some_mapped (taking number) h.confirmed d e in Took true x.0 x.1 (test_of h.confirmed x.0 true q x.1) refl x.2
+  from h false p true q false d e = Same e (test_of h.pending d false p e)
+  from h false p false q true d e = Same e (test_of h.confirmed d false q e)
+  from h false p false q false d e = Same e (test_of h.pending d false p e)
 
-  -- where no context has the ID, each stays
-  all_stay : (table : List Holding) → ((d : Held) → In d (contexts table) → has_id id d ≡ true → ⊥) → (c : Held) → In c (contexts table) → In c (contexts (accepted id number table))
-  all_stay [] none c m = m
-  all_stay (h ∷ table) none c m =
-      by (tested h.pending) refl (tested h.confirmed) refl (place c h table m) (all_stay table (λ d i e. none d (placed d h table (Later i)) e) c)
-    where
-      by : (a : Bool) → tested h.pending ≡ a → (b : Bool) → tested h.confirmed ≡ b → Place c h table
-          → (In c (contexts table) → In c (contexts (accepted id number table))) → In c (contexts (branch a b h ∷ accepted id number table))
-      by true p b q at rest = let d = some_tested h.pending p in absurd (none d.0 (placed d.0 h table (Pending d.1)) d.2)
-      by false p true q at rest = let d = some_tested h.confirmed q in absurd (none d.0 (placed d.0 h table (Confirmed d.1)) d.2)
-      by false p false q (Confirmed e) rest = placed c h (accepted id number table) (Confirmed e)
-      by false p false q (Pending e) rest = placed c h (accepted id number table) (Pending e)
-      by false p false q (Later m) rest = placed c h (accepted id number table) (Later (rest m))
+  -- the one with the ID is confirmed
+  confirms : (h : Holding) (d : Held) (k : Bool) → slot k h ≡ Some d → has_id id d ≡ true → (tested h.pending ≡ true → k ≡ false)
+      → (a : Bool) → tested h.pending ≡ a → (b : Bool) → tested h.confirmed ≡ b → (branch a b h).confirmed ≡ Some (taking number d)
+  confirms h d true e its alone true p b q = let no = alone p in absurd (cc)
+  confirms h d false e its alone true p b q = mapped (taking number) h.pending d e
+  confirms h d true e its alone false p true q = mapped (taking number) h.confirmed d e
+  confirms h d false e its alone false p true q = absurd (cc (its, test_of h.pending d false p e))
+  confirms h d true e its alone false p false q = absurd (cc (its, test_of h.confirmed d false q e))
+  confirms h d false e its alone false p false q = absurd (cc (its, test_of h.pending d false p e))
 
-  -- the one whose place the accepted one takes
-  abbrev dropped : List Holding → Option Held
-  dropped [] = None
-  dropped (h ∷ table) = cond (option_map_or (has_id id) h.pending false) h.confirmed (dropped table)
-
-  keeps_accepted : (table : List Holding) → IsDistinct bytes_eq (ids table) → (c : Held) → In c (contexts table)
-      → In c (contexts (accepted id number table)) ⊎ ((has_id id c ≡ true) ⊎ (dropped table ≡ Some c))
-  keeps_accepted [] distinct c m = absurd m
-  keeps_accepted (h ∷ table) distinct c m =
-      by (tested h.pending) refl (tested h.confirmed) refl (place c h table m) (keeps_accepted table (distinct_behind (listed h.confirmed ++ listed h.pending) (contexts table) distinct) c)
-    where
-      none : tested h.pending ≡ true → (d : Held) → In d (contexts table) → has_id id d ≡ true → ⊥
-      none p d i e =
-          let x = some_tested h.pending p in
-          apart (listed h.confirmed ++ listed h.pending) (contexts table) x.0 d distinct (in_back x.0 (listed h.confirmed) (listed h.pending) (listed_in x.0 h.pending x.1)) i
-          (sym ((bytes_eq-Decides id x.0.name.client_id).0 x.2) ∙ (bytes_eq-Decides id d.name.client_id).0 e)
-
-      by : (a : Bool) → tested h.pending ≡ a → (b : Bool) → tested h.confirmed ≡ b → Place c h table
-          → (In c (contexts table) → In c (contexts (accepted id number table)) ⊎ ((has_id id c ≡ true) ⊎ (dropped table ≡ Some c)))
-          → In c (contexts (branch a b h ∷ accepted id number table)) ⊎ ((has_id id c ≡ true) ⊎ (cond a h.confirmed (dropped table) ≡ Some c))
-      by true p b q (Confirmed e) rest = inr (inr e)
-      by true p b q (Pending e) rest = inr (inl (test_of h.pending c true p e))
-      by true p b q (Later m) rest = inl (placed c (branch true b h) (accepted id number table) (Later (all_stay table (none p) c m)))
-      by false p true q (Confirmed e) rest = inr (inl (test_of h.confirmed c true q e))
-      by false p true q (Pending e) rest = inl (placed c (branch false true h) (accepted id number table) (Pending e))
-      by false p true q (Later m) rest = ⊎_elim (λ (i : In c (contexts (accepted id number table))). inl (placed c (branch false true h) (accepted id number table) (Later i))) (λ (o : (has_id id c ≡ true) ⊎ (dropped table ≡ Some c)). inr o) (rest m)
-      by false p false q (Confirmed e) rest = inl (placed c h (accepted id number table) (Confirmed e))
-      by false p false q (Pending e) rest = inl (placed c h (accepted id number table) (Pending e))
-      by false p false q (Later m) rest = ⊎_elim (λ (i : In c (contexts (accepted id number table))). inl (placed c h (accepted id number table) (Later i))) (λ (o : (has_id id c ≡ true) ⊎ (dropped table ≡ Some c)). inr o) (rest m)
+  -- the others stay, but for the confirmed one of the token id
+  others_stay : (h : Holding) (d : Held) (k : Bool) → slot k h ≡ Some d → (a : Bool) → tested h.pending ≡ a → (b : Bool) → tested h.confirmed ≡ b
+      → (slot k (branch a b h) ≡ Some d) ⊎ ((has_id id d ≡ true) ⊎ ((tested h.pending ≡ true) × (k ≡ true)))
+  others_stay h d true e true p b q = inr (inr (p, refl))
+  others_stay h d false e true p b q = inr (inl (test_of h.pending d true p e))
+  others_stay h d true e false p true q = inr (inl (test_of h.confirmed d true q e))
+  others_stay h d false e false p true q = inl e
+  others_stay h d true e false p false q = inl e
+  others_stay h d false e false p false q = inl e
 
 -- the window of a context takes a number
-pub table_taken : (now : Moment) (number : ℕ) (x : Held) (table : List Holding) → IsTable table → In x (contexts table) → HasTaken now number x (contexts table) (contexts (accepted x.name.client_id number table))
-table_taken now number x table is_table m =
-    let id : List ℕ = x.name.client_id in
-    let its : has_id id x ≡ true = (bytes_eq-Decides id id).1 refl in
-    let one : (d : Held) → In d (contexts table) → has_id id d ≡ true → d ≡ x =
-    λ d i e. one_id (contexts table) d x is_table.own_ids i m (sym ((bytes_eq-Decides id d.name.client_id).0 e)) in
-    record {
-      only = λ c i. at c one (from_accepted id number table c i);
-      here = has_accepted id number x its table one m;
-      gone = dropped id number table;
-      live = λ c i live. ⊎_elim
-          (λ (k : In c (contexts (accepted id number table))). inl k)
-          (λ (o : (has_id id c ≡ true) ⊎ (dropped id number table ≡ Some c)). ⊎_elim (λ (e : has_id id c ≡ true). inr (inl (one c i e))) (λ (e : dropped id number table ≡ Some c). inr (inr e)) o)
-          (keeps_accepted id number table is_table.own_ids c i);
-    }
-  where
-    at : (c : Held) → ((d : Held) → In d (contexts table) → has_id x.name.client_id d ≡ true → d ≡ x) → From x.name.client_id number c (contexts table) → (c ≡ taking number x) ⊎ (In c (contexts table) × (c.name ≢ x.name))
-    at c one (From.Took d i e is) = inl (is ∙ ap (λ (y : Held). taking number y) (one d i e))
-    at c one (From.Same i e) = inr (i, λ same. cc (e, (bytes_eq-Decides x.name.client_id c.name.client_id).1 (ap (λ y. y.client_id) (sym same))))
+module _ (number : ℕ) (x : OfToken) (table : List Holding) (is_table : IsTable table) (m : In x (of_tokens table)) where
+  abbrev id : List ℕ
+  id = x.held.name.client_id
+
+  abbrev change : Holding → Holding
+  change h = accepted_in id number h
+
+  same_id : (h : Holding) → (change h).id ≡ h.id
+  same_id h = branch_id id number (tested id number h.pending) (tested id number h.confirmed) h
+
+  -- the context with the ID is this one
+  one : (c : OfToken) → In c (of_tokens table) → has_id id c.held ≡ true → c ≡ x
+  one c i e = one_of_token table c x is_table i m (sym ((bytes_eq-Decides id c.held.name.client_id).0 e))
+
+  its : has_id id x.held ≡ true
+  its = (bytes_eq-Decides id id).1 refl
+
+  place : Stands x table
+  place = stands table x m
+
+  -- what stands in a holding of the table
+  in_holding : (h : Holding) (k : Bool) (d : Held) → In h table → slot k h ≡ Some d → In (record { token = h.id; is_confirmed = k; held = d }) (of_tokens table)
+  in_holding h k d i e = stood table (record { token = h.id; is_confirmed = k; held = d }) (record { holding = h; among = i; token = refl; here = e })
+
+  confirmed : (change place.holding).confirmed ≡ Some (taking number x.held)
+  confirmed =
+      let h = place.holding in
+      confirms id number h x.held x.is_confirmed place.here its
+      (λ p. let d = some_tested id number h.pending p in
+      ap (λ (c : OfToken). c.is_confirmed) (sym (one (pending_of h.id d.0) (in_holding h false d.0 place.among d.1) d.2)))
+      (tested id number h.pending) refl (tested id number h.confirmed) refl
+
+  -- where a context stands afterwards
+  after : (c : OfToken) → In c (of_tokens (accepted id number table)) → (h : Holding) × In h table × (c.token ≡ h.id) × (slot c.is_confirmed (change h) ≡ Some c.held)
+  after c i =
+      let s = stands (accepted id number table) c i in
+      let r = in_mapped change table s.holding s.among in
+      (r.0, r.1, s.token ∙ ap (λ (g : Holding). g.id) r.2 ∙ same_id r.0, ap (λ (g : Holding). slot c.is_confirmed g) (sym r.2) ∙ s.here)
+
+  is_after : (c : OfToken) (h : Holding) → In h table → c.token ≡ h.id → slot c.is_confirmed (change h) ≡ Some c.held → In c (of_tokens (accepted id number table))
+  is_after c h i t e = stood (accepted id number table) c (record { holding = change h; among = mapped_in change table h i; token = t ∙ sym (same_id h); here = e })
+
+  only : (c : OfToken) → In c (of_tokens (accepted id number table)) → (c ≡ confirmed_by number x) ⊎ (In c (of_tokens table) × (c.held.name ≢ x.held.name))
+  only c i = let s = after c i in by s.0 s.1 s.2 (from id number s.0 (tested id number s.0.pending) refl (tested id number s.0.confirmed) refl c.is_confirmed c.held s.3)
+    where
+      by : (h : Holding) → In h table → c.token ≡ h.id → From id number h c.is_confirmed c.held → (c ≡ confirmed_by number x) ⊎ (In c (of_tokens table) × (c.held.name ≢ x.held.name))
+      by h i t (From.Took j e at has k is) =
+          let same = one (record { token = h.id; is_confirmed = j; held = e }) (in_holding h j e i at) has in
+          inl (alike c x.token true (taking number x.held) (t ∙ ap (λ (y : OfToken). y.token) same) k (is ∙ ap (λ (y : OfToken). taking number y.held) same))
+      by h i t (From.Same at other) =
+          inr (stood table c (record { holding = h; among = i; token = t; here = at }), λ same. cc (other, (bytes_eq-Decides id c.held.name.client_id).1 (ap (λ y. y.client_id) (sym same))))
+
+  older_gone : (c : OfToken) → In c (of_tokens (accepted id number table)) → IsConfirmedOf x.token c → c ≡ confirmed_by number x
+  older_gone c i is =
+      let s = after c i in
+      let same : s.0 ≡ place.holding = one_holding table s.0 place.holding is_table s.1 place.among (sym s.2 ∙ is.0 ∙ place.token) in
+      let its_held : (change place.holding).confirmed ≡ Some c.held =
+      ap (λ (h : Holding). (change h).confirmed) (sym same) ∙ sym (ap (λ b. slot b (change s.0)) is.1) ∙ s.3 in
+      alike c x.token true (taking number x.held) is.0 is.1 (one_of c.held (taking number x.held) (change place.holding).confirmed its_held confirmed)
+
+  stays_or_gone : (c : OfToken) → In c (of_tokens table) → In c (of_tokens (accepted id number table)) ⊎ ((c ≡ x) ⊎ IsConfirmedOf x.token c)
+  stays_or_gone c i =
+      let s = stands table c i in
+      let h = s.holding in
+      ⊎_elim
+      (λ (e : slot c.is_confirmed (change h) ≡ Some c.held). inl (is_after c h s.among s.token e))
+      (λ (o : (has_id id c.held ≡ true) ⊎ ((tested id number h.pending ≡ true) × (c.is_confirmed ≡ true))). ⊎_elim
+      (λ (e : has_id id c.held ≡ true). inr (inl (one c i e)))
+      (λ (e : (tested id number h.pending ≡ true) × (c.is_confirmed ≡ true)).
+      let d = some_tested id number h.pending e.0 in
+      inr (inr (s.token ∙ ap (λ (y : OfToken). y.token) (one (pending_of h.id d.0) (in_holding h false d.0 s.among d.1) d.2), e.1)))
+      o)
+      (others_stay id number h c.held c.is_confirmed s.here (tested id number h.pending) refl (tested id number h.confirmed) refl)
+
+  pub table_taken : (now : Moment) → HasTaken now number x (of_tokens table) (of_tokens (accepted id number table))
+  table_taken now = record {
+    only = only;
+    here = is_after (confirmed_by number x) place.holding place.among place.token confirmed;
+    older_gone = older_gone;
+    live = λ c i live. stays_or_gone c i;
+  }

@@ -4,11 +4,12 @@ use Rattle.std.specs.Option.{option_map_or, ForSome}
 use Rattle.std.proofs.lemmas.Bool.{and_parts}
 use Rattle.std.proofs.lemmas.Slice.Eq.{bytes_eq-Decides}
 use Rattle.osc_model.specs.declared.node.Moment.{Moment}
-use Rattle.osc_authz.specs.Contexts.{IsLive}
+use Rattle.osc_authz.specs.Contexts.{OfToken, of_tokens, IsLive}
 use Rattle.osc_authz.specs.Held.{Held}
 use Rattle.osc_authz.specs.Members.{In}
 use Rattle.osc_authz.specs.Table.{contexts, has_id, is_live, is_named, if_meant, meant}
 use Rattle.osc_authz.specs.declared.holding.Holding.{Holding}
+use Rattle.osc_authz.proofs.ContextLaws.{held_of}
 
 -- ---- what a request means
 
@@ -32,9 +33,9 @@ live_tested begins ends t b e = (one begins b, two ends e)
     two (Some n) h s is = let same : n ≡ s = cc in subst (λ (x : ℕ). t < x) same (ltb-true t n h)
 
 -- the context is held, lives and has the ID
-pub meant_is : (now : Moment) (kid : List ℕ) (kid_context : Option (List ℕ)) (table : List Holding) (c : Held) → meant now kid kid_context table ≡ Some c
+held_is : (now : Moment) (kid : List ℕ) (kid_context : Option (List ℕ)) (table : List Holding) (c : Held) → meant now kid kid_context table ≡ Some c
     → In c (contexts table) × IsLive now c × (c.name.client_id ≡ kid)
-meant_is now kid kid_context table c e = by (find (has_id kid) (contexts table)) refl e
+held_is now kid kid_context table c e = by (find (has_id kid) (contexts table)) refl e
   where
     passed : (d : Held) (b : Bool) → (is_live now d && is_named kid_context d) ≡ b → (if b then Some d else None) ≡ Some c → (d ≡ c) × (is_live now d ≡ true)
     passed d true t e = (cc, (and_parts (is_live now d) (is_named kid_context d) t).0)
@@ -48,3 +49,11 @@ meant_is now kid kid_context table c e = by (find (has_id kid) (contexts table))
         let parts = and_parts (option_map_or (λ s. nat_le s (now.ms / 1000)) c.not_before true) (option_map_or (λ s. nat_lt (now.ms / 1000) s) c.expires true) (ap (is_live now) (sym p.0) ∙ p.1) in
         let live = live_tested c.not_before c.expires (now.ms / 1000) parts.0 parts.1 in
         (f.0, record { begun = live.0; not_over = live.1 }, sym ((bytes_eq-Decides kid c.name.client_id).0 f.1))
+
+-- the same of the context of its token id
+pub meant_is : (now : Moment) (kid : List ℕ) (kid_context : Option (List ℕ)) (table : List Holding) (held : Held) → meant now kid kid_context table ≡ Some held
+    → (c : OfToken) × In c (of_tokens table) × (c.held ≡ held) × IsLive now held × (held.name.client_id ≡ kid)
+meant_is now kid kid_context table held e =
+    let h = held_is now kid kid_context table held e in
+    let c = held_of table held h.0 in
+    (c.0, c.1, sym c.2, h.1, h.2)

@@ -18,19 +18,21 @@ use Rattle.osc_authz.specs.Agreed.{IsAgreed}
 use Rattle.osc_authz.specs.Agreement.{new_context, Agrees, Answers, refused, full, agreed}
 use Rattle.osc_authz.specs.Begun.{Begun, Made}
 use Rattle.osc_authz.specs.Client.{Finishes, made_name}
+use Rattle.osc_authz.specs.Contexts.{pending_of}
 use Rattle.osc_authz.specs.Desk.{DeskState}
 use Rattle.osc_authz.specs.Exchange.{IsPost, IsAnswer, post_item, answer_item}
 use Rattle.osc_authz.specs.Held.{Held}
 use Rattle.osc_authz.specs.HoldsToken.{HoldsToken}
 use Rattle.osc_authz.specs.Members.{In}
 use Rattle.osc_authz.specs.Post.{Posts}
-use Rattle.osc_authz.specs.Table.{contexts}
+use Rattle.osc_authz.specs.Table.{alive, contexts, with_pending}
 use Rattle.osc_authz.specs.declared.error.FinishError.{FinishError}
 use Rattle.osc_authz.specs.declared.error.PostError.{PostError}
 use Rattle.osc_authz.specs.declared.granted.ClientDesk.{ClientDesk}
+use Rattle.osc_authz.specs.declared.holding.Holding.{Holding}
 use Rattle.osc_authz.specs.declared.post.Post.{Post}
 use Rattle.osc_authz.specs.declared.post.PostAnswer.{PostAnswer}
-use Rattle.osc_authz.proofs.ContextLaws.{table_added}
+use Rattle.osc_authz.proofs.ContextLaws.{has_pending, is_held}
 
 -- ---- a post that is answered 2.01
 
@@ -129,7 +131,8 @@ module _ (IsSealing : List ℕ → List ℕ → List ℕ → List ℕ → List �
 
   held : In its (contexts after.table)
   held =
-      subst (λ (d : DeskState). In its (contexts d.table)) (sym a.agrees.added) (table_added a.claims.material.id its now before.table).here
+      let table : List Holding = with_pending a.claims.material.id its (alive now before.table) in
+      subst (λ (d : DeskState). In its (contexts d.table)) (sym a.agrees.added) (is_held table (pending_of a.claims.material.id its) (has_pending a.claims.material.id its (alive now before.table)))
 
   nonce2_size : length answer.nonce2 ≡ 8
   nonce2_size =

@@ -1,10 +1,47 @@
 -- What becomes of a server's contexts in a step.
-use Rattle.std.specs.Prelude.{◌≡◌, ◌≢◌, ◌⊎◌, ℕ, List, Option, Some}
+use Rattle.std.specs.Prelude.{◌≡◌, ◌≢◌, ◌⊎◌, ℕ, Bool, true, false, List, [], ◌∷◌, ◌++◌, Option, Some, None}
 use Rattle.osc_model.specs.Grant.{HasBegun, IsNotOver}
 use Rattle.osc_model.specs.declared.node.Moment.{Moment}
 use Rattle.osc_authz.specs.Held.{Held}
 use Rattle.osc_authz.specs.Table.{taking}
 use Rattle.osc_authz.specs.Members.{In}
+use Rattle.osc_authz.specs.declared.holding.Holding.{Holding}
+
+-- ---- the contexts of token ids
+
+-- A context, the id of the token that made it, and whether it is confirmed: whether a request has opened under it.
+pub record OfToken : Type 0 where
+  pub token : List ℕ
+  pub is_confirmed : Bool
+  pub held : Held
+
+abbrev pub confirmed_of : List ℕ → Held → OfToken
+confirmed_of token held = record { token = token; is_confirmed = true; held = held }
+
+abbrev pub pending_of : List ℕ → Held → OfToken
+pending_of token held = record { token = token; is_confirmed = false; held = held }
+
+abbrev pub of_token : List ℕ → Bool → Option Held → List OfToken
+of_token token is_confirmed None = []
+of_token token is_confirmed (Some held) = (record { token = token; is_confirmed = is_confirmed; held = held }) ∷ []
+
+-- those of a table
+abbrev pub of_tokens : List Holding → List OfToken
+of_tokens [] = []
+of_tokens (holding ∷ table) = of_token holding.id true holding.confirmed ++ of_token holding.id false holding.pending ++ of_tokens table
+
+-- it is the confirmed one of a token id, or the pending one
+abbrev pub IsConfirmedOf : List ℕ → OfToken → Type 0
+IsConfirmedOf token context = (context.token ≡ token) × (context.is_confirmed ≡ true)
+
+abbrev pub IsPendingOf : List ℕ → OfToken → Type 0
+IsPendingOf token context = (context.token ≡ token) × (context.is_confirmed ≡ false)
+
+-- the same once a request of this number has opened under it
+abbrev pub confirmed_by : ℕ → OfToken → OfToken
+confirmed_by number context = confirmed_of context.token (taking number context.held)
+
+-- ---- what stays, comes and goes
 
 -- the time of the context's token
 pub record IsLive (now : Moment) (held : Held) : Type 0 where
@@ -12,21 +49,22 @@ pub record IsLive (now : Moment) (held : Held) : Type 0 where
   pub not_over : IsNotOver held.expires now
 
 -- None is added, and none changes. Each that lives stays.
-pub record AreKept (now : Moment) (old new : List Held) : Type 0 where
-  pub only : (c : Held) → In c new → In c old
-  pub live : (c : Held) → In c old → IsLive now c → In c new
+pub record AreKept (now : Moment) (old new : List OfToken) : Type 0 where
+  pub only : (c : OfToken) → In c new → In c old
+  pub live : (c : OfToken) → In c old → IsLive now c.held → In c new
 
--- One is added, and none changes. Each that lives stays, but for one at most, whose place it takes.
-pub record HasAdded (now : Moment) (added : Held) (old new : List Held) : Type 0 where
-  pub only : (c : Held) → In c new → (c ≡ added) ⊎ In c old
-  pub here : In added new
-  pub gone : Option Held
-  pub live : (c : Held) → In c old → IsLive now c → In c new ⊎ (gone ≡ Some c)
+-- One of this token id is added, pending, in the place of the pending one of that id. None changes, and each other that lives
+-- stays.
+pub record HasAdded (now : Moment) (token : List ℕ) (added : Held) (old new : List OfToken) : Type 0 where
+  pub only : (c : OfToken) → In c new → (c ≡ pending_of token added) ⊎ In c old
+  pub here : In (pending_of token added) new
+  pub replaced : (c : OfToken) → In c new → IsPendingOf token c → c ≡ pending_of token added
+  pub live : (c : OfToken) → In c old → IsLive now c.held → In c new ⊎ IsPendingOf token c
 
--- One takes a number into its window, and no other changes or has its name. Each that lives stays, but for one at most, whose
--- place it takes.
-pub record HasTaken (now : Moment) (number : ℕ) (context : Held) (old new : List Held) : Type 0 where
-  pub only : (c : Held) → In c new → (c ≡ taking number context) ⊎ (In c old × (c.name ≢ context.name))
-  pub here : In (taking number context) new
-  pub gone : Option Held
-  pub live : (c : Held) → In c old → IsLive now c → In c new ⊎ ((c ≡ context) ⊎ (gone ≡ Some c))
+-- One of them takes a number into its window and is confirmed, in the place of an older confirmed one of its token id. No other
+-- changes or has its name, and each other that lives stays.
+pub record HasTaken (now : Moment) (number : ℕ) (context : OfToken) (old new : List OfToken) : Type 0 where
+  pub only : (c : OfToken) → In c new → (c ≡ confirmed_by number context) ⊎ (In c old × (c.held.name ≢ context.held.name))
+  pub here : In (confirmed_by number context) new
+  pub older_gone : (c : OfToken) → In c new → IsConfirmedOf context.token c → c ≡ confirmed_by number context
+  pub live : (c : OfToken) → In c old → IsLive now c.held → In c new ⊎ ((c ≡ context) ⊎ IsConfirmedOf context.token c)

@@ -11,7 +11,7 @@ ghost use Rattle.osc_token.specs.declared.claims.Claims.{Claims as AnyClaims};
 ghost use Rattle.osc_authz.specs.Agreed.{IsAgreed};
 ghost use Rattle.osc_authz.specs.Begun.{Begun, Made};
 ghost use Rattle.osc_authz.specs.Client.{Finishes};
-ghost use Rattle.osc_authz.specs.Contexts.{IsLive, AreKept, HasAdded, HasTaken};
+ghost use Rattle.osc_authz.specs.Contexts.{OfToken, of_tokens, IsLive, AreKept, HasAdded, HasTaken};
 ghost use Rattle.osc_authz.specs.Desk.{DeskState};
 ghost use Rattle.osc_authz.specs.Exchange.{IsPost, IsAnswer, post_item, answer_item};
 ghost use Rattle.osc_authz.specs.Held.{Held};
@@ -57,38 +57,44 @@ pub fn live_in_its_time()
         → is_live now held ≡ true ↔ (HasBegun held.not_before now × IsNotOver held.expires now) }
 {}
 
-/// The context that a request means is held and live, and has the request's kid as its recipient ID.
+/// The context that a request means is held, pending or confirmed, and live, and has the request's kid as its recipient ID.
 pub fn meant_contexts()
-    ensures { (now : AnyMoment) (kid : List ℕ) (kid_context : Option (List ℕ)) (table : List Holding) (context : Held)
-        → meant now kid kid_context table ≡ Some context
-        → In context (contexts table) × IsLive now context × (context.name.client_id ≡ kid) }
+    ensures { (now : AnyMoment) (kid : List ℕ) (kid_context : Option (List ℕ)) (table : List Holding) (held : Held)
+        → meant now kid kid_context table ≡ Some held
+        → (context : OfToken) × In context (of_tokens table) × (context.held ≡ held)
+        × IsLive now held × (held.name.client_id ≡ kid) }
 {}
 
-/// Held contexts with one recipient ID are one context.
+/// Held contexts with one recipient ID are one context, of one token id, and either confirmed or pending.
 pub fn one_context()
-    ensures { (table : List Holding) (context other : Held)
+    ensures held { (table : List Holding) (context other : Held)
         → IsTable table → In context (contexts table) → In other (contexts table)
         → context.name.client_id ≡ other.name.client_id → context ≡ other }
+    ensures of_token { (table : List Holding) (context other : OfToken)
+        → IsTable table → In context (of_tokens table) → In other (of_tokens table)
+        → context.held.name.client_id ≡ other.held.name.client_id → context ≡ other }
 {}
 
 /// Where the token ids without a live context leave the table, no context comes, and each that lives stays.
 pub fn live_contexts()
     ensures { (now : AnyMoment) (table : List Holding)
-        → AreKept now (contexts table) (contexts (alive now table)) }
+        → AreKept now (of_tokens table) (of_tokens (alive now table)) }
 {}
 
-/// With one more pending context, where the token ids without a live context have left the table, each that lives stays, but
-/// for the one that was pending for the token id.
+/// One more pending context of a token id, where the token ids without a live context have left the table, takes the place of
+/// the one that was pending for this id, and each other that lives stays.
 pub fn one_more_context()
     ensures { (now : AnyMoment) (token : List ℕ) (held : Held) (table : List Holding)
-        → HasAdded now held (contexts table) (contexts (with_pending token held (alive now table))) }
+        → IsTable (with_pending token held (alive now table))
+        → HasAdded now token held (of_tokens table) (of_tokens (with_pending token held (alive now table))) }
 {}
 
-/// Where the context with an ID accepts a number, its window takes the number, and no other context changes.
+/// Where the context with an ID accepts a number, its window takes the number, it is confirmed in the place of the older one of
+/// its token id, and no other context changes.
 pub fn numbers_taken()
-    ensures { (now : AnyMoment) (number : ℕ) (context : Held) (table : List Holding)
-        → IsTable table → In context (contexts table)
-        → HasTaken now number context (contexts table) (contexts (accepted context.name.client_id number table)) }
+    ensures { (now : AnyMoment) (number : ℕ) (context : OfToken) (table : List Holding)
+        → IsTable table → In context (of_tokens table)
+        → HasTaken now number context (of_tokens table) (of_tokens (accepted context.held.name.client_id number table)) }
 {}
 
 /// A post that is answered 2.01 opened, was granted, and made a context.

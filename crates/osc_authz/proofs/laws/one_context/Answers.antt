@@ -1,6 +1,8 @@
-use Rattle.osc_authz.proofs.ContextLaws.{one_id}
-use Rattle.osc_authz.specs.Table.{contexts}
+use Rattle.osc_authz.proofs.ContextLaws.{one_held, one_of_token}
 use Rattle.osc_authz.proofs.laws.one_context.Goals as goal
 
-pub returns : goal.returns
-returns c = λ table context other is m n same. one_id (contexts table) context other is.own_ids m n same
+pub returns-clause-held : goal.returns-clause-held
+returns-clause-held c = λ table context other is_table. one_held table context other is_table
+
+pub returns-clause-of_token : goal.returns-clause-of_token
+returns-clause-of_token c = λ table context other is_table. one_of_token table context other is_table
