@@ -1,0 +1,12 @@
+-- Definitions that the contracts cite.
+pub mod Notes
+pub mod States
+pub mod Texts
+pub mod ServerKinds
+pub mod ClientKinds
+pub mod ProxyKinds
+pub mod Runs
+pub mod Premise
+pub mod History
+pub mod OneHistory
+pub mod OwnNonces
