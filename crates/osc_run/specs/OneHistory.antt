@@ -30,9 +30,9 @@ pub record IsReplyOfRequest (notes : List Noted) (a : Acceptance) : Type 0 where
   pub same : (entry.plaintext ≡ plaintext)
       ⊎ In (record { by = a.by; lied = true; context = a.context; number = a.number; plaintext = entry.plaintext }) (questions notes)
 
--- The history is legal from the first tree: no two entries share context and number, each came in the time of its grant, and each is
--- answered as the machine answers under the grant's scope. Its effects give the server's tree. Each entry was asked by the holder of
--- its grant, and each accepted reply is that of its request.
+-- The history is legal from the first tree: no two entries share context and number, each came in the time of its grant, and each
+-- is answered as the machine answers under the grant's scope. Its effects give the server's tree. Each entry was asked by the
+-- holder of its grant, and each accepted reply is that of its request.
 pub record OneHistory (w : WorldState) : Type 0 where
   pub legal : IsLegal read_request (grants_of w.minted) w.first (history w.notes)
   pub effects : effect read_request (grants_of w.minted) w.first (history w.notes) ≡ w.server.tree

@@ -1,3 +1,5 @@
 //! The runs of a server, its clients and proxies: what a step of a node may be, what is assumed of a run, and what holds of
 //! every run (`specs/`).
 #![tactic(auto)]
+
+pub mod laws;

@@ -1,0 +1,9 @@
+-- Lemmas that the proofs cite.
+mod Lists
+mod LawsBelow
+mod Parts
+mod ReplyCodes
+mod ServerSteps
+mod ClientSteps
+mod Seals
+mod FreshRuns

@@ -1,0 +1,63 @@
+-- The codes of the replies to a plaintext are of responses, from 2.00 to 5.31.
+use Rattle.std.proofs.Common.{◌≡◌, ℕ, ◌≤◌, ◌<◌, List, Option, Some, None, Result, Ok, Err, refl, sym, ap, subst, arith}
+use Rattle.osc_model.specs.Apply.{apply_read}
+use Rattle.osc_model.specs.Code.{code}
+use Rattle.osc_model.specs.Scope.{Scope}
+use Rattle.osc_model.specs.Tree.{Tree}
+use Rattle.osc_model.specs.declared.code.Code.{Code}
+use Rattle.osc_model.specs.declared.reply.Reply.{Reply}
+use Rattle.osc_model.specs.declared.request.Request.{Request}
+use Rattle.osc_coap.specs.Plaintext.{Plaintext}
+use Rattle.osc_coap.specs.Reading.{plaintext_at}
+use Rattle.osc_options.specs.PlaintextRequests.{request_of_plaintext}
+use Rattle.osc_options.specs.declared.error.PlaintextError.{PlaintextError}
+use Rattle.osc_options.specs.declared.error.PlaintextError.TheVariants.{Format, BadOption, Memory}
+use Rattle.osc_run.specs.Texts.{code_of, or_code, request_or_code, read_request}
+use Rattle.osc_run.specs.ServerKinds.{Replies, Applied, OutOfMemory}
+use Rattle.osc_run.proofs.LawsBelow.{Laws}
+
+abbrev pub IsResponse : Code → Type 0
+IsResponse c = (64 ≤ c.0) × (c.0 < 192)
+
+-- ---- the codes that answer what is no request
+
+abbrev AnswersBy : Result Request Code → Type 0
+AnswersBy r = (c : Code) → r ≡ Err c → IsResponse c
+
+abbrev err : Code → Result Request Code
+err c = Err c
+
+one_code : (a b : Code) → err a ≡ err b → a ≡ b
+one_code a b e = cc
+
+by_code : (c d : Code) → IsResponse c → err c ≡ err d → IsResponse d
+by_code c d is e = subst IsResponse (one_code c d e) is
+
+of_error : (e : PlaintextError) → IsResponse (code_of e)
+of_error (BadOption number) = (omega arith, omega arith)
+of_error Format = (omega arith, omega arith)
+of_error Memory = (omega arith, omega arith)
+
+of_plaintext : (r : Result Request PlaintextError) → AnswersBy (or_code r)
+of_plaintext (Ok request) c e = absurd (cc)
+of_plaintext (Err error) c e = by_code (code_of error) c (of_error error) e
+
+of_bytes : (o : Option Plaintext) → AnswersBy (request_or_code o)
+of_bytes None c e = by_code (code 4 0) c (omega arith, omega arith) e
+of_bytes (Some p) c e = of_plaintext (request_of_plaintext p) c e
+
+of_text : (text : List ℕ) → AnswersBy (read_request text)
+unfolding read_request
+of_text text = of_bytes (plaintext_at text)
+
+-- ---- every reply to a plaintext
+
+of_machine : Laws → (tree : Tree) (scope : Scope) (r : Result Request Code) → AnswersBy r → IsResponse (apply_read tree scope r).reply.code
+of_machine laws tree scope (Ok request) h = (laws.least_code tree scope request, laws.most_code tree scope request)
+of_machine laws tree scope (Err c) h = h c refl
+
+pub reply_code : Laws → (old : Tree) (scope : Scope) (text : List ℕ) (reply : Reply) (new : Tree) → Replies old (apply_read old scope (read_request text)) reply new → IsResponse reply.code
+reply_code laws old scope text reply new (Applied is tree) =
+    subst IsResponse (ap (λ (r : Reply). r.code) (sym is)) (of_machine laws old scope (read_request text) (of_text text))
+reply_code laws old scope text reply new (OutOfMemory takes is tree) =
+    let its : IsResponse (code 5 0) = (omega arith, omega arith) in subst IsResponse (ap (λ (r : Reply). r.code) (sym is)) its

@@ -1,0 +1,31 @@
+//! Laws of the definitions, for the crates above. These functions do nothing: whoever calls one has its clauses for a proof.
+
+ghost use Rattle.osc_run.specs.States.{WorldState};
+ghost use Rattle.osc_run.specs.Runs.{IsReached};
+ghost use Rattle.osc_run.specs.Premise.{HasFreshDraws};
+ghost use Rattle.osc_run.specs.OwnNonces.{HasOwnNonces};
+
+use osc_coap::laws::one_plaintext;
+use osc_context::laws::{nonces_of_a_key, nonces_of_a_salt, one_master_salt};
+use osc_model::laws::{never_out_of_memory, one_more_entry, replies_are_responses};
+use osc_options::laws::{a_reply_is_read_again, a_written_reply};
+use osc_protect::laws::aad_tells_the_number;
+use osc_window::laws::fresh_after;
+
+/// In every run in which no drawn nonce comes twice, no two seals under one key share a nonce, those of lies aside (RFC 8613
+/// section 5.2).
+pub fn own_nonces()
+    ensures { (w : WorldState) → IsReached w → HasFreshDraws w.notes → HasOwnNonces w.notes }
+{
+    one_more_entry();
+    never_out_of_memory();
+    replies_are_responses();
+    one_plaintext();
+    a_written_reply();
+    a_reply_is_read_again();
+    nonces_of_a_key();
+    one_master_salt();
+    nonces_of_a_salt();
+    fresh_after();
+    aad_tells_the_number();
+}
