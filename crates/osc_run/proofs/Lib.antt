@@ -7,3 +7,6 @@ mod ServerSteps
 mod ClientSteps
 mod Seals
 mod FreshRuns
+mod Grants
+mod Replied
+mod GenuineRuns

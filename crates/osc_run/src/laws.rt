@@ -2,7 +2,8 @@
 
 ghost use Rattle.osc_run.specs.States.{WorldState};
 ghost use Rattle.osc_run.specs.Runs.{IsReached};
-ghost use Rattle.osc_run.specs.Premise.{HasFreshDraws};
+ghost use Rattle.osc_run.specs.Premise.{Premise, HasFreshDraws};
+ghost use Rattle.osc_run.specs.OneHistory.{OneHistory};
 ghost use Rattle.osc_run.specs.OwnNonces.{HasOwnNonces};
 
 use osc_coap::laws::one_plaintext;
@@ -11,6 +12,25 @@ use osc_model::laws::{never_out_of_memory, one_more_entry, replies_are_responses
 use osc_options::laws::{a_reply_is_read_again, a_written_reply};
 use osc_protect::laws::aad_tells_the_number;
 use osc_window::laws::fresh_after;
+
+/// In every run in which whatever opens was sealed before by the other end of its context, no drawn nonce comes twice and no two
+/// grants share a secret, there is one history: no two entries share context and number, each was asked by its client and is
+/// answered by its grant and the tree, their effects give the server's tree, and each accepted reply is that of its request.
+pub fn one_history()
+    ensures { (w : WorldState) → IsReached w → Premise w → OneHistory w }
+{
+    one_more_entry();
+    never_out_of_memory();
+    replies_are_responses();
+    one_plaintext();
+    a_written_reply();
+    a_reply_is_read_again();
+    nonces_of_a_key();
+    one_master_salt();
+    nonces_of_a_salt();
+    fresh_after();
+    aad_tells_the_number();
+}
 
 /// In every run in which no drawn nonce comes twice, no two seals under one key share a nonce, those of lies aside (RFC 8613
 /// section 5.2).
