@@ -10,3 +10,5 @@ mod FreshRuns
 mod Grants
 mod Replied
 mod GenuineRuns
+mod Minted
+mod OneRound

@@ -1,8 +1,16 @@
 //! Laws of the definitions, for the crates above. These functions do nothing: whoever calls one has its clauses for a proof.
 
+ghost use Rattle.std.specs.Prelude.{◌≡◌, List, length};
+ghost use Rattle.osc_model.specs.Grant.{HasBegun, IsNotOver};
+ghost use Rattle.osc_model.specs.Tree.{Tree};
+ghost use Rattle.osc_model.specs.declared.node.Moment.{Moment as AnyMoment};
+ghost use Rattle.osc_scope.specs.Entries.{Entry, IsScope};
+ghost use Rattle.osc_token.specs.Minted.{HasLawfulParts};
+ghost use Rattle.osc_token.specs.declared.claims.Claims.{Claims as AnyClaims};
 ghost use Rattle.osc_run.specs.States.{WorldState};
 ghost use Rattle.osc_run.specs.Runs.{IsReached};
 ghost use Rattle.osc_run.specs.Premise.{Premise, HasFreshDraws};
+ghost use Rattle.osc_run.specs.History.{history, acceptances};
 ghost use Rattle.osc_run.specs.OneHistory.{OneHistory};
 ghost use Rattle.osc_run.specs.OwnNonces.{HasOwnNonces};
 
@@ -11,6 +19,7 @@ use osc_context::laws::{nonces_of_a_key, nonces_of_a_salt, one_master_salt};
 use osc_model::laws::{never_out_of_memory, one_more_entry, replies_are_responses};
 use osc_options::laws::{a_reply_is_read_again, a_written_reply};
 use osc_protect::laws::aad_tells_the_number;
+use osc_token::laws::{minted_claims, minted_texts};
 use osc_window::laws::fresh_after;
 
 /// In every run in which whatever opens was sealed before by the other end of its context, no drawn nonce comes twice and no two
@@ -48,4 +57,19 @@ pub fn own_nonces()
     nonces_of_a_salt();
     fresh_after();
     aad_tells_the_number();
+}
+
+/// There are such runs: with whatever claims that are in their time, and from whatever tree, one in which a request is served and
+/// its reply accepted.
+pub fn runs_that_serve()
+    ensures { (claims : AnyClaims) (entries : List Entry) (now : AnyMoment) (tree : Tree)
+        → HasLawfulParts claims → IsScope claims.scope entries
+        → HasBegun claims.not_before now → IsNotOver claims.expires now
+        → (w : WorldState) × IsReached w × Premise w × (w.first ≡ tree)
+        × (length (history w.notes) ≡ 1) × (length (acceptances w.notes) ≡ 1) }
+{
+    a_written_reply();
+    a_reply_is_read_again();
+    minted_claims();
+    minted_texts();
 }
