@@ -12,3 +12,6 @@ mod Replied
 mod GenuineRuns
 mod Minted
 mod OneRound
+mod ServerDoes
+mod ClientDoes
+mod Read

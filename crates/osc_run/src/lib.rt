@@ -2,4 +2,5 @@
 //! every run (`specs/`).
 #![tactic(auto)]
 
+pub mod kinds;
 pub mod laws;

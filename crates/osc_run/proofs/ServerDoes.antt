@@ -1,0 +1,140 @@
+-- What desk, window and protection do at a server is what the kinds of step name.
+use Rattle.std.proofs.Common.{◌≡◌, ◌≤◌, ℕ, List, length, Option, Some, Result, Ok, Err, refl, sym, ap, ◌∙◌, subst, arith, length-take}
+use Rattle.osc_model.specs.Apply.{apply_read}
+use Rattle.osc_model.specs.Draw.{nonce_drawn}
+use Rattle.osc_model.specs.StepNotes.{quiet}
+use Rattle.osc_model.specs.Tree.{Tree}
+use Rattle.osc_model.specs.declared.node.Draw.{Draw}
+use Rattle.osc_model.specs.declared.node.Moment.{Moment}
+use Rattle.osc_model.specs.declared.reply.Reply.{Reply}
+use Rattle.osc_context.specs.Nonce.{greatest_number}
+use Rattle.osc_window.specs.Window.{IsFresh}
+use Rattle.osc_authz.specs.Agreed.{IsAgreed}
+use Rattle.osc_authz.specs.Agreement.{Answers, new_context}
+use Rattle.osc_authz.specs.Contexts.{OfToken, of_tokens, IsLive, AreKept, HasAdded, HasTaken}
+use Rattle.osc_authz.specs.Desk.{DeskState}
+use Rattle.osc_authz.specs.Held.{Held}
+use Rattle.osc_authz.specs.Members.{In}
+use Rattle.osc_authz.specs.Post.{Posts}
+use Rattle.osc_authz.specs.Table.{IsTable, accepted, alive, meant, with_pending}
+use Rattle.osc_authz.specs.declared.error.PostError.{PostError}
+use Rattle.osc_authz.specs.declared.holding.Holding.{Holding}
+use Rattle.osc_authz.specs.declared.post.Post.{Post}
+use Rattle.osc_authz.specs.declared.post.PostAnswer.{PostAnswer}
+use Rattle.osc_run.specs.Texts.{read_request, IsWithinRanges}
+use Rattle.osc_run.specs.ServerKinds.{opening_note, reply_note, Replies, IsServerIdle, IsPosted, IsServed}
+
+-- ---- a post
+
+-- with one more pending context the others are as they were
+abbrev pub AddedLaw : Type 0
+AddedLaw = (now : Moment) (token : List ℕ) (held : Held) (table : List Holding) → IsTable (with_pending token held (alive now table))
+    → HasAdded now token held (of_tokens table) (of_tokens (with_pending token held (alive now table)))
+
+pub agreed : AddedLaw → (IsSealing : List ℕ → List ℕ → List ℕ → List ℕ → List ℕ → Type 0) (before after : DeskState) (now : Moment) (body : List ℕ) (draw : Draw) (post : Post) (answer : PostAnswer) (tree : Tree)
+    → length draw.0 ≡ 32 → IsAgreed IsSealing before now body draw post answer after → IsTable after.table
+    → IsPosted (record { contexts = of_tokens before.table; tree = tree }) now (record quiet { opens = post.opened; drawn = Some answer.nonce2 }) (record { contexts = of_tokens after.table; tree = tree })
+agreed law IsSealing before after now body draw post answer tree size a is_table =
+    let token : List ℕ = a.claims.material.id in
+    let added : Held = new_context a.claims a.scope a.nonce1 a.client_id answer in
+    let table : after.table ≡ with_pending token added (alive now before.table) = ap (λ (d : DeskState). d.table) a.agrees.added in
+    let eight : length (nonce_drawn draw) ≡ 8 = omega (arith, size, length-take 8 draw.0) in
+    record {
+      key = before.key;
+      protected = a.protected;
+      iv = a.iv;
+      text = a.text;
+      audience = before.audience;
+      claims = a.claims;
+      scope = a.scope;
+      granted = a.granted;
+      nonce1 = a.nonce1;
+      client_id = a.client_id;
+      short = a.opened.is_post.id_size;
+      answer = answer;
+      size = ap length a.agrees.drawn ∙ eight;
+      apart = λ same. a.agrees.free.free (0, omega arith, sym same);
+      noted = λ i. record quiet { opens = a.noted i; drawn = Some answer.nonce2 };
+      contexts = subst (λ (t : List Holding). HasAdded now token added (of_tokens before.table) (of_tokens t)) (sym table) (law now token added before.table (subst IsTable table is_table));
+      tree = refl;
+    }
+
+-- ---- a post that is refused
+
+not_agreed : (answer : Result PostAnswer PostError) (made : PostAnswer) (error : PostError) → answer ≡ Ok made → answer ≡ Err error → ⊥
+not_agreed answer made error is e = cc
+
+unchanged : (IsSealing : List ℕ → List ℕ → List ℕ → List ℕ → List ℕ → Type 0) (before after : DeskState) (now : Moment) (body : List ℕ) (draw : Draw) (post : Post) (error : PostError)
+    → Posts IsSealing before now body draw post after → post.answer ≡ Err error → after ≡ before
+unchanged IsSealing before after now body draw post error (Posts.no_post none is same) e = same
+unchanged IsSealing before after now body draw post error (Posts.not_genuine token nonce1 client_id posts none is same) e = same
+unchanged IsSealing before after now body draw post error (Posts.opened nonce1 client_id protected iv text its o answers is) e = by answers
+  where
+    its_answer : its ≡ Err error
+    its_answer = sym (ap (λ (p : Post). p.answer) is) ∙ e
+
+    by : Answers before now nonce1 client_id text draw its after → after ≡ before
+    by (Answers.refused refusal comes answer same) = same
+    by (Answers.full claims scope comes many answer same) = same
+    by (Answers.agreed claims scope made comes room agrees answer) = absurd (not_agreed its made error answer its_answer)
+
+pub refused : (IsSealing : List ℕ → List ℕ → List ℕ → List ℕ → List ℕ → Type 0) (before after : DeskState) (now : Moment) (body : List ℕ) (draw : Draw) (post : Post) (error : PostError) (tree : Tree)
+    → Posts IsSealing before now body draw post after → post.answer ≡ Err error
+    → IsServerIdle (record { contexts = of_tokens before.table; tree = tree }) now (record quiet { opens = post.opened }) (record { contexts = of_tokens after.table; tree = tree })
+refused IsSealing before after now body draw post error tree posts e =
+    let same : after ≡ before = unchanged IsSealing before after now body draw post error posts e in
+    record {
+      opened = post.opened;
+      noted = refl;
+      contexts = subst (λ (d : DeskState). AreKept now (of_tokens before.table) (of_tokens d.table)) (sym same) (record { only = λ c m. m; live = λ c m live. m });
+      tree = refl;
+    }
+
+-- ---- a request that opens
+
+-- the context that a request means is one of the table
+abbrev pub MeantLaw : Type 0
+MeantLaw = (now : Moment) (kid : List ℕ) (kid_context : Option (List ℕ)) (table : List Holding) (held : Held) → meant now kid kid_context table ≡ Some held
+    → (context : OfToken) × In context (of_tokens table) × (context.held ≡ held) × IsLive now held × (held.name.client_id ≡ kid)
+
+-- where it takes a number, the others are as they were
+abbrev pub TakenLaw : Type 0
+TakenLaw = (now : Moment) (number : ℕ) (context : OfToken) (table : List Holding) → IsTable table → In context (of_tokens table)
+    → HasTaken now number context (of_tokens table) (of_tokens (accepted context.held.name.client_id number table))
+
+module _ (taken : TakenLaw) (now : Moment) (table : List Holding) (is_table : IsTable table) (number : ℕ) (few : number ≤ greatest_number) (text : List ℕ) (reply : Reply) (within : IsWithinRanges reply) (tree after : Tree) where
+  abbrev Serves : Held → List ℕ → Type 0
+  Serves held kid = IsServed (record { contexts = of_tokens table; tree = tree }) now
+      (record quiet {
+        seals = Some (reply_note held.name number reply);
+        opens = Some (opening_note held.name number text);
+        served = Some (record { context = held.name; number = number; plaintext = text; moment = now; reply = reply });
+      })
+      (record { contexts = of_tokens (accepted kid number table); tree = after })
+
+  opened_under : (context : OfToken) → In context (of_tokens table) → IsLive now context.held → IsFresh context.held.window number
+      → Replies tree (apply_read tree context.held.scope (read_request text)) reply after → Serves context.held context.held.name.client_id
+  opened_under context there live fresh replies = record {
+    context = context;
+    is_held = there;
+    is_live = live;
+    number = number;
+    lawful = few;
+    fresh = fresh;
+    text = text;
+    reply = reply;
+    within = within;
+    tree = replies;
+    noted = refl;
+    contexts = taken now number context table is_table there;
+  }
+
+  pub opened : MeantLaw → (kid : List ℕ) (kid_context : Option (List ℕ)) (held : Held) → meant now kid kid_context table ≡ Some held → IsFresh held.window number
+      → Replies tree (apply_read tree held.scope (read_request text)) reply after → Serves held kid
+  opened law kid kid_context held means fresh replies =
+      let m = law now kid kid_context table held means in
+      let its : IsLive now m.0.held = subst (IsLive now) (sym m.2) m.3 in
+      let its_fresh : IsFresh m.0.held.window number = subst (λ (h : Held). IsFresh h.window number) (sym m.2) fresh in
+      let its_reply : Replies tree (apply_read tree m.0.held.scope (read_request text)) reply after = subst (λ (h : Held). Replies tree (apply_read tree h.scope (read_request text)) reply after) (sym m.2) replies in
+      let serves : Serves m.0.held m.0.held.name.client_id = opened_under m.0 m.1 its its_fresh its_reply in
+      subst (Serves held) m.4 (subst (λ (h : Held). Serves h h.name.client_id) m.2 serves)
