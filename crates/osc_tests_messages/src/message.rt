@@ -295,29 +295,66 @@ fn sixteen_wait(rt: HostRuntime) -> Result<(), Fail> {
     Ok(())
 }
 
+/// One of several peers at one address.
+fn at_port(port: u16) -> Peer {
+    Peer {
+        address: [192, 0, 2, 1],
+        port,
+    }
+}
+
 #[test]
 fn sixty_four_peers_have_one_open(rt: HostRuntime) -> Result<(), Fail> {
     let mut endpoint = Endpoint::new(rt.alloc())?;
     for port in 0..65u16 {
-        let to = Peer {
-            address: [192, 0, 2, 1],
-            port,
-        };
+        let to = at_port(port);
         let answer = if port < 64 { 1 } else { 16 };
         assert_eq!(rt;
             send(&mut endpoint, rt.alloc(), to, 7, &Draw([0; 32]))?,
             answer
         );
     }
-    let first = Peer {
-        address: [192, 0, 2, 1],
-        port: 0,
-    };
-    settle(&mut endpoint, 0, first, b"\x60\x00\x00\x07", None);
+    settle(&mut endpoint, 0, at_port(0), b"\x60\x00\x00\x07", None);
     assert_eq!(rt;
         send(&mut endpoint, rt.alloc(), OTHER, 7, &Draw([0; 32]))?,
         1
     );
+    Ok(())
+}
+
+/// Whether a retransmission goes to each of the 64 peers, in the order of their ports, and nothing else goes out.
+fn repeats_to_each(done: &Ticked) -> bool {
+    let mut port = 0;
+    let mut same = true;
+    for datagram in done.out.as_slice() {
+        same = datagram.to == at_port(port) && same;
+        port = port.saturating_add(1);
+    }
+    same && port == 64 && done.started.as_slice().is_empty()
+}
+
+/// Hands two messages over to each of the 64 peers: one goes out, and the other waits.
+fn send_to_each(endpoint: &mut Endpoint, alloc: Global) -> Result<(), AllocError> {
+    for port in 0..64u16 {
+        for id in 0..2u16 {
+            send(endpoint, alloc, at_port(port), id, &Draw([0; 32]))?;
+        }
+    }
+    Ok(())
+}
+
+/// Whether nothing is due to any of the peers a millisecond before the timeout, and then a retransmission to each, once.
+fn all_repeat_at_once(endpoint: &mut Endpoint, alloc: Global) -> Result<bool, AllocError> {
+    let early = tick(endpoint, alloc, 1999)? == (0, 0, 0, Some(2000));
+    let done = endpoint.on_tick(alloc, Moment { ms: 2000 })?;
+    Ok(early && repeats_to_each(&done) && endpoint.next_deadline() == Some(6000))
+}
+
+#[test]
+fn messages_to_many_are_due_at_once(rt: HostRuntime) -> Result<(), Fail> {
+    let mut endpoint = Endpoint::new(rt.alloc())?;
+    send_to_each(&mut endpoint, rt.alloc())?;
+    assert!(rt; all_repeat_at_once(&mut endpoint, rt.alloc())?);
     Ok(())
 }
 
