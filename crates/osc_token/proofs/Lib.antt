@@ -1,6 +1,7 @@
 -- Lemmas.
 mod OpeningLemmas
 mod MintingLemmas
+pub mod LengthLemmas
 mod TokenLaws
 mod ReadingLemmas
 mod JudgingLemmas

@@ -6,3 +6,4 @@ pub mod Minted
 pub mod Opening
 pub mod Reading
 pub mod Judging
+pub mod Lengths

@@ -10,6 +10,7 @@ mod error;
 mod judging;
 mod labels;
 pub mod laws;
+mod lengths;
 mod material;
 mod minting;
 mod opening;

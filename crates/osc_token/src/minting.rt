@@ -1,6 +1,6 @@
 //! Minting tokens.
 
-ghost use Rattle.std.specs.Prelude.{◌≡◌, ◌↔◌, ◌≤◌, ◌<◌, ℕ, List, [], ◌++◌, length, IfOk, OnOk, OnErr, Err};
+ghost use Rattle.std.specs.Prelude.{◌≡◌, ◌≤◌, ◌<◌, ℕ, List, [], ◌++◌, length, IfOk, OnOk, OnErr, Err};
 ghost use Rattle.osc_cbor.specs.Data.{byte_string, map, pair, unsigned, no_pairs};
 ghost use Rattle.osc_cbor.specs.Spelling.{spelling};
 ghost use Rattle.osc_cbor.specs.View.{view};
@@ -13,6 +13,7 @@ use crate::error::MintError;
 use crate::labels::{
     AUDIENCE, CONFIRMATION, EXPIRES, ID, ID_CONTEXT, MATERIAL, NOT_BEFORE, SALT, SCOPE, SECRET,
 };
+use crate::lengths::claims_len;
 use osc_cbor::{Item, write};
 use osc_ccm::Aead;
 use osc_cose::{Encrypt0, SealError, seal0, write0};
@@ -32,7 +33,8 @@ const CLAIMS_LIMIT: usize = 65535;
 ///
 /// # Errors
 ///
-/// `TooLong` exactly where the claims have more than 65535 bytes, else `Memory`; nothing is appended then.
+/// `TooLong` exactly where the claims have more than 65535 bytes, which takes no memory to know; else `Memory`. Nothing is
+/// appended then.
 pub fn mint<A: Aead>(
     alloc: Global,
     claims: &Claims,
@@ -45,32 +47,34 @@ pub fn mint<A: Aead>(
         × (out.new.items ≡ out.old.items ++ spelling (object_item (token_object iv.now ciphertext)))) }
     ensures short { OnOk result (length (spelling (claims_item claims.now)) ≤ most_claims) }
     ensures too_long { result ≡ Err MintError.TooLong → most_claims < length (spelling (claims_item claims.now)) }
+    // Memory is taken only for claims that aren't too long.
+    ensures needs_memory { result ≡ Err MintError.Memory → length (spelling (claims_item claims.now)) ≤ most_claims }
     ensures err { OnErr result (out.new.items ≡ out.old.items) }
 {
+    if claims_len(claims) > CLAIMS_LIMIT {
+        return Err(MintError::TooLong);
+    }
     let text = text_of(alloc, claims)?;
     let object = seal::<A>(alloc, key, iv, &text)?;
     Ok(write0(alloc, object, out)?)
 }
 
-/// The object of a text, for which memory is taken where the text isn't too long.
+/// The object of a text that isn't too long, so that only memory can be wanting.
 fn seal<A: Aead>(
     alloc: Global,
     key: &[u8; 16],
     iv: &[u8; 13],
     text: &[u8],
-) -> Result<Encrypt0, MintError>
+) -> Result<Encrypt0, AllocError>
+    requires { length text.now ≤ most_claims }
     ensures sealed { IfOk result (λ object.
         A.is_sealing key.now iv.now (enc_structure algorithm_header []) text.now object.ciphertext) }
     ensures is_token { IfOk result (λ object. object ≡ token_object iv.now object.ciphertext) }
-    ensures too_long { (result ≡ Err MintError.TooLong) ↔ (most_claims < length text.now) }
 {
-    if text.len() > CLAIMS_LIMIT {
-        return Err(MintError::TooLong);
-    }
     match seal0::<A>(alloc, key, iv, &ALGORITHM_HEADER, b"", text) {
         Ok(object) => Ok(object),
-        Err(SealError::TooLong) => Err(MintError::TooLong),
-        Err(SealError::Memory) => Err(MintError::Memory),
+        Err(SealError::Memory) => Err(AllocError),
+        Err(SealError::TooLong) => unreachable!(),
     }
 }
 
