@@ -15,17 +15,19 @@ pub record OfToken : Type 0 where
   pub is_confirmed : Bool
   pub held : Held
 
+-- the confirmed one of a token id, and the pending one
 abbrev pub confirmed_of : List ℕ → Held → OfToken
 confirmed_of token held = record { token = token; is_confirmed = true; held = held }
 
 abbrev pub pending_of : List ℕ → Held → OfToken
 pending_of token held = record { token = token; is_confirmed = false; held = held }
 
+-- the one in a place of a token id, if it is there
 abbrev pub of_token : List ℕ → Bool → Option Held → List OfToken
 of_token token is_confirmed None = []
 of_token token is_confirmed (Some held) = (record { token = token; is_confirmed = is_confirmed; held = held }) ∷ []
 
--- those of a table
+-- those of a table, by its token ids
 abbrev pub of_tokens : List Holding → List OfToken
 of_tokens [] = []
 of_tokens (holding ∷ table) = of_token holding.id true holding.confirmed ++ of_token holding.id false holding.pending ++ of_tokens table
