@@ -28,6 +28,3 @@ pub use response::{ProtectedResponse, open_response, protect_reply, protect_resp
 pub use room::{RequestRoom, Room, TextRoom};
 pub use sealed::{SealedRequestRef, SealedResponseRef, read_request, read_response};
 pub use value::OscoreOption;
-
-#[cfg(test)]
-mod tests;

@@ -173,28 +173,35 @@ fn are_the_servers(parts: &Parts, example: &Example) -> bool {
         && parts.3 == example.server_nonce
 }
 
-#[test]
-fn examples(rt: HostRuntime) -> Result<(), Fail> {
-    let alloc = rt.alloc();
-    for example in EXAMPLES {
-        let name = name_of(alloc, &example)?;
-        let sender = sender_parts(alloc, &name, Side::Client)?;
-        assert!(rt; are_the_clients(&sender, &example));
-        let recipient = recipient_parts(alloc, &name, Side::Client)?;
-        assert!(rt; are_the_servers(&recipient, &example));
-    }
-    Ok(())
+/// Whether this end of the example seals and opens with the parts that it should.
+fn has_its_parts(
+    alloc: Global,
+    name: &ContextName,
+    side: Side,
+    example: &Example,
+) -> Result<bool, Fail> {
+    let sender = sender_parts(alloc, name, side)?;
+    let recipient = recipient_parts(alloc, name, side)?;
+    Ok(match side {
+        Side::Client => {
+            are_the_clients(&sender, example) && are_the_servers(&recipient, example)
+        }
+        Side::Server => {
+            are_the_servers(&sender, example) && are_the_clients(&recipient, example)
+        }
+    })
+}
+
+fn is_an_end(alloc: Global, side: Side, example: &Example) -> Result<bool, Fail> {
+    let name = name_of(alloc, example)?;
+    has_its_parts(alloc, &name, side, example)
 }
 
 #[test]
-fn examples_at_the_server(rt: HostRuntime) -> Result<(), Fail> {
-    let alloc = rt.alloc();
+fn examples(rt: HostRuntime) -> Result<(), Fail> {
     for example in EXAMPLES {
-        let name = name_of(alloc, &example)?;
-        let sender = sender_parts(alloc, &name, Side::Server)?;
-        assert!(rt; are_the_servers(&sender, &example));
-        let recipient = recipient_parts(alloc, &name, Side::Server)?;
-        assert!(rt; are_the_clients(&recipient, &example));
+        assert!(rt; is_an_end(rt.alloc(), Side::Client, &example)?);
+        assert!(rt; is_an_end(rt.alloc(), Side::Server, &example)?);
     }
     Ok(())
 }

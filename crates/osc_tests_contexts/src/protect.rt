@@ -2,15 +2,16 @@
 ghost use Rattle.std.specs.Prelude.{◌≡◌, ◌≤◌, IfOk, IfSome, length};
 ghost use Rattle.osc_model.specs.declared.context.Side.TheVariants.{Client, Server};
 ghost use Rattle.osc_context.specs.Derivation.{taken_of, sender_of, recipient_of};
-ghost use Rattle.osc_context.specs.Nonce.{greatest_number};
+ghost use Rattle.osc_context.specs.Nonce.{longest_id, greatest_number};
 ghost use Rattle.osc_protect.specs.Protection.{HasShortContext, IsFor};
 
 use osc_ccm::Ccm;
 use osc_coap::{DATAGRAM_LIMIT, MessageRef};
-use osc_context::{ID_LIMIT, RecipientContext, SendNumber, derive};
+use osc_context::{ID_LIMIT, RecipientContext, SendNumber, SenderContext, derive};
 use osc_model::{Bytes, ContextName, Note, Side};
 use osc_protect::*;
 use std::alloc::{AllocError, Global};
+use std::fmt;
 use std::test::*;
 
 /// The master secret of the examples.
@@ -132,6 +133,15 @@ fn protect_in(
     }
 }
 
+/// The number that the client takes next, once it has skipped to this one.
+fn client_number(alloc: Global, name: &ContextName, number: u64) -> Result<SendNumber, Fail>
+    ensures { IfOk result (λ taken. taken ≡ taken_of name.now Client taken.number) }
+{
+    let (mut sender, _) = derive(alloc, name, Side::Client)?;
+    sender.skip_to(number);
+    Ok(sender.take_number()?)
+}
+
 /// The client protects a request of this number.
 fn protect_at(
     alloc: Global,
@@ -142,11 +152,8 @@ fn protect_at(
     requires { HasShortContext name.now }
 {
     let message = MessageRef::parse(datagram)?;
-    let (mut sender, _) = derive(alloc, name, Side::Client)?;
     let room = Room::new(alloc, name, DATAGRAM_LIMIT)?;
-    sender.skip_to(number);
-    let number = sender.take_number()?;
-    protect_in(room, number, &message)
+    protect_in(room, client_number(alloc, name, number)?, &message)
 }
 
 /// What the server opens of a request in this room, and the right to reply.
@@ -163,6 +170,38 @@ fn open_in(
     open_request::<Ccm<8>>(room, recipient, sealed)
 }
 
+/// What the server opens of a request in this room, if it is genuine; it doesn't reply.
+fn opened_in(
+    room: RequestRoom,
+    recipient: &RecipientContext,
+    sealed: &SealedRequestRef<'_>,
+) -> Option<Note>
+    requires recipient { recipient.now ≡ recipient_of room.name Server }
+    requires named { IsFor room.name sealed.now }
+    requires room { length sealed.now.sealed ≤ room.most }
+{
+    match open_in(room, recipient, sealed) {
+        Ok(OpenedRequest { note, right }) => {
+            right.forgo();
+            Some(note)
+        }
+        Err(_) => None,
+    }
+}
+
+/// What the server opens of a request of this context, if it is genuine.
+fn open_under(
+    alloc: Global,
+    name: &ContextName,
+    sealed: &SealedRequestRef<'_>,
+) -> Result<Option<Note>, Fail>
+    requires { IsFor name.now sealed.now }
+{
+    let (_, recipient) = derive(alloc, name, Side::Server)?;
+    let room = RequestRoom::new(alloc, name, sealed.sealed().len())?;
+    Ok(opened_in(room, &recipient, sealed))
+}
+
 /// What the server opens of a request, if it is genuine.
 fn open_at(alloc: Global, name: &ContextName, datagram: &[u8]) -> Result<Option<Note>, Fail> {
     let message = MessageRef::parse(datagram)?;
@@ -170,15 +209,7 @@ fn open_at(alloc: Global, name: &ContextName, datagram: &[u8]) -> Result<Option<
     if !sealed.is_for(name) {
         return Err("another context")?;
     }
-    let (_, recipient) = derive(alloc, name, Side::Server)?;
-    let room = RequestRoom::new(alloc, name, sealed.sealed().len())?;
-    match open_in(room, &recipient, &sealed) {
-        Ok(OpenedRequest { note, right }) => {
-            right.forgo();
-            Ok(Some(note))
-        }
-        Err(_) => Ok(None),
-    }
+    open_under(alloc, name, &sealed)
 }
 
 /// Whether both ends noted the same of a request.
@@ -195,34 +226,63 @@ fn are_alike(sealed: &Note, opened: &Note) -> bool {
 /// The plaintext of the requests.
 const REQUEST_TEXT: &[u8] = b"\x01\xb3tv1";
 
-/// Whether an example is protected as published, and opened again.
-fn is_as_published(alloc: Global, example: Example) -> Result<bool, Fail> {
-    let name = name_of(alloc, &CONTEXTS[example.context.min(2)])?;
-    let made = protect_at(alloc, &name, 20, example.message)?;
-    let Some(opened) = open_at(alloc, &name, example.protected)? else {
+/// Whether the server opens the published text of the published request, and notes the same as who sealed it.
+fn opens_alike(
+    alloc: Global,
+    name: &ContextName,
+    sealed: &Note,
+    example: &Example,
+) -> Result<bool, Fail> {
+    match open_at(alloc, name, example.protected)? {
+        Some(opened) => {
+            Ok(opened.plaintext.as_slice() == REQUEST_TEXT && are_alike(sealed, &opened))
+        }
+        None => Ok(false),
+    }
+}
+
+/// Whether the client protects the example as published, and the server opens it.
+fn is_protected(alloc: Global, name: &ContextName, example: &Example) -> Result<bool, Fail>
+    requires { HasShortContext name.now }
+{
+    let made = protect_at(alloc, name, 20, example.message)?;
+    if made.message.bytes() != example.protected {
         return Ok(false);
-    };
-    Ok(
-        made.message.bytes() == example.protected
-            && opened.plaintext.as_slice() == REQUEST_TEXT
-            && are_alike(&made.note, &opened),
-    )
+    }
+    opens_alike(alloc, name, &made.note, example)
+}
+
+/// Whether an example is protected as published, and opened again.
+fn is_as_published(alloc: Global, example: &Example) -> Result<bool, Fail> {
+    let name = name_of(alloc, &CONTEXTS[example.context.min(2)])?;
+    is_protected(alloc, &name, example)
 }
 
 #[test]
 fn requests(rt: HostRuntime) -> Result<(), Fail> {
     for example in REQUESTS {
-        assert!(rt; is_as_published(rt.alloc(), example)?);
+        assert!(rt; is_as_published(rt.alloc(), &example)?);
     }
     Ok(())
 }
 
-/// The nonce of the example of appendix C.4.
+/// The associated data of the example of appendix C.4 (RFC 8613 section 5.4).
+const AAD: &[u8] = b"\x83\x68Encrypt0\x40\x48\x85\x01\x81\x0a\x40\x41\x14\x40";
+
+/// The nonce of that example.
+const NONCE: [u8; 13] = *b"\x46\x22\xd4\xdd\x6d\x94\x41\x68\xee\xfb\x54\x98\x68";
+
+fn is_sealed_as_published(alloc: Global, name: &ContextName) -> Result<bool, Fail>
+    requires { HasShortContext name.now }
+{
+    let made = protect_at(alloc, name, 20, REQUESTS[0].message)?;
+    Ok(made.note.nonce == NONCE && made.note.aad.as_slice() == AAD)
+}
+
 #[test]
-fn the_nonce(rt: HostRuntime) -> Result<(), Fail> {
+fn the_nonce_and_the_associated_data(rt: HostRuntime) -> Result<(), Fail> {
     let name = name_of(rt.alloc(), &CONTEXTS[0])?;
-    let made = protect_at(rt.alloc(), &name, 20, REQUESTS[0].message)?;
-    assert!(rt; made.note.nonce == *b"\x46\x22\xd4\xdd\x6d\x94\x41\x68\xee\xfb\x54\x98\x68");
+    assert!(rt; is_sealed_as_published(rt.alloc(), &name)?);
     Ok(())
 }
 
@@ -241,46 +301,45 @@ fn uncounted_at(
     Ok(protect_uncounted::<Ccm<8>>(room, &sender, 20, &message, text).ok())
 }
 
-/// The bytes of that request, if it fits a datagram.
-fn uncounted_bytes(alloc: Global, text: &[u8]) -> Result<Option<Vec<u8>>, Fail> {
-    let name = name_of(alloc, &CONTEXTS[0])?;
-    match uncounted_at(alloc, &name, REQUESTS[0].message, text)? {
-        Some(made) => Ok(Some(Vec::from_slice(alloc, made.message.bytes())?)),
-        None => Ok(None),
+/// Whether these are its bytes, or there are none where it didn't fit a datagram.
+fn is_made(made: &Option<UncountedRequest>, bytes: Option<&[u8]>) -> bool {
+    match (made, bytes) {
+        (Some(made), Some(bytes)) => made.message.bytes() == bytes,
+        (None, None) => true,
+        _ => false,
     }
+}
+
+/// Whether the holder makes this of a text.
+fn makes(alloc: Global, text: &[u8], bytes: Option<&[u8]>) -> Result<bool, Fail> {
+    let name = name_of(alloc, &CONTEXTS[0])?;
+    let made = uncounted_at(alloc, &name, REQUESTS[0].message, text)?;
+    Ok(is_made(&made, bytes))
 }
 
 #[test]
 fn uncounted_requests(rt: HostRuntime) -> Result<(), Fail> {
-    let bytes = uncounted_bytes(rt.alloc(), REQUEST_TEXT)?;
-    assert!(rt; bytes.is_some_and(|bytes| bytes.as_slice() == REQUESTS[0].protected));
+    assert!(rt; makes(rt.alloc(), REQUEST_TEXT, Some(REQUESTS[0].protected))?);
     Ok(())
 }
 
 #[test]
 fn texts_that_are_too_long(rt: HostRuntime) -> Result<(), Fail> {
-    assert!(rt; uncounted_bytes(rt.alloc(), &[7; 1152])?.is_none());
+    assert!(rt; makes(rt.alloc(), &[7; 1152], None)?);
     Ok(())
 }
 
-/// The server replies to the request of number 20 under the nonce of that request.
-fn reply_to(
-    alloc: Global,
-    name: &ContextName,
+/// The server replies in this room under the nonce of the request.
+fn reply_in(
     right: ReplyRight,
+    room: TextRoom,
+    sender: &SenderContext,
     message: &MessageRef<'_>,
 ) -> Result<ProtectedResponse, Fail>
-    requires { right.context ≡ name.now }
+    requires sender { sender.now ≡ sender_of right.context Server sender.now.next }
+    requires room { 1152 ≤ room }
 {
-    let Ok((sender, _)) = derive(alloc, name, Side::Server) else {
-        right.forgo();
-        return Err("no context")?;
-    };
-    let Ok(room) = TextRoom::new(alloc, DATAGRAM_LIMIT) else {
-        right.forgo();
-        return Err("no memory")?;
-    };
-    match protect_reply::<Ccm<8>>(right, room, &sender, message) {
+    match protect_reply::<Ccm<8>>(right, room, sender, message) {
         Ok(made) => Ok(made),
         Err(ReplyTooLong { room: _, right }) => {
             right.forgo();
@@ -289,20 +348,100 @@ fn reply_to(
     }
 }
 
+/// The server takes the room for the reply, and replies.
+fn reply_to(
+    alloc: Global,
+    right: ReplyRight,
+    sender: &SenderContext,
+    message: &MessageRef<'_>,
+) -> Result<ProtectedResponse, Fail>
+    requires { sender.now ≡ sender_of right.context Server sender.now.next }
+{
+    match TextRoom::new(alloc, DATAGRAM_LIMIT) {
+        Ok(room) => reply_in(right, room, sender, message),
+        Err(_) => {
+            right.forgo();
+            Err("no memory")?
+        }
+    }
+}
+
+/// The right alone, without the note of the opening.
+fn right_of(opened: OpenedRequest) -> ReplyRight
+    ensures { result ≡ opened.right }
+{
+    let OpenedRequest { note: _, right } = opened;
+    right
+}
+
+/// The right to reply to what the server opens in this room, if it is genuine.
+fn right_to_reply(
+    room: RequestRoom,
+    recipient: &RecipientContext,
+    sealed: &SealedRequestRef<'_>,
+) -> Option<ReplyRight>
+    requires recipient { recipient.now ≡ recipient_of room.name Server }
+    requires named { IsFor room.name sealed.now }
+    requires room { length sealed.now.sealed ≤ room.most }
+    ensures { IfSome result (λ right. right.context ≡ room.name) }
+{
+    Some(right_of(open_in(room, recipient, sealed).ok()?))
+}
+
+/// The server opens a request of this context, and replies.
+fn reply_under(
+    alloc: Global,
+    name: &ContextName,
+    sealed: &SealedRequestRef<'_>,
+    reply: &MessageRef<'_>,
+) -> Result<ProtectedResponse, Fail>
+    requires { IsFor name.now sealed.now }
+{
+    let (sender, recipient) = derive(alloc, name, Side::Server)?;
+    let room = RequestRoom::new(alloc, name, sealed.sealed().len())?;
+    match right_to_reply(room, &recipient, sealed) {
+        Some(right) => reply_to(alloc, right, &sender, reply),
+        None => Err("not genuine")?,
+    }
+}
+
 /// The server opens a request, and replies.
 fn replied(alloc: Global, request: &[u8], reply: &[u8]) -> Result<ProtectedResponse, Fail> {
     let name = name_of(alloc, &CONTEXTS[0])?;
     let reply = MessageRef::parse(reply)?;
-    let message = MessageRef::parse(request)?;
-    let sealed = read_request(&message)?;
+    let request = MessageRef::parse(request)?;
+    let sealed = read_request(&request)?;
     if !sealed.is_for(&name) {
         return Err("another context")?;
     }
-    let (_, recipient) = derive(alloc, &name, Side::Server)?;
-    let room = RequestRoom::new(alloc, &name, sealed.sealed().len())?;
-    match open_in(room, &recipient, &sealed) {
-        Ok(OpenedRequest { note: _, right }) => reply_to(alloc, &name, right, &reply),
-        Err(_) => Err("not genuine")?,
+    reply_under(alloc, &name, &sealed, &reply)
+}
+
+/// The number that the server takes next, once it has skipped to this one.
+fn server_number(alloc: Global, name: &ContextName, number: u64) -> Result<SendNumber, Fail>
+    ensures { IfOk result (λ taken. taken ≡ taken_of name.now Server taken.number) }
+{
+    let (mut sender, _) = derive(alloc, name, Side::Server)?;
+    sender.skip_to(number);
+    Ok(sender.take_number()?)
+}
+
+/// The server responds to the request of number 20 in this room.
+fn respond_in(
+    room: Room,
+    number: SendNumber,
+    message: &MessageRef<'_>,
+) -> Result<ProtectedResponse, Fail>
+    requires number { number ≡ taken_of room.name Server number.number }
+    requires id { length room.name.client_id ≤ longest_id }
+    requires room { 1152 ≤ room.most }
+{
+    match protect_response::<Ccm<8>>(room, 20, number, message) {
+        Ok(made) => Ok(made),
+        Err(MessageTooLong { room: _, number }) => {
+            number.spend();
+            Err("too long")?
+        }
     }
 }
 
@@ -312,21 +451,11 @@ fn respond(
     name: &ContextName,
     number: u64,
     message: &MessageRef<'_>,
-) -> Result<ProtectedResponse, Fail> {
-    let (mut sender, recipient) = derive(alloc, name, Side::Server)?;
+) -> Result<ProtectedResponse, Fail>
+    requires { length name.now.client_id ≤ longest_id }
+{
     let room = Room::new(alloc, name, DATAGRAM_LIMIT)?;
-    if recipient.id().len() > ID_LIMIT {
-        return Err("an ID")?;
-    }
-    sender.skip_to(number);
-    let number = sender.take_number()?;
-    match protect_response::<Ccm<8>>(room, 20, number, message) {
-        Ok(made) => Ok(made),
-        Err(MessageTooLong { room: _, number }) => {
-            number.spend();
-            Err("too long")?
-        }
-    }
+    respond_in(room, server_number(alloc, name, number)?, message)
 }
 
 /// The plaintext of the responses.
@@ -342,10 +471,23 @@ fn sealed_responses(rt: HostRuntime) -> Result<(), Fail> {
     let alloc = rt.alloc();
     let made = replied(alloc, REQUESTS[0].protected, RESPONSES[0].message)?;
     assert!(rt; is_published(&made, &RESPONSES[0]));
-    let name = name_of(alloc, &CONTEXTS[0])?;
+    Ok(())
+}
+
+/// Whether a response under a number of the server's own is the published one.
+fn is_numbered(alloc: Global, name: &ContextName) -> Result<bool, Fail>
+    requires { length name.now.client_id ≤ longest_id }
+{
     let message = MessageRef::parse(RESPONSES[1].message)?;
-    let made = respond(alloc, &name, 0, &message)?;
-    assert!(rt; is_published(&made, &RESPONSES[1]));
+    let made = respond(alloc, name, 0, &message)?;
+    Ok(is_published(&made, &RESPONSES[1]))
+}
+
+#[test]
+fn sealed_responses_with_a_number(rt: HostRuntime) -> Result<(), Fail> {
+    let name = name_of(rt.alloc(), &CONTEXTS[0])?;
+    assert!(rt; name.client_id.len() <= ID_LIMIT);
+    assert!(rt; is_numbered(rt.alloc(), &name)?);
     Ok(())
 }
 
@@ -373,15 +515,32 @@ fn is_opened(note: &Note) -> bool {
     note.plaintext.as_slice() == RESPONSE_TEXT && note.side == Side::Client && note.number == 20
 }
 
+/// Whether what the client opens of a datagram, as the response to its request of this number, is the published text; none where
+/// it isn't genuine.
+fn opens(
+    alloc: Global,
+    name: &ContextName,
+    number: u64,
+    datagram: &[u8],
+) -> Result<Option<bool>, Fail>
+    requires { number ≤ 20 }
+{
+    let note = open_response_at(alloc, name, number, datagram)?;
+    Ok(note.map(|note| is_opened(&note)))
+}
+
+/// What the client opens of the published response: as that to its request of number 20, and as that to another.
+fn opened_as(alloc: Global, example: &Example) -> Result<(Option<bool>, Option<bool>), Fail> {
+    let name = name_of(alloc, &CONTEXTS[0])?;
+    let published = opens(alloc, &name, 20, example.protected)?;
+    Ok((published, opens(alloc, &name, 19, example.protected)?))
+}
+
 /// To another request they are no responses, and the plain one is none.
 #[test]
 fn opened_responses(rt: HostRuntime) -> Result<(), Fail> {
-    let alloc = rt.alloc();
-    let name = name_of(alloc, &CONTEXTS[0])?;
     for example in RESPONSES {
-        let note = open_response_at(alloc, &name, 20, example.protected)?;
-        assert!(rt; note.is_some_and(|note| is_opened(&note)));
-        assert!(rt; open_response_at(alloc, &name, 19, example.protected)?.is_none());
+        assert_eq!(rt; opened_as(rt.alloc(), &example)?, (Some(true), None));
         assert!(rt; read_response(&MessageRef::parse(example.message)?).is_err());
     }
     Ok(())
@@ -452,18 +611,22 @@ fn what_is_named(rt: HostRuntime) -> Result<(), Fail> {
     Ok(())
 }
 
+/// Whether a request of these options and payload is none that the server opens.
+fn is_forged(alloc: Global, options: &[u8]) -> Result<bool, Fail> {
+    let name = name_of(alloc, &CONTEXTS[0])?;
+    let datagram = with_options(alloc, options)?;
+    Ok(open_at(alloc, &name, &datagram)?.is_none())
+}
+
 /// The last bit of the tag turned, and bytes shorter than a tag.
 #[test]
 fn forged_requests(rt: HostRuntime) -> Result<(), Fail> {
-    let alloc = rt.alloc();
-    let name = name_of(alloc, &CONTEXTS[0])?;
     let forged: [&[u8]; 2] = [
         b"\x92\x09\x14\xff\x61\x2f\x10\x92\xf1\x77\x6f\x1c\x16\x68\xb3\x82\x5f",
         b"\x92\x09\x14\xff\x61\x2f\x10\x92\xf1\x77\x6f",
     ];
     for options in forged {
-        let datagram = with_options(alloc, options)?;
-        assert!(rt; open_at(alloc, &name, &datagram)?.is_none());
+        assert!(rt; is_forged(rt.alloc(), options)?);
     }
     Ok(())
 }
@@ -504,27 +667,32 @@ fn protected_length(
 ) -> Result<usize, Fail>
     requires { HasShortContext name.now }
 {
-    let (mut sender, _) = derive(alloc, name, Side::Client)?;
     let room = Room::new(alloc, name, DATAGRAM_LIMIT)?;
-    let number = sender.take_number()?;
-    let made = protect_instead(room, number, too_long, message)?;
+    let made = protect_instead(room, client_number(alloc, name, 0)?, too_long, message)?;
     Ok(made.message.bytes().len())
+}
+
+/// The same of POSTs with so many bytes of payload.
+fn protected_size(
+    alloc: Global,
+    name: &ContextName,
+    too_long: usize,
+    size: usize,
+) -> Result<usize, Fail>
+    requires { HasShortContext name.now }
+{
+    let (too_long, post) = (post_of(alloc, too_long)?, post_of(alloc, size)?);
+    let too_long = MessageRef::parse(&too_long)?;
+    let message = MessageRef::parse(&post)?;
+    protected_length(alloc, name, &too_long, &message)
 }
 
 /// Protected as a request of number 0, a payload takes 18 bytes more: 4 of header, 3 of the option, the payload marker, the
 /// sealed code and inner marker, and the tag.
 #[test]
 fn long_requests(rt: HostRuntime) -> Result<(), Fail> {
-    let alloc = rt.alloc();
-    let name = name_of(alloc, &CONTEXTS[0])?;
-    let (longest, too_long) = (post_of(alloc, 1134)?, post_of(alloc, 1135)?);
-    let length = protected_length(
-        alloc,
-        &name,
-        &MessageRef::parse(&too_long)?,
-        &MessageRef::parse(&longest)?,
-    )?;
-    assert!(rt; length == 1152);
+    let name = name_of(rt.alloc(), &CONTEXTS[0])?;
+    assert!(rt; protected_size(rt.alloc(), &name, 1135, 1134)? == 1152);
     Ok(())
 }
 
@@ -551,16 +719,34 @@ fn long_replies(rt: HostRuntime) -> Result<(), Fail> {
     Ok(())
 }
 
+/// Whether a value is printed as this text.
+fn prints<T: fmt::Debug>(alloc: Global, value: &T, text: &str) -> Result<bool, Fail> {
+    Ok(format!(in alloc; "{value:?}")?.as_str() == text)
+}
+
+fn room_is_hidden(alloc: Global, name: &ContextName) -> Result<bool, Fail> {
+    let room = Room::new(alloc, name, 7)?;
+    prints(alloc, &room, "Room")
+}
+
+fn request_room_is_hidden(alloc: Global, name: &ContextName) -> Result<bool, Fail> {
+    let room = RequestRoom::new(alloc, name, 7)?;
+    prints(alloc, &room, "RequestRoom")
+}
+
+fn text_room_is_hidden(alloc: Global) -> Result<bool, Fail> {
+    let room = TextRoom::new(alloc, 7)?;
+    prints(alloc, &room, "TextRoom")
+}
+
 /// Nothing of a key or a text is printed.
 #[test]
 fn what_is_printed(rt: HostRuntime) -> Result<(), Fail> {
-    let alloc = rt.alloc();
-    let name = name_of(alloc, &CONTEXTS[0])?;
-    let room = Room::new(alloc, &name, 7)?;
-    let request = RequestRoom::new(alloc, &name, 7)?;
-    let text = TextRoom::new(alloc, 7)?;
-    let printed = format!(in alloc; "{room:?} {request:?} {text:?} {Malformed:?}")?;
-    assert!(rt; printed.as_str() == "Room RequestRoom TextRoom Malformed");
+    let name = name_of(rt.alloc(), &CONTEXTS[0])?;
+    assert!(rt; room_is_hidden(rt.alloc(), &name)?);
+    assert!(rt; request_room_is_hidden(rt.alloc(), &name)?);
+    assert!(rt; text_room_is_hidden(rt.alloc())?);
+    assert!(rt; prints(rt.alloc(), &Malformed, "Malformed")?);
     Ok(())
 }
 
@@ -579,38 +765,52 @@ fn said(value: &[u8]) -> Option<Said<'_>> {
     Some((option.partial_iv(), option.kid_context(), option.kid()))
 }
 
+/// Values of OSCORE's option, and what they say.
+const VALUES: [(&[u8], Said<'static>); 8] = [
+    (b"", (None, None, None)),
+    (b"\x09\x14", (Some(20), None, Some(b""))),
+    (b"\x09\x00", (Some(0), None, Some(b""))),
+    (b"\x01\x14", (Some(20), None, None)),
+    (b"\x01\x00", (Some(0), None, None)),
+    (b"\x08", (None, None, Some(b""))),
+    (
+        b"\x0d\xff\xff\xff\xff\xff\x07",
+        (Some(1_099_511_627_775), None, Some(b"\x07")),
+    ),
+    (
+        b"\x19\x14\x08\x37\xcb\xf3\x21\x00\x17\xa2\xd3",
+        (
+            Some(20),
+            Some(b"\x37\xcb\xf3\x21\x00\x17\xa2\xd3"),
+            Some(b""),
+        ),
+    ),
+];
+
 #[test]
 fn values_read(rt: HostRuntime) -> Result<(), Fail> {
-    let empty = b"".as_slice();
-    assert_eq!(rt; said(b""), Some((None, None, None)));
-    assert_eq!(rt; said(b"\x09\x14"), Some((Some(20), None, Some(empty))));
-    assert_eq!(rt; said(b"\x09\x00"), Some((Some(0), None, Some(empty))));
-    assert_eq!(rt; said(b"\x01\x14"), Some((Some(20), None, None)));
-    assert_eq!(rt; said(b"\x01\x00"), Some((Some(0), None, None)));
-    assert_eq!(rt; said(b"\x08"), Some((None, None, Some(empty))));
-    let greatest = Some(1_099_511_627_775);
-    assert_eq!(rt;
-        said(b"\x0d\xff\xff\xff\xff\xff\x07"),
-        Some((greatest, None, Some(b"\x07".as_slice())))
-    );
-    let context = b"\x37\xcb\xf3\x21\x00\x17\xa2\xd3".as_slice();
-    assert_eq!(rt;
-        said(b"\x19\x14\x08\x37\xcb\xf3\x21\x00\x17\xa2\xd3"),
-        Some((Some(20), Some(context), Some(empty)))
-    );
+    for (value, meant) in VALUES {
+        assert_eq!(rt; said(value), Some(meant));
+    }
     Ok(())
 }
 
 /// A flag byte of zero, a reserved bit, 6 bytes of Partial IV, a leading zero byte, a kid context and a Partial IV that run
 /// past the end, a byte left over.
+const MALFORMED: [&[u8]; 7] = [
+    b"\x00",
+    b"\x29\x14",
+    b"\x0e\x01\x02\x03\x04\x05\x06",
+    b"\x0a\x00\x14",
+    b"\x19\x14\x05\xaa\xbb",
+    b"\x0e",
+    b"\x01\x14\x01",
+];
+
 #[test]
 fn malformed_values(rt: HostRuntime) -> Result<(), Fail> {
-    assert_eq!(rt; said(b"\x00"), None);
-    assert_eq!(rt; said(b"\x29\x14"), None);
-    assert_eq!(rt; said(b"\x0e\x01\x02\x03\x04\x05\x06"), None);
-    assert_eq!(rt; said(b"\x0a\x00\x14"), None);
-    assert_eq!(rt; said(b"\x19\x14\x05\xaa\xbb"), None);
-    assert_eq!(rt; said(b"\x0e"), None);
-    assert_eq!(rt; said(b"\x01\x14\x01"), None);
+    for value in MALFORMED {
+        assert_eq!(rt; said(value), None);
+    }
     Ok(())
 }
