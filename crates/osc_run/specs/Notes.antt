@@ -1,12 +1,8 @@
 -- What is noted of the steps of a run.
+pub use Rattle.osc_run.specs.declared.noted.Actor.{Actor}
+pub use Rattle.osc_run.specs.declared.noted.Actor.TheVariants.{Server as ByServer, Client as ByClient, Proxy as ByProxy}
 use Rattle.std.specs.Prelude.{ℕ, Bool, false, List, [], ◌∷◌, ◌++◌, Option, option_to_list}
 use Rattle.osc_model.specs.StepNotes.{StepNotes}
-
--- whose step it was: the server's, or that of a client or of a proxy, by its number
-pub data Actor : Type 0 where
-  ByServer : Actor
-  ByClient : ℕ → Actor
-  ByProxy : ℕ → Actor
 
 -- A step as it is noted: whose it was, whether the holder of a client's context sealed what it liked, and what the step sealed,
 -- opened, served, learnt and drew.

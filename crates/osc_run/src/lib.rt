@@ -4,3 +4,6 @@
 
 pub mod kinds;
 pub mod laws;
+mod noted;
+
+pub use noted::{Actor, Noted};
