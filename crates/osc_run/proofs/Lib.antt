@@ -1,5 +1,6 @@
 -- Lemmas that the proofs cite.
 mod Lists
+mod NotedSteps
 mod LawsBelow
 mod Parts
 mod ReplyCodes

@@ -25,3 +25,8 @@ by_proxy number notes = record { actor = ByProxy number; lied = false; notes = n
 abbrev pub collected : {A : Type 0} → (Noted → Option A) → List Noted → List A
 collected part [] = []
 collected part (step ∷ earlier) = collected part earlier ++ option_to_list (part step)
+
+-- What is kept of a run: the notes, the newest first, and for how many steps more there is room already.
+pub record Kept : Type 0 where
+  pub steps : List Noted
+  pub room : ℕ

@@ -5,5 +5,9 @@
 pub mod kinds;
 pub mod laws;
 mod noted;
+mod notes;
+mod readers;
 
 pub use noted::{Actor, Noted};
+pub use notes::Notes;
+pub use readers::{Acceptance, Question};

@@ -1,0 +1,10 @@
+use Rattle.osc_run.specs.History.{acceptance_in}
+use Rattle.osc_run.specs.Notes.{Noted}
+use Rattle.osc_run.proofs.NotedSteps.{read_more}
+use Rattle.osc_run.proofs.readers.accepted.Goals as goal
+
+pub loop-step-preserved : goal.loop-step-preserved
+loop-step-preserved c =
+    read_more (λ (step : Noted). acceptance_in step.actor step.notes.result step.notes.opens)
+    c.args.steps.now c.loop-step.step-index c.step-item.result c.loop-step-test.true c.step-item.is c.loop-step.all.items c.push_some.new.list.items
+    c.acceptance_of.result c.loop-step.invariant c.acceptance_of.ensures c.in_ok-push_some.ensures
