@@ -97,17 +97,52 @@ const ROWS: [(&[u8], Is, Is); 30] = [
     (b"", Is::Ignored, Is::Ignored),
 ];
 
-#[test]
-fn each_datagram_in_each_state(rt: HostRuntime) -> Result<(), Fail> {
-    let fresh = Endpoint::new(rt.alloc())?;
-    let mut noted = Endpoint::new(rt.alloc())?;
-    settle(&mut noted, 0, PEER, b"\x40\x01\x00\x07", None);
-    for (datagram, new, repeated) in ROWS {
-        assert_eq!(rt; hear(&fresh, 0, PEER, datagram), (new, 7));
-        assert_eq!(rt; hear(&noted, 246_999, PEER, datagram), (repeated, 7));
-        assert_eq!(rt; hear(&noted, 247_000, PEER, datagram), (new, 7));
-        assert_eq!(rt; hear(&noted, 0, OTHER, datagram), (new, 7));
+/// Whether each datagram of the rows is to the endpoint what it is where nothing was heard.
+fn all_are_new(endpoint: &Endpoint, at: u32, from: Peer) -> bool {
+    let mut same = true;
+    for (datagram, new, _) in ROWS {
+        same = hear(endpoint, at, from, datagram) == (new, 7) && same;
     }
+    same
+}
+
+/// Whether each is what it is where a message of that ID was heard.
+fn all_are_repeated(endpoint: &Endpoint, at: u32, from: Peer) -> bool {
+    let mut same = true;
+    for (datagram, _, repeated) in ROWS {
+        same = hear(endpoint, at, from, datagram) == (repeated, 7) && same;
+    }
+    same
+}
+
+#[test]
+fn each_datagram_where_nothing_was_heard(rt: HostRuntime) -> Result<(), Fail> {
+    let endpoint = Endpoint::new(rt.alloc())?;
+    assert!(rt; all_are_new(&endpoint, 0, PEER));
+    Ok(())
+}
+
+/// What each is at a moment where a message of that ID was heard at 0: whether all are new, and whether all are repeated.
+fn where_one_was_heard(alloc: Global, at: u32, from: Peer) -> Result<(bool, bool), AllocError> {
+    let mut endpoint = Endpoint::new(alloc)?;
+    settle(&mut endpoint, 0, PEER, b"\x40\x01\x00\x07", None);
+    Ok((
+        all_are_new(&endpoint, at, from),
+        all_are_repeated(&endpoint, at, from),
+    ))
+}
+
+#[test]
+fn each_datagram_where_one_was_heard(rt: HostRuntime) -> Result<(), Fail> {
+    assert_eq!(rt;
+        where_one_was_heard(rt.alloc(), 246_999, PEER)?,
+        (false, true)
+    );
+    assert_eq!(rt;
+        where_one_was_heard(rt.alloc(), 247_000, PEER)?,
+        (true, false)
+    );
+    assert_eq!(rt; where_one_was_heard(rt.alloc(), 0, OTHER)?, (true, false));
     Ok(())
 }
 
@@ -120,17 +155,16 @@ fn heard_with(alloc: Global, endpoint: &Endpoint, payload: u16) -> Result<(usize
     Ok((datagram.len(), hear(endpoint, 0, PEER, &datagram).0))
 }
 
+/// The same at a fresh endpoint.
+fn heard_at(alloc: Global, payload: u16) -> Result<(usize, Is), AllocError> {
+    let endpoint = Endpoint::new(alloc)?;
+    heard_with(alloc, &endpoint, payload)
+}
+
 #[test]
 fn a_datagram_has_at_most_1152_bytes(rt: HostRuntime) -> Result<(), Fail> {
-    let endpoint = Endpoint::new(rt.alloc())?;
-    assert_eq!(rt;
-        heard_with(rt.alloc(), &endpoint, 1147)?,
-        (1152, Is::Message)
-    );
-    assert_eq!(rt;
-        heard_with(rt.alloc(), &endpoint, 1148)?,
-        (1153, Is::Ignored)
-    );
+    assert_eq!(rt; heard_at(rt.alloc(), 1147)?, (1152, Is::Message));
+    assert_eq!(rt; heard_at(rt.alloc(), 1148)?, (1153, Is::Ignored));
     Ok(())
 }
 
@@ -167,20 +201,27 @@ fn noted_bytes(endpoint: &Endpoint, at: u32, from: Peer) -> Option<usize> {
     )
 }
 
+/// A non-confirmable message of ID 7 is answered.
+fn answer(alloc: Global, endpoint: &mut Endpoint) -> Result<(), AllocError> {
+    let now = Moment { ms: 0 };
+    let reply = Bytes::from_slice(alloc, b"reply")?;
+    let heard = endpoint.on_datagram(now, PEER, b"\x50\x01\x00\x07");
+    endpoint.settle(now, PEER, &heard, Handling::Answered(Some(reply)));
+    Ok(())
+}
+
+/// How many bytes are noted of it at that moment.
+fn noted_after(alloc: Global, at: u32, from: Peer) -> Result<Option<usize>, AllocError> {
+    let mut endpoint = Endpoint::new(alloc)?;
+    answer(alloc, &mut endpoint)?;
+    Ok(noted_bytes(&endpoint, at, from))
+}
+
 #[test]
 fn what_answered_is_noted(rt: HostRuntime) -> Result<(), Fail> {
-    let mut endpoint = Endpoint::new(rt.alloc())?;
-    let reply = Bytes::from_slice(rt.alloc(), b"reply")?;
-    let heard = endpoint.on_datagram(Moment { ms: 0 }, PEER, b"\x50\x01\x00\x07");
-    endpoint.settle(
-        Moment { ms: 0 },
-        PEER,
-        &heard,
-        Handling::Answered(Some(reply)),
-    );
-    assert_eq!(rt; noted_bytes(&endpoint, 144_999, PEER), Some(5));
-    assert_eq!(rt; noted_bytes(&endpoint, 145_000, PEER), None);
-    assert_eq!(rt; noted_bytes(&endpoint, 0, OTHER), None);
+    assert_eq!(rt; noted_after(rt.alloc(), 144_999, PEER)?, Some(5));
+    assert_eq!(rt; noted_after(rt.alloc(), 145_000, PEER)?, None);
+    assert_eq!(rt; noted_after(rt.alloc(), 0, OTHER)?, None);
     Ok(())
 }
 
@@ -265,14 +306,19 @@ fn runs(endpoint: &mut Endpoint, alloc: Global, run: Run) -> Result<bool, AllocE
     Ok(same)
 }
 
+/// The same of messages that were all sent at 0, with this draw.
+fn is_run(alloc: Global, byte: u8, waiting: u16, run: Run) -> Result<bool, AllocError> {
+    let mut endpoint = Endpoint::new(alloc)?;
+    for id in 0..waiting.saturating_add(1) {
+        send(&mut endpoint, alloc, PEER, id, &Draw([byte; 32]))?;
+    }
+    runs(&mut endpoint, alloc, run)
+}
+
 #[test]
 fn what_ticks_do(rt: HostRuntime) -> Result<(), Fail> {
     for (byte, waiting, run) in RUNS {
-        let mut endpoint = Endpoint::new(rt.alloc())?;
-        for id in 0..waiting.saturating_add(1) {
-            send(&mut endpoint, rt.alloc(), PEER, id, &Draw([byte; 32]))?;
-        }
-        assert!(rt; runs(&mut endpoint, rt.alloc(), run)?);
+        assert!(rt; is_run(rt.alloc(), byte, waiting, run)?);
     }
     Ok(())
 }
@@ -439,21 +485,31 @@ fn rejected_and_acknowledged(rt: HostRuntime) -> Result<(), Fail> {
     Ok(())
 }
 
-#[test]
-fn all_is_forgotten(rt: HostRuntime) -> Result<(), Fail> {
+/// Has heard a message, sent one and taken an ID of its own, and forgets all.
+fn forgets(alloc: Global, endpoint: &mut Endpoint) -> Result<(), AllocError> {
     let draw = Draw([0; 32]);
-    let mut endpoint = Endpoint::new(rt.alloc())?;
-    settle(&mut endpoint, 0, PEER, b"\x40\x01\x00\x07", None);
-    send(&mut endpoint, rt.alloc(), PEER, 7, &draw)?;
+    settle(endpoint, 0, PEER, b"\x40\x01\x00\x07", None);
+    send(endpoint, alloc, PEER, 7, &draw)?;
     let _id = endpoint.take_id(&draw);
     endpoint.clear();
-    assert_eq!(rt;
-        hear(&endpoint, 0, PEER, b"\x40\x01\x00\x07"),
-        (Is::Message, 7)
-    );
-    assert_eq!(rt; endpoint.open_messages(), 0);
-    assert_eq!(rt; endpoint.own_id(&Draw([1; 32])), 257);
-    assert_eq!(rt; send(&mut endpoint, rt.alloc(), PEER, 7, &draw)?, 1);
+    Ok(())
+}
+
+/// What the message is to it then, how many are open, the ID that it would take, and whether it sends at once.
+fn after_all_is_forgotten(alloc: Global) -> Result<((Is, u16), usize, u16, u8), AllocError> {
+    let mut endpoint = Endpoint::new(alloc)?;
+    forgets(alloc, &mut endpoint)?;
+    let heard = hear(&endpoint, 0, PEER, b"\x40\x01\x00\x07");
+    let (open, id) = (endpoint.open_messages(), endpoint.own_id(&Draw([1; 32])));
+    let sent = send(&mut endpoint, alloc, PEER, 7, &Draw([0; 32]))?;
+    Ok((heard, open, id, sent))
+}
+
+#[test]
+fn all_is_forgotten(rt: HostRuntime) -> Result<(), Fail> {
+    let (heard, open, id, sent) = after_all_is_forgotten(rt.alloc())?;
+    assert_eq!(rt; heard, (Is::Message, 7));
+    assert_eq!(rt; (open, id, sent), (0, 257, 1));
     Ok(())
 }
 
