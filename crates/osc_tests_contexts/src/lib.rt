@@ -7,4 +7,6 @@ mod context;
 #[cfg(test)]
 mod protect;
 #[cfg(test)]
+mod value;
+#[cfg(test)]
 mod window;

@@ -15,7 +15,9 @@ const SCOPE: &[u8] = b"\x81\x82\x64/log\x03";
 
 /// The secret of the token of this id.
 fn secret_of(id: u8) -> [u8; 16] {
-    u128::from(id).to_be_bytes()
+    let mut secret = [0; 16];
+    secret[15] = id;
+    secret
 }
 
 /// The IV of the token of this id.
