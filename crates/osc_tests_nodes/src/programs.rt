@@ -310,25 +310,30 @@ fn drawn_ivs_differ(rt: HostRuntime) -> Result<(), Fail> {
 }
 
 // The words of a token under no IV that is asked for.
-fn words_without_iv(alloc: Global) -> Option<TokenWords> {
-    let words = [
-        "osc",
-        "token",
-        "--key",
-        "404142434445464748494a4b4c4d4e4f",
-        "--aud",
-        "s",
-        "--id",
-        "01",
-        "--secret",
-        "01",
-        "--scope",
-        "/log:GET",
-    ];
-    match read_words(alloc, &words) {
-        Ok(Words::Token(words)) => Some(words),
+const WITHOUT_IV: [&str; 12] = [
+    "osc",
+    "token",
+    "--key",
+    "404142434445464748494a4b4c4d4e4f",
+    "--aud",
+    "s",
+    "--id",
+    "01",
+    "--secret",
+    "01",
+    "--scope",
+    "/log:GET",
+];
+
+fn of_a_token(words: Words) -> Option<TokenWords> {
+    match words {
+        Words::Token(words) => Some(words),
         _ => None,
     }
+}
+
+fn words_without_iv(alloc: Global) -> Option<TokenWords> {
+    of_a_token(read_words(alloc, &WITHOUT_IV).ok()?)
 }
 
 #[test]
