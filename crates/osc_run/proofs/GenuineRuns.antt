@@ -196,25 +196,25 @@ right_of_client laws v i lied old new notes at (Answered honest p) genuine own k
 -- ---- runs
 
 -- the premise of a run holds of its beginning
-earlier_premise : (v : WorldState) (server : ServerState) (clients : List ClientState) (s : Noted) → Premise (record v { server = server; clients = clients; notes = s ∷ v.notes }) → Premise v
-earlier_premise v server clients s p = record { genuine = p.genuine.1; fresh = p.fresh.1; separate = p.separate }
+earlier_premise : (v : WorldState) (s : Noted) → Premise v.minted (s ∷ v.notes) → Premise v.minted v.notes
+earlier_premise v s p = record { genuine = p.genuine.1; fresh = p.fresh.1; separate = p.separate }
 
-right_step : Laws → (v w : WorldState) → WorldStep v w → Premise w → (Premise v → Kept v × Right v) → Right w
+right_step : Laws → (v w : WorldState) → WorldStep v w → Premise w.minted w.notes → (Premise v.minted v.notes → Kept v × Right v) → Right w
 right_step laws v w (OfServer now server notes p is) premise k =
-    let q = subst Premise is premise in
-    let h = k (earlier_premise v server v.clients (by_server notes) q) in
+    let q = subst (λ (u : WorldState). Premise u.minted u.notes) is premise in
+    let h = k (earlier_premise v (by_server notes) q) in
     subst Right (sym is) (right_of_server laws v now server notes p q.genuine q.separate h.0 h.1)
 right_step laws v w (OfClient i lied old new notes at p is) premise k =
-    let q = subst Premise is premise in
-    let h = k (earlier_premise v v.server (slice_set v.clients i new) (by_client i lied notes) q) in
+    let q = subst (λ (u : WorldState). Premise u.minted u.notes) is premise in
+    let h = k (earlier_premise v (by_client i lied notes) q) in
     subst Right (sym is) (right_of_client laws v i lied old new notes at p q.genuine q.separate h.0 h.1)
 right_step laws v w (OfProxy i notes p is) premise k =
-    let q = subst Premise is premise in
-    let h = k (earlier_premise v v.server v.clients (by_proxy i notes) q) in
+    let q = subst (λ (u : WorldState). Premise u.minted u.notes) is premise in
+    let h = k (earlier_premise v (by_proxy i notes) q) in
     subst Right (sym is) (same_history v (by_proxy i notes) v.server v.clients (ap (λ (r : StepNotes). r.served) p.noted) refl h.1.granted refl h.1)
 right_step laws v w (Skipped i old new at p is) premise k =
-    let q = subst Premise is premise in
-    let h = k (record { genuine = q.genuine; fresh = q.fresh; separate = q.separate }) in
+    let q = subst (λ (u : WorldState). Premise u.minted u.notes) is premise in
+    let h = k q in
     let r = h.1 in
     subst Right (sym is) (record { texts = r.texts; granted = r.granted; legal = r.legal; effects = r.effects; asked = r.asked; answered = r.answered })
 
@@ -228,12 +228,12 @@ right_start w p = record {
   answered = λ a m. absurd (subst (λ (n : List Noted). In a (acceptances n)) p.notes m);
 }
 
-right_run : Laws → (w : WorldState) (earlier : List WorldState) → IsRun (w ∷ earlier) → Premise w → Right w
+right_run : Laws → (w : WorldState) (earlier : List WorldState) → IsRun (w ∷ earlier) → Premise w.minted w.notes → Right w
 right_run laws w [] p premise = right_start w p
 right_run laws w (v ∷ earlier) p premise = right_step laws v w p.0 premise (λ q. (kept_run laws v earlier p.1 q.fresh, right_run laws v earlier p.1 q))
 
 -- one history
-pub one_history_of : Laws → (w : WorldState) (earlier : List WorldState) → IsRun (w ∷ earlier) → Premise w → OneHistory w
+pub one_history_of : Laws → (w : WorldState) (earlier : List WorldState) → IsRun (w ∷ earlier) → Premise w.minted w.notes → OneHistory w
 one_history_of laws w earlier run premise =
     let k = right_run laws w earlier run premise in
     record {

@@ -5,7 +5,7 @@ use Rattle.osc_model.specs.declared.step.Note.{Note}
 use Rattle.osc_token.specs.Token.{token_name}
 use Rattle.osc_authz.specs.Members.{In}
 use Rattle.osc_run.specs.Notes.{Noted}
-use Rattle.osc_run.specs.States.{Minted, WorldState}
+use Rattle.osc_run.specs.States.{Minted}
 
 -- ---- genuine: what opens was sealed
 
@@ -58,8 +58,8 @@ abbrev pub HasOwnSecrets : List Minted → Type 0
 HasOwnSecrets [] = ⊤
 HasOwnSecrets (m ∷ others) = ((other : Minted) → In other others → other.grant.secret ≢ m.grant.secret) × HasOwnSecrets others
 
--- all three
-pub record Premise (w : WorldState) : Type 0 where
-  pub genuine : IsGenuine w.minted w.notes
-  pub fresh : HasFreshDraws w.notes
-  pub separate : HasOwnSecrets w.minted
+-- all three, of what was minted and of the notes of the steps
+pub record Premise (minted : List Minted) (notes : List Noted) : Type 0 where
+  pub genuine : IsGenuine minted notes
+  pub fresh : HasFreshDraws notes
+  pub separate : HasOwnSecrets minted

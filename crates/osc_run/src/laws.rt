@@ -26,7 +26,7 @@ use osc_window::laws::fresh_after;
 /// grants share a secret, there is one history: no two entries share context and number, each was asked by its client and is
 /// answered by its grant and the tree, their effects give the server's tree, and each accepted reply is that of its request.
 pub fn one_history()
-    ensures { (w : WorldState) → IsReached w → Premise w → OneHistory w }
+    ensures { (w : WorldState) → IsReached w → Premise w.minted w.notes → OneHistory w }
 {
     one_more_entry();
     never_out_of_memory();
@@ -65,7 +65,7 @@ pub fn runs_that_serve()
     ensures { (claims : AnyClaims) (entries : List Entry) (now : AnyMoment) (tree : Tree)
         → HasLawfulParts claims → IsScope claims.scope entries
         → HasBegun claims.not_before now → IsNotOver claims.expires now
-        → (w : WorldState) × IsReached w × Premise w × (w.first ≡ tree)
+        → (w : WorldState) × IsReached w × Premise w.minted w.notes × (w.first ≡ tree)
         × (length (history w.notes) ≡ 1) × (length (acceptances w.notes) ≡ 1) }
 {
     a_written_reply();
