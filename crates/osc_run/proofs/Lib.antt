@@ -1,6 +1,8 @@
 -- Lemmas that the proofs cite.
 mod Lists
+mod Members
 mod NotedSteps
+mod NotedPremise
 mod LawsBelow
 mod Parts
 mod ReplyCodes
@@ -11,7 +13,7 @@ mod FreshRuns
 mod Grants
 mod Replied
 mod GenuineRuns
-mod Minted
+mod MintedTexts
 mod OneRound
 mod ServerDoes
 mod ClientDoes

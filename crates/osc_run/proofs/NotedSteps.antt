@@ -1,16 +1,14 @@
 -- Steps that are kept with the oldest first, and what is collected of them with the newest first.
 use Rattle.std.proofs.Common.{◌≡◌, ◌<◌, ℕ, ◌+◌, List, [], ◌∷◌, ◌++◌, length, get_or, take, reverse, map, Option, Some, None, option_map, option_to_list, refl, sym, ap, ◌∙◌}
-use Rattle.std.proofs.lemmas.List.{reverse-append, take_more, map-append}
+use Rattle.std.proofs.lemmas.List.{reverse-append, map-append}
 use Rattle.osc_run.specs.Notes.{Noted, collected}
+use Rattle.osc_run.proofs.Members.{next_first}
 
 -- ---- one step more
 
 -- with one more at the end
 pub newest : (steps : List Noted) (s : Noted) → reverse (steps ++ s ∷ []) ≡ s ∷ reverse steps
 newest steps s = reverse-append steps (s ∷ [])
-
-reverse_more : (steps : List Noted) (i : ℕ) (d : Noted) → i < length steps → reverse (take (i + 1) steps) ≡ get_or steps i d ∷ reverse (take i steps)
-reverse_more steps i d lt = ap reverse (take_more steps i d lt) ∙ reverse-append (take i steps) (get_or steps i d ∷ [])
 
 -- ---- what is collected of one step more
 
@@ -21,8 +19,8 @@ pub read_more : {A : Type 0} (part : Noted → Option A) (steps : List Noted) (i
 read_more {A} part steps i s lt is before after more h e grown =
     grown
     ∙ ap (λ (l : List A). l ++ option_to_list more) h
-    ∙ ap (λ (o : Option A). collected part (reverse (take i steps)) ++ option_to_list o) (e ∙ ap part is)
-    ∙ sym (ap (collected part) (reverse_more steps i s lt))
+    ∙ ap (λ (o : Option A). collected part (reverse (take i steps)) ++ option_to_list o) e
+    ∙ sym (ap (collected part) (next_first steps i s lt is))
 
 -- of values that are lent
 pub read_more_lent : {A B : Type 0} (see : B → A) (part : Noted → Option A) (steps : List Noted) (i : ℕ) (s : Noted) → i < length steps → s ≡ get_or steps i s

@@ -4,10 +4,13 @@
 
 pub mod kinds;
 pub mod laws;
+mod minted;
 mod noted;
 mod notes;
+mod premise;
 mod readers;
 
+pub use minted::{Grant, Minted};
 pub use noted::{Actor, Noted};
 pub use notes::Notes;
 pub use readers::{Acceptance, Question};

@@ -1,9 +1,12 @@
 //! The notes of a run.
 
-ghost use Rattle.std.specs.Prelude.{◌≡◌, ◌<◌, ◌≤◌, ◌-◌, [], ◌∷◌, IfOk, IsOk, OnOk, OnErr, map};
+ghost use Rattle.std.specs.Prelude.{◌≡◌, ◌<◌, ◌≤◌, ◌-◌, ◌↔◌, [], ◌∷◌, IfOk, IsOk, IsTrue, OnOk, OnErr, map};
 ghost use Rattle.osc_run.specs.History.{history, questions, acceptances};
+ghost use Rattle.osc_run.specs.Premise.{Premise};
 
+use crate::minted::Minted;
 use crate::noted::Noted;
+use crate::premise::{are_fresh, have_own_secrets, is_genuine};
 use crate::readers::{Acceptance, Question, accepted, asked, served};
 use osc_model::Entry;
 use std::alloc::{AllocError, Global};
@@ -75,5 +78,14 @@ impl Notes {
         ensures { IfOk result (λ all. all.items ≡ acceptances self.now.steps) }
     {
         accepted(alloc, &self.items)
+    }
+
+    /// Whether what is assumed of a run holds of these steps: whatever opened was sealed before by the other end of its context,
+    /// or minted, no drawn nonce came twice, and no two grants share a secret. Takes no memory; its time grows with the square of
+    /// the steps.
+    pub fn premise_holds(&self, minted: &[Minted]) -> bool
+        ensures { IsTrue result ↔ Premise minted.now self.now.steps }
+    {
+        is_genuine(minted, &self.items) && are_fresh(&self.items) && have_own_secrets(minted)
     }
 }

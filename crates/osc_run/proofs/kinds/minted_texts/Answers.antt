@@ -1,4 +1,4 @@
-use Rattle.osc_run.proofs.Minted.{minted_text}
+use Rattle.osc_run.proofs.MintedTexts.{minted_text}
 use Rattle.osc_run.proofs.kinds.minted_texts.Goals as goal
 
 pub returns : goal.returns

@@ -1,0 +1,24 @@
+use Rattle.std.proofs.Common.{◌≡◌, List, ℕ, refl, arith}
+use Rattle.osc_run.specs.States.{Minted}
+use Rattle.osc_run.proofs.Members.{has_at, none_more, none_of_all}
+use Rattle.osc_run.proofs.premise.is_secret_of_one.Goals as goal
+
+abbrev HasSecret : List ℕ → Minted → Type 0
+HasSecret secret m = m.grant.secret ≡ secret
+
+pub returns-then-has_secret : goal.returns-then-has_secret
+returns-then-has_secret c = (
+  (λ t. has_at (HasSecret c.args.secret.now) c.args.minted.now c.loop-m.m-index c.m-item.result c.loop-m-test.true c.m-item.is (c.if-has_secret.ensures.0 refl)),
+  (λ d. refl),
+)
+
+pub loop-m-preserved : goal.loop-m-preserved
+loop-m-preserved c =
+    none_more (HasSecret c.args.secret.now) c.args.minted.now c.loop-m.m-index c.m-item.result c.loop-m-test.true c.m-item.is c.loop-m.invariant
+    (λ d. absurd (cc (c.if-has_secret.ensures.1 d)))
+
+pub returns : goal.returns
+returns c = (
+  (λ t. absurd (cc)),
+  (λ d. absurd (none_of_all (HasSecret c.args.secret.now) c.args.minted.now c.loop-m.m-index (omega (arith, c.loop-m-test.false)) c.loop-m.invariant d)),
+)

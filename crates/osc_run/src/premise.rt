@@ -1,0 +1,203 @@
+//! Whether what is assumed of a run holds of its notes. Steps are lent with the oldest first. Each opening is looked for among the
+//! steps before its own, and each draw too; nothing is allocated.
+
+ghost use Rattle.std.specs.Prelude.{◌≡◌, ◌≢◌, ◌↔◌, [], ◌∷◌, IsTrue, List, ℕ, Some, reverse};
+ghost use Rattle.osc_model.specs.declared.step.Note.{Note as AnyNote};
+ghost use Rattle.osc_token.specs.Token.{token_name};
+ghost use Rattle.osc_authz.specs.Members.{In};
+ghost use Rattle.osc_run.specs.Premise.{IsVouched, IsMinted, IsOfToken, IsGenuineOpening, IsGenuine, IsDrawn, HasFreshDraws, HasOwnSecrets};
+ghost use Rattle.osc_run.specs.States.{Minted as MintedGrant};
+
+use crate::minted::Minted;
+use crate::noted::Noted;
+use osc_model::{Bytes, ContextName, Note, Side};
+
+// ---- genuine
+
+/// Whether what each step opened was sealed in an earlier one, or minted.
+pub(crate) fn is_genuine(minted: &[Minted], steps: &[Noted]) -> bool
+    ensures { IsTrue result ↔ IsGenuine minted.now (reverse steps.now) }
+{
+    for (i, step) in steps.iter().enumerate() {
+        if !opens_genuinely(minted, &steps[..i], step) {
+            return false;
+        }
+    }
+    true
+}
+
+/// Whether what the step opened, if it did, was sealed in an earlier one, or minted.
+fn opens_genuinely(minted: &[Minted], earlier: &[Noted], step: &Noted) -> bool
+    ensures { IsTrue result ↔ ((opening : AnyNote) → step.now.notes.opens ≡ Some opening
+        → IsGenuineOpening minted.now (reverse earlier.now) opening) }
+{
+    match step.notes().opens() {
+        Some(opening) => is_genuine_opening(minted, earlier, opening),
+        None => true,
+    }
+}
+
+/// Whether a token's text was minted, or a message's sealed in an earlier step.
+fn is_genuine_opening(minted: &[Minted], earlier: &[Noted], opening: &Note) -> bool
+    ensures { IsTrue result ↔ IsGenuineOpening minted.now (reverse earlier.now) opening.now }
+{
+    if is_of_token(opening) {
+        is_minted(minted, &opening.plaintext)
+    } else {
+        is_vouched(earlier, opening)
+    }
+}
+
+/// Whether a token was opened: by the server, under a name with a secret alone.
+fn is_of_token(opening: &Note) -> bool
+    ensures { IsTrue result ↔ IsOfToken opening.now }
+{
+    opening.side == Side::Server && has_a_secret_alone(&opening.context)
+}
+
+/// Whether a name has a secret and nothing else.
+fn has_a_secret_alone(name: &ContextName) -> bool
+    ensures { IsTrue result ↔ name.now ≡ token_name name.now.secret }
+{
+    name.salt.is_empty()
+        && name.id_context.is_none()
+        && name.client_id.is_empty()
+        && name.server_id.is_empty()
+}
+
+/// Whether the text was sealed into the token of a grant.
+fn is_minted(minted: &[Minted], text: &Bytes) -> bool
+    ensures { IsTrue result ↔ IsMinted minted.now text.now }
+{
+    for m in minted {
+        if has_text(m, text) {
+            return true;
+        }
+    }
+    false
+}
+
+/// Whether this text was sealed into the token of the grant.
+fn has_text(m: &Minted, text: &Bytes) -> bool
+    ensures { IsTrue result ↔ m.now.text ≡ text.now }
+{
+    m.text == *text
+}
+
+/// Whether an earlier step sealed, as the other end, what was opened.
+fn is_vouched(earlier: &[Noted], opening: &Note) -> bool
+    ensures { IsTrue result ↔ IsVouched (reverse earlier.now) opening.now }
+{
+    for step in earlier {
+        if vouches(step, opening) {
+            return true;
+        }
+    }
+    false
+}
+
+/// Whether this step sealed, as the other end, what was opened.
+fn vouches(step: &Noted, opening: &Note) -> bool
+    ensures { IsTrue result ↔ IsVouched (step.now ∷ []) opening.now }
+{
+    match step.notes().seals() {
+        Some(sealing) => is_opened_by(sealing, opening),
+        None => false,
+    }
+}
+
+/// Whether the one is of the other end than the other, and all else of them is equal but for the number.
+fn is_opened_by(sealing: &Note, opening: &Note) -> bool
+    ensures { IsTrue result ↔ ((sealing.now.context ≡ opening.now.context) × (sealing.now.side ≢ opening.now.side)
+        × (sealing.now.nonce ≡ opening.now.nonce) × (sealing.now.aad ≡ opening.now.aad)
+        × (sealing.now.plaintext ≡ opening.now.plaintext)) }
+{
+    sealing.side != opening.side
+        && sealing.nonce == opening.nonce
+        && sealing.context == opening.context
+        && sealing.aad == opening.aad
+        && sealing.plaintext == opening.plaintext
+}
+
+// ---- fresh
+
+/// Whether no step drew a nonce that an earlier one drew.
+pub(crate) fn are_fresh(steps: &[Noted]) -> bool
+    ensures { IsTrue result ↔ HasFreshDraws (reverse steps.now) }
+{
+    for (i, step) in steps.iter().enumerate() {
+        if repeats_a_draw(&steps[..i], step) {
+            return false;
+        }
+    }
+    true
+}
+
+/// Whether the step drew a nonce that an earlier one drew.
+fn repeats_a_draw(earlier: &[Noted], step: &Noted) -> bool
+    ensures { IsTrue result ↔ ((nonce : List ℕ) × (step.now.notes.drawn ≡ Some nonce) × IsDrawn (reverse earlier.now) nonce) }
+{
+    match step.notes().drawn() {
+        Some(nonce) => is_drawn(earlier, &nonce),
+        None => false,
+    }
+}
+
+/// Whether a step drew the nonce.
+fn is_drawn(steps: &[Noted], nonce: &[u8; 8]) -> bool
+    ensures { IsTrue result ↔ IsDrawn (reverse steps.now) nonce.now }
+{
+    for step in steps {
+        if draws(step, nonce) {
+            return true;
+        }
+    }
+    false
+}
+
+/// Whether this step drew the nonce.
+fn draws(step: &Noted, nonce: &[u8; 8]) -> bool
+    ensures { IsTrue result ↔ step.now.notes.drawn ≡ Some nonce.now }
+{
+    step.notes().drawn() == Some(*nonce)
+}
+
+// ---- separate
+
+/// Whether each grant has a secret of its own.
+pub(crate) fn have_own_secrets(minted: &[Minted]) -> bool
+    ensures { IsTrue result ↔ HasOwnSecrets minted.now }
+{
+    for (i, m) in minted.iter().enumerate() {
+        if is_secret_of_one(&minted[i + 1..], secret_of(m)) {
+            return false;
+        }
+    }
+    true
+}
+
+/// Whether a grant has the secret.
+fn is_secret_of_one(minted: &[Minted], secret: &Bytes) -> bool
+    ensures { IsTrue result ↔ ((m : MintedGrant) × In m minted.now × (m.grant.secret ≡ secret.now)) }
+{
+    for m in minted {
+        if has_secret(m, secret) {
+            return true;
+        }
+    }
+    false
+}
+
+/// Whether this is the secret of the grant.
+fn has_secret(m: &Minted, secret: &Bytes) -> bool
+    ensures { IsTrue result ↔ m.now.grant.secret ≡ secret.now }
+{
+    *secret_of(m) == *secret
+}
+
+/// The secret of a grant.
+fn secret_of(m: &Minted) -> &Bytes
+    ensures { result.now ≡ m.now.grant.secret }
+{
+    &m.grant.material.secret
+}
