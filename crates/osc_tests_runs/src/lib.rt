@@ -1,0 +1,10 @@
+//! Tests of the notes of runs, by what callers see. They stand apart, so that a test that changes has no crate below proved
+//! anew.
+#![tactic(auto)]
+
+#[cfg(test)]
+mod premise;
+#[cfg(test)]
+mod readers;
+#[cfg(test)]
+mod steps;
