@@ -26,18 +26,44 @@ fn answered(alloc: Global, until: u64) -> Result<Noted, AllocError> {
     })
 }
 
+/// Until when a message is noted at that moment, if it is.
+fn noted_until(table: &Duplicates, at: u32, peer: Peer, id: u16) -> Option<u64> {
+    let now = Moment { ms: u64::from(at) };
+    Some(table.look(now, peer, id)?.until)
+}
+
+/// Notes 65 messages of one peer.
+fn note_65(alloc: Global, table: &mut Duplicates) -> Result<(), AllocError> {
+    for id in 1..66u16 {
+        table.note(Moment { ms: 0 }, PEER, id, answered(alloc, 247_000)?);
+    }
+    Ok(())
+}
+
+/// Moments and messages, and whether each is noted then, after 65 of one peer.
+const AFTER_65: [(u32, Peer, u16, bool); 6] = [
+    (0, PEER, 1, false),
+    (0, PEER, 2, true),
+    (246_999, PEER, 65, true),
+    (247_000, PEER, 65, false),
+    (0, OTHER_ADDRESS, 65, false),
+    (0, OTHER_PORT, 65, false),
+];
+
+/// Whether each message of the rows is noted where it should be.
+fn are_noted(table: &Duplicates) -> bool {
+    let mut same = true;
+    for (at, peer, id, noted) in AFTER_65 {
+        same = noted_until(table, at, peer, id).is_some() == noted && same;
+    }
+    same
+}
+
 #[test]
 fn the_oldest_of_65_is_gone(rt: HostRuntime) -> Result<(), Fail> {
     let mut table = Duplicates::new(rt.alloc())?;
-    for id in 1..66u16 {
-        table.note(Moment { ms: 0 }, PEER, id, answered(rt.alloc(), 247_000)?);
-    }
-    assert!(rt; table.look(Moment { ms: 0 }, PEER, 1).is_none());
-    assert!(rt; table.look(Moment { ms: 0 }, PEER, 2).is_some());
-    assert!(rt; table.look(Moment { ms: 246_999 }, PEER, 65).is_some());
-    assert!(rt; table.look(Moment { ms: 247_000 }, PEER, 65).is_none());
-    assert!(rt; table.look(Moment { ms: 0 }, OTHER_ADDRESS, 65).is_none());
-    assert!(rt; table.look(Moment { ms: 0 }, OTHER_PORT, 65).is_none());
+    note_65(rt.alloc(), &mut table)?;
+    assert!(rt; are_noted(&table));
     Ok(())
 }
 
@@ -70,32 +96,47 @@ impl Plain {
     }
 }
 
+const PEERS: [Peer; 3] = [PEER, OTHER_ADDRESS, OTHER_PORT];
+
+/// Notes the message of a round in both, and forgets in some rounds what is over.
+fn note_in_both(
+    alloc: Global,
+    table: &mut Duplicates,
+    plain: &mut Plain,
+    round: u16,
+) -> Result<(), AllocError> {
+    let now = 3 * u64::from(round);
+    let peer = PEERS[(round % 3) as usize];
+    let id = (u32::from(round) * 7 % 50) as u16;
+    let until = now + u64::from(round) * 37 % 500;
+    table.note(Moment { ms: now }, peer, id, answered(alloc, until)?);
+    plain.note(now, peer, id, until)?;
+    if round % 29 == 0 {
+        table.expire(Moment { ms: now + 1 });
+        plain.expire(now + 1);
+    }
+    Ok(())
+}
+
+/// Whether both say the same of 50 messages of a peer.
+fn say_the_same(table: &Duplicates, plain: &Plain, at: u32, peer: Peer) -> bool {
+    let mut same = true;
+    for id in 0..50u16 {
+        same = noted_until(table, at, peer, id) == plain.look(u64::from(at), peer, id) && same;
+    }
+    same
+}
+
 #[test]
 fn the_table_is_a_plain_list(rt: HostRuntime) -> Result<(), Fail> {
     let mut table = Duplicates::new(rt.alloc())?;
     let mut plain = Plain {
         entries: Vec::new(rt.alloc()),
     };
-    let peers = [PEER, OTHER_ADDRESS, OTHER_PORT];
-    for round in 0..200u64 {
-        let now = 3 * round;
-        let peer = peers[(round % 3) as usize];
-        let id = (round * 7 % 50) as u16;
-        let until = now + round * 37 % 500;
-        table.note(Moment { ms: now }, peer, id, answered(rt.alloc(), until)?);
-        plain.note(now, peer, id, until)?;
-        if round % 29 == 0 {
-            table.expire(Moment { ms: now + 1 });
-            plain.expire(now + 1);
-        }
-        let other = peers[(round / 3 % 3) as usize];
-        for id in 0..50u16 {
-            let found = table.look(Moment { ms: now + 2 }, other, id);
-            assert_eq!(rt;
-                found.map(|noted| noted.until),
-                plain.look(now + 2, other, id)
-            );
-        }
+    for round in 0..200u16 {
+        note_in_both(rt.alloc(), &mut table, &mut plain, round)?;
+        let other = PEERS[(round / 3 % 3) as usize];
+        assert!(rt; say_the_same(&table, &plain, 3 * u32::from(round) + 2, other));
     }
     Ok(())
 }

@@ -176,16 +176,21 @@ const LIVES: [(&[u8], u32); 4] = [
     (b"\x70\x00\x00\x07", 0),
 ];
 
+/// What a confirmable message of that ID is at that moment, after this one was answered at 0.
+fn heard_after(alloc: Global, datagram: &[u8], at: u32) -> Result<(Is, u16), AllocError> {
+    let mut endpoint = Endpoint::new(alloc)?;
+    settle(&mut endpoint, 0, PEER, datagram, None);
+    Ok(hear(&endpoint, at, PEER, b"\x40\x01\x00\x07"))
+}
+
 #[test]
 fn what_is_noted_and_how_long(rt: HostRuntime) -> Result<(), Fail> {
     for (datagram, until) in LIVES {
-        let mut endpoint = Endpoint::new(rt.alloc())?;
-        settle(&mut endpoint, 0, PEER, datagram, None);
         let before = until.saturating_sub(1);
         let is = if until == 0 { Is::Message } else { Is::Repeat };
-        assert_eq!(rt; hear(&endpoint, before, PEER, b"\x40\x01\x00\x07"), (is, 7));
+        assert_eq!(rt; heard_after(rt.alloc(), datagram, before)?, (is, 7));
         assert_eq!(rt;
-            hear(&endpoint, until, PEER, b"\x40\x01\x00\x07"),
+            heard_after(rt.alloc(), datagram, until)?,
             (Is::Message, 7)
         );
     }
@@ -349,17 +354,20 @@ fn at_port(port: u16) -> Peer {
     }
 }
 
+/// Hands a message over to each of 65 peers; whether those to the first 64 go out and the last is refused.
+fn sends_to_64(endpoint: &mut Endpoint, alloc: Global) -> Result<bool, AllocError> {
+    let mut same = true;
+    for port in 0..65u16 {
+        let answer = if port < 64 { 1 } else { 16 };
+        same = send(endpoint, alloc, at_port(port), 7, &Draw([0; 32]))? == answer && same;
+    }
+    Ok(same)
+}
+
 #[test]
 fn sixty_four_peers_have_one_open(rt: HostRuntime) -> Result<(), Fail> {
     let mut endpoint = Endpoint::new(rt.alloc())?;
-    for port in 0..65u16 {
-        let to = at_port(port);
-        let answer = if port < 64 { 1 } else { 16 };
-        assert_eq!(rt;
-            send(&mut endpoint, rt.alloc(), to, 7, &Draw([0; 32]))?,
-            answer
-        );
-    }
+    assert!(rt; sends_to_64(&mut endpoint, rt.alloc())?);
     settle(&mut endpoint, 0, at_port(0), b"\x60\x00\x00\x07", None);
     assert_eq!(rt;
         send(&mut endpoint, rt.alloc(), OTHER, 7, &Draw([0; 32]))?,
@@ -418,39 +426,59 @@ const ENDS: [(Peer, &[u8], Option<u16>, usize); 9] = [
     (PEER, b"\x50\x45\x00\x07", None, 1),
 ];
 
+/// How many are open then.
+fn left_open(
+    alloc: Global,
+    from: Peer,
+    datagram: &[u8],
+    request: Option<u16>,
+) -> Result<usize, AllocError> {
+    let mut endpoint = Endpoint::new(alloc)?;
+    send(&mut endpoint, alloc, PEER, 7, &Draw([0; 32]))?;
+    settle(&mut endpoint, 0, from, datagram, request);
+    Ok(endpoint.open_messages())
+}
+
 #[test]
 fn what_ends_repeats(rt: HostRuntime) -> Result<(), Fail> {
     for (from, datagram, request, left) in ENDS {
-        let mut endpoint = Endpoint::new(rt.alloc())?;
-        send(&mut endpoint, rt.alloc(), PEER, 7, &Draw([0; 32]))?;
-        settle(&mut endpoint, 0, from, datagram, request);
-        assert_eq!(rt; endpoint.open_messages(), left);
+        assert_eq!(rt; left_open(rt.alloc(), from, datagram, request)?, left);
     }
     Ok(())
 }
 
+/// A draw whose message ID is 65535.
+const LAST_ID: Draw = Draw([0xff; 32]);
+
+/// A request of ID 7 and this kind.
+fn of_kind(kind: Kind) -> MessageBuilder {
+    MessageBuilder::start(kind, 1, 7, b"t")
+}
+
+/// Whether the reply to a request of this kind begins with these bytes.
+fn replies_by(endpoint: &Endpoint, kind: Kind, bytes: &[u8]) -> bool {
+    endpoint
+        .reply_start(&LAST_ID, &of_kind(kind).message(), 69)
+        .bytes()
+        == bytes
+}
+
+/// The ID that comes next once the reply to a request of this kind has taken its own.
+fn id_after_reply(endpoint: &mut Endpoint, kind: Kind) -> u16 {
+    endpoint.take_reply_id(&LAST_ID, &of_kind(kind).message());
+    endpoint.own_id(&LAST_ID)
+}
+
 #[test]
 fn own_message_ids(rt: HostRuntime) -> Result<(), Fail> {
-    let draw = Draw([0xff; 32]);
-    let request = MessageBuilder::start(Kind::Confirmable, 1, 7, b"t");
-    let unconfirmed = MessageBuilder::start(Kind::NonConfirmable, 1, 7, b"t");
     let mut endpoint = Endpoint::new(rt.alloc())?;
-    assert_eq!(rt; endpoint.take_id(&draw), 65535);
-    assert_eq!(rt; endpoint.own_id(&draw), 0);
-    assert!(rt;
-        endpoint.reply_start(&draw, &request.message(), 69).bytes()
-            == b"\x61\x45\x00\x07t".as_slice()
-    );
-    assert!(rt;
-        endpoint
-            .reply_start(&draw, &unconfirmed.message(), 69)
-            .bytes()
-            == b"\x51\x45\x00\x00t".as_slice()
-    );
-    endpoint.take_reply_id(&draw, &request.message());
-    assert_eq!(rt; endpoint.own_id(&draw), 0);
-    endpoint.take_reply_id(&draw, &unconfirmed.message());
-    assert_eq!(rt; endpoint.take_id(&Draw([0; 32])), 1);
+    let taken = endpoint.take_id(&LAST_ID);
+    let is_begun = replies_by(&endpoint, Kind::Confirmable, b"\x61\x45\x00\x07t")
+        && replies_by(&endpoint, Kind::NonConfirmable, b"\x51\x45\x00\x00t");
+    let next = id_after_reply(&mut endpoint, Kind::Confirmable);
+    let after = id_after_reply(&mut endpoint, Kind::NonConfirmable);
+    assert!(rt; is_begun);
+    assert_eq!(rt; (taken, next, after), (65535, 0, 1));
     Ok(())
 }
 

@@ -27,19 +27,32 @@ const ROWS: [(u16, &[u8; 3], u16, u16); 16] = [
     (60, b"---", 0, 4),
 ];
 
+/// Whether the table says so of a number.
+fn is_row(number: u16, marks: &[u8; 3], shortest: u16, longest: u16) -> bool {
+    match rule_of(number) {
+        Some(rule) => {
+            is_critical(number) == (marks[0] == b'C')
+                && is_unsafe(number) == (marks[1] == b'U')
+                && rule.repeats == (marks[2] == b'R')
+                && rule.shortest == shortest
+                && rule.longest == longest
+        }
+        None => false,
+    }
+}
+
 #[test]
 fn the_table(rt: HostRuntime) -> Result<(), Fail> {
     for (number, marks, shortest, longest) in ROWS {
-        let rule = rule_of(number).ok_or("a row")?;
-        assert_eq!(rt; is_critical(number), marks[0] == b'C');
-        assert_eq!(rt; is_unsafe(number), marks[1] == b'U');
-        assert_eq!(rt; rule.repeats, marks[2] == b'R');
-        assert_eq!(rt; rule.shortest, shortest);
-        assert_eq!(rt; rule.longest, longest);
+        assert!(rt; is_row(number, marks, shortest, longest), "{number}");
     }
-    assert_eq!(rt; class_of(numbers::URI_HOST), Class::U);
-    assert_eq!(rt; class_of(numbers::URI_PATH), Class::E);
-    assert_eq!(rt; class_of(65000), Class::E);
+    for (number, class) in [
+        (numbers::URI_HOST, Class::U),
+        (numbers::URI_PATH, Class::E),
+        (65000, Class::E),
+    ] {
+        assert_eq!(rt; class_of(number), class);
+    }
     Ok(())
 }
 
@@ -65,35 +78,55 @@ fn what_is_not_recognised(rt: HostRuntime) -> Result<(), Fail> {
     Ok(())
 }
 
+/// Whether the request has this path, or none.
+fn has_path(request: &Request, text: Option<&[u8]>) -> bool {
+    match (&request.path, text) {
+        (Some(path), Some(text)) => path.text() == text,
+        (None, None) => true,
+        _ => false,
+    }
+}
+
+/// A PUT with Uri-Path "a" and "b", Content-Format 42, Accept 0, an If-Match, If-None-Match and the payload "hi".
+const WHOLE: &[u8] = b"\x40\x03\x00\x01\x11e\x40\x61a\x01b\x12\x00\x2a\x01\x05\x50\xffhi";
+
+/// Whether it is what those bytes say.
+fn is_whole(request: &Request) -> bool {
+    request.code == Code(3)
+        && has_path(request, Some(b"/a/b"))
+        && request.format == Some(42)
+        && request.accept == Some(0)
+        && request.if_match.as_slice().len() == 1
+        && request.if_none_match
+        && request.payload.as_slice() == b"hi".as_slice()
+}
+
 #[test]
 fn a_request(rt: HostRuntime) -> Result<(), Fail> {
-    let datagram = b"\x40\x03\x00\x01\x11e\x40\x61a\x01b\x12\x00\x2a\x01\x05\x50\xffhi";
-    let message = MessageRef::parse(datagram)?;
-    assert!(rt; has_option(&message, numbers::ACCEPT));
-    assert!(rt; !has_option(&message, numbers::OSCORE));
+    let message = MessageRef::parse(WHOLE)?;
+    let options = (
+        has_option(&message, numbers::ACCEPT),
+        has_option(&message, numbers::OSCORE),
+    );
+    assert_eq!(rt; options, (true, false));
     let request = request_of_message(rt.alloc(), &message)?;
-    assert_eq!(rt; request.code, Code(3));
-    assert_eq!(rt; request.path.ok_or("a path")?.text(), b"/a/b".as_slice());
-    assert_eq!(rt; request.format, Some(42));
-    assert_eq!(rt; request.accept, Some(0));
-    assert_eq!(rt; request.if_match.as_slice().len(), 1);
-    assert!(rt; request.if_none_match);
-    assert_eq!(rt; request.payload.as_slice(), b"hi".as_slice());
+    assert!(rt; is_whole(&request));
     Ok(())
+}
+
+/// Whether the datagram is a request with this path, or none.
+fn asks_for(alloc: Global, datagram: &[u8], text: Option<&[u8]>) -> Result<bool, Fail> {
+    let message = MessageRef::parse(datagram)?;
+    let request = request_of_message(alloc, &message)?;
+    Ok(has_path(&request, text))
 }
 
 #[test]
 fn at_most_eight_segments(rt: HostRuntime) -> Result<(), Fail> {
     let eight = b"\x40\x01\x00\x01\xb1a\x01b\x01c\x01d\x01e\x01f\x01g\x01h";
-    let message = MessageRef::parse(eight)?;
-    let request = request_of_message(rt.alloc(), &message)?;
-    assert_eq!(rt;
-        request.path.ok_or("a path")?.text(),
-        b"/a/b/c/d/e/f/g/h".as_slice()
-    );
+    assert!(rt; asks_for(rt.alloc(), eight, Some(b"/a/b/c/d/e/f/g/h"))?);
     let nine = b"\x40\x01\x00\x01\xb1a\x01b\x01c\x01d\x01e\x01f\x01g\x01h\x01i";
-    let message = MessageRef::parse(nine)?;
-    assert!(rt; request_of_message(rt.alloc(), &message)?.path.is_none());
+    assert!(rt; asks_for(rt.alloc(), nine, None)?);
     Ok(())
 }
 
@@ -156,12 +189,16 @@ fn written(request: &Request) -> Option<MessageBuilder>
     request_message(Kind::Confirmable, 0x1234, b"t", request).ok()
 }
 
+/// Whether the message is read as that request again.
+fn is_read_again(alloc: Global, message: &MessageRef<'_>) -> Result<bool, AllocError> {
+    Ok(request_of_message(alloc, message)? == a_put(alloc)?)
+}
+
 #[test]
 fn a_written_request(rt: HostRuntime) -> Result<(), Fail> {
     let message = written(&a_put(rt.alloc())?).ok_or("room")?;
     assert_eq!(rt; message.bytes(), PUT);
-    let request = request_of_message(rt.alloc(), &message.message())?;
-    assert!(rt; request == a_put(rt.alloc())?);
+    assert!(rt; is_read_again(rt.alloc(), &message.message())?);
     Ok(())
 }
 
@@ -204,29 +241,40 @@ const PROTECTED: [u8; 35] = [
 ];
 
 #[test]
-fn a_protected_request(rt: HostRuntime) -> Result<(), Fail> {
+fn the_parts_of_a_request(rt: HostRuntime) -> Result<(), Fail> {
     let request = MessageRef::parse(&REQUEST)?;
     let mut parts = split(&request);
-    assert_eq!(rt; parts.outer.next(), Some((3, b"localhost".as_slice())));
-    assert_eq!(rt; parts.outer.next(), None);
-    assert_eq!(rt; parts.inner.next(), Some((11, b"tv1".as_slice())));
-    assert_eq!(rt; parts.inner.next(), None);
+    let outer = (parts.outer.next(), parts.outer.next());
+    assert_eq!(rt; outer, (Some((3, b"localhost".as_slice())), None));
+    let inner = (parts.inner.next(), parts.inner.next());
+    assert_eq!(rt; inner, (Some((11, b"tv1".as_slice())), None));
+    Ok(())
+}
 
+/// The plaintext of the request.
+const PLAINTEXT: &[u8] = b"\x01\xb3tv1";
+
+/// The request with an OSCORE option and a ciphertext in place of its inner part.
+fn protected(request: &MessageRef<'_>) -> Option<MessageBuilder> {
+    protected_message(request, 2, b"\x09\x14", &PROTECTED[22..]).ok()
+}
+
+#[test]
+fn a_protected_request(rt: HostRuntime) -> Result<(), Fail> {
+    let request = MessageRef::parse(&REQUEST)?;
     let plaintext = plaintext_of(&request).ok().ok_or("room")?;
-    assert_eq!(rt; plaintext.bytes(), b"\x01\xb3tv1".as_slice());
-    let outer = protected_message(&request, 2, b"\x09\x14", &PROTECTED[22..])
-        .ok()
-        .ok_or("room")?;
+    assert_eq!(rt; plaintext.bytes(), PLAINTEXT);
+    let outer = protected(&request).ok_or("room")?;
     assert_eq!(rt; outer.bytes(), PROTECTED.as_slice());
-    assert_eq!(rt;
-        value_of(&outer.message(), numbers::OSCORE),
-        Some(b"\x09\x14".as_slice())
-    );
+    Ok(())
+}
 
-    let inner = PlaintextRef::parse(plaintext.bytes()).ok_or("a plaintext")?;
-    let again = unprotected_message(&outer.message(), &inner)
-        .ok()
-        .ok_or("room")?;
+#[test]
+fn an_unprotected_request(rt: HostRuntime) -> Result<(), Fail> {
+    let outer = MessageRef::parse(&PROTECTED)?;
+    assert_eq!(rt; value_of(&outer, numbers::OSCORE), Some(b"\x09\x14".as_slice()));
+    let inner = PlaintextRef::parse(PLAINTEXT).ok_or("a plaintext")?;
+    let again = unprotected_message(&outer, &inner).ok().ok_or("room")?;
     assert_eq!(rt; again.bytes(), REQUEST.as_slice());
     Ok(())
 }
@@ -252,29 +300,34 @@ fn merged(rt: HostRuntime) -> Result<(), Fail> {
     Ok(())
 }
 
+/// Plaintexts of requests, and the error of each, if there is one.
+const REQUESTS: [(&[u8], Option<PlaintextError>); 10] = [
+    (PLAINTEXT, None),
+    (b"", Some(PlaintextError::Format)),
+    (b"\x00", Some(PlaintextError::Format)),
+    (b"\x45", Some(PlaintextError::Format)),
+    (b"\x01\xff", Some(PlaintextError::Format)),
+    (b"\x20", Some(PlaintextError::Format)),
+    // Uri-Host, which has to stay outside, also where it is too short.
+    (b"\x01\x31s", Some(PlaintextError::BadOption(3))),
+    (b"\x01\x30", Some(PlaintextError::BadOption(3))),
+    // A critical option that nobody knows, and an elective one.
+    (b"\x01\xd0\x00", Some(PlaintextError::BadOption(13))),
+    (b"\x01\xd0\x35", None),
+];
+
+/// Whether the plaintext is that of a GET of "/tv1".
+fn is_a_get(alloc: Global, plaintext: &[u8]) -> bool {
+    match request_of(alloc, plaintext) {
+        Ok(request) => request.code == Code(1) && has_path(&request, Some(b"/tv1")),
+        Err(_) => false,
+    }
+}
+
 #[test]
 fn an_encrypted_request(rt: HostRuntime) -> Result<(), Fail> {
-    let request = request_of(rt.alloc(), b"\x01\xb3tv1")
-        .ok()
-        .ok_or("a request")?;
-    assert_eq!(rt; request.code, Code(1));
-    assert_eq!(rt; request.path.ok_or("a path")?.text(), b"/tv1".as_slice());
-
-    let format = Some(PlaintextError::Format);
-    let refused: [(&[u8], Option<PlaintextError>); 9] = [
-        (b"", format),
-        (b"\x00", format),
-        (b"\x45", format),
-        (b"\x01\xff", format),
-        (b"\x20", format),
-        // Uri-Host, which has to stay outside, also where it is too short.
-        (b"\x01\x31s", Some(PlaintextError::BadOption(3))),
-        (b"\x01\x30", Some(PlaintextError::BadOption(3))),
-        // A critical option that nobody knows, and an elective one.
-        (b"\x01\xd0\x00", Some(PlaintextError::BadOption(13))),
-        (b"\x01\xd0\x35", None),
-    ];
-    for (plaintext, error) in refused {
+    assert!(rt; is_a_get(rt.alloc(), PLAINTEXT));
+    for (plaintext, error) in REQUESTS {
         assert_eq!(rt;
             request_of(rt.alloc(), plaintext).err(),
             error,
@@ -284,37 +337,58 @@ fn an_encrypted_request(rt: HostRuntime) -> Result<(), Fail> {
     Ok(())
 }
 
-#[test]
-fn an_encrypted_reply(rt: HostRuntime) -> Result<(), Fail> {
-    let reply = Reply {
+fn a_reply(alloc: Global) -> Result<Reply, AllocError> {
+    Ok(Reply {
         code: Code::CONTENT,
         etag: Some(*b"abcdefgh"),
         format: Some(42),
-        payload: Bytes::from_slice(rt.alloc(), b"hi")?,
-    };
-    let message = reply_message(Kind::Acknowledgement, 1, b"", &reply)
-        .ok()
-        .ok_or("room")?;
-    let plaintext = plaintext_of(&message.message()).ok().ok_or("room")?;
-    assert_eq!(rt;
-        plaintext.bytes(),
-        b"\x45\x48abcdefgh\x81\x2a\xffhi".as_slice()
-    );
-    assert_eq!(rt; reply_of(rt.alloc(), plaintext.bytes()), Ok(reply));
+        payload: Bytes::from_slice(alloc, b"hi")?,
+    })
+}
 
-    // An ETag of another length is left out.
-    let short = reply_of(rt.alloc(), b"\x45\x41a").ok().ok_or("a reply")?;
-    assert_eq!(rt; short.etag, None);
-    for plaintext in [b"\x01".as_slice(), b"\x3f", b"\xc0", b"\x45\xff"] {
-        assert_eq!(rt;
-            reply_of(rt.alloc(), plaintext).err(),
-            Some(PlaintextError::Format)
-        );
+/// The message of a reply, without a token.
+fn message_of(reply: &Reply) -> Option<MessageBuilder> {
+    reply_message(Kind::Acknowledgement, 1, b"", reply).ok()
+}
+
+/// The plaintext of that reply.
+const REPLY: &[u8] = b"\x45\x48abcdefgh\x81\x2a\xffhi";
+
+#[test]
+fn the_plaintext_of_a_reply(rt: HostRuntime) -> Result<(), Fail> {
+    let message = message_of(&a_reply(rt.alloc())?).ok_or("room")?;
+    let plaintext = plaintext_of(&message.message()).ok().ok_or("room")?;
+    assert_eq!(rt; plaintext.bytes(), REPLY);
+    Ok(())
+}
+
+/// Plaintexts that are no reply, and the error of each; one with an ETag of another length, which is left out, is a reply.
+const NO_REPLIES: [(&[u8], Option<PlaintextError>); 6] = [
+    (b"\x45\x41a", None),
+    (b"\x01", Some(PlaintextError::Format)),
+    (b"\x3f", Some(PlaintextError::Format)),
+    (b"\xc0", Some(PlaintextError::Format)),
+    (b"\x45\xff", Some(PlaintextError::Format)),
+    (b"\x45\xd0\x00", Some(PlaintextError::BadOption(13))),
+];
+
+/// The ETag of the reply that the plaintext is.
+fn etag_in(alloc: Global, plaintext: &[u8]) -> Option<[u8; 8]> {
+    reply_of(alloc, plaintext).ok()?.etag
+}
+
+/// Whether the plaintext is that of the reply.
+fn is_the_reply(alloc: Global, plaintext: &[u8]) -> Result<bool, AllocError> {
+    Ok(reply_of(alloc, plaintext) == Ok(a_reply(alloc)?))
+}
+
+#[test]
+fn an_encrypted_reply(rt: HostRuntime) -> Result<(), Fail> {
+    assert!(rt; is_the_reply(rt.alloc(), REPLY)?);
+    assert_eq!(rt; etag_in(rt.alloc(), b"\x45\x41a"), None);
+    for (plaintext, error) in NO_REPLIES {
+        assert_eq!(rt; reply_of(rt.alloc(), plaintext).err(), error);
     }
-    assert_eq!(rt;
-        reply_of(rt.alloc(), b"\x45\xd0\x00").err(),
-        Some(PlaintextError::BadOption(13))
-    );
     Ok(())
 }
 

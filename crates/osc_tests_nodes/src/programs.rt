@@ -254,19 +254,24 @@ const OPTIONS: [(&str, &str); 6] = [
 const TOKEN_LINE: &str =
     "8343a1010aa1054d00000000000000000000000001582f7a0ede2171a9ef9611e8b23afd723e7879cadfb887e3cb88901dd40461e9f30124cee04d4a5e85931d224b7ce6b4e2\n";
 
+// Adds the options but for this one.
+fn add_others(words: &mut Vec<&str>, option: &str) -> Result<(), AllocError> {
+    for (name, usual) in OPTIONS {
+        if name != option {
+            words.extend_from_slice(&[name, usual])?;
+        }
+    }
+    Ok(())
+}
+
 // `osc token` with these options, one of them with another value, or one more.
 fn token_command<'a>(
     alloc: Global,
     option: &'a str,
     value: &'a str,
 ) -> Result<Vec<&'a str>, AllocError> {
-    let mut words = vec![in alloc; "osc", "token", option, value]?;
-    for (name, usual) in OPTIONS {
-        if name != option {
-            words.push(name)?;
-            words.push(usual)?;
-        }
-    }
+    let mut words = Vec::from_slice(alloc, &["osc", "token", option, value])?;
+    add_others(&mut words, option)?;
     Ok(words)
 }
 

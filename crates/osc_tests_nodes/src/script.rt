@@ -1,39 +1,66 @@
 //! Lines of scripts, and what each says.
-use osc_model::Moment;
 use osc_script::{Line, Node, ScriptError, read_script};
 use std::test::Fail;
 
+const SCRIPT: &[u8] =
+    b"# a comment\n\nput /a/b 60 68+69*2\nput /c none -\nopen /a/b\nat 007\ninject x s fF+00*0";
+
+/// Whether the line puts this value at this path.
+fn puts(line: &Line, text: &[u8], format: Option<u16>, payload: &[u8]) -> bool {
+    match line {
+        Line::Put { path, resource } => {
+            path.text() == text
+                && resource.format == format
+                && resource.payload.as_slice() == payload
+        }
+        _ => false,
+    }
+}
+
+/// Whether the line opens this path.
+fn opens(line: &Line, text: &[u8]) -> bool {
+    match line {
+        Line::Open { path } => path.text() == text,
+        _ => false,
+    }
+}
+
+/// Whether the line is that moment.
+fn is_at(line: &Line, ms: u64) -> bool {
+    match line {
+        Line::At { moment } => moment.ms == ms,
+        _ => false,
+    }
+}
+
+/// Whether the line injects these bytes, from nowhere to the server.
+fn injects(line: &Line, datagram: &[u8]) -> bool {
+    match line {
+        Line::Inject { from, to, bytes } => {
+            *from == Node::Stranger && *to == Node::Server && bytes.as_slice() == datagram
+        }
+        _ => false,
+    }
+}
+
+/// Whether these are the lines of the script.
+fn are_said(lines: &[Line]) -> bool {
+    match lines {
+        [Line::Skipped, Line::Skipped, put, bare, open, at, inject] => {
+            puts(put, b"/a/b", Some(60), b"hii")
+                && puts(bare, b"/c", None, b"")
+                && opens(open, b"/a/b")
+                && is_at(at, 7)
+                && injects(inject, b"\xff")
+        }
+        _ => false,
+    }
+}
+
 #[test]
 fn each_kind_of_line(rt: HostRuntime) -> Result<(), Fail> {
-    let text =
-        b"# a comment\n\nput /a/b 60 68+69*2\nput /c none -\nopen /a/b\nat 007\ninject x s fF+00*0";
-    let script = read_script(rt.alloc(), text).ok().ok_or("a script")?;
-    let [
-        Line::Skipped,
-        Line::Skipped,
-        Line::Put { path, resource },
-        Line::Put {
-            path: bare,
-            resource: nothing,
-        },
-        Line::Open { path: open },
-        Line::At { moment },
-        Line::Inject { from, to, bytes },
-    ] = script.lines()
-    else {
-        return Err("the lines".into());
-    };
-    assert_eq!(rt; path.text(), b"/a/b".as_slice());
-    assert_eq!(rt; resource.format, Some(60));
-    assert_eq!(rt; resource.payload.as_slice(), b"hii".as_slice());
-    assert_eq!(rt; bare.text(), b"/c".as_slice());
-    assert_eq!(rt; nothing.format, None);
-    assert!(rt; nothing.payload.is_empty());
-    assert_eq!(rt; open.text(), b"/a/b".as_slice());
-    assert_eq!(rt; *moment, Moment { ms: 7 });
-    assert_eq!(rt; *from, Node::Stranger);
-    assert_eq!(rt; *to, Node::Server);
-    assert_eq!(rt; bytes.as_slice(), b"\xff".as_slice());
+    let script = read_script(rt.alloc(), SCRIPT).ok().ok_or("a script")?;
+    assert!(rt; are_said(script.lines()));
     Ok(())
 }
 
