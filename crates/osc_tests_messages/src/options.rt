@@ -337,7 +337,9 @@ fn an_encrypted_request(rt: HostRuntime) -> Result<(), Fail> {
     Ok(())
 }
 
-fn a_reply(alloc: Global) -> Result<Reply, AllocError> {
+fn a_reply(alloc: Global) -> Result<Reply, AllocError>
+    ensures { IfOk result (λ reply. 0 < reply.code.0) }
+{
     Ok(Reply {
         code: Code::CONTENT,
         etag: Some(*b"abcdefgh"),
@@ -347,7 +349,9 @@ fn a_reply(alloc: Global) -> Result<Reply, AllocError> {
 }
 
 /// The message of a reply, without a token.
-fn message_of(reply: &Reply) -> Option<MessageBuilder> {
+fn message_of(reply: &Reply) -> Option<MessageBuilder>
+    requires { 0 < reply.now.code.0 }
+{
     reply_message(Kind::Acknowledgement, 1, b"", reply).ok()
 }
 
