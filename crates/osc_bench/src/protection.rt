@@ -123,12 +123,16 @@ fn open_once(
 {
     let room = RequestRoom::new(alloc, name, sealed.sealed().len())?;
     match open_request::<Ccm<8>>(room, recipient, sealed) {
-        Ok(OpenedRequest { note, right }) => {
-            right.forgo();
-            Ok(note.plaintext.len())
-        }
+        Ok(opened) => Ok(length_of(opened)),
         Err(_) => Ok(0),
     }
+}
+
+// How long the plaintext of an opened request is, which isn't answered.
+fn length_of(opened: OpenedRequest) -> usize {
+    let OpenedRequest { note, right } = opened;
+    right.forgo();
+    note.plaintext.len()
 }
 
 // Opens the request so many times, each time in new room.

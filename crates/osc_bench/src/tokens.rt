@@ -24,9 +24,9 @@ pub extern "C" fn osc_bench_post(alloc: Global, others: u8, rounds: u64) -> u64 
     contexts_made(alloc, others, rounds).unwrap_or(0)
 }
 
-// The token of this id, for the audience `s`, with a date.
-fn token_of(alloc: Global, id: u8) -> Result<Vec<u8>, AllocError> {
-    let claims = Claims {
+// The claims of the token of this id, for the audience `s`, with a date.
+fn claims_of(alloc: Global, id: u8) -> Result<Claims, AllocError> {
+    Ok(Claims {
         audience: Audience::new(alloc, "s")?,
         not_before: None,
         expires: Some(100),
@@ -37,12 +37,22 @@ fn token_of(alloc: Global, id: u8) -> Result<Vec<u8>, AllocError> {
             id_context: None,
         },
         scope: Bytes::from_slice(alloc, SCOPE)?,
-    };
+    })
+}
+
+// The token of these claims.
+fn minted(alloc: Global, id: u8, claims: &Claims) -> Result<Vec<u8>, AllocError> {
     let mut token = Vec::new(alloc);
-    match mint::<Ccm<8>>(alloc, &claims, &KEY, &[id; 13], &mut token) {
+    match mint::<Ccm<8>>(alloc, claims, &KEY, &[id; 13], &mut token) {
         Err(MintError::Memory) => Err(AllocError),
         _ => Ok(token),
     }
+}
+
+// The token of this id.
+fn token_of(alloc: Global, id: u8) -> Result<Vec<u8>, AllocError> {
+    let claims = claims_of(alloc, id)?;
+    minted(alloc, id, &claims)
 }
 
 fn tokens_read(alloc: Global, rounds: u64) -> Result<u64, AllocError> {

@@ -9,25 +9,40 @@ const REQUEST: [u8; 22] = [
 ];
 
 #[test]
-fn a_request(rt: HostRuntime) -> Result<(), Fail> {
+fn a_written_request(rt: HostRuntime) -> Result<(), Fail> {
     let mut builder = MessageBuilder::start(Kind::Confirmable, 1, 0x5d1f, b"\x00\x00\x39\x74");
     builder.option(3, b"localhost").ok().ok_or("room")?;
     builder.option(11, b"tv1").ok().ok_or("room")?;
     assert_eq!(rt; builder.bytes(), REQUEST.as_slice());
+    Ok(())
+}
 
+/// Whether it begins as those bytes do, and has no payload.
+fn is_the_request(request: &MessageRef<'_>) -> bool {
+    request.kind() == Kind::Confirmable
+        && request.code() == 1
+        && request.id() == 0x5d1f
+        && request.token() == b"\x00\x00\x39\x74".as_slice()
+        && request.payload().is_none()
+        && request.length() == REQUEST.len()
+}
+
+#[test]
+fn a_request(rt: HostRuntime) -> Result<(), Fail> {
     let request = MessageRef::parse(&REQUEST)?;
-    assert_eq!(rt; request.kind(), Kind::Confirmable);
-    assert_eq!(rt; request.code(), 1);
-    assert_eq!(rt; request.id(), 0x5d1f);
-    assert_eq!(rt; request.token(), b"\x00\x00\x39\x74".as_slice());
-    assert_eq!(rt; request.payload(), None);
-    assert_eq!(rt; request.length(), REQUEST.len());
+    assert!(rt; is_the_request(&request));
     assert!(rt; is_request_code(request.code()));
     assert_eq!(rt; option_length(3, 11, b"tv1"), 4);
     let mut options = request.options();
-    assert_eq!(rt; options.next(), Some((3, b"localhost".as_slice())));
-    assert_eq!(rt; options.next(), Some((11, b"tv1".as_slice())));
-    assert_eq!(rt; options.next(), None);
+    let all = (options.next(), options.next(), options.next());
+    assert_eq!(rt;
+        all,
+        (
+            Some((3, b"localhost".as_slice())),
+            Some((11, b"tv1".as_slice())),
+            None
+        )
+    );
     Ok(())
 }
 
@@ -177,14 +192,18 @@ fn printed(rt: HostRuntime) -> Result<(), Fail> {
 fn a_requests_plaintext(rt: HostRuntime) -> Result<(), Fail> {
     let mut builder = PlaintextBuilder::start(1);
     builder.option(11, b"tv1").ok().ok_or("room")?;
-    assert_eq!(rt; builder.bytes(), b"\x01\xb3\x74\x76\x31".as_slice());
-    let request = PlaintextRef::parse(builder.bytes()).ok_or("a plaintext")?;
-    assert_eq!(rt; request.code(), 1);
-    assert_eq!(rt; request.payload(), None);
+    assert_eq!(rt; builder.bytes(), b"\x01\xb3tv1".as_slice());
+    Ok(())
+}
+
+#[test]
+fn a_requests_plaintext_is_read(rt: HostRuntime) -> Result<(), Fail> {
+    let request = PlaintextRef::parse(b"\x01\xb3tv1").ok_or("a plaintext")?;
+    assert_eq!(rt; (request.code(), request.payload()), (1, None));
     let mut options = request.options();
-    assert_eq!(rt; options.rest().next(), Some((11, b"tv1".as_slice())));
-    assert_eq!(rt; options.next(), Some((11, b"tv1".as_slice())));
-    assert_eq!(rt; options.next(), None);
+    let option = Some((11, b"tv1".as_slice()));
+    let all = (options.rest().next(), options.next(), options.next());
+    assert_eq!(rt; all, (option, option, None));
     Ok(())
 }
 

@@ -74,18 +74,30 @@ fn slice_of(bytes: &Option<Bytes>) -> Option<&[u8]> {
     }
 }
 
+/// Whether the object has these parts.
+fn has_parts(object: &Encrypt0, case: &Case) -> bool {
+    object.protected.as_slice() == case.protected
+        && slice_of(&object.kid) == case.kid
+        && slice_of(&object.iv) == case.iv
+        && object.ciphertext.as_slice() == case.ciphertext
+}
+
+/// The number of the refusal of bytes that are no object.
+fn refusal(alloc: Global, bytes: &[u8]) -> Option<u8> {
+    match parse0(alloc, bytes) {
+        Ok(_) => None,
+        Err(error) => Some(error.number()),
+    }
+}
+
 #[test]
 fn parses(rt: HostRuntime) -> Result<(), Fail> {
     for case in &OBJECTS {
         let object = parse0(rt.alloc(), case.bytes)?;
-        assert_eq!(rt; object.protected.as_slice(), case.protected);
-        assert_eq!(rt; slice_of(&object.kid), case.kid);
-        assert_eq!(rt; slice_of(&object.iv), case.iv);
-        assert_eq!(rt; object.ciphertext.as_slice(), case.ciphertext);
+        assert!(rt; has_parts(&object, case));
     }
     for bytes in NO_OBJECTS {
-        let answer = parse0(rt.alloc(), bytes);
-        assert_eq!(rt; answer.map_err(|error| error.number()).err(), Some(10));
+        assert_eq!(rt; refusal(rt.alloc(), bytes), Some(10));
     }
     Ok(())
 }
@@ -125,36 +137,53 @@ const TEXT: &[u8] = b"\x01\xb3\x74\x76\x31";
 
 const SEALED: &[u8] = b"\x61\x2f\x10\x92\xf1\x77\x6f\x1c\x16\x68\xb3\x82\x5e";
 
-/// What an object sealed under this protected header opens to with this external associated data.
-fn opened(
-    rt: &impl Abort,
-    alloc: Global,
-    protected: &[u8],
-    external_aad: &[u8],
-) -> Result<Result<Bytes, u8>, Fail> {
-    let object = seal0::<Ccm<8>>(alloc, &KEY, &NONCE, protected, EXTERNAL_AAD, TEXT)?;
-    assert_eq!(rt; object.protected.as_slice(), protected);
-    assert_eq!(rt; slice_of(&object.iv), Some(NONCE.as_slice()));
-    let text = open0::<Ccm<8>>(alloc, &object, &KEY, &NONCE, external_aad);
-    Ok(text.map_err(|error| error.number()))
+/// The object of the text under this protected header, whose IV is the nonce.
+fn sealed(alloc: Global, protected: &[u8]) -> Result<Encrypt0, Fail> {
+    Ok(seal0::<Ccm<8>>(alloc, &KEY, &NONCE, protected, EXTERNAL_AAD, TEXT)?)
+}
+
+/// Whether it has this protected header, and the nonce as its IV.
+fn is_under(object: &Encrypt0, protected: &[u8]) -> bool {
+    object.protected.as_slice() == protected && slice_of(&object.iv) == Some(NONCE.as_slice())
+}
+
+/// The number of the refusal of an object with this external associated data, or 0 where it opens to the text.
+fn opened(alloc: Global, object: &Encrypt0, external_aad: &[u8]) -> u8 {
+    match open0::<Ccm<8>>(alloc, object, &KEY, &NONCE, external_aad) {
+        Ok(text) if text.as_slice() == TEXT => 0,
+        Ok(_) => 255,
+        Err(error) => error.number(),
+    }
+}
+
+/// Protected headers, and what opening answers with the right associated data and with another.
+const HEADERS: [(&[u8], u8, u8); 7] = [
+    (b"", 0, 3),
+    (b"\xa1\x01\x0a", 0, 3),
+    (b"\xa2\x04\x41\x07\x01\x0a", 0, 3),
+    (b"\xa1\x01\x0b", 11, 11),
+    (b"\xa0", 11, 11),
+    (b"\x80", 11, 11),
+    (b"\xa1", 11, 11),
+];
+
+#[test]
+fn seals(rt: HostRuntime) -> Result<(), Fail> {
+    let object = sealed(rt.alloc(), b"")?;
+    assert_eq!(rt; object.ciphertext.as_slice(), SEALED);
+    Ok(())
 }
 
 #[test]
 fn seals_and_opens(rt: HostRuntime) -> Result<(), Fail> {
-    let object = seal0::<Ccm<8>>(rt.alloc(), &KEY, &NONCE, b"", EXTERNAL_AAD, TEXT)?;
-    assert_eq!(rt; object.ciphertext.as_slice(), SEALED);
-    for protected in [b"".as_slice(), b"\xa1\x01\x0a", b"\xa2\x04\x41\x07\x01\x0a"] {
-        let text = opened(&rt, rt.alloc(), protected, EXTERNAL_AAD)?
-            .ok()
-            .ok_or("not opened")?;
-        assert_eq!(rt; text.as_slice(), TEXT);
-        assert_eq!(rt; opened(&rt, rt.alloc(), protected, b"\x85")?.err(), Some(3));
-    }
-    for protected in [b"\xa1\x01\x0b".as_slice(), b"\xa0", b"\x80", b"\xa1"] {
-        assert_eq!(rt;
-            opened(&rt, rt.alloc(), protected, EXTERNAL_AAD)?.err(),
-            Some(11)
+    for (protected, right, other) in HEADERS {
+        let object = sealed(rt.alloc(), protected)?;
+        assert!(rt; is_under(&object, protected));
+        let opens = (
+            opened(rt.alloc(), &object, EXTERNAL_AAD),
+            opened(rt.alloc(), &object, b"\x85"),
         );
+        assert_eq!(rt; opens, (right, other));
     }
     Ok(())
 }

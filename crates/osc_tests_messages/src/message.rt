@@ -189,10 +189,7 @@ fn what_is_noted_and_how_long(rt: HostRuntime) -> Result<(), Fail> {
         let before = until.saturating_sub(1);
         let is = if until == 0 { Is::Message } else { Is::Repeat };
         assert_eq!(rt; heard_after(rt.alloc(), datagram, before)?, (is, 7));
-        assert_eq!(rt;
-            heard_after(rt.alloc(), datagram, until)?,
-            (Is::Message, 7)
-        );
+        assert_eq!(rt; heard_after(rt.alloc(), datagram, until)?, (Is::Message, 7));
     }
     Ok(())
 }
