@@ -266,7 +266,7 @@ const TOKEN_LINE: &str =
     "8343a1010aa1054d00000000000000000000000001582f7a0ede2171a9ef9611e8b23afd723e7879cadfb887e3cb88901dd40461e9f30124cee04d4a5e85931d224b7ce6b4e2\n";
 
 // Adds the options but for this one.
-fn add_others<'a>(words: &mut Vec<&'a str>, option: &str) -> Result<(), AllocError> {
+fn add_others<'a>(words: &mut Vec<&'a str>, option: &'a str) -> Result<(), AllocError> {
     for (name, usual) in OPTIONS {
         if name != option {
             words.push(name)?;
