@@ -1,5 +1,5 @@
 -- From the lines of a script to the lines of its trace.
-use Rattle.std.specs.Prelude.{◌≡◌, ℕ, ◌+◌, Bool, List, [], ◌∷◌, ◌++◌, length}
+use Rattle.std.specs.Prelude.{◌≡◌, ◌↔◌, ℕ, ◌+◌, Bool, IsTrue, List, [], ◌∷◌, ◌++◌, length}
 use Rattle.std.specs.FinMap as map
 use Rattle.std.specs.FinSet as set
 use Rattle.osc_model.specs.Tree.{Tree}
@@ -16,6 +16,9 @@ use Rattle.osc_message.specs.Endpoint.{fresh}
 use Rattle.osc_message.specs.Received.{Receives}
 use Rattle.osc_message.specs.Heard.{heard}
 use Rattle.osc_message.specs.declared.received.Received.{Received}
+use Rattle.osc_run.specs.History.{history}
+use Rattle.osc_run.specs.Notes.{Noted, by_server}
+use Rattle.osc_run.specs.Premise.{Premise}
 use Rattle.osc_server.specs.State.{State}
 use Rattle.osc_server.specs.Case.{case_of}
 use Rattle.osc_server.specs.Table.{Answers}
@@ -50,9 +53,10 @@ first_server lines = record {
   endpoint = fresh;
 }
 
--- a run begins so: at moment 0, with no event, and nothing sent
+-- a run begins so: at moment 0, with no event, nothing noted, and nothing sent
 pub record Begins (beginning : State) (at : Progress) : Type 0 where
   pub server : at.server ≡ beginning
+  pub notes : at.notes.steps ≡ []
   pub moment : at.now.ms ≡ 0
   pub events : at.events ≡ 0
   pub sent : at.sent ≡ 0
@@ -62,13 +66,13 @@ abbrev pub case_at : Progress → Node → Received → Case
 case_at at from received = case_of at.server.open_scope (heard at.server.endpoint.seen at.now (address_of from) received)
 
 -- A datagram comes to the server from this node, with the draw of the event that was counted last. The server's step
--- prints as this text, and this is how far the run has come then.
+-- prints as this text and is noted, and this is how far the run has come then.
 abbrev pub Serves : Bool → Progress → Node → List ℕ → List ℕ → Progress → Type 0
 Serves with_bytes old from bytes text new =
-    (step : Step) × (received : Received) × (server : State) × Receives bytes received
+    (step : Step) × (received : Received) × (server : State) × (room : ℕ) × Receives bytes received
     × Answers old.server old.now (address_of from) (draw_of old.events) (case_at old from received) step server
     × PrintsStep with_bytes old.sent Server step text
-    × (new ≡ record old { server = server; sent = old.sent + length step.out })
+    × (new ≡ record old { server = server; notes = record { steps = by_server step.notes ∷ old.notes.steps; room = room }; sent = old.sent + length step.out })
 
 -- A datagram comes to a node from a node: an event. The stranger does nothing with it.
 abbrev pub Happens : Bool → Progress → Node → Node → List ℕ → List ℕ → Progress → Type 0
@@ -87,11 +91,17 @@ Prints with_bytes old [] text last = (text ≡ []) × (last ≡ old)
 Prints with_bytes old (line ∷ lines) text last =
     (first rest : List ℕ) × (next : Progress) × PrintsLine with_bytes old line first next × Prints with_bytes next lines rest last × (text ≡ first ++ rest)
 
+-- the end lines of a run that left these resources and took these steps: nothing was minted
+pub record IsEnd (tree : Tree) (steps : List Noted) (text : List ℕ) : Type 0 where
+  pub held : Bool
+  pub tells : IsTrue held ↔ Premise [] steps
+  pub whole : text ≡ end_text tree (length (history steps)) held
+
 -- the trace of a script: what its events print, and the end lines
 abbrev pub IsTrace : Bool → List Line → List ℕ → Type 0
 IsTrace with_bytes lines text =
-    (events : List ℕ) × (first last : Progress) × Begins (first_server lines) first × Prints with_bytes first lines events last
-    × (text ≡ events ++ end_text last.server.tree)
+    (events end : List ℕ) × (first last : Progress) × Begins (first_server lines) first × Prints with_bytes first lines events last
+    × IsEnd last.server.tree last.notes.steps end × (text ≡ events ++ end)
 
 -- what a script's text prints
 abbrev pub Simulates : Bool → List ℕ → List ℕ → Type 0

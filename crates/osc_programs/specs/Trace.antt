@@ -1,5 +1,5 @@
 -- The lines that a simulation prints.
-use Rattle.std.specs.Prelude.{◌≡◌, ℕ, ◌+◌, ◌==◌, Bool, if◌then◌else◌, List, [], ◌∷◌, ◌++◌, codes, decimal, flat_map}
+use Rattle.std.specs.Prelude.{◌≡◌, ℕ, ◌+◌, ◌==◌, Bool, true, false, if◌then◌else◌, List, [], ◌∷◌, ◌++◌, codes, decimal, flat_map}
 use Rattle.std.specs.FinMap as map
 use Rattle.std.specs.List.{list_any}
 use Rattle.hex.specs.Hex.{encode_lower}
@@ -64,10 +64,17 @@ PrintsStep with_bytes sent node step text = (lines : List ℕ) × PrintAllSent w
 abbrev pub resource_text : (List ℕ × Resource) → List ℕ
 resource_text entry = line (codes "tree " ++ entry.0 ++ codes " " ++ format_text entry.1.format ++ codes " " ++ short_text entry.1.payload)
 
--- At the end: each resource in the order of its path's text, how many requests are in the history, and whether the
--- premise held. Nothing is sealed or opened so far: the history is empty, and what nothing opened was sealed before.
-abbrev pub end_text : Tree → List ℕ
-end_text tree = flat_map resource_text (map.entries tree) ++ line (codes "history 0") ++ line (codes "premise: held")
+-- how many requests are in the history, and whether what is assumed of the run held
+abbrev pub history_text : ℕ → List ℕ
+history_text entries = line (codes "history " ++ decimal entries)
+
+abbrev pub premise_text : Bool → List ℕ
+premise_text true = line (codes "premise: held")
+premise_text false = line (codes "premise: broken")
+
+-- At the end: each resource in the order of its path's text, and these two lines.
+abbrev pub end_text : Tree → ℕ → Bool → List ℕ
+end_text tree entries held = flat_map resource_text (map.entries tree) ++ history_text entries ++ premise_text held
 
 -- line N: bad
 abbrev pub bad_line_text : ℕ → List ℕ

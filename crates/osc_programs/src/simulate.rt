@@ -1,13 +1,15 @@
 //! A script in, its trace out.
-ghost use Rattle.std.specs.Prelude.{◌≡◌, ◌≢◌, ◌⊎◌, ◌≤◌, ◌<◌, ◌+◌, ◌++◌, ◌^◌, ℕ, List, IfOk, IfSome, OnOk, Err, length};
+ghost use Rattle.std.specs.Prelude.{◌≡◌, ◌≢◌, ◌⊎◌, ◌≤◌, ◌<◌, ◌+◌, ◌-◌, ◌∷◌, ◌++◌, ◌^◌, ℕ, List, IfOk, IfSome, OnOk, Err, length};
 ghost use Rattle.std.specs.FinMap as map;
 ghost use Rattle.std.specs.List.{All};
 ghost use Rattle.std.specs.Io.KnownBytes.{Appends};
 ghost use Rattle.osc_script.specs.Script.{IsFirstBad};
+ghost use Rattle.osc_run.specs.History.{history};
+ghost use Rattle.osc_run.specs.Notes.{by_server};
 ghost use Rattle.osc_programs.specs.SetUp.{CanPutAll};
 ghost use Rattle.osc_programs.specs.Simulation as spec;
 ghost use Rattle.osc_programs.specs.Simulation.{Simulates};
-ghost use Rattle.osc_programs.specs.Trace.{CanPrint, PrintsStep, bad_line_text, end_text};
+ghost use Rattle.osc_programs.specs.Trace.{CanPrint, PrintsStep, bad_line_text};
 ghost use Rattle.osc_programs.specs.declared.simulate.Progress.{Progress as AnyProgress};
 
 use crate::draw::draw_of;
@@ -16,6 +18,7 @@ use crate::issue::written;
 use crate::set_up::first_server;
 use crate::trace::{bad_line_text, end_text, step_text};
 use osc_model::{Moment, Step};
+use osc_run::{Noted, Notes};
 use osc_script::{Line, Node, ScriptError, read_script};
 use osc_server::Server;
 use osc_tree::Tree;
@@ -153,7 +156,7 @@ fn trace_lines(
     ensures { OnOk result ((printed : List ℕ) × spec.IsTrace with_bytes lines.now printed × (text.new.items ≡ text.old.items ++ printed)) }
 {
     let server = first_server(alloc, lines)?;
-    let mut progress = Progress::beginning(server);
+    let mut progress = Progress::beginning(alloc, server);
     trace_from(alloc, &mut progress, lines, with_bytes, text)
 }
 
@@ -161,6 +164,8 @@ fn trace_lines(
 #[derive(Drop)]
 pub(crate) struct Progress {
     server: Server,
+    /// What the server's steps did.
+    notes: Notes,
     now: Moment,
     /// How many events there were.
     events: u64,
@@ -169,11 +174,12 @@ pub(crate) struct Progress {
 }
 
 impl Progress {
-    fn beginning(server: Server) -> Progress
+    fn beginning(alloc: Global, server: Server) -> Progress
         ensures { spec.Begins server result }
     {
         Progress {
             server,
+            notes: Notes::new(alloc),
             now: Moment::START,
             events: 0,
             sent: 0,
@@ -191,11 +197,11 @@ fn trace_from(
 ) -> Result<(), AllocError>
     requires events { progress.old.events ≡ 0 }
     requires sent { progress.old.sent ≡ 0 }
-    ensures { OnOk result ((printed : List ℕ) × (last : AnyProgress) × spec.Prints with_bytes progress.old lines.now printed last
-        × (text.new.items ≡ text.old.items ++ (printed ++ end_text last.server.tree))) }
+    ensures { OnOk result ((printed end : List ℕ) × (last : AnyProgress) × spec.Prints with_bytes progress.old lines.now printed last
+        × spec.IsEnd last.server.tree last.notes.steps end × (text.new.items ≡ text.old.items ++ (printed ++ end))) }
 {
     trace_events(alloc, progress, lines, with_bytes, text)?;
-    trace_end(alloc, progress.server.tree(), text)?;
+    trace_end(alloc, progress.server.tree(), &progress.notes, text)?;
     Ok(())
 }
 
@@ -218,11 +224,25 @@ fn trace_events(
     Ok(())
 }
 
-fn trace_end(alloc: Global, tree: &Tree, text: &mut Vec<u8>) -> Result<(), AllocError>
-    ensures { OnOk result (text.new.items ≡ text.old.items ++ end_text tree.now) }
+fn trace_end(
+    alloc: Global,
+    tree: &Tree,
+    notes: &Notes,
+    text: &mut Vec<u8>,
+) -> Result<(), AllocError>
+    ensures { OnOk result ((end : List ℕ) × spec.IsEnd tree.now notes.now.steps end × (text.new.items ≡ text.old.items ++ end)) }
 {
-    let lines = end_text(alloc, tree)?;
+    let entries = count_entries(alloc, notes)?;
+    let held = notes.premise_holds(&[]);
+    let lines = end_text(alloc, tree, entries, held)?;
     Ok(text.extend_from_slice(&lines)?)
+}
+
+// How many requests are in the history.
+fn count_entries(alloc: Global, notes: &Notes) -> Result<usize, AllocError>
+    ensures { IfOk result (λ count. count ≡ length (history notes.now.steps)) }
+{
+    Ok(notes.history(alloc)?.len())
 }
 
 // Does what the line says: the text that it prints.
@@ -286,10 +306,22 @@ fn serve(
     ensures sent { progress.new.sent ≤ progress.old.sent + 1 }
 {
     let draw = draw_of(progress.events);
+    progress.notes.reserve()?;
     let step = progress
         .server
         .on_datagram(alloc, progress.now, from.address(), bytes, &draw)?;
-    counted_text(alloc, &mut progress.sent, &step, with_bytes)
+    let text = counted_text(alloc, &mut progress.sent, &step, with_bytes)?;
+    note(&mut progress.notes, step);
+    Ok(text)
+}
+
+// Notes a step of the server, for which there is room.
+fn note(notes: &mut Notes, step: Step)
+    requires { 0 < notes.old.room }
+    ensures { notes.new ≡ record { steps = by_server step.notes ∷ notes.old.steps; room = notes.old.room - 1 } }
+{
+    let Step { notes: noted, .. } = step;
+    notes.add(Noted::by_server(noted));
 }
 
 // What the server's step prints, behind so many datagrams; its own are counted too.

@@ -131,13 +131,36 @@ impl fmt::Display for CodeText {
     }
 }
 
-/// The end lines.
-pub(crate) fn end_text(alloc: Global, tree: &Tree) -> Result<Vec<u8>, AllocError>
-    ensures { IfOk result (λ text. text.items ≡ spec.end_text tree.now) }
+/// The end lines: the resources, how many requests are in the history, and whether what is assumed of the run held.
+pub(crate) fn end_text(
+    alloc: Global,
+    tree: &Tree,
+    entries: usize,
+    held: bool,
+) -> Result<Vec<u8>, AllocError>
+    ensures { IfOk result (λ text. text.items ≡ spec.end_text tree.now entries held) }
 {
     let mut text = tree_lines(alloc, tree)?;
-    text.extend_from_slice(b"history 0\npremise: held\n")?;
+    text.extend_from_slice(history_line(alloc, entries)?.as_bytes())?;
+    text.extend_from_slice(premise_line(held))?;
     Ok(text)
+}
+
+// `history N`.
+fn history_line(alloc: Global, entries: usize) -> Result<String, AllocError>
+    ensures { IfOk result (λ line. string_bytes line ≡ spec.history_text entries) }
+{
+    format!(in alloc; "history {entries}\n")
+}
+
+fn premise_line(held: bool) -> &'static [u8]
+    ensures { result.now ≡ spec.premise_text held }
+{
+    if held {
+        b"premise: held\n"
+    } else {
+        b"premise: broken\n"
+    }
 }
 
 fn tree_lines(alloc: Global, tree: &Tree) -> Result<Vec<u8>, AllocError>

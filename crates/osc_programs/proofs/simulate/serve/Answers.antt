@@ -1,6 +1,6 @@
-use Rattle.std.proofs.Common.{◌∙◌, ap, subst}
-use Rattle.std.proofs.lemmas.Result.{IfOk-weaker}
+use Rattle.std.proofs.Common.{◌≡◌, ◌∙◌, List, ◌∷◌, ap, subst}
 use Rattle.osc_message.specs.Heard.{heard}
+use Rattle.osc_run.specs.Notes.{Kept, Noted, by_server}
 use Rattle.osc_server.specs.Case.{case_of}
 use Rattle.osc_server.specs.Table.{Answers}
 use Rattle.osc_script.specs.Node.{address_of}
@@ -23,6 +23,20 @@ returns-clause-serves c =
     let answers = subst
     (λ draw. Answers old.server old.now (address_of c.args.from) draw (case_of old.server.open_scope (heard old.server.endpoint.seen old.now (address_of c.args.from) answered.0)) step server)
     c.draw_of-draw.ensures from_node in
-    IfOk-weaker c.counted_text.result _ _
-    (λ text prints. (step, answered.0, server, answered.1, answers, prints, ap (λ sent. record { server = server; now = old.now; events = old.events; sent = sent }) c.counted_text.ensures.sent))
-    c.counted_text.ensures.prints
+    let noted : c.note.new.notes.steps ≡ by_server step.notes ∷ old.notes.steps =
+    ap (λ (k : Kept). k.steps) c.note.ensures ∙ ap (λ (steps : List Noted). by_server step.notes ∷ steps) c.reserve.ensures.steps in (
+      step,
+      answered.0,
+      server,
+      c.note.new.notes.room,
+      answered.1,
+      answers,
+      c.in_ok-text.ensures.prints,
+      λ i. record {
+        server = server;
+        notes = record { steps = noted i; room = c.note.new.notes.room };
+        now = old.now;
+        events = old.events;
+        sent = c.in_ok-text.ensures.sent i;
+      },
+    )
