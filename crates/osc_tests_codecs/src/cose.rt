@@ -3,7 +3,6 @@ use osc_ccm::Ccm;
 use osc_cose::*;
 use osc_model::Bytes;
 use std::alloc::Global;
-use std::process::Abort;
 use std::test::Fail;
 
 /// An object's bytes, and its parts.

@@ -1,5 +1,5 @@
 //! Tests of `osc_message`.
-use osc_coap::{Kind, MessageBuilder, MessageRef};
+use osc_coap::{Kind, MessageBuilder};
 use osc_message::*;
 use osc_model::{Bytes, Draw, Moment, Peer};
 use std::alloc::{AllocError, Global};
