@@ -219,6 +219,13 @@ impl ServerDesk {
         }
     }
 
+    /// For proofs: its contexts are a table. Does nothing.
+    pub fn has_a_table(&self)
+        ensures { IsTable self.now.table }
+    {
+        let _ = &self.table;
+    }
+
     /// The context with this recipient ID, live or not.
     pub fn get(&self, id: &[u8]) -> Option<&ServerContext>
         ensures { option_map (λ context. context.now) result ≡ with_id id.now self.now.table }

@@ -3,10 +3,13 @@
 ghost use Rattle.std.specs.Prelude.{◌≡◌, ◌≤◌, length, IsTrue};
 ghost use Rattle.osc_coap.specs.Message.{Message, Spells};
 
+use osc_authz::ServerDesk;
+use osc_ccm::Ccm;
 use osc_coap::MessageRef;
 use osc_model::{Bytes, Draw, Method, Moment, Path, Peer, Resource, Step};
 use osc_scope::Scope;
 use osc_server::Server;
+use osc_token::Audience;
 use osc_tree::Tree;
 use std::alloc::{AllocError, Global};
 
@@ -71,7 +74,8 @@ fn server_of(alloc: Global, resources: u16) -> Result<Server, AllocError> {
     let mut tree = Tree::new(alloc);
     let mut open_scope = Scope::new(alloc);
     fill(alloc, &mut tree, &mut open_scope, resources)?;
-    Server::new(alloc, tree, open_scope)
+    let desk = ServerDesk::new(alloc, [0; 16], Audience::new(alloc, "s")?);
+    Server::new(alloc, tree, desk, open_scope)
 }
 
 // Puts and opens so many resources, as many as there is room for.
@@ -162,7 +166,7 @@ fn bytes_sent(
         address: [127, 0, 0, 1],
         port: 9000,
     };
-    let step = server.on_datagram(alloc, now, from, datagram, &Draw([0; 32]))?;
+    let step = server.on_datagram::<Ccm<8>>(alloc, now, from, datagram, &Draw([0; 32]))?;
     Ok(length_of(&step))
 }
 

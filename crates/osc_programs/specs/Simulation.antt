@@ -1,5 +1,5 @@
 -- From the lines of a script to the lines of its trace.
-use Rattle.std.specs.Prelude.{◌≡◌, ◌↔◌, ℕ, ◌+◌, Bool, IsTrue, List, [], ◌∷◌, ◌++◌, length}
+use Rattle.std.specs.Prelude.{◌≡◌, ◌↔◌, ℕ, ◌+◌, Bool, IsTrue, List, [], ◌∷◌, ◌++◌, length, codes}
 use Rattle.std.specs.FinMap as map
 use Rattle.std.specs.FinSet as set
 use Rattle.osc_model.specs.Tree.{Tree}
@@ -12,6 +12,7 @@ use Rattle.osc_script.specs.declared.node.Node.{Node}
 use Rattle.osc_script.specs.declared.node.Node.TheVariants.{Server, Stranger}
 use Rattle.osc_script.specs.declared.line.Line.{Line}
 use Rattle.osc_script.specs.declared.line.Line.TheVariants.{Put, Open, At, Inject}
+use Rattle.osc_ccm.specs.Ccm.{IsSealing}
 use Rattle.osc_message.specs.Endpoint.{fresh}
 use Rattle.osc_message.specs.Received.{Receives}
 use Rattle.osc_message.specs.Heard.{heard}
@@ -45,10 +46,12 @@ abbrev pub scope_from : Scope → List Line → Scope
 scope_from scope [] = scope
 scope_from scope (line ∷ lines) = scope_from (scope_after scope line) lines
 
--- the server before the first event: it heard nothing and sent nothing yet
+-- The server before the first event: it heard nothing and sent nothing yet, and has no contexts. Tokens for it are sealed under
+-- the key 40 to 4f, for the audience `s`.
 abbrev pub first_server : List Line → State
 first_server lines = record {
   tree = tree_from map.empty lines;
+  desk = record { key = codes "@ABCDEFGHIJKLMNO"; audience = codes "s"; table = [] };
   open_scope = scope_from set.empty lines;
   endpoint = fresh;
 }
@@ -61,6 +64,10 @@ pub record Begins (beginning : State) (at : Progress) : Type 0 where
   pub events : at.events ≡ 0
   pub sent : at.sent ≡ 0
 
+-- it seals and opens by AES-CCM with tags of 8 bytes
+abbrev pub is_sealing : List ℕ → List ℕ → List ℕ → List ℕ → List ℕ → Type 0
+is_sealing key nonce aad text sealed = IsSealing key 8 nonce aad text sealed
+
 -- which case a datagram from this node is to the server, as far as the run has come
 abbrev pub case_at : Progress → Node → Received → Case
 case_at at from received = case_of at.server.open_scope (heard at.server.endpoint.seen at.now (address_of from) received)
@@ -70,7 +77,7 @@ case_at at from received = case_of at.server.open_scope (heard at.server.endpoin
 abbrev pub Serves : Bool → Progress → Node → List ℕ → List ℕ → Progress → Type 0
 Serves with_bytes old from bytes text new =
     (step : Step) × (received : Received) × (server : State) × (room : ℕ) × Receives bytes received
-    × Answers old.server old.now (address_of from) (draw_of old.events) (case_at old from received) step server
+    × Answers is_sealing old.server old.now (address_of from) (draw_of old.events) (case_at old from received) step server
     × PrintsStep with_bytes old.sent Server step text
     × (new ≡ record old { server = server; notes = record { steps = by_server step.notes ∷ old.notes.steps; room = room }; sent = old.sent + length step.out })
 

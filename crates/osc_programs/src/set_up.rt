@@ -5,21 +5,27 @@ ghost use Rattle.std.specs.FinSet as set;
 ghost use Rattle.osc_programs.specs.Simulation as spec;
 ghost use Rattle.osc_programs.specs.SetUp.{CanPut, CanPutAll};
 
+use osc_authz::ServerDesk;
 use osc_model::Method;
 use osc_scope::Scope;
 use osc_script::Line;
 use osc_server::Server;
+use osc_token::Audience;
 use osc_tree::Tree;
 use std::alloc::{AllocError, Global};
 
-/// The server that the set-up lines make.
+/// The key that the simulated server shares with the issuer of tokens.
+const KEY: [u8; 16] = *b"@ABCDEFGHIJKLMNO";
+
+/// The server that the set-up lines make: tokens for it have the audience `s`.
 pub(crate) fn first_server(alloc: Global, lines: &[Line]) -> Result<Server, AllocError>
     requires { CanPutAll map.empty lines.now }
     ensures { IfOk result (λ server. server ≡ spec.first_server lines.now) }
 {
     let tree = first_tree(alloc, lines)?;
     let open_scope = open_scope(alloc, lines)?;
-    Server::new(alloc, tree, open_scope)
+    let desk = ServerDesk::new(alloc, KEY, Audience::new(alloc, "s")?);
+    Server::new(alloc, tree, desk, open_scope)
 }
 
 fn first_tree(alloc: Global, lines: &[Line]) -> Result<Tree, AllocError>

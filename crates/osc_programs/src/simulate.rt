@@ -17,6 +17,7 @@ use crate::ended::{Ended, ended_by_io};
 use crate::issue::written;
 use crate::set_up::first_server;
 use crate::trace::{bad_line_text, end_text, step_text};
+use osc_ccm::Ccm;
 use osc_model::{Moment, Step};
 use osc_run::{Noted, Notes};
 use osc_script::{Line, Node, ScriptError, read_script};
@@ -309,7 +310,7 @@ fn serve(
     progress.notes.reserve()?;
     let step = progress
         .server
-        .on_datagram(alloc, progress.now, from.address(), bytes, &draw)?;
+        .on_datagram::<Ccm<8>>(alloc, progress.now, from.address(), bytes, &draw)?;
     let text = counted_text(alloc, &mut progress.sent, &step, with_bytes)?;
     note(&mut progress.notes, step);
     Ok(text)

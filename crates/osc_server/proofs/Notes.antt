@@ -7,19 +7,22 @@ use Rattle.std.proofs.lemmas.List.Elements.{All-nil, All-head, All-tail, All-pus
 use Rattle.std.proofs.lemmas.Option.{same_Some}
 use Rattle.osc_coap.specs.declared.kind.Kind.{Kind}
 use Rattle.osc_coap.specs.declared.kind.Kind.TheVariants.{Confirmable, NonConfirmable, Acknowledgement, Reset}
-use Rattle.osc_coap.specs.Message.{Message}
+use Rattle.osc_coap.specs.Message.{Message, HasSpelling, spelling}
 use Rattle.osc_dedup.specs.declared.table.Noted.{Noted}
 use Rattle.osc_dedup.specs.Table.{most_entries, Entry, is_alive, is_of, staying, with_note, alive}
 use Rattle.osc_model.specs.declared.bytes.Bytes.{Bytes}
 use Rattle.osc_model.specs.declared.node.Draw.{Draw}
 use Rattle.osc_model.specs.declared.node.Moment.{Moment}
 use Rattle.osc_model.specs.declared.node.Peer.{Peer}
-use Rattle.osc_message.specs.declared.handling.Handling.TheVariants.{Answered}
+use Rattle.osc_message.specs.declared.handling.Handling.TheVariants.{Dropped, Answered}
 use Rattle.osc_message.specs.declared.heard.Heard.TheVariants as heard
-use Rattle.osc_message.specs.Endpoint.{EndpointState, id_taken, noted, settled}
+use Rattle.osc_message.specs.Confirmables.{Open}
+use Rattle.osc_message.specs.Endpoint.{EndpointState, id_taken, noted, settled, acknowledged_by, after_tick}
+use Rattle.osc_message.specs.Ticks.{acts, tick_sends}
 use Rattle.osc_message.specs.Heard.{noted_reply}
 use Rattle.osc_message.specs.Sending.{is_confirmable, replied}
-use Rattle.osc_server.specs.Parts.{IsMessage, KeepsMessages, SendsTo}
+use Rattle.osc_server.specs.Table.{answered}
+use Rattle.osc_server.specs.Parts.{IsMessage, IsQuiet, KeepsMessages, SendsTo}
 
 abbrev IsKept : Entry → Type 0
 IsKept entry = ForSome entry.noted.reply IsMessage
@@ -44,17 +47,57 @@ noted_kept seen now peer Reset id reply message kept = kept
 these : (bytes : Bytes) → IsMessage bytes → ForSome (Some bytes) IsMessage
 these bytes message = λ same e. subst IsMessage (same_Some bytes same e) message
 
-pub answered_kept : (state : EndpointState) (now : Moment) (peer : Peer) (message : Message) (bytes : Bytes) → IsMessage bytes → KeepsMessages state.seen → KeepsMessages (settled state now peer (heard.Message message) (Answered (Some bytes))).seen
-answered_kept state now peer message bytes spelled kept =
-    noted_kept state.seen now peer message.kind message.id (Some bytes) (these bytes spelled) kept
+-- where nothing is open, nothing is acknowledged
+nothing_acknowledged : (peer : Peer) (kind : Kind) (id : ℕ) → acknowledged_by peer kind id [] ≡ []
+nothing_acknowledged peer Confirmable id = refl
+nothing_acknowledged peer NonConfirmable id = refl
+nothing_acknowledged peer Acknowledgement id = refl
+nothing_acknowledged peer Reset id = refl
+
+still_nothing : (peer : Peer) (kind : Kind) (id : ℕ) (sending : List Open) → sending ≡ [] → acknowledged_by peer kind id sending ≡ []
+still_nothing peer kind id sending e = rw e (nothing_acknowledged peer kind id)
+
+settled_quiet : (state : EndpointState) (now : Moment) (peer : Peer) (message : Message) (bytes : Bytes) → IsMessage bytes → IsQuiet state → IsQuiet (settled state now peer (heard.Message message) (Answered (Some bytes)))
+settled_quiet state now peer message bytes spelled quiet = record {
+  messages = noted_kept state.seen now peer message.kind message.id (Some bytes) (these bytes spelled) quiet.messages;
+  nothing_open = still_nothing peer message.kind message.id state.sending quiet.nothing_open;
+}
 
 -- a reply that takes a message ID notes nothing yet
-pub replied_kept : (draw : Draw) (request : Message) (state : EndpointState) → KeepsMessages state.seen → KeepsMessages (replied draw request state).seen
-replied_kept draw request state kept = by (is_confirmable request.kind)
+replied_quiet : (draw : Draw) (request : Message) (state : EndpointState) → IsQuiet state → IsQuiet (replied draw request state)
+replied_quiet draw request state quiet = by (is_confirmable request.kind)
   where
-    by : (b : Bool) → KeepsMessages (if b then state else id_taken draw state).seen
-    by true = kept
-    by false = kept
+    by : (b : Bool) → IsQuiet (if b then state else id_taken draw state)
+    by true = quiet
+    by false = record { messages = quiet.messages; nothing_open = quiet.nothing_open }
+
+-- an answer to a new request
+pub answered_quiet : (state : EndpointState) (now : Moment) (peer : Peer) (draw : Draw) (request answer : Message) → HasSpelling answer → IsQuiet state → IsQuiet (answered state now peer draw request answer)
+answered_quiet state now peer draw request answer lawful quiet =
+    settled_quiet (replied draw request state) now peer request (spelling answer)
+    (answer, record { lawful = lawful; whole = refl }) (replied_quiet draw request state quiet)
+
+-- an empty message
+pub empty_quiet : (state : EndpointState) (now : Moment) (peer : Peer) (kind : Kind) (id : ℕ) → IsQuiet state → IsQuiet (settled state now peer (heard.Empty kind id) Dropped)
+empty_quiet state now peer kind id quiet = record { messages = quiet.messages; nothing_open = rw quiet.nothing_open refl }
+
+-- ---- a tick
+
+-- where nothing is open, a tick does nothing but let notes go
+pub record IsQuietTick (now : Moment) (state : EndpointState) : Type 0 where
+  pub sends : tick_sends now state.sending ≡ []
+  pub rests : acts now state.sending ≡ false
+  pub stays : IsQuiet (after_tick now state)
+
+pub quiet_tick : (now : Moment) (state : EndpointState) → IsQuiet state → IsQuietTick now state
+quiet_tick now state quiet = record {
+  sends = rw quiet.nothing_open refl;
+  rests = rw quiet.nothing_open refl;
+  stays = record {
+    messages = record { noted = All-filter (is_alive now) IsKept state.seen quiet.messages.noted };
+    nothing_open = rw quiet.nothing_open refl;
+  };
+}
 
 -- ---- what is noted
 

@@ -1,5 +1,5 @@
 -- Which case a datagram is to a server: the first test that holds, read from the top.
-use Rattle.std.specs.Prelude.{ℕ, Bool, true, false, ◌==◌, ◌&&◌, ◌||◌, if◌then◌else◌, List, is_some}
+use Rattle.std.specs.Prelude.{ℕ, Bool, true, false, ◌==◌, ◌&&◌, ◌||◌, if◌then◌else◌, List, bytes_eq, Option, Some, None, is_some, codes}
 use Rattle.std.specs.List.{list_any}
 use Rattle.osc_model.specs.Scope.{Scope}
 use Rattle.osc_model.specs.declared.request.Request.{Request}
@@ -14,10 +14,15 @@ use Rattle.osc_message.specs.declared.heard.Heard.{Heard}
 use Rattle.osc_message.specs.declared.heard.Heard.TheVariants as heard
 use Rattle.osc_message.specs.Sending.{is_confirmable}
 use Rattle.osc_server.specs.declared.case.Case.{Case}
-use Rattle.osc_server.specs.declared.case.Case.TheVariants.{Ignored, Reset, Repeated, Empty, BadOption, ProxyAsked, OpenGet, Unauthorised}
+use Rattle.osc_server.specs.declared.case.Case.TheVariants.{Ignored, Reset, Repeated, Empty, BadOption, ProxyAsked, Protected, Posted, NotPosted, OpenGet, Unauthorised}
 
 abbrev pub has_option : ℕ → List NumberAndValue → Bool
 has_option number options = list_any (λ option. option.0 == number) options
+
+-- the path of authz-info (RFC 9200 section 5.10.1)
+abbrev pub is_authz_info : Option (List ℕ) → Bool
+is_authz_info None = false
+is_authz_info (Some path) = bytes_eq path (codes "/authz-info")
 
 abbrev pub is_granted : Verdict → Bool
 is_granted Granted = true
@@ -28,21 +33,28 @@ abbrev pub is_open_get : Scope → Request → Bool
 is_open_get open_scope request = (request.code.0 == 1) && is_granted (verdict_of open_scope request.path request.code)
 
 -- an option that isn't understood is refused where the request is confirmable, and the request ignored otherwise
--- (section 5.4.1)
+-- (RFC 7252 section 5.4.1)
 abbrev pub refused_option : CoapMessage → Case
 refused_option message = if is_confirmable message.kind then BadOption message else Ignored
 
--- A request without protection: a critical option that isn't recognised; a wish for a proxy (section 5.10.2); OSCORE's
--- option, which isn't understood yet; a GET that needs no protection; any other request.
+-- An unprotected request that wants no proxy: at authz-info a POST or another method; elsewhere a GET that needs no protection,
+-- or any other request.
+abbrev pub unprotected_case : Scope → CoapMessage → Request → Case
+unprotected_case open_scope message request =
+    if is_authz_info request.path then (if request.code.0 == 2 then Posted message else NotPosted message)
+    else if is_open_get open_scope request then OpenGet message request
+    else Unauthorised message
+
+-- A critical option that isn't recognised; a wish for a proxy (section 5.10.2); OSCORE's option, whatever the code and the
+-- path outside are (RFC 8613 section 8.2); a request without protection.
 abbrev pub request_case : Scope → CoapMessage → Case
 request_case open_scope message =
     if is_some (unrecognised_critical 0 message.options) then refused_option message
     else if has_option 35 message.options || has_option 39 message.options then ProxyAsked message
-    else if has_option 9 message.options then refused_option message
-    else if is_open_get open_scope (request_of message) then OpenGet message (request_of message)
-    else Unauthorised message
+    else if has_option 9 message.options then Protected message
+    else unprotected_case open_scope message (request_of message)
 
--- A server sends no request, so it waits for no response: a confirmable one is rejected (sections 4.2 and 5.3.2).
+-- A server sends no request, so it waits for no response: a confirmable one is rejected (RFC 7252 sections 4.2 and 5.3.2).
 abbrev pub message_case : Scope → CoapMessage → Case
 message_case open_scope message =
     if is_request_code message.code then request_case open_scope message

@@ -1,24 +1,52 @@
 -- What private functions owe one another; no public contract rests on it.
-use Rattle.std.specs.Prelude.{◌≡◌, ◌<◌, ◌≤◌, if◌then◌else◌, List, length}
+use Rattle.std.specs.Prelude.{◌≡◌, ℕ, ◌<◌, ◌≤◌, ◌==◌, if◌then◌else◌, List, [], length, Option, Some, None, Result, Ok, Err}
+use Rattle.std.specs.FinMap as map
 use Rattle.std.specs.List.{All}
 use Rattle.std.specs.Option.{ForSome}
-use Rattle.osc_coap.specs.Message.{Message, Spells}
+use Rattle.osc_coap.specs.Message.{Message, Spells, spelling}
 use Rattle.osc_dedup.specs.Table.{Entry}
-use Rattle.osc_model.specs.Scope.{Scope}
+use Rattle.osc_model.specs.Apply.{apply_read}
+use Rattle.osc_model.specs.Tree.{Tree, payload_length}
 use Rattle.osc_model.specs.declared.bytes.Bytes.{Bytes}
+use Rattle.osc_model.specs.declared.code.Code.{Code}
+use Rattle.osc_model.specs.declared.node.Draw.{Draw}
+use Rattle.osc_model.specs.declared.node.Moment.{Moment}
 use Rattle.osc_model.specs.declared.node.Peer.{Peer}
 use Rattle.osc_model.specs.declared.reply.Reply.{Reply}
+use Rattle.osc_model.specs.declared.request.Request.{Request}
 use Rattle.osc_model.specs.declared.step.Datagram.{Datagram}
-use Rattle.osc_options.specs.Requests.{request_of}
-use Rattle.osc_server.specs.Case.{is_open_get}
+use Rattle.osc_authz.specs.Desk.{DeskState}
+use Rattle.osc_authz.specs.Held.{Held}
+use Rattle.osc_message.specs.Endpoint.{EndpointState}
+use Rattle.osc_protect.specs.Protection.{SealedRequest, IsProtectedResponse}
+use Rattle.osc_run.specs.ServerKinds.{Replies as AppliesTo}
+use Rattle.osc_run.specs.Texts.{read_request, IsWithinRanges}
+use Rattle.osc_server.specs.Table.{IsOpened, notes_of_request, reply_to}
 use Rattle.osc_server.specs.declared.case.Case.{Case}
-use Rattle.osc_server.specs.declared.case.Case.TheVariants.{OpenGet, Unauthorised}
+use Rattle.osc_server.specs.declared.case.Case.TheVariants.{OpenGet}
+use Rattle.osc_server.specs.declared.serving.Served.{Served}
 
--- a reply that fits a datagram, whatever the token
-pub record IsShort (reply : Reply) : Type 0 where
+-- a reply with a payload of at most so many bytes
+pub record IsReplyOf (most : ℕ) (reply : Reply) : Type 0 where
   pub code : 0 < reply.code.0
   pub etag : ForSome reply.etag (λ tag. length tag ≤ 8)
-  pub payload : length reply.payload ≤ 512
+  pub payload : length reply.payload ≤ most
+
+-- a reply that fits a datagram, whatever the token
+abbrev pub IsShort : Reply → Type 0
+IsShort reply = IsReplyOf 512 reply
+
+-- the most bytes of payload that the reply to a request has: those of the resource, where it is a GET
+abbrev pub read_length : Tree → Option (List ℕ) → ℕ
+read_length tree None = 0
+read_length tree (Some path) = payload_length (map.get tree path)
+
+abbrev pub request_reply_length : Tree → Request → ℕ
+request_reply_length tree request = if request.code.0 == 1 then read_length tree request.path else 0
+
+abbrev pub reply_length : Tree → Result Request Code → ℕ
+reply_length tree (Err code) = 0
+reply_length tree (Ok request) = request_reply_length tree request
 
 -- these bytes are a message
 abbrev pub IsMessage : Bytes → Type 0
@@ -28,10 +56,10 @@ IsMessage bytes = (message : Message) × Spells bytes message
 pub record KeepsMessages (seen : List Entry) : Type 0 where
   pub noted : All (λ entry. ForSome entry.noted.reply IsMessage) seen
 
--- which case a request is whose options are all understood
-abbrev pub unrefused_case : Scope → Message → Case
-unrefused_case open_scope message =
-    if is_open_get open_scope (request_of message) then OpenGet message (request_of message) else Unauthorised message
+-- nothing that the server sends waits for an acknowledgement
+pub record IsQuiet (endpoint : EndpointState) : Type 0 where
+  pub messages : KeepsMessages endpoint.seen
+  pub nothing_open : endpoint.sending ≡ []
 
 -- what goes to the tree is a GET
 abbrev pub AsksGet : Case → Type 0
@@ -43,3 +71,20 @@ pub record SendsTo (peer : Peer) (out : List Datagram) : Type 0 where
   pub one : length out ≤ 1
   pub messages : All (λ sent. (message : Message) × Spells sent.bytes message) out
   pub addressed : All (λ sent. sent.to ≡ peer) out
+
+-- What becomes of a request of this number that was opened to this text under a context: the tree, and the protected reply, for
+-- which there is room.
+pub record IsReplied (is_sealing : List ℕ → List ℕ → List ℕ → List ℕ → List ℕ → Type 0) (old : Tree) (endpoint : EndpointState) (now : Moment) (draw : Draw) (message : Message) (held : Held) (number : ℕ) (text : List ℕ) (served : Served) (new : Tree) : Type 0 where
+  pub reply : Reply
+  pub within : IsWithinRanges reply
+  pub applied : AppliesTo old (apply_read old held.scope (read_request text)) reply new
+  pub protected : IsProtectedResponse is_sealing held.name number None (reply_to endpoint draw message reply) served.answer
+  pub noted : served.notes ≡ notes_of_request now held number text reply
+  pub room : length (spelling served.answer) ≤ served.room
+
+-- the same of a request that came protected
+pub record IsServedAs (is_sealing : List ℕ → List ℕ → List ℕ → List ℕ → List ℕ → Type 0) (old : Tree) (desk : DeskState) (endpoint : EndpointState) (now : Moment) (draw : Draw) (message : Message) (request : SealedRequest) (served : Served) (new : Tree) : Type 0 where
+  pub held : Held
+  pub text : List ℕ
+  pub opened : IsOpened is_sealing desk now message request held text
+  pub replied : IsReplied is_sealing old endpoint now draw message held request.number text served new

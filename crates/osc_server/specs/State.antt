@@ -1,10 +1,18 @@
 -- What a server keeps.
 use Rattle.osc_model.specs.Tree.{Tree}
 use Rattle.osc_model.specs.Scope.{Scope}
+use Rattle.osc_authz.specs.Contexts.{of_tokens}
+use Rattle.osc_authz.specs.Desk.{DeskState}
 use Rattle.osc_message.specs.Endpoint.{EndpointState}
+use Rattle.osc_run.specs.States.{ServerState}
 
--- the resources, what needs no protection, and the message layer
+-- the resources, the security contexts with the desk that adds them, what needs no protection, and the message layer
 pub record State : Type 0 where
   pub tree : Tree
+  pub desk : DeskState
   pub open_scope : Scope
   pub endpoint : EndpointState
+
+-- what a run knows of it
+abbrev pub core : State → ServerState
+core state = record { contexts = of_tokens state.desk.table; tree = state.tree }

@@ -1,64 +1,211 @@
 -- What a server sends in each case, and what it keeps after it.
-use Rattle.std.specs.Prelude.{◌≡◌, List, [], ◌∷◌, Option, Some, None}
-use Rattle.osc_model.specs.Apply.{apply, MayReply}
+use Rattle.std.specs.Prelude.{◌≡◌, ℕ, List, [], ◌∷◌, Option, Some, None, Result, Ok, Err, codes, unwrap_or}
+use Rattle.osc_model.specs.Apply.{apply, apply_read, MayReply}
 use Rattle.osc_model.specs.Code.{code}
 use Rattle.osc_model.specs.Reply.{bare}
 use Rattle.osc_model.specs.Step.{sends}
+use Rattle.osc_model.specs.StepNotes.{StepNotes, quiet}
+use Rattle.osc_model.specs.Tree.{Tree}
 use Rattle.osc_model.specs.declared.bytes.Bytes.{Bytes}
+use Rattle.osc_model.specs.declared.code.Code.{Code}
+use Rattle.osc_model.specs.declared.context.Side.TheVariants.{Client}
 use Rattle.osc_model.specs.declared.node.Draw.{Draw}
 use Rattle.osc_model.specs.declared.node.Moment.{Moment}
 use Rattle.osc_model.specs.declared.node.Peer.{Peer}
 use Rattle.osc_model.specs.declared.reply.Reply.{Reply}
+use Rattle.osc_model.specs.declared.request.Request.{Request}
 use Rattle.osc_model.specs.declared.step.Datagram.{Datagram}
 use Rattle.osc_model.specs.declared.step.Step.{Step}
+use Rattle.osc_cbor.specs.Spelling.{spelling as item_spelling}
 use Rattle.osc_coap.specs.Message.{Message, spelling}
-use Rattle.osc_options.specs.Replies.{with_reply}
+use Rattle.osc_options.specs.Replies.{with_reply, with_error}
 use Rattle.osc_message.specs.declared.heard.Heard.TheVariants as heard
 use Rattle.osc_message.specs.declared.handling.Handling.TheVariants.{Dropped, Answered}
 use Rattle.osc_message.specs.Heard.{noted_reply}
 use Rattle.osc_message.specs.Endpoint.{EndpointState, settled}
 use Rattle.osc_message.specs.Sending.{reset, reply_start, replied}
+use Rattle.osc_context.specs.Derivation.{key_of}
+use Rattle.osc_window.specs.Window.{IsFresh}
+use Rattle.osc_protect.specs.Aad.{aad_of}
+use Rattle.osc_protect.specs.Protection.{SealedRequest, IsRequest, IsProtectedResponse, request_nonce}
+use Rattle.osc_authz.specs.Desk.{DeskState}
+use Rattle.osc_authz.specs.Exchange.{answer_item}
+use Rattle.osc_authz.specs.Held.{Held}
+use Rattle.osc_authz.specs.Post.{Posts, code_of}
+use Rattle.osc_authz.specs.Table.{meant, accepted}
+use Rattle.osc_authz.specs.declared.error.PostError.{PostError}
+use Rattle.osc_authz.specs.declared.post.Post.{Post}
+use Rattle.osc_authz.specs.declared.post.PostAnswer.{PostAnswer}
+use Rattle.osc_run.specs.ServerKinds.{opening_note, reply_note, Replies as AppliesTo}
+use Rattle.osc_run.specs.Texts.{read_request, IsWithinRanges}
 use Rattle.osc_server.specs.State.{State}
 use Rattle.osc_server.specs.declared.case.Case.{Case}
-use Rattle.osc_server.specs.declared.case.Case.TheVariants.{Ignored, Reset, Repeated, Empty, BadOption, ProxyAsked, OpenGet, Unauthorised}
+use Rattle.osc_server.specs.declared.case.Case.TheVariants.{Ignored, Reset, Repeated, Empty, BadOption, ProxyAsked, Protected, Posted, NotPosted, OpenGet, Unauthorised}
+use Rattle.osc_server.specs.declared.refusal.Refusal.{Refusal}
+use Rattle.osc_server.specs.declared.refusal.Refusal.TheVariants.{Malformed, NoContext, Replayed, NotGenuine}
 
 -- the message as a datagram for the peer
 abbrev pub datagram : Peer → Message → Datagram
 datagram peer message = record { to = peer; bytes = spelling message }
 
--- ---- replies
+-- ---- answers to a new request
+
+-- the message layer once a request is answered: the answer is noted for a repeat; where it is a message of the server's own, that
+-- message's ID is taken
+abbrev pub answered : EndpointState → Moment → Peer → Draw → Message → Message → EndpointState
+answered endpoint now from draw request answer =
+    settled (replied draw request endpoint) now from (heard.Message request) (Answered (Some (spelling answer)))
+
+-- a new request is answered once, by this message: it goes out, this much is noted of the step, and resources and desk are these
+pub record Sends (old : State) (now : Moment) (from : Peer) (draw : Draw) (request answer : Message) (notes : StepNotes) (tree : Tree) (desk : DeskState) (step : Step) (new : State) : Type 0 where
+  pub sent : step ≡ record { out = datagram from answer ∷ []; notes = notes }
+  pub kept : new ≡ record { tree = tree; desk = desk; open_scope = old.open_scope; endpoint = answered old.endpoint now from draw request answer }
 
 -- the message that carries the reply: the acknowledgement of a confirmable request (RFC 7252 section 5.2.1), and a message of
 -- the server's own for another (section 5.2.3)
 abbrev pub reply_to : EndpointState → Draw → Message → Reply → Message
 reply_to endpoint draw request reply = with_reply (reply_start draw endpoint.next_id request reply.code.0) reply
 
--- a new request is answered once: the reply goes out, and is noted for a repeat; where it is in a message of the server's own,
--- that message's ID is taken
-pub record Replies (old : State) (now : Moment) (from : Peer) (draw : Draw) (request : Message) (reply : Reply) (step : Step) (new : State) : Type 0 where
-  pub sent : step ≡ sends (datagram from (reply_to old.endpoint draw request reply) ∷ [])
-  pub kept : new ≡ record old {
-    endpoint = settled (replied draw request old.endpoint) now from (heard.Message request)
-        (Answered (Some (spelling (reply_to old.endpoint draw request reply))));
-  }
+-- a reply without protection, and nothing else
+abbrev pub Replies : State → Moment → Peer → Draw → Message → Reply → Step → State → Type 0
+Replies old now from draw request reply step new =
+    Sends old now from draw request (reply_to old.endpoint draw request reply) quiet old.tree old.desk step new
 
--- ---- the table
+-- a GET on an open path is answered as the machine answers it under the open scope, or for want of memory with 5.00
+pub record AnswersGet (old : State) (now : Moment) (from : Peer) (draw : Draw) (message : Message) (request : Request) (step : Step) (new : State) : Type 0 where
+  pub reply : Reply
+  pub may : MayReply (apply old.tree old.open_scope request) reply
+  pub replies : Replies old now from draw message reply step new
 
 -- the bytes that answered a repeated message go out again, where it was answered
 abbrev pub again : Peer → Option Bytes → List Datagram
 again from None = []
 again from (Some bytes) = (record { to = from; bytes = bytes }) ∷ []
 
--- 4.02 Bad Option, 5.05 Proxying Not Supported and 4.01 Unauthorized go without payload. A GET on an open path is
--- answered as the machine answers it under the open scope, or for want of memory with 5.00; nothing else of the tree goes out.
-abbrev pub Answers : State → Moment → Peer → Draw → Case → Step → State → Type 0
-Answers old now from draw Ignored step new = (step ≡ sends []) × (new ≡ old)
-Answers old now from draw (Reset id) step new = (step ≡ sends (datagram from (reset id) ∷ [])) × (new ≡ old)
-Answers old now from draw (Repeated id) step new = (step ≡ sends (again from (noted_reply old.endpoint.seen now from id))) × (new ≡ old)
-Answers old now from draw (Empty kind id) step new =
-    (step ≡ sends []) × (new ≡ record old { endpoint = settled old.endpoint now from (heard.Empty kind id) Dropped })
-Answers old now from draw (BadOption message) step new = Replies old now from draw message (bare (code 4 2)) step new
-Answers old now from draw (ProxyAsked message) step new = Replies old now from draw message (bare (code 5 5)) step new
-Answers old now from draw (OpenGet message request) step new =
-    (reply : Reply) × MayReply (apply old.tree old.open_scope request) reply × Replies old now from draw message reply step new
-Answers old now from draw (Unauthorised message) step new = Replies old now from draw message (bare (code 4 1)) step new
+-- ---- posts to authz-info
+
+-- 2.01 with the nonce and the recipient ID of the server as application/ace+cbor (RFC 9203 section 4.2), or the code of the
+-- refusal (RFC 9200 section 5.10.1)
+abbrev pub post_reply : Result PostAnswer PostError → Reply
+post_reply (Ok answer) = record {
+  code = code 2 1;
+  etag = None;
+  format = Some 19;
+  payload = item_spelling (answer_item answer.nonce2 (answer.recipient_id ∷ []));
+}
+post_reply (Err error) = bare (code_of error)
+
+-- the nonce that a post drew: where it made a context
+abbrev pub nonce_of_post : Result PostAnswer PostError → Option (List ℕ)
+nonce_of_post (Ok answer) = Some answer.nonce2
+nonce_of_post (Err error) = None
+
+abbrev pub notes_of_post : Post → StepNotes
+notes_of_post post = record quiet { opens = post.opened; drawn = nonce_of_post post.answer }
+
+-- ---- protected requests
+
+-- What a request that isn't served is told, without protection (RFC 8613 section 8.2): a code, a Max-Age, and a text.
+abbrev pub refusal_code : Refusal → Code
+refusal_code Malformed = code 4 2
+refusal_code NoContext = code 4 1
+refusal_code Replayed = code 4 1
+refusal_code NotGenuine = code 4 0
+
+abbrev pub refusal_age : Refusal → Option ℕ
+refusal_age Malformed = None
+refusal_age NoContext = Some 0
+refusal_age Replayed = Some 0
+refusal_age NotGenuine = None
+
+abbrev pub refusal_text : Refusal → List ℕ
+refusal_text Malformed = codes "Failed to decode COSE"
+refusal_text NoContext = codes "Security context not found"
+refusal_text Replayed = codes "Replay detected"
+refusal_text NotGenuine = codes "Decryption failed"
+
+abbrev pub refusal_to : EndpointState → Draw → Message → Refusal → Message
+refusal_to endpoint draw request refusal =
+    with_error (reply_start draw endpoint.next_id request (refusal_code refusal).0) (refusal_code refusal).0 (refusal_age refusal) (refusal_text refusal)
+
+-- the request says this, and there is a live context that it means
+pub record IsMeant (desk : DeskState) (now : Moment) (message : Message) (request : SealedRequest) (held : Held) : Type 0 where
+  pub is_request : IsRequest message request
+  pub is_meant : meant now request.kid request.kid_context desk.table ≡ Some held
+
+-- what is noted of a request that is served
+abbrev pub notes_of_request : Moment → Held → ℕ → List ℕ → Reply → StepNotes
+notes_of_request now held number text reply = record quiet {
+  seals = Some (reply_note held.name number reply);
+  opens = Some (opening_note held.name number text);
+  served = Some (record { context = held.name; number = number; plaintext = text; moment = now; reply = reply });
+}
+
+-- `is_sealing key nonce aad text sealed` is the cipher's relation
+module _ (is_sealing : List ℕ → List ℕ → List ℕ → List ℕ → List ℕ → Type 0) where
+  -- this text is sealed in it
+  abbrev pub IsSealed : Held → SealedRequest → List ℕ → Type 0
+  IsSealed held request text =
+      is_sealing (key_of held.name Client) (request_nonce held.name request.number) (aad_of held.name request.number) text request.sealed
+
+  -- why a protected request isn't served: the first of these that stands (RFC 8613 section 8.2)
+  abbrev pub IsRefused : DeskState → Moment → Message → Refusal → Type 0
+  IsRefused desk now message Malformed = (request : SealedRequest) → ¬ IsRequest message request
+  IsRefused desk now message NoContext =
+      (request : SealedRequest) × IsRequest message request × (meant now request.kid request.kid_context desk.table ≡ None)
+  IsRefused desk now message Replayed =
+      (request : SealedRequest) × (held : Held) × IsMeant desk now message request held × (¬ IsFresh held.window request.number)
+  IsRefused desk now message NotGenuine =
+      (request : SealedRequest) × (held : Held) × IsMeant desk now message request held × IsFresh held.window request.number
+      × ((text : List ℕ) → ¬ IsSealed held request text)
+
+  -- the request opens to this text, under a context that it means, at a fresh number
+  pub record IsOpened (desk : DeskState) (now : Moment) (message : Message) (request : SealedRequest) (held : Held) (text : List ℕ) : Type 0 where
+    pub meant : IsMeant desk now message request held
+    pub fresh : IsFresh held.window request.number
+    pub opens : IsSealed held request text
+
+  -- A request that opens is applied to the resources under its context's scope, and answered under its own nonce (section 8.3).
+  -- The context's window takes its number, and the context is confirmed.
+  pub record Serves (old : State) (now : Moment) (from : Peer) (draw : Draw) (message : Message) (step : Step) (new : State) : Type 0 where
+    pub request : SealedRequest
+    pub held : Held
+    pub text : List ℕ
+    pub opened : IsOpened old.desk now message request held text
+    pub reply : Reply
+    pub within : IsWithinRanges reply
+    pub applied : AppliesTo old.tree (apply_read old.tree held.scope (read_request text)) reply new.tree
+    pub answer : Message
+    pub protected : IsProtectedResponse is_sealing held.name request.number None (reply_to old.endpoint draw message reply) answer
+    pub sent : Sends old now from draw message answer (notes_of_request now held request.number text reply) new.tree
+        (record old.desk { table = accepted request.kid request.number old.desk.table }) step new
+
+  pub data AnswersProtected (old : State) (now : Moment) (from : Peer) (draw : Draw) (message : Message) (step : Step) (new : State) : Type 0 where
+    refused : (refusal : Refusal) → IsRefused old.desk now message refusal
+        → Sends old now from draw message (refusal_to old.endpoint draw message refusal) quiet old.tree old.desk step new
+        → AnswersProtected old now from draw message step new
+    served : Serves old now from draw message step new → AnswersProtected old now from draw message step new
+
+  -- a post is judged by the desk, whose answer goes out
+  pub record AnswersPost (old : State) (now : Moment) (from : Peer) (draw : Draw) (message : Message) (step : Step) (new : State) : Type 0 where
+    pub post : Post
+    pub posts : Posts is_sealing old.desk now (unwrap_or message.payload []) draw post new.desk
+    pub sent : Sends old now from draw message (reply_to old.endpoint draw message (post_reply post.answer)) (notes_of_post post) old.tree new.desk step new
+
+  -- ---- the table
+
+  -- 4.02 Bad Option, 5.05 Proxying Not Supported, 4.05 Method Not Allowed and 4.01 Unauthorized go without payload. Of the tree
+  -- nothing goes out unprotected but what answers a GET on an open path.
+  abbrev pub Answers : State → Moment → Peer → Draw → Case → Step → State → Type 0
+  Answers old now from draw Ignored step new = (step ≡ sends []) × (new ≡ old)
+  Answers old now from draw (Reset id) step new = (step ≡ sends (datagram from (reset id) ∷ [])) × (new ≡ old)
+  Answers old now from draw (Repeated id) step new = (step ≡ sends (again from (noted_reply old.endpoint.seen now from id))) × (new ≡ old)
+  Answers old now from draw (Empty kind id) step new =
+      (step ≡ sends []) × (new ≡ record old { endpoint = settled old.endpoint now from (heard.Empty kind id) Dropped })
+  Answers old now from draw (BadOption message) step new = Replies old now from draw message (bare (code 4 2)) step new
+  Answers old now from draw (ProxyAsked message) step new = Replies old now from draw message (bare (code 5 5)) step new
+  Answers old now from draw (Protected message) step new = AnswersProtected old now from draw message step new
+  Answers old now from draw (Posted message) step new = AnswersPost old now from draw message step new
+  Answers old now from draw (NotPosted message) step new = Replies old now from draw message (bare (code 4 5)) step new
+  Answers old now from draw (OpenGet message request) step new = AnswersGet old now from draw message request step new
+  Answers old now from draw (Unauthorised message) step new = Replies old now from draw message (bare (code 4 1)) step new

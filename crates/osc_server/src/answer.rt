@@ -3,13 +3,14 @@ ghost use Rattle.std.specs.Prelude.{◌≡◌, [], ◌∷◌, IfOk};
 ghost use Rattle.osc_coap.specs.Message.{HasSpelling, spelling};
 ghost use Rattle.osc_model.specs.Step.{sends};
 ghost use Rattle.osc_server.specs.Parts.{IsShort};
-ghost use Rattle.osc_server.specs.Table.{datagram, reply_to as reply_to_of};
+ghost use Rattle.osc_server.specs.Table.{datagram, reply_to as reply_to_of, refusal_to as refusal_to_of};
 
+use crate::refusal::Refusal;
 use osc_coap::laws::length_of_spelling;
 use osc_coap::{MessageBuilder, MessageRef};
-use osc_message::{Endpoint, ReplyRoom, reply_kind};
+use osc_message::{Endpoint, reply_kind};
 use osc_model::{Bytes, Datagram, Datagrams, Draw, Peer, Reply, Step};
-use osc_options::reply_message;
+use osc_options::{error_message, reply_message};
 use std::alloc::{AllocError, Global};
 
 /// The message that carries the reply: the acknowledgement of a confirmable request (RFC 7252 section 5.2.1), and a message
@@ -29,6 +30,29 @@ pub fn reply_to(
     reply_message(kind, id, request.token(), reply).unwrap()
 }
 
+/// The message that says why a protected request isn't served.
+pub fn refusal_to(
+    endpoint: &Endpoint,
+    draw: &Draw,
+    request: &MessageRef<'_>,
+    refusal: Refusal,
+) -> MessageBuilder
+    ensures { result ≡ refusal_to_of endpoint.now draw.now request.now refusal }
+{
+    length_of_spelling();
+    let kind = reply_kind(request.kind());
+    let id = endpoint.reply_id(draw, request);
+    error_message(
+        kind,
+        id,
+        request.token(),
+        refusal.code(),
+        refusal.max_age(),
+        refusal.text(),
+    )
+    .unwrap()
+}
+
 /// The step that sends these bytes to the peer.
 pub fn sending_bytes(alloc: Global, to: Peer, bytes: Bytes) -> Result<Step, AllocError>
     ensures { IfOk result (λ step. step ≡ sends ((record { to = to; bytes = bytes }) ∷ [])) }
@@ -45,20 +69,4 @@ pub fn sending(alloc: Global, to: Peer, message: &MessageBuilder) -> Result<Step
 {
     let bytes = Bytes::from_slice(alloc, message.bytes())?;
     sending_bytes(alloc, to, bytes)
-}
-
-/// The step that sends this message to the peer, and its bytes once more, to be noted.
-pub fn sending_and_noted(
-    alloc: Global,
-    to: Peer,
-    message: &MessageBuilder,
-) -> Result<(Step, Bytes), AllocError>
-    ensures sent { IfOk result (λ both. both.0 ≡ sends (datagram to message.now ∷ [])) }
-    ensures noted { IfOk result (λ both. both.1 ≡ spelling message.now) }
-    ensures lawful { IfOk result (λ _. HasSpelling message.now) }
-{
-    let bytes = message.bytes();
-    let room = ReplyRoom::new(alloc, bytes.len())?;
-    let (out, noted) = room.fill(to, bytes);
-    Ok((Step::sending(out), noted))
 }

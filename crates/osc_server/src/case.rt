@@ -1,13 +1,13 @@
 //! Which case a datagram is.
-ghost use Rattle.std.specs.Prelude.{◌≡◌, ◌||◌, is_some, if◌then◌else◌, IfOk, OnErr, IsTrue};
+ghost use Rattle.std.specs.Prelude.{◌≡◌, ◌||◌, is_some, option_map, if◌then◌else◌, IfOk, OnErr, IsTrue};
 ghost use Rattle.osc_options.specs.Requests.{request_of};
 ghost use Rattle.osc_options.specs.Recognised.{unrecognised_critical};
 ghost use Rattle.osc_server.specs.Case as spec;
-ghost use Rattle.osc_server.specs.Parts.{AsksGet, unrefused_case as spec_unrefused};
+ghost use Rattle.osc_server.specs.Parts.{AsksGet};
 
 use osc_coap::{Kind, MessageRef, is_request_code};
 use osc_message::{Heard, is_confirmable};
-use osc_model::Request;
+use osc_model::{Path, Request};
 use osc_options::numbers::{OSCORE, PROXY_SCHEME, PROXY_URI};
 use osc_options::{has_option, request_of_message, unrecognised_critical};
 use osc_scope::{Scope, Verdict};
@@ -28,13 +28,34 @@ pub enum Case<'a> {
     BadOption(MessageRef<'a>),
     /// A request that wants a proxy.
     ProxyAsked(MessageRef<'a>),
+    /// A protected request.
+    Protected(MessageRef<'a>),
+    /// An unprotected POST to authz-info.
+    Posted(MessageRef<'a>),
+    /// An unprotected request to authz-info with another method.
+    NotPosted(MessageRef<'a>),
     /// An unprotected GET that the open scope grants.
     OpenGet(MessageRef<'a>, Request),
-    /// Any other unprotected request.
+    /// Another unprotected request.
     Unauthorised(MessageRef<'a>),
 }
 
 const GET: u8 = 1;
+
+const POST: u8 = 2;
+
+/// The path at which tokens are posted (RFC 9200 section 5.10.1).
+const AUTHZ_INFO: &[u8] = b"/authz-info";
+
+/// Whether this is the path of authz-info.
+fn is_authz_info(path: Option<&Path>) -> bool
+    ensures { result ≡ spec.is_authz_info (option_map (λ path. path.now) path.entry) }
+{
+    match path {
+        Some(path) => path.text() == AUTHZ_INFO,
+        None => false,
+    }
+}
 
 /// Whether the request is a GET that the open scope grants.
 fn is_open(open_scope: &Scope, request: &Request) -> bool
@@ -71,27 +92,25 @@ fn asks_proxy(message: &MessageRef<'_>) -> bool
     has_option(message, PROXY_URI) || has_option(message, PROXY_SCHEME)
 }
 
-/// Which case a request is whose options are all understood.
-fn unrefused_case<'a>(
-    alloc: Global,
-    open_scope: &Scope,
-    message: MessageRef<'a>,
-) -> Result<Case<'a>, AllocError>
-    ensures case { IfOk result (λ case. case ≡ spec_unrefused open_scope.now message.entry) }
-    ensures get { IfOk result AsksGet }
+/// Which case an unprotected request is that wants no proxy.
+fn unprotected_case<'a>(open_scope: &Scope, message: MessageRef<'a>, request: Request) -> Case<'a>
+    ensures case { result ≡ spec.unprotected_case open_scope.now message.entry request }
+    ensures get { AsksGet result }
 {
-    if message.code() != GET {
-        return Ok(Case::Unauthorised(message));
-    }
-    let request = request_of_message(alloc, &message)?;
-    if is_open(open_scope, &request) {
-        Ok(Case::OpenGet(message, request))
+    if is_authz_info(request.path.as_ref()) {
+        if request.code.0 == POST {
+            Case::Posted(message)
+        } else {
+            Case::NotPosted(message)
+        }
+    } else if is_open(open_scope, &request) {
+        Case::OpenGet(message, request)
     } else {
-        Ok(Case::Unauthorised(message))
+        Case::Unauthorised(message)
     }
 }
 
-#[tactic(auto, using(crate::proofs::Cases::unrefused_answered))]
+#[tactic(auto, using(crate::proofs::Cases::unprotected_answered))]
 fn request_case<'a>(
     alloc: Global,
     open_scope: &Scope,
@@ -106,9 +125,10 @@ fn request_case<'a>(
     } else if asks_proxy(&message) {
         Ok(Case::ProxyAsked(message))
     } else if has_option(&message, OSCORE) {
-        Ok(refused_option(message))
+        Ok(Case::Protected(message))
     } else {
-        unrefused_case(alloc, open_scope, message)
+        let request = request_of_message(alloc, &message)?;
+        Ok(unprotected_case(open_scope, message, request))
     }
 }
 
@@ -130,7 +150,7 @@ fn message_case<'a>(
     }
 }
 
-/// Which case it is. A request's path and payload take memory where the code and the options don't refuse it; without
+/// Which case it is. The path and the payload of an unprotected request take memory where the options don't refuse it; without
 /// it an `AllocError`.
 pub fn case_of<'a>(
     alloc: Global,

@@ -1,10 +1,14 @@
-//! A CoAP server (RFC 7252): one datagram in, its step out. Which case a datagram is stands in `specs/Case.antt`, and
+//! A resource server: CoAP (RFC 7252), tokens at authz-info (RFC 9203) and OSCORE (RFC 8613). One datagram in, its step out. Which case a datagram is stands in `specs/Case.antt`, and
 //! what is sent in each, and kept after it, in `specs/Table.antt`.
 #![tactic(auto)]
 
 mod answer;
 mod case;
+mod posting;
+mod refusal;
 mod server;
+mod serving;
 
 pub use case::Case;
+pub use refusal::Refusal;
 pub use server::Server;

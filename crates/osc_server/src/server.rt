@@ -1,41 +1,55 @@
 //! The server.
-ghost use Rattle.std.specs.Prelude.{◌≡◌, ◌≤◌, ◌<◌, [], ◌∷◌, length, IfOk, OnErr};
+ghost use Rattle.std.specs.Prelude.{◌≡◌, ◌≤◌, ◌<◌, [], ◌∷◌, length, IsOk, IfOk, OnErr};
 ghost use Rattle.std.specs.List.{All};
-ghost use Rattle.osc_coap.specs.Message.{Message, Spells};
+ghost use Rattle.osc_authz.specs.Table.{IsTable, accepted};
+ghost use Rattle.osc_coap.specs.Message.{Message, HasSpelling, Spells, spelling};
 ghost use Rattle.osc_message.specs.declared.handling.Handling.TheVariants.{Dropped};
 ghost use Rattle.osc_message.specs.declared.heard.Heard.TheVariants as heard;
-ghost use Rattle.osc_message.specs.Endpoint.{fresh, settled};
+ghost use Rattle.osc_message.specs.Endpoint.{after_tick, fresh, settled};
 ghost use Rattle.osc_message.specs.Heard.{heard as heard_as, noted_reply as noted_reply_of};
 ghost use Rattle.osc_message.specs.Received.{Receives};
 ghost use Rattle.osc_message.specs.declared.received.Received.{Received as AnyReceived};
 ghost use Rattle.osc_model.specs.Apply.{apply, MayReply};
 ghost use Rattle.osc_model.specs.Reply.{bare};
 ghost use Rattle.osc_model.specs.Step.{sends};
+ghost use Rattle.osc_model.specs.StepNotes.{quiet};
+ghost use Rattle.osc_model.specs.declared.node.Moment.{Moment as AnyMoment};
+ghost use Rattle.osc_run.specs.ServerKinds.{ServerStep};
 ghost use Rattle.osc_server.specs.Case.{IsAnswered, case_of as case_in};
-ghost use Rattle.osc_server.specs.Parts.{AsksGet, IsShort, SendsTo, KeepsMessages};
-ghost use Rattle.osc_server.specs.Table.{Answers, Replies, again};
+ghost use Rattle.osc_server.specs.Parts.{AsksGet, IsShort, SendsTo};
+ghost use Rattle.osc_server.specs.State.{core};
+ghost use Rattle.osc_server.specs.Table.{Answers, AnswersGet, AnswersPost, AnswersProtected, Replies, Sends, again, answered, datagram, refusal_to as refusal_to_of};
 
-use crate::answer::{reply_to, sending, sending_and_noted, sending_bytes};
+use crate::answer::{refusal_to, reply_to, sending, sending_bytes};
 use crate::case::{Case, case_of};
-use osc_coap::{Kind, MessageRef};
-use osc_message::{Endpoint, Handling, Heard, reset};
-use osc_model::{Code, Datagrams, Draw, Moment, Peer, Reply, Request, Step};
+use crate::posting::{POST_ANSWER, POST_PAYLOAD, notes_of, post_answer};
+use crate::refusal::Refusal;
+use crate::serving::{Served, serve};
+use osc_authz::{Post, ServerDesk};
+use osc_ccm::Aead;
+use osc_coap::{Kind, MessageBuilder, MessageRef};
+use osc_message::{Buffer, Endpoint, Handling, Heard, ReplyRoom, reset};
+use osc_model::{Code, Datagrams, Draw, Moment, Peer, Reply, Request, Step, StepNotes};
+use osc_protect::read_request;
+use osc_run::kinds;
 use osc_scope::Scope;
 use osc_tree::Tree;
 use std::alloc::{AllocError, Global};
 use std::marker::Model;
 
-/// A server: its resources, the scope of what needs no protection, of which GETs alone count, and its message layer.
+/// A server: its resources, the desk at authz-info with the security contexts, the scope of what needs no protection, of which
+/// GETs alone count, and its message layer.
 #[derive(Drop)]
 pub struct Server {
     tree: Tree,
+    desk: ServerDesk,
     open_scope: Scope,
     endpoint: Endpoint,
 }
 
 impl Model for Server {
     ghost use Rattle.osc_server.specs.State.{State};
-    ghost use Rattle.osc_server.specs.Parts.{KeepsMessages};
+    ghost use Rattle.osc_server.specs.Parts.{IsQuiet};
     ghost use Rattle.std.specs.Coded.{codes};
     ghost use Rattle.osc_model.specs.Scope.{coded_scope};
     ghost use Rattle.osc_model.specs.Tree.{coded_tree};
@@ -44,20 +58,26 @@ impl Model for Server {
 
     ghost coded = { Prim.hlevel (codes, coded_scope, coded_tree) };
 
-    ghost view = { λ s. record { tree = s.tree; open_scope = s.open_scope; endpoint = s.endpoint } };
+    ghost view = { λ s. record { tree = s.tree; desk = s.desk; open_scope = s.open_scope; endpoint = s.endpoint } };
 
-    ghost invariant = { λ s. KeepsMessages s.endpoint.seen };
+    ghost invariant = { λ s. IsQuiet s.endpoint };
 }
 
 impl Server {
-    /// A server of these resources, on which the open scope's GETs need no protection. It has heard nothing yet; the room
-    /// for what it hears is taken here.
-    pub fn new(alloc: Global, tree: Tree, open_scope: Scope) -> Result<Server, AllocError>
-        ensures { IfOk result (λ server. server ≡ record { tree = tree; open_scope = open_scope; endpoint = fresh }) }
+    /// A server of these resources, with this desk, on which the open scope's GETs need no protection. It has heard nothing yet;
+    /// the room for what it hears is taken here.
+    pub fn new(
+        alloc: Global,
+        tree: Tree,
+        desk: ServerDesk,
+        open_scope: Scope,
+    ) -> Result<Server, AllocError>
+        ensures { IfOk result (λ server. server ≡ record { tree = tree; desk = desk; open_scope = open_scope; endpoint = fresh }) }
     {
         let endpoint = Endpoint::new(alloc)?;
         Ok(Server {
             tree,
+            desk,
             open_scope,
             endpoint,
         })
@@ -73,11 +93,11 @@ impl Server {
     /// These bytes came from this peer at this moment as one datagram: the step that answers them. What is sent is at most
     /// one datagram, to that peer: a Reset, an acknowledgement with the reply, or a reply to a request that isn't
     /// confirmable. A request that is answered is noted, so that a repeat is answered by the same bytes. The draw gives the
-    /// first message ID of the server's own.
+    /// first message ID of the server's own, and the nonce of a post.
     ///
-    /// Without memory for it an `AllocError`, but for a GET on an open path, whose own want of memory is answered by 5.00;
-    /// then nothing has changed.
-    pub fn on_datagram(
+    /// Without memory for it an `AllocError`; then nothing has changed. But for the memory of the resources themselves, whose
+    /// want is answered by 5.00, to a GET on an open path and to a request that opened.
+    pub fn on_datagram<A: Aead>(
         &mut self,
         alloc: Global,
         now: Moment,
@@ -86,24 +106,32 @@ impl Server {
         draw: &Draw,
     ) -> Result<Step, AllocError>
         ensures answered { IfOk result (λ step. (received : AnyReceived) × Receives bytes.now received
-            × Answers self.old now from draw.now (case_in self.old.open_scope (heard_as self.old.endpoint.seen now from received)) step self.new) }
+            × Answers A.is_sealing self.old now from draw.now (case_in self.old.open_scope (heard_as self.old.endpoint.seen now from received)) step self.new) }
         ensures one { IfOk result (λ step. length step.out ≤ 1) }
         ensures messages { IfOk result (λ step. All (λ d. (m : Message) × Spells d.bytes m) step.out) }
         ensures addressed { IfOk result (λ step. All (λ d. d.to ≡ from) step.out) }
-        ensures same { (self.new.tree ≡ self.old.tree) × (self.new.open_scope ≡ self.old.open_scope) }
+        ensures kind { IfOk result (λ step. ServerStep (core self.old) now step.notes (core self.new)) }
+        ensures same { self.new.open_scope ≡ self.old.open_scope }
         ensures err { OnErr result (self.new ≡ self.old) }
 
         // What isn't answered takes no memory.
         ensures needs_memory { OnErr result ((received : AnyReceived) × Receives bytes.now received
             × IsAnswered (case_in self.old.open_scope (heard_as self.old.endpoint.seen now from received))) }
     {
+        kinds::posts_that_agree::<A>();
+        kinds::posts_that_are_refused::<A>();
+        kinds::requests_that_open();
+        drawn(draw);
+        self.desk.has_a_table();
         let heard = self.endpoint.on_datagram(now, from, bytes);
         let case = case_of(alloc, &self.open_scope, heard)?;
-        self.answer(alloc, now, from, draw, case)
+        let step = self.answer::<A>(alloc, now, from, draw, case)?;
+        self.desk.has_a_table();
+        Ok(step)
     }
 
     /// What is sent in this case.
-    fn answer(
+    fn answer<A: Aead>(
         &mut self,
         alloc: Global,
         now: Moment,
@@ -112,9 +140,9 @@ impl Server {
         case: Case<'_>,
     ) -> Result<Step, AllocError>
         requires { AsksGet case }
-        ensures answered { IfOk result (λ step. Answers self.old now from draw.now case.entry step self.new) }
+        ensures answered { IfOk result (λ step. Answers A.is_sealing self.old now from draw.now case.entry step self.new) }
         ensures sent { IfOk result (λ step. SendsTo from step.out) }
-        ensures same { (self.new.tree ≡ self.old.tree) × (self.new.open_scope ≡ self.old.open_scope) }
+        ensures same { self.new.open_scope ≡ self.old.open_scope }
         ensures err { OnErr result (self.new ≡ self.old) }
         ensures needs_memory { OnErr result (IsAnswered case.entry) }
     {
@@ -137,9 +165,13 @@ impl Server {
                 request,
                 Code::PROXYING_NOT_SUPPORTED,
             ),
+            Case::Protected(request) => self.protected::<A>(alloc, now, from, draw, request),
+            Case::Posted(request) => self.posted::<A>(alloc, now, from, draw, request),
+            Case::NotPosted(request) => {
+                self.refuse(alloc, now, from, draw, request, Code::METHOD_NOT_ALLOWED)
+            }
             Case::OpenGet(message, request) => {
-                let reply = self.read(alloc, &request);
-                self.reply(alloc, now, from, draw, message, &reply)
+                self.get(alloc, now, from, draw, message, &request)
             }
             Case::Unauthorised(request) => {
                 self.refuse(alloc, now, from, draw, request, Code::UNAUTHORIZED)
@@ -153,6 +185,26 @@ impl Server {
     {
         self.endpoint
             .settle(now, from, &Heard::Empty(kind, id), Handling::Dropped);
+    }
+
+    /// Answers a GET on an open path.
+    fn get(
+        &mut self,
+        alloc: Global,
+        now: Moment,
+        from: Peer,
+        draw: &Draw,
+        message: MessageRef<'_>,
+        request: &Request,
+    ) -> Result<Step, AllocError>
+        requires { request.now.code.0 ≡ 1 }
+        ensures answered { IfOk result (λ step. AnswersGet self.old now from draw.now message.entry request.now step self.new) }
+        ensures sent { IfOk result (λ step. SendsTo from step.out) }
+        ensures same { self.new.open_scope ≡ self.old.open_scope }
+        ensures err { OnErr result (self.new ≡ self.old) }
+    {
+        let reply = self.read(alloc, request);
+        self.reply(alloc, now, from, draw, message, &reply)
     }
 
     /// The reply to a GET on an open path; the server stays as it is.
@@ -194,7 +246,7 @@ impl Server {
         self.reply(alloc, now, from, draw, request, &Reply::bare(alloc, code))
     }
 
-    /// Answers the request, and notes the answer for a repeat.
+    /// Answers the request with an unprotected reply.
     fn reply(
         &mut self,
         alloc: Global,
@@ -209,8 +261,46 @@ impl Server {
         ensures sent { IfOk result (λ step. SendsTo from step.out) }
         ensures err { OnErr result (self.new ≡ self.old) }
     {
-        let message = reply_to(&self.endpoint, draw, &request, reply);
-        let (step, noted) = sending_and_noted(alloc, from, &message)?;
+        let answer = reply_to(&self.endpoint, draw, &request, reply);
+        self.send_quietly(alloc, now, from, draw, request, &answer)
+    }
+
+    /// Answers the request with this message; nothing else comes of it.
+    fn send_quietly(
+        &mut self,
+        alloc: Global,
+        now: Moment,
+        from: Peer,
+        draw: &Draw,
+        request: MessageRef<'_>,
+        answer: &MessageBuilder,
+    ) -> Result<Step, AllocError>
+        ensures sends { IfOk result (λ step.
+            Sends self.old now from draw.now request.entry answer.now quiet self.old.tree self.old.desk step self.new) }
+        ensures sent { IfOk result (λ step. SendsTo from step.out) }
+        ensures err { OnErr result (self.new ≡ self.old) }
+    {
+        let room = ReplyRoom::new(alloc, answer.bytes().len())?;
+        Ok(self.send(room, now, from, draw, request, answer, StepNotes::quiet()))
+    }
+
+    /// Answers the request with this message, for which there is room, and notes it for a repeat; takes no memory.
+    fn send(
+        &mut self,
+        room: ReplyRoom,
+        now: Moment,
+        from: Peer,
+        draw: &Draw,
+        request: MessageRef<'_>,
+        answer: &MessageBuilder,
+        notes: StepNotes,
+    ) -> Step
+        requires { length (spelling answer.now) ≤ room }
+        ensures step { result ≡ record { out = datagram from answer.now ∷ []; notes = notes } }
+        ensures kept { self.new ≡ record self.old { endpoint = answered self.old.endpoint now from draw.now request.entry answer.now } }
+        ensures sent { SendsTo from result.out }
+    {
+        let (out, noted) = room.fill(from, answer.bytes());
         self.endpoint.take_reply_id(draw, &request);
         self.endpoint.settle(
             now,
@@ -218,8 +308,127 @@ impl Server {
             &Heard::Message(request),
             Handling::Answered(Some(noted)),
         );
-        Ok(step)
+        Step { out, notes }
     }
+
+    /// Judges a post to authz-info, and answers it. All memory is taken before the desk changes.
+    fn posted<A: Aead>(
+        &mut self,
+        alloc: Global,
+        now: Moment,
+        from: Peer,
+        draw: &Draw,
+        request: MessageRef<'_>,
+    ) -> Result<Step, AllocError>
+        ensures answered { IfOk result (λ step. AnswersPost A.is_sealing self.old now from draw.now request.entry step self.new) }
+        ensures sent { IfOk result (λ step. SendsTo from step.out) }
+        ensures same { self.new.open_scope ≡ self.old.open_scope }
+        ensures err { OnErr result (self.new ≡ self.old) }
+    {
+        let payload = Buffer::new(alloc, POST_PAYLOAD)?;
+        let room = ReplyRoom::new(alloc, POST_ANSWER)?;
+        let body = request.payload().unwrap_or(&[]);
+        let Post { opened, answer } = self.desk.post::<A>(alloc, now, body, draw)?;
+        let message = post_answer(alloc, payload, &self.endpoint, draw, &request, answer);
+        Ok(self.send(
+            room,
+            now,
+            from,
+            draw,
+            request,
+            &message,
+            notes_of(opened, answer),
+        ))
+    }
+
+    /// Answers a protected request. The number is taken last, once nothing can fail.
+    fn protected<A: Aead>(
+        &mut self,
+        alloc: Global,
+        now: Moment,
+        from: Peer,
+        draw: &Draw,
+        message: MessageRef<'_>,
+    ) -> Result<Step, AllocError>
+        ensures answered { IfOk result (λ step. AnswersProtected A.is_sealing self.old now from draw.now message.entry step self.new) }
+        ensures sent { IfOk result (λ step. SendsTo from step.out) }
+        ensures same { self.new.open_scope ≡ self.old.open_scope }
+        ensures err { OnErr result (self.new ≡ self.old) }
+    {
+        let Ok(request) = read_request(&message) else {
+            return self.complain(alloc, now, from, draw, message, Refusal::Malformed);
+        };
+        match serve::<A>(
+            alloc,
+            now,
+            &self.desk,
+            &mut self.tree,
+            &self.endpoint,
+            draw,
+            &message,
+            &request,
+        )? {
+            Ok(
+                Served {
+                    answer,
+                    notes,
+                    room,
+                },
+            ) => {
+                self.desk.accept(request.kid(), request.number());
+                Ok(self.send(room, now, from, draw, message, &answer, notes))
+            }
+            Err(refusal) => self.complain(alloc, now, from, draw, message, refusal),
+        }
+    }
+
+    /// Says why a protected request isn't served.
+    fn complain(
+        &mut self,
+        alloc: Global,
+        now: Moment,
+        from: Peer,
+        draw: &Draw,
+        message: MessageRef<'_>,
+        refusal: Refusal,
+    ) -> Result<Step, AllocError>
+        ensures sends { IfOk result (λ step. Sends self.old now from draw.now message.entry
+            (refusal_to_of self.old.endpoint draw.now message.entry refusal) quiet self.old.tree self.old.desk step self.new) }
+        ensures sent { IfOk result (λ step. SendsTo from step.out) }
+        ensures err { OnErr result (self.new ≡ self.old) }
+    {
+        let answer = refusal_to(&self.endpoint, draw, &message, refusal);
+        self.send_quietly(alloc, now, from, draw, message, &answer)
+    }
+
+    /// Lets the notes of what was heard go whose lifetime has ended. Nothing that a server sends waits for an acknowledgement, so
+    /// nothing is sent, and no memory is taken.
+    pub fn on_tick(&mut self, alloc: Global, now: Moment) -> Result<Step, AllocError>
+        ensures sent { IfOk result (λ step. step ≡ sends []) }
+        ensures kept { IfOk result (λ _. self.new ≡ record self.old { endpoint = after_tick now self.old.endpoint }) }
+        ensures kind { IfOk result (λ step. ServerStep (core self.old) now step.notes (core self.new)) }
+        ensures never { IsOk result }
+    {
+        let ticked = self.endpoint.on_tick(alloc, now)?;
+        Ok(Step::sending(ticked.out))
+    }
+
+    /// Starts again: forgets the security contexts and what was heard, and keeps resources, open scope, key and audience. Takes no
+    /// memory.
+    pub fn restart(&mut self)
+        ensures kind { (now : AnyMoment) → ServerStep (core self.old) now quiet (core self.new) }
+        ensures restarted { self.new ≡ record self.old { desk = record self.old.desk { table = [] }; endpoint = fresh } }
+    {
+        self.desk.clear();
+        self.endpoint.clear();
+    }
+}
+
+/// For proofs: how many bytes are drawn. Does nothing.
+fn drawn(draw: &Draw)
+    ensures { length draw.now.0 ≡ 32 }
+{
+    let _ = &draw.0;
 }
 
 /// The reply to a GET on an open path: 5.00 for want of memory.

@@ -1,11 +1,17 @@
 //! Datagrams to a small server, and what it sends for each.
+use osc_authz::ServerDesk;
+use osc_ccm::Ccm;
 use osc_model::{Bytes, Draw, ETags, Method, Moment, Path, Peer, Request, Step};
 use osc_scope::Scope;
 use osc_server::Server;
+use osc_token::Audience;
 use osc_tree::Tree;
 use std::alloc::{AllocError, Global};
 use std::process::Abort;
 use std::test::Fail;
+
+/// The key that the server shares with the issuer of tokens.
+const KEY: [u8; 16] = *b"@ABCDEFGHIJKLMNO";
 
 const PEER: Peer = Peer {
     address: [192, 0, 2, 1],
@@ -47,7 +53,8 @@ fn server(alloc: Global) -> Result<Server, AllocError> {
     let mut tree = Tree::new(alloc);
     put(alloc, &mut tree, b"/e", b"")?;
     put(alloc, &mut tree, b"/t", &[0; 31])?;
-    Server::new(alloc, tree, scope_of(alloc, GETS)?)
+    let desk = ServerDesk::new(alloc, KEY, Audience::new(alloc, "s")?);
+    Server::new(alloc, tree, desk, scope_of(alloc, GETS)?)
 }
 
 /// The bytes of the one datagram that is sent, or no bytes.
@@ -75,7 +82,7 @@ fn answer(
     datagram: &[u8],
     draw: &Draw,
 ) -> Result<Vec<u8>, AllocError> {
-    let step = server.on_datagram(alloc, now, from, datagram, draw)?;
+    let step = server.on_datagram::<Ccm<8>>(alloc, now, from, datagram, draw)?;
     copied(alloc, &step)
 }
 

@@ -4,6 +4,7 @@ use Rattle.osc_run.specs.Notes.{Kept, Noted, by_server}
 use Rattle.osc_server.specs.Case.{case_of}
 use Rattle.osc_server.specs.Table.{Answers}
 use Rattle.osc_script.specs.Node.{address_of}
+use Rattle.osc_programs.specs.Simulation.{is_sealing}
 use Rattle.osc_programs.proofs.simulate.serve.Goals as goal
 
 pub counted_text-requires-clause-printable : goal.counted_text-requires-clause-printable
@@ -18,10 +19,10 @@ returns-clause-serves c =
     let server = c.on_datagram.new.self in
     let answered = c.in_ok-step.ensures.answered in
     let from_node = subst
-    (λ from. Answers old.server old.now from c.draw_of-draw.result (case_of old.server.open_scope (heard old.server.endpoint.seen old.now from answered.0)) step server)
+    (λ from. Answers is_sealing old.server old.now from c.draw_of-draw.result (case_of old.server.open_scope (heard old.server.endpoint.seen old.now from answered.0)) step server)
     c.address.ensures answered.2 in
     let answers = subst
-    (λ draw. Answers old.server old.now (address_of c.args.from) draw (case_of old.server.open_scope (heard old.server.endpoint.seen old.now (address_of c.args.from) answered.0)) step server)
+    (λ draw. Answers is_sealing old.server old.now (address_of c.args.from) draw (case_of old.server.open_scope (heard old.server.endpoint.seen old.now (address_of c.args.from) answered.0)) step server)
     c.draw_of-draw.ensures from_node in
     let noted : c.note.new.notes.steps ≡ by_server step.notes ∷ old.notes.steps =
     ap (λ (k : Kept). k.steps) c.note.ensures ∙ ap (λ (steps : List Noted). by_server step.notes ∷ steps) c.reserve.ensures.steps in (

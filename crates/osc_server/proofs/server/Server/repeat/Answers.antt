@@ -7,7 +7,7 @@ use Rattle.osc_server.proofs.server.Server.repeat.Goals as goal
 pub returns-in_ok-clone-in-Some-clause-sent : goal.returns-in_ok-clone-in-Some-clause-sent
 returns-in_ok-clone-in-Some-clause-sent c =
     let spelled : IsMessage c.in_ok-clone-in-Some.field-0 =
-    noted_message c.self.inside.endpoint.seen c.args.now c.args.from c.args.id c.self.invariant c.in_ok-clone-in-Some.field-0
+    noted_message c.self.inside.endpoint.seen c.args.now c.args.from c.args.id c.self.invariant.messages c.in_ok-clone-in-Some.field-0
     (sym c.in-Some.ensures ∙ ap Some (sym c.in_ok-clone-in-Some.ensures.cases))
     in
     IfOk-weaker c.sending_bytes.result _ _

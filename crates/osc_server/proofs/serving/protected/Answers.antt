@@ -1,0 +1,41 @@
+use Rattle.std.proofs.Common.{◌≡◌, ◌≤◌, ◌+◌, length, arith, refl, ap, ◌∙◌}
+use Rattle.std.specs.Prelude.{None}
+use Rattle.std.proofs.lemmas.Result.{IfOk-at_ok}
+use Rattle.osc_model.specs.declared.context.Side.TheVariants.{Server}
+use Rattle.osc_protect.specs.Protection.{IsProtectedResponse, note_of, plain_bytes, request_nonce, response_with}
+use Rattle.osc_run.specs.ServerKinds.{reply_note}
+use Rattle.osc_server.specs.Table.{reply_to}
+use Rattle.osc_server.proofs.Replies.{reply_fits, sealed_reply_short, text_short}
+use Rattle.osc_server.proofs.serving.protected.Goals as goal
+
+pub unwrap-requires : goal.unwrap-requires
+unwrap-requires g c =
+    let text : length (plain_bytes (reply_to c.args.endpoint.now c.args.draw.now c.args.message.now c.args.reply.now)) ≤ 526 =
+    rw (c.what_is_sealed.ensures _ c.args.reply.now) (text_short c.length_of_plaintext.ensures 512 c.args.reply.now c.requires.short)
+    in
+    c.protect_reply.ensures.fits.1
+    (rw (c.message.ensures, c.reply_to-plain.ensures)
+    (reply_fits c.length_of_spelling.ensures.exact c.args.endpoint.now c.args.draw.now c.args.message.now c.args.reply.now g.A.Aead.TAG c.token-token.ensures.lawful.token g.met.A.Aead.short_tag text))
+
+pub returns-clause-noted : goal.returns-clause-noted
+returns-clause-noted g c =
+    let same : note_of c.args.right.context Server c.args.right.number (request_nonce c.args.right.context c.args.right.number) (plain_bytes c.message.result)
+    ≡ reply_note c.args.context.now.name c.args.right.number c.args.reply.now =
+    rw (c.requires.context, c.message.ensures, c.reply_to-plain.ensures, c.what_is_sealed.ensures _ c.args.reply.now) refl
+    in
+    IfOk-at_ok _ c.unwrap.ensures c.protect_reply.ensures.noted ∙ same
+
+pub returns-clause-short : goal.returns-clause-short
+returns-clause-short g c =
+    let made = IfOk-at_ok (λ made. IsProtectedResponse g.A.Aead.is_sealing c.args.right.context c.args.right.number None c.message.result made.message) c.unwrap.ensures c.protect_reply.ensures.protected in
+    let plain : length (plain_bytes c.message.result) ≤ 14 + length c.args.reply.now.payload =
+    rw (c.message.ensures, c.reply_to-plain.ensures, c.what_is_sealed.ensures _ c.args.reply.now)
+    (text_short c.length_of_plaintext.ensures (length c.args.reply.now.payload) c.args.reply.now
+    (record { code = c.requires.short.code; etag = c.requires.short.etag; payload = omega arith }))
+    in
+    let size = g.met.A.Aead.sealed_length _ _ _ _ _ made.is_sealed in
+    let all = sealed_reply_short c.length_of_spelling.ensures.exact c.args.endpoint.now c.args.draw.now c.args.message.now c.args.reply.now made.sealed c.unwrap.result.message
+    c.token-token.ensures.lawful.token
+    (made.whole ∙ ap (λ m. response_with None m made.sealed) (c.message.ensures ∙ c.reply_to-plain.ensures))
+    in
+    omega (arith, plain, size, all)

@@ -1,0 +1,73 @@
+//! The answers to posts at authz-info (RFC 9200 section 5.10.1, RFC 9203 section 4.2).
+ghost use Rattle.std.specs.Prelude.{◌≡◌, ◌≤◌, length};
+ghost use Rattle.osc_coap.specs.Message.{spelling};
+ghost use Rattle.osc_model.specs.StepNotes.{quiet};
+ghost use Rattle.osc_server.specs.Table.{nonce_of_post, post_reply as post_reply_of, reply_to as reply_to_of};
+
+use crate::answer::reply_to;
+use osc_authz::{PostAnswer, PostError};
+use osc_coap::laws::length_of_spelling;
+use osc_coap::{MessageBuilder, MessageRef};
+use osc_message::{Buffer, Endpoint};
+use osc_model::{Code, Draw, Note, Reply, StepNotes};
+use std::alloc::Global;
+
+/// The bytes of the payload that answers a post which made a context.
+pub const POST_PAYLOAD: usize = 16;
+
+/// The most bytes of the message that answers a post: header, token, Content-Format, payload marker and payload.
+pub const POST_ANSWER: usize = 31;
+
+/// The Content-Format application/ace+cbor.
+const ACE_CBOR: u16 = 19;
+
+/// The reply to a post, in room for its payload; takes no memory.
+fn post_reply(alloc: Global, payload: Buffer, answer: Result<PostAnswer, PostError>) -> Reply
+    requires { payload ≡ 16 }
+    ensures reply { result ≡ post_reply_of answer }
+    ensures short { length result.payload ≤ 16 }
+{
+    match answer {
+        Ok(answer) => Reply {
+            code: Code::CREATED,
+            etag: None,
+            format: Some(ACE_CBOR),
+            payload: payload.fill(&answer.payload()),
+        },
+        Err(error) => Reply::bare(alloc, error.code()),
+    }
+}
+
+/// The message that answers a post; takes no memory.
+pub fn post_answer(
+    alloc: Global,
+    payload: Buffer,
+    endpoint: &Endpoint,
+    draw: &Draw,
+    request: &MessageRef<'_>,
+    answer: Result<PostAnswer, PostError>,
+) -> MessageBuilder
+    requires { payload ≡ 16 }
+    ensures answer { result ≡ reply_to_of endpoint.now draw.now request.now (post_reply_of answer) }
+    ensures short { length (spelling result) ≤ 31 }
+{
+    length_of_spelling();
+    // For the proof alone: the call tells how long the token is.
+    let _token = request.token();
+    let reply = post_reply(alloc, payload, answer);
+    reply_to(endpoint, draw, request, &reply)
+}
+
+/// What is noted of a post: its token's opening, and the nonce that it drew.
+pub fn notes_of(opened: Option<Note>, answer: Result<PostAnswer, PostError>) -> StepNotes
+    ensures { result ≡ record quiet { opens = opened; drawn = nonce_of_post answer } }
+{
+    let notes = match opened {
+        Some(note) => StepNotes::quiet().with_open(note),
+        None => StepNotes::quiet(),
+    };
+    match answer {
+        Ok(answer) => notes.with_drawn(answer.nonce2),
+        Err(_) => notes,
+    }
+}

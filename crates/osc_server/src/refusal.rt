@@ -1,0 +1,53 @@
+//! Why a protected request isn't served (RFC 8613 section 8.2).
+ghost use Rattle.std.specs.Prelude.{◌≡◌};
+ghost use Rattle.osc_server.specs.Table.{refusal_age, refusal_code, refusal_text};
+
+use osc_model::Code;
+
+/// Why a protected request isn't served: the first of these that stands.
+#[derive(Clone, Copy, Debug, PartialEq, Eq)]
+pub enum Refusal {
+    /// Its OSCORE option or its payload is malformed.
+    Malformed,
+    /// No live context is the one that it names.
+    NoContext,
+    /// Its number isn't fresh.
+    Replayed,
+    /// What it seals is the sealing of no text.
+    NotGenuine,
+}
+
+impl Refusal {
+    /// The code of the answer.
+    pub(crate) fn code(self) -> Code
+        ensures { result ≡ refusal_code self }
+    {
+        match self {
+            Refusal::Malformed => Code::BAD_OPTION,
+            Refusal::NoContext | Refusal::Replayed => Code::UNAUTHORIZED,
+            Refusal::NotGenuine => Code::BAD_REQUEST,
+        }
+    }
+
+    /// How many seconds the answer may be kept.
+    pub(crate) fn max_age(self) -> Option<u16>
+        ensures { result ≡ refusal_age self }
+    {
+        match self {
+            Refusal::NoContext | Refusal::Replayed => Some(0),
+            Refusal::Malformed | Refusal::NotGenuine => None,
+        }
+    }
+
+    /// The diagnostic payload of the answer.
+    pub(crate) fn text(self) -> &'static [u8]
+        ensures { result.now ≡ refusal_text self }
+    {
+        match self {
+            Refusal::Malformed => b"Failed to decode COSE",
+            Refusal::NoContext => b"Security context not found",
+            Refusal::Replayed => b"Replay detected",
+            Refusal::NotGenuine => b"Decryption failed",
+        }
+    }
+}

@@ -1,0 +1,342 @@
+//! Protected requests (RFC 8613 sections 8.2 and 8.3), up to the change of the contexts.
+ghost use Rattle.std.specs.Prelude.{◌≡◌, ◌<◌, ◌≤◌, ◌+◌, ℕ, List, length, Some, None, IfOk, IfErr, IfSome, IfNone, OnErr};
+ghost use Rattle.osc_coap.specs.Message.{spelling};
+ghost use Rattle.osc_authz.specs.Table.{meant};
+ghost use Rattle.osc_model.specs.Apply.{apply_read};
+ghost use Rattle.osc_protect.specs.Protection.{IsFor, IsRequest, IsProtectedResponse};
+ghost use Rattle.osc_run.specs.ServerKinds.{opening_note, reply_note, Replies as AppliesTo};
+ghost use Rattle.osc_run.specs.Texts.{read_request, IsWithinRanges};
+ghost use Rattle.osc_server.specs.Parts.{IsReplied, IsReplyOf, IsServedAs, IsShort, reply_length, read_length as read_length_of};
+ghost use Rattle.osc_server.specs.Table.{IsMeant, IsRefused, IsSealed, reply_to as reply_to_of};
+ghost use Rattle.osc_window.specs.Window.{IsFresh};
+
+use crate::answer::reply_to;
+use crate::refusal::Refusal;
+use osc_authz::laws::meant_contexts;
+use osc_authz::{ServerContext, ServerDesk};
+use osc_ccm::Aead;
+use osc_coap::laws::{length_of_plaintext, length_of_spelling, reading};
+use osc_coap::{MessageBuilder, MessageRef};
+use osc_message::{Endpoint, ReplyRoom};
+use osc_model::{
+    Bytes, Code, ContextName, Draw, Entry, Moment, Note, Path, Reply, Request, StepNotes,
+};
+use osc_options::{PlaintextError, request_of};
+use osc_protect::{
+    OpenedRequest, ProtectedResponse, ReplyRight, RequestRoom, SealedRequestRef, TextRoom,
+    open_request, protect_reply,
+};
+use osc_run::kinds;
+use osc_scope::Scope;
+use osc_tree::Tree;
+use std::alloc::{AllocError, Global};
+
+/// What a protected request came to: the protected reply with room for it, and what is noted.
+#[derive(Drop)]
+pub struct Served {
+    /// The protected reply.
+    pub answer: MessageBuilder,
+    /// What is noted of the step.
+    pub notes: StepNotes,
+    /// Room for the reply.
+    pub room: ReplyRoom,
+}
+
+const GET: u8 = 1;
+
+/// The most bytes of a reply's plaintext beside its payload: a code, an ETag, a Content-Format, and the payload marker.
+const PLAINTEXT_BESIDE_PAYLOAD: usize = 14;
+
+/// The most bytes of a protected reply beside what is sealed in it: header, token, an empty OSCORE option, and the payload marker.
+const MESSAGE_BESIDE_SEALED: usize = 14;
+
+/// The live context that the request means; takes no memory.
+fn meant_context<'a>(
+    desk: &'a ServerDesk,
+    now: Moment,
+    message: &MessageRef<'_>,
+    request: &SealedRequestRef<'_>,
+) -> Option<&'a ServerContext>
+    requires { IsRequest message.now request.now }
+    ensures some { IfSome result (λ context. IsMeant desk.now now message.now request.now context.now) }
+    ensures none { IfNone result (meant now request.now.kid request.now.kid_context desk.now.table ≡ None) }
+{
+    desk.find(now, request.kid(), request.kid_context())
+}
+
+/// The same, where the request's number is fresh.
+fn fresh_context<'a, A: Aead>(
+    desk: &'a ServerDesk,
+    now: Moment,
+    message: &MessageRef<'_>,
+    request: &SealedRequestRef<'_>,
+) -> Result<&'a ServerContext, Refusal>
+    requires { IsRequest message.now request.now }
+    ensures meant { IfOk result (λ context. IsMeant desk.now now message.now request.now context.now) }
+    ensures fresh { IfOk result (λ context. IsFresh context.now.window request.now.number) }
+    ensures refused { IfErr result (λ refusal. IsRefused A.is_sealing desk.now now message.now refusal) }
+{
+    let Some(context) = meant_context(desk, now, message, request) else {
+        return Err(Refusal::NoContext);
+    };
+    if !context.window().is_fresh(request.number()) {
+        return Err(Refusal::Replayed);
+    }
+    Ok(context)
+}
+
+/// The request that an opened text is, or the code that answers it.
+fn read(alloc: Global, text: &[u8]) -> Result<Result<Request, Code>, AllocError>
+    ensures read { IfOk result (λ read. read ≡ read_request text.now) }
+    ensures error { IfOk result (λ read. IfErr read (λ code. 0 < code.0)) }
+{
+    reading();
+    match request_of(alloc, text) {
+        Ok(request) => Ok(Ok(request)),
+        Err(PlaintextError::Format) => Ok(Err(Code::BAD_REQUEST)),
+        Err(PlaintextError::BadOption(_)) => Ok(Err(Code::BAD_OPTION)),
+        Err(PlaintextError::Memory) => Err(AllocError),
+    }
+}
+
+/// The most bytes of payload that the reply has.
+fn most_payload(tree: &Tree, read: &Result<Request, Code>) -> usize
+    ensures value { result ≡ reply_length tree.now read.now }
+    ensures limit { result ≤ 512 }
+{
+    match read {
+        Ok(request) if request.code.0 == GET => match &request.path {
+            Some(path) => read_length(tree, path),
+            None => 0,
+        },
+        _ => 0,
+    }
+}
+
+/// How many bytes the path has.
+fn read_length(tree: &Tree, path: &Path) -> usize
+    ensures value { result ≡ read_length_of tree.now (Some path.now) }
+    ensures limit { result ≤ 512 }
+{
+    match tree.get(path) {
+        Some(resource) => resource.payload.len(),
+        None => 0,
+    }
+}
+
+/// What an opened request does to the tree, and its reply: 5.00 for want of memory.
+fn applied(alloc: Global, tree: &mut Tree, scope: &Scope, read: &Result<Request, Code>) -> Reply
+    requires { IfErr read.now (λ code. 0 < code.0) }
+    ensures applied { AppliesTo tree.old (apply_read tree.old scope.now read.now) result tree.new }
+    ensures short { IsReplyOf (reply_length tree.old read.now) result }
+    ensures within { IsWithinRanges result }
+{
+    match read {
+        Ok(request) => match tree.apply(alloc, scope, request) {
+            Ok(reply) => reply,
+            Err(_) => Reply::bare(alloc, Code::INTERNAL_SERVER_ERROR),
+        },
+        Err(code) => Reply::bare(alloc, *code),
+    }
+}
+
+/// What an opened request asks, and the memory of all that follows, taken before anything changes.
+#[derive(Drop)]
+struct Taken {
+    /// The request, or the code that answers the text.
+    read: Result<Request, Code>,
+    /// The name and the text, for the entry.
+    context: ContextName,
+    plaintext: Bytes,
+    /// For the reply's seal.
+    text: TextRoom,
+    /// For the protected reply.
+    reply: ReplyRoom,
+}
+
+/// The name once more.
+fn copy_of(name: &ContextName) -> Result<ContextName, AllocError>
+    ensures { IfOk result (λ copy. copy ≡ name.now) }
+{
+    name.clone()
+}
+
+/// Reads what was opened, and takes the memory of all that follows.
+fn take<A: Aead>(alloc: Global, tree: &Tree, note: &Note) -> Result<Taken, AllocError>
+    ensures read { IfOk result (λ taken. taken.read ≡ read_request note.now.plaintext) }
+    ensures error { IfOk result (λ taken. IfErr taken.read (λ code. 0 < code.0)) }
+    ensures context { IfOk result (λ taken. taken.context ≡ note.now.context) }
+    ensures plaintext { IfOk result (λ taken. taken.plaintext ≡ note.now.plaintext) }
+    ensures text { IfOk result (λ taken. taken.text ≡ 14 + reply_length tree.now taken.read) }
+    ensures reply { IfOk result (λ taken. taken.reply ≡ 28 + reply_length tree.now taken.read + A.TAG) }
+    ensures limit { IfOk result (λ taken. reply_length tree.now taken.read ≤ 512) }
+{
+    let read = read(alloc, note.plaintext.as_slice())?;
+    let most = PLAINTEXT_BESIDE_PAYLOAD + most_payload(tree, &read);
+    Ok(Taken {
+        read,
+        context: copy_of(&note.context)?,
+        plaintext: note.plaintext.clone()?,
+        text: TextRoom::new(alloc, most)?,
+        reply: ReplyRoom::new(alloc, MESSAGE_BESIDE_SEALED + most + A::TAG)?,
+    })
+}
+
+/// The reply to a request that was opened, protected under its nonce: it fits, since no reply has more than 512 bytes. Takes no
+/// memory.
+fn protected<A: Aead>(
+    right: ReplyRight,
+    room: TextRoom,
+    context: &ServerContext,
+    endpoint: &Endpoint,
+    draw: &Draw,
+    message: &MessageRef<'_>,
+    reply: &Reply,
+) -> ProtectedResponse
+    requires context { right.context ≡ context.now.name }
+    requires short { IsShort reply.now }
+    requires room { 14 + length reply.now.payload ≤ room }
+    ensures protected { IsProtectedResponse A.is_sealing context.now.name right.number None
+        (reply_to_of endpoint.now draw.now message.now reply.now) result.message }
+    ensures noted { result.note ≡ reply_note context.now.name right.number reply.now }
+    ensures short { length (spelling result.message) ≤ 28 + length reply.now.payload + A.TAG }
+{
+    kinds::what_is_sealed();
+    length_of_spelling();
+    length_of_plaintext();
+    // For the proof alone: the call tells how long the token is.
+    let _token = message.token();
+    let plain = reply_to(endpoint, draw, message, reply);
+    protect_reply::<A>(right, room, context.sender(), &plain.message()).unwrap()
+}
+
+/// Applies the request, and protects the reply under the request's nonce; takes no memory but the tree's.
+fn reply<A: Aead>(
+    alloc: Global,
+    now: Moment,
+    tree: &mut Tree,
+    context: &ServerContext,
+    endpoint: &Endpoint,
+    draw: &Draw,
+    message: &MessageRef<'_>,
+    opened: OpenedRequest,
+    taken: Taken,
+) -> Served
+    requires context { opened.right.context ≡ context.now.name }
+    requires noted { opened.note ≡ opening_note context.now.name opened.right.number opened.note.plaintext }
+    requires read { taken.read ≡ read_request opened.note.plaintext }
+    requires error { IfErr taken.read (λ code. 0 < code.0) }
+    requires name { taken.context ≡ context.now.name }
+    requires plaintext { taken.plaintext ≡ opened.note.plaintext }
+    requires text { taken.text ≡ 14 + reply_length tree.old taken.read }
+    requires reply { taken.reply ≡ 28 + reply_length tree.old taken.read + A.TAG }
+    requires limit { reply_length tree.old taken.read ≤ 512 }
+    ensures { IsReplied A.is_sealing tree.old endpoint.now now draw.now message.now context.now opened.right.number opened.note.plaintext result tree.new }
+{
+    let reply = applied(alloc, tree, context.scope(), &taken.read);
+    let Taken {
+        read: _,
+        context: name,
+        plaintext,
+        text,
+        reply: room,
+    } = taken;
+    let OpenedRequest { note, right } = opened;
+    let number = right.number();
+    let sealed = protected::<A>(right, text, context, endpoint, draw, message, &reply);
+    let entry = Entry {
+        context: name,
+        number,
+        plaintext,
+        moment: now,
+        reply,
+    };
+    Served {
+        answer: sealed.message,
+        notes: StepNotes::quiet()
+            .with_seal(sealed.note)
+            .with_open(note)
+            .with_entry(entry),
+        room,
+    }
+}
+
+/// Serves a request that was opened. Without memory the tree is as before.
+fn serve_opened<A: Aead>(
+    alloc: Global,
+    now: Moment,
+    tree: &mut Tree,
+    context: &ServerContext,
+    endpoint: &Endpoint,
+    draw: &Draw,
+    message: &MessageRef<'_>,
+    opened: OpenedRequest,
+) -> Result<Served, AllocError>
+    requires context { opened.right.context ≡ context.now.name }
+    requires noted { opened.note ≡ opening_note context.now.name opened.right.number opened.note.plaintext }
+    ensures replied { IfOk result (λ served.
+        IsReplied A.is_sealing tree.old endpoint.now now draw.now message.now context.now opened.right.number opened.note.plaintext served tree.new) }
+    ensures err { OnErr result (tree.new ≡ tree.old) }
+{
+    match take::<A>(alloc, tree, &opened.note) {
+        Ok(taken) => Ok(reply::<A>(
+            alloc, now, tree, context, endpoint, draw, message, opened, taken,
+        )),
+        Err(error) => {
+            let OpenedRequest { note: _, right } = opened;
+            let _number = right.forgo();
+            Err(error)
+        }
+    }
+}
+
+/// Opens a protected request into room that is taken for it.
+fn open<A: Aead>(
+    alloc: Global,
+    context: &ServerContext,
+    request: &SealedRequestRef<'_>,
+) -> Result<Option<OpenedRequest>, AllocError>
+    requires { IsFor context.now.name request.now }
+    ensures opened { IfOk result (λ opened. IfSome opened (λ it. IsSealed A.is_sealing context.now request.now it.note.plaintext)) }
+    ensures noted { IfOk result (λ opened. IfSome opened (λ it. it.note ≡ opening_note context.now.name request.now.number it.note.plaintext)) }
+    ensures right { IfOk result (λ opened. IfSome opened (λ it. it.right ≡ record { context = context.now.name; number = request.now.number })) }
+    ensures none { IfOk result (λ opened. IfNone opened ((text : List ℕ) → ¬ IsSealed A.is_sealing context.now request.now text)) }
+{
+    let room = RequestRoom::new(alloc, context.name(), request.sealed().len())?;
+    match open_request::<A>(room, context.recipient(), request) {
+        Ok(opened) => Ok(Some(opened)),
+        Err(_) => Ok(None),
+    }
+}
+
+/// Serves a protected request, as far as the tree and the reply go, or says why it isn't served. Without memory the tree is as
+/// before, as it is where the request isn't served.
+pub fn serve<A: Aead>(
+    alloc: Global,
+    now: Moment,
+    desk: &ServerDesk,
+    tree: &mut Tree,
+    endpoint: &Endpoint,
+    draw: &Draw,
+    message: &MessageRef<'_>,
+    request: &SealedRequestRef<'_>,
+) -> Result<Result<Served, Refusal>, AllocError>
+    requires { IsRequest message.now request.now }
+    ensures served { IfOk result (λ outcome. IfOk outcome (λ served.
+        IsServedAs A.is_sealing tree.old desk.now endpoint.now now draw.now message.now request.now served tree.new)) }
+    ensures refused { IfOk result (λ outcome. IfErr outcome (λ refusal. IsRefused A.is_sealing desk.now now message.now refusal)) }
+    ensures same { IfOk result (λ outcome. OnErr outcome (tree.new ≡ tree.old)) }
+    ensures err { OnErr result (tree.new ≡ tree.old) }
+{
+    meant_contexts();
+    let context = match fresh_context::<A>(desk, now, message, request) {
+        Ok(context) => context,
+        Err(refusal) => return Ok(Err(refusal)),
+    };
+    match open::<A>(alloc, context, request)? {
+        Some(opened) => Ok(Ok(serve_opened::<A>(
+            alloc, now, tree, context, endpoint, draw, message, opened,
+        )?)),
+        None => Ok(Err(Refusal::NotGenuine)),
+    }
+}
