@@ -5,6 +5,8 @@
 #[cfg(test)]
 mod programs;
 #[cfg(test)]
+mod protected;
+#[cfg(test)]
 mod script;
 #[cfg(test)]
 mod server;

@@ -1,0 +1,190 @@
+//! A token posted to a server, and protected requests under the context that it makes.
+ghost use Rattle.std.specs.Prelude.{◌≡◌, ◌≤◌, IfOk, length};
+ghost use Rattle.osc_model.specs.declared.context.Side.TheVariants.{Client};
+ghost use Rattle.osc_context.specs.Derivation.{taken_of};
+ghost use Rattle.osc_protect.specs.Protection.{HasShortContext};
+
+use osc_authz::ServerDesk;
+use osc_ccm::Ccm;
+use osc_coap::{Kind, MessageBuilder, MessageRef};
+use osc_context::{SendNumber, derive};
+use osc_model::{Bytes, ContextName, Draw, Moment, Peer, Side};
+use osc_protect::{
+    MessageTooLong, ProtectedRequest, Room, open_response, protect_request, read_response,
+};
+use osc_scope::Scope;
+use osc_server::Server;
+use osc_token::Audience;
+use osc_tree::Tree;
+use std::alloc::{AllocError, Global};
+use std::test::*;
+
+const CLIENT: Peer = Peer {
+    address: [192, 0, 2, 1],
+    port: 5683,
+};
+
+/// The key that the server shares with the issuer of tokens.
+const KEY: [u8; 16] = *b"@ABCDEFGHIJKLMNO";
+
+/// A post to authz-info, with a nonce that ends in 1 and the ID 00. Its token, of the secret that ends in 1, gives GET and POST
+/// on `/log`; another implementation made it.
+const POST: &[u8] =
+    b"\x48\x02\x01\x00\x00\x00\x00\x00\x00\x00\x00\x01\xbaauthz-info\x11\x13\xff\xa3\x01\x58\x46\x83\x43\xa1\x01\x0a\xa1\x05\x4d\0\0\0\0\0\0\0\0\0\0\0\0\x01\x58\x2f\x7a\x0e\xde\x21\x71\xa9\xef\x96\x11\xe8\xb2\x3a\xfd\x72\x3e\x78\x79\xca\xdf\xb8\x87\xe3\xcb\x88\x90\x1d\xd4\x04\x61\xe9\xf3\x01\x24\xce\xe0\x4d\x4a\x5e\x85\x93\x1d\x22\x4b\x7c\xe6\xb4\xe2\x18\x28\x48\0\0\0\0\0\0\0\x01\x18\x2b\x41\0";
+
+/// Its answer where the server's nonce ends in 2: 2.01, and the ID 01.
+const POSTED: &[u8] =
+    b"\x68\x41\x01\x00\x00\x00\x00\x00\x00\x00\x00\x01\xc1\x13\xff\xa2\x18\x2a\x48\0\0\0\0\0\0\0\x02\x18\x2c\x41\x01";
+
+/// The name of the context that the exchange makes (RFC 9203 section 4.3): the salt is the token's, which is empty, and the two
+/// nonces, each as CBOR.
+fn name(alloc: Global) -> Result<ContextName, AllocError>
+    ensures { IfOk result (λ name. HasShortContext name) }
+{
+    Ok(ContextName {
+        secret: Bytes::from_slice(alloc, b"\0\0\0\0\0\0\0\0\0\0\0\0\0\0\0\x01")?,
+        salt: Bytes::from_slice(alloc, b"\x40\x48\0\0\0\0\0\0\0\x01\x48\0\0\0\0\0\0\0\x02")?,
+        id_context: None,
+        client_id: Bytes::from_slice(alloc, b"\x01")?,
+        server_id: Bytes::from_slice(alloc, b"\x00")?,
+    })
+}
+
+/// The number that the client takes, where it has skipped to this one.
+fn number_of(alloc: Global, name: &ContextName, number: u64) -> Result<SendNumber, Fail>
+    ensures { IfOk result (λ taken. taken ≡ taken_of name.now Client taken.number) }
+{
+    let (mut sender, _) = derive(alloc, name, Side::Client)?;
+    sender.skip_to(number);
+    Ok(sender.take_number()?)
+}
+
+/// The client protects a message in this room.
+fn protect_in(
+    room: Room,
+    number: SendNumber,
+    message: &MessageRef<'_>,
+) -> Result<ProtectedRequest, Fail>
+    requires number { number ≡ taken_of room.name Client number.number }
+    requires short { HasShortContext room.name }
+    requires room { 1152 ≤ room.most }
+{
+    match protect_request::<Ccm<8>>(room, number, message) {
+        Ok(made) => Ok(made),
+        Err(MessageTooLong { room: _, number }) => {
+            number.spend();
+            Err("too long")?
+        }
+    }
+}
+
+/// A confirmable request on `/log` with this code, message ID and payload, protected under this number.
+fn request(alloc: Global, code: u8, id: u16, number: u64, payload: &[u8]) -> Result<Vec<u8>, Fail> {
+    let mut message = MessageBuilder::start(Kind::Confirmable, code, id, b"");
+    message.option(11, b"log")?;
+    message.payload(payload)?;
+    let name = name(alloc)?;
+    let taken = number_of(alloc, &name, number)?;
+    let room = Room::new(alloc, &name, 1152)?;
+    let made = protect_in(room, taken, &message.message())?;
+    Ok(Vec::from_slice(alloc, made.message.bytes())?)
+}
+
+/// What is sealed in a reply to the request of this number.
+fn opened(alloc: Global, number: u64, reply: &[u8]) -> Result<Vec<u8>, Fail> {
+    let message = MessageRef::parse(reply)?;
+    let response = read_response(&message)?;
+    let name = name(alloc)?;
+    let (_, recipient) = derive(alloc, &name, Side::Client)?;
+    let room = Room::new(alloc, &name, response.sealed().len())?;
+    match open_response::<Ccm<8>>(room, &recipient, number, &response) {
+        Ok(note) => Ok(Vec::from_slice(alloc, note.plaintext.as_slice())?),
+        Err(_) => Err("not genuine")?,
+    }
+}
+
+/// A server without resources that answered the post.
+fn server(alloc: Global) -> Result<Server, Fail> {
+    let desk = ServerDesk::new(alloc, KEY, Audience::new(alloc, "s")?);
+    let mut server = Server::new(alloc, Tree::new(alloc), desk, Scope::new(alloc))?;
+    if answer(alloc, &mut server, POST)?.as_slice() != POSTED {
+        return Err("not posted")?;
+    }
+    Ok(server)
+}
+
+/// What the server sends for the datagram; its nonce would end in 2.
+fn answer(alloc: Global, server: &mut Server, datagram: &[u8]) -> Result<Vec<u8>, AllocError> {
+    let mut drawn = [0; 32];
+    drawn[7] = 2;
+    let step = server.on_datagram::<Ccm<8>>(alloc, Moment::START, CLIENT, datagram, &Draw(drawn))?;
+    match step.out.as_slice() {
+        [sent] => Vec::from_slice(alloc, sent.bytes.as_slice()),
+        _ => Ok(Vec::new(alloc)),
+    }
+}
+
+/// A request is served once, a repeat gets the same bytes, and the same request in another message is a replay.
+#[test]
+fn served_once(rt: HostRuntime) -> Result<(), Fail> {
+    let alloc = rt.alloc();
+    let mut server = server(alloc)?;
+    let post = request(alloc, 2, 0x0203, 0, b"a")?;
+    let reply = answer(alloc, &mut server, &post)?;
+    assert_eq!(rt; opened(alloc, 0, &reply)?.as_slice(), b"\x41");
+    let again = answer(alloc, &mut server, &post)?;
+    assert_eq!(rt; again.as_slice(), reply.as_slice());
+    let other = request(alloc, 2, 0x0204, 0, b"a")?;
+    let replayed = answer(alloc, &mut server, &other)?;
+    assert_eq!(rt;
+        replayed.as_slice(),
+        b"\x60\x81\x02\x04\xd0\x01\xffReplay detected"
+    );
+    let get = request(alloc, 1, 0x0205, 1, b"")?;
+    let read = answer(alloc, &mut server, &get)?;
+    let text = opened(alloc, 1, &read)?;
+    assert_eq!(rt; text.as_slice().last(), Some(&b'a'));
+    Ok(())
+}
+
+/// Each bit of the tag's last byte, changed, is told, and leaves the number fresh and the tree as it is.
+#[test]
+fn changed_bits(rt: HostRuntime) -> Result<(), Fail> {
+    let alloc = rt.alloc();
+    let mut server = server(alloc)?;
+    let post = request(alloc, 2, 0, 0, b"a")?;
+    for bit in 0..8u8 {
+        let mut changed = post.clone()?;
+        if let Some(id) = changed.get_mut(3) {
+            *id = bit + 1;
+        }
+        if let Some(last) = changed.last_mut() {
+            *last ^= 1 << bit;
+        }
+        let refused = answer(alloc, &mut server, &changed)?;
+        assert!(rt; refused.as_slice().ends_with(b"\xffDecryption failed"));
+        assert!(rt; server.tree().is_empty());
+    }
+    let reply = answer(alloc, &mut server, &post)?;
+    assert_eq!(rt; opened(alloc, 0, &reply)?.as_slice(), b"\x41");
+    Ok(())
+}
+
+/// A server that started again has its resources, and no context.
+#[test]
+fn started_again(rt: HostRuntime) -> Result<(), Fail> {
+    let alloc = rt.alloc();
+    let mut server = server(alloc)?;
+    let post = request(alloc, 2, 1, 0, b"a")?;
+    answer(alloc, &mut server, &post)?;
+    server.on_tick(alloc, Moment::START)?;
+    server.restart();
+    assert_eq!(rt; server.tree().len(), 1);
+    let get = request(alloc, 1, 2, 1, b"")?;
+    let refused = answer(alloc, &mut server, &get)?;
+    assert_eq!(rt;
+        refused.as_slice(),
+        b"\x60\x81\x00\x02\xd0\x01\xffSecurity context not found"
+    );
+    Ok(())
+}
