@@ -2,7 +2,6 @@
 use osc_dedup::*;
 use osc_model::{Bytes, Moment, Peer};
 use std::alloc::{AllocError, Global};
-use std::test::*;
 
 const PEER: Peer = Peer {
     address: [192, 0, 2, 1],
@@ -32,14 +31,6 @@ fn noted_until(table: &Duplicates, at: u32, peer: Peer, id: u16) -> Option<u64> 
     Some(table.look(now, peer, id)?.until)
 }
 
-/// Notes 65 messages of one peer.
-fn note_65(alloc: Global, table: &mut Duplicates) -> Result<(), AllocError> {
-    for id in 1..66u16 {
-        table.note(Moment { ms: 0 }, PEER, id, answered(alloc, 247_000)?);
-    }
-    Ok(())
-}
-
 /// Moments and messages, and whether each is noted then, after 65 of one peer.
 const AFTER_65: [(u32, Peer, u16, bool); 6] = [
     (0, PEER, 1, false),
@@ -49,6 +40,14 @@ const AFTER_65: [(u32, Peer, u16, bool); 6] = [
     (0, OTHER_ADDRESS, 65, false),
     (0, OTHER_PORT, 65, false),
 ];
+
+/// Notes 65 messages of one peer.
+fn note_65(alloc: Global, table: &mut Duplicates) -> Result<(), AllocError> {
+    for id in 1..66u16 {
+        table.note(Moment { ms: 0 }, PEER, id, answered(alloc, 247_000)?);
+    }
+    Ok(())
+}
 
 /// Whether each message of the rows is noted where it should be.
 fn are_noted(table: &Duplicates) -> bool {
@@ -60,11 +59,10 @@ fn are_noted(table: &Duplicates) -> bool {
 }
 
 #[test]
-fn the_oldest_of_65_is_gone(rt: HostRuntime) -> Result<(), Fail> {
-    let mut table = Duplicates::new(rt.alloc())?;
-    note_65(rt.alloc(), &mut table)?;
+fn the_oldest_of_65_is_gone(rt: HostRuntime) {
+    let mut table = Duplicates::new(rt.alloc()).expect(&rt, "memory");
+    note_65(rt.alloc(), &mut table).expect(&rt, "memory");
     assert!(rt; are_noted(&table));
-    Ok(())
 }
 
 /// The table as a plain list: peer, ID and end of each entry, the oldest first.
@@ -128,15 +126,15 @@ fn say_the_same(table: &Duplicates, plain: &Plain, at: u32, peer: Peer) -> bool 
 }
 
 #[test]
-fn the_table_is_a_plain_list(rt: HostRuntime) -> Result<(), Fail> {
-    let mut table = Duplicates::new(rt.alloc())?;
+fn the_table_is_a_plain_list(rt: HostRuntime) {
+    let mut table = Duplicates::new(rt.alloc()).expect(&rt, "memory");
     let mut plain = Plain {
         entries: Vec::new(rt.alloc()),
     };
     for round in 0..200u16 {
-        note_in_both(rt.alloc(), &mut table, &mut plain, round)?;
+        let noted = note_in_both(rt.alloc(), &mut table, &mut plain, round);
+        assert!(rt; noted.is_ok());
         let other = PEERS[(round / 3 % 3) as usize];
         assert!(rt; say_the_same(&table, &plain, 3 * u32::from(round) + 2, other));
     }
-    Ok(())
 }

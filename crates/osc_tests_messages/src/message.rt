@@ -3,7 +3,6 @@ use osc_coap::{Kind, MessageBuilder};
 use osc_message::*;
 use osc_model::{Bytes, Draw, Moment, Peer};
 use std::alloc::{AllocError, Global};
-use std::test::*;
 
 const PEER: Peer = Peer {
     address: [192, 0, 2, 1],
@@ -16,7 +15,7 @@ const OTHER: Peer = Peer {
 };
 
 /// What was heard, without its parts.
-#[derive(Clone, Copy, Debug, PartialEq, Eq)]
+#[derive(Clone, Copy, PartialEq, Eq)]
 enum Is {
     Ignored,
     Reset,
@@ -97,75 +96,36 @@ const ROWS: [(&[u8], Is, Is); 30] = [
     (b"", Is::Ignored, Is::Ignored),
 ];
 
-/// Whether each datagram of the rows is to the endpoint what it is where nothing was heard.
-fn all_are_new(endpoint: &Endpoint, at: u32, from: Peer) -> bool {
-    let mut same = true;
-    for (datagram, new, _) in ROWS {
-        same = hear(endpoint, at, from, datagram) == (new, 7) && same;
+/// Whether each datagram of the rows is what it is where nothing was heard, and whether each is what it is where a message of
+/// that ID was.
+fn all_are(endpoint: &Endpoint, at: u32, from: Peer) -> (bool, bool) {
+    let (mut all_new, mut all_repeated) = (true, true);
+    for (datagram, new, repeated) in ROWS {
+        let is = hear(endpoint, at, from, datagram);
+        all_new = is == (new, 7) && all_new;
+        all_repeated = is == (repeated, 7) && all_repeated;
     }
-    same
-}
-
-/// Whether each is what it is where a message of that ID was heard.
-fn all_are_repeated(endpoint: &Endpoint, at: u32, from: Peer) -> bool {
-    let mut same = true;
-    for (datagram, _, repeated) in ROWS {
-        same = hear(endpoint, at, from, datagram) == (repeated, 7) && same;
-    }
-    same
+    (all_new, all_repeated)
 }
 
 #[test]
-fn each_datagram_where_nothing_was_heard(rt: HostRuntime) -> Result<(), Fail> {
-    let endpoint = Endpoint::new(rt.alloc())?;
-    assert!(rt; all_are_new(&endpoint, 0, PEER));
-    Ok(())
-}
-
-/// What each is at a moment where a message of that ID was heard at 0: whether all are new, and whether all are repeated.
-fn where_one_was_heard(alloc: Global, at: u32, from: Peer) -> Result<(bool, bool), AllocError> {
-    let mut endpoint = Endpoint::new(alloc)?;
+fn each_datagram_before_and_after_one_was_heard(rt: HostRuntime) {
+    let mut endpoint = Endpoint::new(rt.alloc()).expect(&rt, "memory");
+    assert!(rt; all_are(&endpoint, 0, PEER) == (true, false));
     settle(&mut endpoint, 0, PEER, b"\x40\x01\x00\x07", None);
-    Ok((
-        all_are_new(&endpoint, at, from),
-        all_are_repeated(&endpoint, at, from),
-    ))
+    assert!(rt; all_are(&endpoint, 246_999, PEER) == (false, true));
+    assert!(rt; all_are(&endpoint, 247_000, PEER) == (true, false));
+    assert!(rt; all_are(&endpoint, 0, OTHER) == (true, false));
 }
 
+/// A request without options, with 1147 bytes of payload and with one more.
 #[test]
-fn each_datagram_where_one_was_heard(rt: HostRuntime) -> Result<(), Fail> {
-    assert_eq!(rt;
-        where_one_was_heard(rt.alloc(), 246_999, PEER)?,
-        (false, true)
-    );
-    assert_eq!(rt;
-        where_one_was_heard(rt.alloc(), 247_000, PEER)?,
-        (true, false)
-    );
-    assert_eq!(rt; where_one_was_heard(rt.alloc(), 0, OTHER)?, (true, false));
-    Ok(())
-}
-
-/// A request without options that has so many bytes of payload, and what it is.
-fn heard_with(alloc: Global, endpoint: &Endpoint, payload: u16) -> Result<(usize, Is), AllocError> {
-    let mut datagram = Vec::from_slice(alloc, b"\x40\x01\x00\x07\xff")?;
-    for _ in 0..payload {
-        datagram.push(0x61)?;
-    }
-    Ok((datagram.len(), hear(endpoint, 0, PEER, &datagram).0))
-}
-
-/// The same at a fresh endpoint.
-fn heard_at(alloc: Global, payload: u16) -> Result<(usize, Is), AllocError> {
-    let endpoint = Endpoint::new(alloc)?;
-    heard_with(alloc, &endpoint, payload)
-}
-
-#[test]
-fn a_datagram_has_at_most_1152_bytes(rt: HostRuntime) -> Result<(), Fail> {
-    assert_eq!(rt; heard_at(rt.alloc(), 1147)?, (1152, Is::Message));
-    assert_eq!(rt; heard_at(rt.alloc(), 1148)?, (1153, Is::Ignored));
-    Ok(())
+fn a_datagram_has_at_most_1152_bytes(rt: HostRuntime) {
+    let endpoint = Endpoint::new(rt.alloc()).expect(&rt, "memory");
+    let mut datagram = [0x61; 1153];
+    datagram[..5].copy_from_slice(b"\x40\x01\x00\x07\xff");
+    assert!(rt; hear(&endpoint, 0, PEER, &datagram[..1152]) == (Is::Message, 7));
+    assert!(rt; hear(&endpoint, 0, PEER, &datagram).0 == Is::Ignored);
 }
 
 /// Messages of ID 7, and until when each is noted once it was answered.
@@ -184,23 +144,19 @@ fn heard_after(alloc: Global, datagram: &[u8], at: u32) -> Result<(Is, u16), All
 }
 
 #[test]
-fn what_is_noted_and_how_long(rt: HostRuntime) -> Result<(), Fail> {
+fn what_is_noted_and_how_long(rt: HostRuntime) {
     for (datagram, until) in LIVES {
         let before = until.saturating_sub(1);
         let is = if until == 0 { Is::Message } else { Is::Repeat };
-        assert_eq!(rt; heard_after(rt.alloc(), datagram, before)?, (is, 7));
-        assert_eq!(rt; heard_after(rt.alloc(), datagram, until)?, (Is::Message, 7));
+        assert!(rt; heard_after(rt.alloc(), datagram, before).ok() == Some((is, 7)));
+        assert!(rt; heard_after(rt.alloc(), datagram, until).ok() == Some((Is::Message, 7)));
     }
-    Ok(())
 }
 
 /// How many bytes were noted of the message of ID 7.
 fn noted_bytes(endpoint: &Endpoint, at: u32, from: Peer) -> Option<usize> {
-    Some(
-        endpoint
-            .noted_reply(Moment { ms: u64::from(at) }, from, 7)?
-            .len(),
-    )
+    let now = Moment { ms: u64::from(at) };
+    Some(endpoint.noted_reply(now, from, 7)?.len())
 }
 
 /// A non-confirmable message of ID 7 is answered.
@@ -212,19 +168,13 @@ fn answer(alloc: Global, endpoint: &mut Endpoint) -> Result<(), AllocError> {
     Ok(())
 }
 
-/// How many bytes are noted of it at that moment.
-fn noted_after(alloc: Global, at: u32, from: Peer) -> Result<Option<usize>, AllocError> {
-    let mut endpoint = Endpoint::new(alloc)?;
-    answer(alloc, &mut endpoint)?;
-    Ok(noted_bytes(&endpoint, at, from))
-}
-
 #[test]
-fn what_answered_is_noted(rt: HostRuntime) -> Result<(), Fail> {
-    assert_eq!(rt; noted_after(rt.alloc(), 144_999, PEER)?, Some(5));
-    assert_eq!(rt; noted_after(rt.alloc(), 145_000, PEER)?, None);
-    assert_eq!(rt; noted_after(rt.alloc(), 0, OTHER)?, None);
-    Ok(())
+fn what_answered_is_noted(rt: HostRuntime) {
+    let mut endpoint = Endpoint::new(rt.alloc()).expect(&rt, "memory");
+    answer(rt.alloc(), &mut endpoint).expect(&rt, "memory");
+    assert!(rt; noted_bytes(&endpoint, 144_999, PEER) == Some(5));
+    assert!(rt; noted_bytes(&endpoint, 145_000, PEER).is_none());
+    assert!(rt; noted_bytes(&endpoint, 0, OTHER).is_none());
 }
 
 /// Hands a message over; answers 1 where it goes out, 0 where it waits, and else the number of the refusal.
@@ -318,29 +268,25 @@ fn is_run(alloc: Global, byte: u8, waiting: u16, run: Run) -> Result<bool, Alloc
 }
 
 #[test]
-fn what_ticks_do(rt: HostRuntime) -> Result<(), Fail> {
+fn what_ticks_do(rt: HostRuntime) {
     for (byte, waiting, run) in RUNS {
-        assert!(rt; is_run(rt.alloc(), byte, waiting, run)?);
+        assert!(rt; is_run(rt.alloc(), byte, waiting, run).ok() == Some(true));
     }
-    Ok(())
 }
 
 #[test]
-fn sixteen_wait(rt: HostRuntime) -> Result<(), Fail> {
-    let mut endpoint = Endpoint::new(rt.alloc())?;
+fn sixteen_wait(rt: HostRuntime) {
+    let mut endpoint = Endpoint::new(rt.alloc()).expect(&rt, "memory");
     for id in 0..18u16 {
         let answer = match id {
             0 => 1,
             17 => 16,
             _ => 0,
         };
-        assert_eq!(rt;
-            send(&mut endpoint, rt.alloc(), PEER, id, &Draw([0; 32]))?,
-            answer
-        );
+        let sent = send(&mut endpoint, rt.alloc(), PEER, id, &Draw([0; 32]));
+        assert!(rt; sent.ok() == Some(answer));
     }
-    assert_eq!(rt; endpoint.open_messages(), 17);
-    Ok(())
+    assert!(rt; endpoint.open_messages() == 17);
 }
 
 /// One of several peers at one address.
@@ -362,15 +308,12 @@ fn sends_to_64(endpoint: &mut Endpoint, alloc: Global) -> Result<bool, AllocErro
 }
 
 #[test]
-fn sixty_four_peers_have_one_open(rt: HostRuntime) -> Result<(), Fail> {
-    let mut endpoint = Endpoint::new(rt.alloc())?;
-    assert!(rt; sends_to_64(&mut endpoint, rt.alloc())?);
+fn sixty_four_peers_have_one_open(rt: HostRuntime) {
+    let mut endpoint = Endpoint::new(rt.alloc()).expect(&rt, "memory");
+    assert!(rt; sends_to_64(&mut endpoint, rt.alloc()).ok() == Some(true));
     settle(&mut endpoint, 0, at_port(0), b"\x60\x00\x00\x07", None);
-    assert_eq!(rt;
-        send(&mut endpoint, rt.alloc(), OTHER, 7, &Draw([0; 32]))?,
-        1
-    );
-    Ok(())
+    let sent = send(&mut endpoint, rt.alloc(), OTHER, 7, &Draw([0; 32]));
+    assert!(rt; sent.ok() == Some(1));
 }
 
 /// Whether a retransmission goes to each of the 64 peers, in the order of their ports, and nothing else goes out.
@@ -402,11 +345,10 @@ fn all_repeat_at_once(endpoint: &mut Endpoint, alloc: Global) -> Result<bool, Al
 }
 
 #[test]
-fn messages_to_many_are_due_at_once(rt: HostRuntime) -> Result<(), Fail> {
-    let mut endpoint = Endpoint::new(rt.alloc())?;
-    send_to_each(&mut endpoint, rt.alloc())?;
-    assert!(rt; all_repeat_at_once(&mut endpoint, rt.alloc())?);
-    Ok(())
+fn messages_to_many_are_due_at_once(rt: HostRuntime) {
+    let mut endpoint = Endpoint::new(rt.alloc()).expect(&rt, "memory");
+    send_to_each(&mut endpoint, rt.alloc()).expect(&rt, "memory");
+    assert!(rt; all_repeat_at_once(&mut endpoint, rt.alloc()).ok() == Some(true));
 }
 
 /// What comes from whom while a message of ID 7 is outstanding to the peer, which request it counts for, and how many are open
@@ -437,11 +379,10 @@ fn left_open(
 }
 
 #[test]
-fn what_ends_repeats(rt: HostRuntime) -> Result<(), Fail> {
+fn what_ends_repeats(rt: HostRuntime) {
     for (from, datagram, request, left) in ENDS {
-        assert_eq!(rt; left_open(rt.alloc(), from, datagram, request)?, left);
+        assert!(rt; left_open(rt.alloc(), from, datagram, request).ok() == Some(left));
     }
-    Ok(())
 }
 
 /// A draw whose message ID is 65535.
@@ -467,16 +408,13 @@ fn id_after_reply(endpoint: &mut Endpoint, kind: Kind) -> u16 {
 }
 
 #[test]
-fn own_message_ids(rt: HostRuntime) -> Result<(), Fail> {
-    let mut endpoint = Endpoint::new(rt.alloc())?;
-    let taken = endpoint.take_id(&LAST_ID);
-    let is_begun = replies_by(&endpoint, Kind::Confirmable, b"\x61\x45\x00\x07t")
-        && replies_by(&endpoint, Kind::NonConfirmable, b"\x51\x45\x00\x00t");
-    let next = id_after_reply(&mut endpoint, Kind::Confirmable);
-    let after = id_after_reply(&mut endpoint, Kind::NonConfirmable);
-    assert!(rt; is_begun);
-    assert_eq!(rt; (taken, next, after), (65535, 0, 1));
-    Ok(())
+fn own_message_ids(rt: HostRuntime) {
+    let mut endpoint = Endpoint::new(rt.alloc()).expect(&rt, "memory");
+    assert!(rt; endpoint.take_id(&LAST_ID) == 65535);
+    assert!(rt; replies_by(&endpoint, Kind::Confirmable, b"\x61\x45\x00\x07t"));
+    assert!(rt; replies_by(&endpoint, Kind::NonConfirmable, b"\x51\x45\x00\x00t"));
+    assert!(rt; id_after_reply(&mut endpoint, Kind::Confirmable) == 0);
+    assert!(rt; id_after_reply(&mut endpoint, Kind::NonConfirmable) == 1);
 }
 
 /// What rejects and what acknowledges a message of this kind and ID 7.
@@ -501,13 +439,12 @@ fn is_spelled(message: Option<MessageBuilder>, bytes: Option<&[u8]>) -> bool {
 }
 
 #[test]
-fn rejected_and_acknowledged(rt: HostRuntime) -> Result<(), Fail> {
+fn rejected_and_acknowledged(rt: HostRuntime) {
     for (kind, rejects, acknowledges) in ANSWERS {
         let response = MessageBuilder::start(kind, 69, 7, b"t");
         assert!(rt; is_spelled(rejection(&response.message()), rejects));
         assert!(rt; is_spelled(acknowledgement(&response.message()), acknowledges));
     }
-    Ok(())
 }
 
 /// Has heard a message, sent one and taken an ID of its own, and forgets all.
@@ -520,31 +457,25 @@ fn forgets(alloc: Global, endpoint: &mut Endpoint) -> Result<(), AllocError> {
     Ok(())
 }
 
-/// What the message is to it then, how many are open, the ID that it would take, and whether it sends at once.
-fn after_all_is_forgotten(alloc: Global) -> Result<((Is, u16), usize, u16, u8), AllocError> {
-    let mut endpoint = Endpoint::new(alloc)?;
-    forgets(alloc, &mut endpoint)?;
-    let heard = hear(&endpoint, 0, PEER, b"\x40\x01\x00\x07");
-    let (open, id) = (endpoint.open_messages(), endpoint.own_id(&Draw([1; 32])));
-    let sent = send(&mut endpoint, alloc, PEER, 7, &Draw([0; 32]))?;
-    Ok((heard, open, id, sent))
+#[test]
+fn all_is_forgotten(rt: HostRuntime) {
+    let mut endpoint = Endpoint::new(rt.alloc()).expect(&rt, "memory");
+    forgets(rt.alloc(), &mut endpoint).expect(&rt, "memory");
+    assert!(rt; hear(&endpoint, 0, PEER, b"\x40\x01\x00\x07") == (Is::Message, 7));
+    assert!(rt; endpoint.open_messages() == 0);
+    assert!(rt; endpoint.own_id(&Draw([1; 32])) == 257);
+    let sent = send(&mut endpoint, rt.alloc(), PEER, 7, &Draw([0; 32]));
+    assert!(rt; sent.ok() == Some(1));
 }
 
 #[test]
-fn all_is_forgotten(rt: HostRuntime) -> Result<(), Fail> {
-    let (heard, open, id, sent) = after_all_is_forgotten(rt.alloc())?;
-    assert_eq!(rt; heard, (Is::Message, 7));
-    assert_eq!(rt; (open, id, sent), (0, 257, 1));
-    Ok(())
-}
-
-#[test]
-fn what_is_sent_has_its_room(rt: HostRuntime) -> Result<(), Fail> {
-    let mut outbox = Outbox::new(rt.alloc(), 2)?;
-    let room = Buffer::new(rt.alloc(), 8)?;
+fn what_is_sent_has_its_room(rt: HostRuntime) {
+    let mut outbox = Outbox::new(rt.alloc(), 2).expect(&rt, "memory");
+    let room = Buffer::new(rt.alloc(), 8).expect(&rt, "memory");
     outbox.send(PEER, room.fill(b"first"));
-    outbox.send(OTHER, Bytes::from_slice(rt.alloc(), b"second")?);
-    let sent = outbox.into_datagrams();
-    assert_eq!(rt; sent.as_slice().len(), 2);
-    Ok(())
+    outbox.send(
+        OTHER,
+        Bytes::from_slice(rt.alloc(), b"second").expect(&rt, "memory"),
+    );
+    assert!(rt; outbox.into_datagrams().as_slice().len() == 2);
 }

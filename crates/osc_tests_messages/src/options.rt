@@ -5,7 +5,8 @@ use osc_coap::{Kind, MessageBuilder, MessageRef, PlaintextRef};
 use osc_model::{Bytes, Code, ETags, Path, Reply, Request};
 use osc_options::*;
 use std::alloc::{AllocError, Global};
-use std::test::*;
+use std::process::Abort;
+use std::test::Fail;
 
 /// Number, the marks C, U and R, and the least and the greatest length (RFC 7252 table 4, RFC 8613 table 1).
 const ROWS: [(u16, &[u8; 3], u16, u16); 16] = [
@@ -42,18 +43,17 @@ fn is_row(number: u16, marks: &[u8; 3], shortest: u16, longest: u16) -> bool {
 }
 
 #[test]
-fn the_table(rt: HostRuntime) -> Result<(), Fail> {
+fn the_table(rt: HostRuntime) {
     for (number, marks, shortest, longest) in ROWS {
         assert!(rt; is_row(number, marks, shortest, longest), "{number}");
     }
-    for (number, class) in [
-        (numbers::URI_HOST, Class::U),
-        (numbers::URI_PATH, Class::E),
-        (65000, Class::E),
-    ] {
-        assert_eq!(rt; class_of(number), class);
-    }
-    Ok(())
+    assert!(rt; class_of(numbers::URI_HOST) == Class::U);
+    assert!(rt; class_of(numbers::URI_PATH) == Class::E);
+    assert!(rt; class_of(65000) == Class::E);
+}
+
+fn parsed<'a>(rt: &impl Abort, datagram: &'a [u8]) -> MessageRef<'a> {
+    MessageRef::parse(datagram).expect(rt, "a message")
 }
 
 /// Datagrams, and the first critical option in each that isn't recognised.
@@ -70,12 +70,13 @@ const DATAGRAMS: [(&[u8], Option<u16>); 9] = [
 ];
 
 #[test]
-fn what_is_not_recognised(rt: HostRuntime) -> Result<(), Fail> {
+fn what_is_not_recognised(rt: HostRuntime) {
     for (datagram, expected) in DATAGRAMS {
-        let message = MessageRef::parse(datagram)?;
-        assert_eq!(rt; unrecognised_critical(&message), expected);
+        assert!(rt;
+            unrecognised_critical(&parsed(&rt, datagram)) == expected,
+            "at {datagram:?}"
+        );
     }
-    Ok(())
 }
 
 /// Whether the request has this path, or none.
@@ -102,16 +103,12 @@ fn is_whole(request: &Request) -> bool {
 }
 
 #[test]
-fn a_request(rt: HostRuntime) -> Result<(), Fail> {
-    let message = MessageRef::parse(WHOLE)?;
-    let options = (
-        has_option(&message, numbers::ACCEPT),
-        has_option(&message, numbers::OSCORE),
-    );
-    assert_eq!(rt; options, (true, false));
-    let request = request_of_message(rt.alloc(), &message)?;
+fn a_request(rt: HostRuntime) {
+    let message = parsed(&rt, WHOLE);
+    assert!(rt; has_option(&message, numbers::ACCEPT));
+    assert!(rt; !has_option(&message, numbers::OSCORE));
+    let request = request_of_message(rt.alloc(), &message).expect(&rt, "memory");
     assert!(rt; is_whole(&request));
-    Ok(())
 }
 
 /// Whether the datagram is a request with this path, or none.
@@ -139,21 +136,20 @@ const REPLIES: [(Option<u16>, &[u8]); 4] = [
 ];
 
 #[test]
-fn replies(rt: HostRuntime) -> Result<(), Fail> {
+fn replies(rt: HostRuntime) {
     for (format, expected) in REPLIES {
         let reply = Reply {
             code: Code::CONTENT,
             etag: Some(*b"abcdefgh"),
             format,
-            payload: Bytes::from_slice(rt.alloc(), b"hi")?,
+            payload: Bytes::from_slice(rt.alloc(), b"hi").expect(&rt, "memory"),
         };
         let message = reply_message(Kind::Acknowledgement, 0x1234, b"t", &reply)
             .ok()
-            .ok_or("room")?;
+            .expect(&rt, "room");
         assert!(rt; message.bytes().starts_with(b"\x61\x45\x12\x34t"));
         assert!(rt; message.bytes().ends_with(expected));
     }
-    Ok(())
 }
 
 fn two_tags(alloc: Global) -> Result<ETags, AllocError> {
@@ -195,11 +191,11 @@ fn is_read_again(alloc: Global, message: &MessageRef<'_>) -> Result<bool, AllocE
 }
 
 #[test]
-fn a_written_request(rt: HostRuntime) -> Result<(), Fail> {
-    let message = written(&a_put(rt.alloc())?).ok_or("room")?;
-    assert_eq!(rt; message.bytes(), PUT);
-    assert!(rt; is_read_again(rt.alloc(), &message.message())?);
-    Ok(())
+fn a_written_request(rt: HostRuntime) {
+    let put = a_put(rt.alloc()).expect(&rt, "memory");
+    let message = written(&put).expect(&rt, "room");
+    assert!(rt; message.bytes() == PUT);
+    assert!(rt; is_read_again(rt.alloc(), &message.message()).ok() == Some(true));
 }
 
 fn a_post(alloc: Global, payload: &[u8]) -> Result<Request, AllocError>
@@ -216,15 +212,18 @@ fn a_post(alloc: Global, payload: &[u8]) -> Result<Request, AllocError>
     })
 }
 
+/// How many bytes a POST with this payload has, if it fits a datagram.
+fn post_length(alloc: Global, payload: &[u8]) -> Result<Option<usize>, AllocError> {
+    let message = written(&a_post(alloc, payload)?);
+    Ok(message.map(|message| message.bytes().len()))
+}
+
 /// Beside the payload there are eight bytes: four of header, one of token, two of option and the marker.
 #[test]
-fn a_request_too_long(rt: HostRuntime) -> Result<(), Fail> {
+fn a_request_too_long(rt: HostRuntime) {
     let longer = [b'x'; 1145];
-    for (payload, expected) in [(&longer[1..], Some(1152)), (&longer[..], None)] {
-        let message = written(&a_post(rt.alloc(), payload)?);
-        assert_eq!(rt; message.map(|m| m.bytes().len()), expected);
-    }
-    Ok(())
+    assert!(rt; post_length(rt.alloc(), &longer[1..]).ok() == Some(Some(1152)));
+    assert!(rt; post_length(rt.alloc(), &longer).ok() == Some(None));
 }
 
 /// A GET with the token 00003974, Uri-Host "localhost" and Uri-Path "tv1".
@@ -241,60 +240,44 @@ const PROTECTED: [u8; 35] = [
 ];
 
 #[test]
-fn the_parts_of_a_request(rt: HostRuntime) -> Result<(), Fail> {
-    let request = MessageRef::parse(&REQUEST)?;
+fn the_parts_of_a_request(rt: HostRuntime) {
+    let request = parsed(&rt, &REQUEST);
     let mut parts = split(&request);
-    let outer = (parts.outer.next(), parts.outer.next());
-    assert_eq!(rt; outer, (Some((3, b"localhost".as_slice())), None));
-    let inner = (parts.inner.next(), parts.inner.next());
-    assert_eq!(rt; inner, (Some((11, b"tv1".as_slice())), None));
-    Ok(())
+    assert!(rt; parts.outer.next() == Some((3, b"localhost".as_slice())));
+    assert!(rt; parts.outer.next().is_none());
+    assert!(rt; parts.inner.next() == Some((11, b"tv1".as_slice())));
+    assert!(rt; parts.inner.next().is_none());
 }
 
 /// The plaintext of the request.
 const PLAINTEXT: &[u8] = b"\x01\xb3tv1";
 
-/// The request with an OSCORE option and a ciphertext in place of its inner part.
-fn protected(request: &MessageRef<'_>) -> Option<MessageBuilder> {
-    protected_message(request, 2, b"\x09\x14", &PROTECTED[22..]).ok()
-}
-
+/// The request gets an OSCORE option and a ciphertext in place of its inner part.
 #[test]
-fn a_protected_request(rt: HostRuntime) -> Result<(), Fail> {
-    let request = MessageRef::parse(&REQUEST)?;
-    let plaintext = plaintext_of(&request).ok().ok_or("room")?;
-    assert_eq!(rt; plaintext.bytes(), PLAINTEXT);
-    let outer = protected(&request).ok_or("room")?;
-    assert_eq!(rt; outer.bytes(), PROTECTED.as_slice());
-    Ok(())
+fn a_protected_request(rt: HostRuntime) {
+    let request = parsed(&rt, &REQUEST);
+    let plaintext = plaintext_of(&request).ok().expect(&rt, "room");
+    assert!(rt; plaintext.bytes() == PLAINTEXT);
+    let outer = protected_message(&request, 2, b"\x09\x14", &PROTECTED[22..]);
+    assert!(rt; outer.ok().expect(&rt, "room").bytes() == PROTECTED.as_slice());
 }
 
-/// The message that comes of a protected one and its plaintext.
-fn unprotected(outer: &MessageRef<'_>, plaintext: &[u8]) -> Option<MessageBuilder> {
-    let inner = PlaintextRef::parse(plaintext)?;
-    if inner.code() == 0 {
-        return None;
-    }
-    unprotected_message(outer, &inner).ok()
-}
-
+/// A protected message and its plaintext make the message again.
 #[test]
-fn an_unprotected_request(rt: HostRuntime) -> Result<(), Fail> {
-    let outer = MessageRef::parse(&PROTECTED)?;
-    assert_eq!(rt;
-        value_of(&outer, numbers::OSCORE),
-        Some(b"\x09\x14".as_slice())
-    );
-    let again = unprotected(&outer, PLAINTEXT).ok_or("room")?;
-    assert_eq!(rt; again.bytes(), REQUEST.as_slice());
-    Ok(())
+fn an_unprotected_request(rt: HostRuntime) {
+    let outer = parsed(&rt, &PROTECTED);
+    assert!(rt; value_of(&outer, numbers::OSCORE) == Some(b"\x09\x14".as_slice()));
+    let inner = PlaintextRef::parse(PLAINTEXT).expect(&rt, "a plaintext");
+    assert!(rt; inner.code() != 0);
+    let again = unprotected_message(&outer, &inner).ok().expect(&rt, "room");
+    assert!(rt; again.bytes() == REQUEST.as_slice());
 }
 
 /// Outer and inner options take turns, and the outer one is first of two of one number.
 #[test]
-fn merged(rt: HostRuntime) -> Result<(), Fail> {
-    let outside = MessageRef::parse(b"\x40\x01\x00\x01\x31a\x41b\xd1\x0fc")?;
-    let inside = MessageRef::parse(b"\x40\x01\x00\x01\x51d\x61e\x01f")?;
+fn merged(rt: HostRuntime) {
+    let outside = parsed(&rt, b"\x40\x01\x00\x01\x31a\x41b\xd1\x0fc");
+    let inside = parsed(&rt, b"\x40\x01\x00\x01\x51d\x61e\x01f");
     let mut options = merge(split(&outside).outer, split(&inside).inner);
     let expected: [(u16, &[u8]); 6] = [
         (3, b"a"),
@@ -305,10 +288,9 @@ fn merged(rt: HostRuntime) -> Result<(), Fail> {
         (35, b"c"),
     ];
     for option in expected {
-        assert_eq!(rt; options.next(), Some(option));
+        assert!(rt; options.next() == Some(option));
     }
-    assert_eq!(rt; options.next(), None);
-    Ok(())
+    assert!(rt; options.next().is_none());
 }
 
 /// Plaintexts of requests, and the error of each, if there is one.
@@ -336,16 +318,14 @@ fn is_a_get(alloc: Global, plaintext: &[u8]) -> bool {
 }
 
 #[test]
-fn an_encrypted_request(rt: HostRuntime) -> Result<(), Fail> {
+fn an_encrypted_request(rt: HostRuntime) {
     assert!(rt; is_a_get(rt.alloc(), PLAINTEXT));
     for (plaintext, error) in REQUESTS {
-        assert_eq!(rt;
-            request_of(rt.alloc(), plaintext).err(),
-            error,
+        assert!(rt;
+            request_of(rt.alloc(), plaintext).err() == error,
             "at {plaintext:?}"
         );
     }
-    Ok(())
 }
 
 fn a_reply(alloc: Global) -> Result<Reply, AllocError>
@@ -359,22 +339,17 @@ fn a_reply(alloc: Global) -> Result<Reply, AllocError>
     })
 }
 
-/// The message of a reply, without a token.
-fn message_of(reply: &Reply) -> Option<MessageBuilder>
-    requires { 0 < reply.now.code.0 }
-{
-    reply_message(Kind::Acknowledgement, 1, b"", reply).ok()
-}
-
 /// The plaintext of that reply.
 const REPLY: &[u8] = b"\x45\x48abcdefgh\x81\x2a\xffhi";
 
 #[test]
-fn the_plaintext_of_a_reply(rt: HostRuntime) -> Result<(), Fail> {
-    let message = message_of(&a_reply(rt.alloc())?).ok_or("room")?;
-    let plaintext = plaintext_of(&message.message()).ok().ok_or("room")?;
-    assert_eq!(rt; plaintext.bytes(), REPLY);
-    Ok(())
+fn the_plaintext_of_a_reply(rt: HostRuntime) {
+    let reply = a_reply(rt.alloc()).expect(&rt, "memory");
+    let message = reply_message(Kind::Acknowledgement, 1, b"", &reply)
+        .ok()
+        .expect(&rt, "room");
+    let plaintext = plaintext_of(&message.message()).ok().expect(&rt, "room");
+    assert!(rt; plaintext.bytes() == REPLY);
 }
 
 /// Plaintexts that are no reply, and the error of each; one with an ETag of another length, which is left out, is a reply.
@@ -398,40 +373,39 @@ fn is_the_reply(alloc: Global, plaintext: &[u8]) -> Result<bool, AllocError> {
 }
 
 #[test]
-fn an_encrypted_reply(rt: HostRuntime) -> Result<(), Fail> {
-    assert!(rt; is_the_reply(rt.alloc(), REPLY)?);
-    assert_eq!(rt; etag_in(rt.alloc(), b"\x45\x41a"), None);
+fn an_encrypted_reply(rt: HostRuntime) {
+    assert!(rt; is_the_reply(rt.alloc(), REPLY).ok() == Some(true));
+    assert!(rt; etag_in(rt.alloc(), b"\x45\x41a").is_none());
     for (plaintext, error) in NO_REPLIES {
-        assert_eq!(rt; reply_of(rt.alloc(), plaintext).err(), error);
+        assert!(rt;
+            reply_of(rt.alloc(), plaintext).err() == error,
+            "at {plaintext:?}"
+        );
     }
-    Ok(())
 }
 
 #[test]
-fn printed(rt: HostRuntime) -> Result<(), Fail> {
+fn printed(rt: HostRuntime) {
     let alloc = rt.alloc();
-    for (error, number, text) in [
+    for (error, text) in [
         (
             PlaintextError::Format,
-            13,
-            "the plaintext is no such message",
+            "13 the plaintext is no such message",
         ),
         (
             PlaintextError::BadOption(3),
-            15,
-            "the option 3 is not understood inside",
+            "15 the option 3 is not understood inside",
         ),
-        (PlaintextError::Memory, 9, "out of memory"),
+        (PlaintextError::Memory, "9 out of memory"),
     ] {
-        assert_eq!(rt; error.number(), number);
-        assert_eq!(rt; format!(in alloc; "{error}")?.as_str(), text);
+        let printed = format!(in alloc; "{} {error}", error.number()).expect(&rt, "memory");
+        assert!(rt; printed.as_str() == text);
     }
-    Ok(())
 }
 
 /// What a server answers where it holds no context, and where it can't decode (RFC 8613 section 8.2).
 #[test]
-fn errors(rt: HostRuntime) -> Result<(), Fail> {
+fn errors(rt: HostRuntime) {
     let unknown = error_message(
         Kind::Acknowledgement,
         0x001a,
@@ -439,12 +413,10 @@ fn errors(rt: HostRuntime) -> Result<(), Fail> {
         Code::UNAUTHORIZED,
         Some(0),
         b"Security context not found",
-    )
-    .ok()
-    .ok_or("room")?;
-    assert_eq!(rt;
-        unknown.bytes(),
-        b"\x60\x81\x00\x1a\xd0\x01\xffSecurity context not found".as_slice()
+    );
+    let unknown = unknown.ok().expect(&rt, "room");
+    assert!(rt;
+        unknown.bytes() == b"\x60\x81\x00\x1a\xd0\x01\xffSecurity context not found".as_slice()
     );
     let malformed = error_message(
         Kind::Acknowledgement,
@@ -453,12 +425,7 @@ fn errors(rt: HostRuntime) -> Result<(), Fail> {
         Code::BAD_OPTION,
         None,
         b"Failed to decode COSE",
-    )
-    .ok()
-    .ok_or("room")?;
-    assert_eq!(rt;
-        malformed.bytes(),
-        b"\x60\x82\x00\x1b\xffFailed to decode COSE".as_slice()
     );
-    Ok(())
+    let malformed = malformed.ok().expect(&rt, "room");
+    assert!(rt; malformed.bytes() == b"\x60\x82\x00\x1b\xffFailed to decode COSE".as_slice());
 }
