@@ -2,8 +2,6 @@
 use osc_cbor::*;
 use std::alloc::{AllocError, Global};
 use std::mem::size_of;
-use std::process::Abort;
-use std::test::Fail;
 
 /// RFC 8949 appendix A: the examples in the subset.
 const EXAMPLES: [&[u8]; 43] = [
@@ -52,22 +50,15 @@ const EXAMPLES: [&[u8]; 43] = [
     b"\xa5\x61a\x61A\x61b\x61B\x61c\x61C\x61d\x61D\x61e\x61E",
 ];
 
-/// Reads an example, and writes it again.
-fn read_and_written(rt: &impl Abort, alloc: Global, example: &[u8]) -> Result<(), Fail> {
-    let (item, taken) = read(alloc, example)?;
-    assert_eq!(rt; taken, example.len());
-    let mut out = Vec::new(alloc);
-    write(&item, &mut out)?;
-    assert_eq!(rt; out.as_slice(), example);
-    Ok(())
-}
-
 #[test]
-fn the_examples_are_read_and_written(rt: HostRuntime) -> Result<(), Fail> {
+fn the_examples_are_read_and_written(rt: HostRuntime) {
     for example in EXAMPLES {
-        read_and_written(&rt, rt.alloc(), example)?;
+        let (item, taken) = read(rt.alloc(), example).expect(&rt, "an item");
+        assert!(rt; taken == example.len(), "at {example:?}");
+        let mut out = Vec::new(rt.alloc());
+        write(&item, &mut out).expect(&rt, "memory");
+        assert!(rt; out.as_slice() == example, "at {example:?}");
     }
-    Ok(())
 }
 
 /// Whether the item at the beginning of the bytes is this one, and takes so many of them.
@@ -225,9 +216,9 @@ fn refusal(alloc: Global, bytes: &[u8]) -> Option<ReadError> {
 #[test]
 fn what_is_refused(rt: HostRuntime) {
     for (bytes, fault) in REFUSED {
-        assert_eq!(rt; extent(bytes), Err(fault));
-        assert_eq!(rt; refusal(rt.alloc(), bytes), Some(fault));
-        assert!(rt; !is_whole(bytes));
+        assert!(rt; extent(bytes) == Err(fault), "at {bytes:?}");
+        assert!(rt; refusal(rt.alloc(), bytes) == Some(fault), "at {bytes:?}");
+        assert!(rt; !is_whole(bytes), "at {bytes:?}");
     }
 }
 
@@ -245,31 +236,37 @@ const TAKEN: [&[u8]; 4] = [
 fn what_is_taken(rt: HostRuntime) {
     for bytes in TAKEN {
         assert!(rt; refusal(rt.alloc(), bytes).is_none());
-        assert_eq!(rt; extent(bytes), Ok(bytes.len()));
+        assert!(rt; extent(bytes) == Ok(bytes.len()));
         assert!(rt; is_whole(bytes));
     }
     assert!(rt; is_whole_map(TAKEN[2]));
     assert!(rt; !is_whole_map(TAKEN[0]));
 }
 
+/// What lies in a map, where it has four values: a string, a text and an array of two items.
+fn has_parts(map: &Item) -> Option<bool> {
+    let (string, text, array) = (map.value(1)?, map.value(2)?, map.value(3)?);
+    let items = array.as_array()?;
+    let (first, second) = (items.first()?, items.get(1)?);
+    Some(
+        map.as_map()?.len() == 4
+            && string.as_bytes() == Some(b"ab".as_slice())
+            && string.as_text().is_none()
+            && text.as_text() == Some("cd")
+            && items.len() == 2
+            && first.as_unsigned() == Some(7)
+            && second.is(&Item::Null)
+            && map.value(5).is_none()
+            && !map.is(array),
+    )
+}
+
 #[test]
-fn parts(rt: HostRuntime) -> Result<(), Fail> {
+fn parts(rt: HostRuntime) {
     let bytes = b"\xa4\x01\x42ab\x02\x62cd\x03\x82\x07\xf6\x04\xa0!";
-    let (map, taken) = read(rt.alloc(), bytes).ok().ok_or("a map")?;
-    assert_eq!(rt; taken, bytes.len() - 1);
-    assert_eq!(rt; map.as_map().ok_or("a map")?.len(), 4);
-    let string = map.value(1).ok_or("a string")?;
-    assert_eq!(rt; string.as_bytes(), Some(b"ab".as_slice()));
-    assert_eq!(rt; string.as_text(), None);
-    assert_eq!(rt; map.value(2).ok_or("a text")?.as_text(), Some("cd"));
-    let array = map.value(3).ok_or("an array")?;
-    let items = array.as_array().ok_or("an array")?;
-    assert_eq!(rt; items.len(), 2);
-    assert_eq!(rt; items[0].as_unsigned(), Some(7));
-    assert!(rt; items[1].is(&Item::Null));
-    assert!(rt; map.value(5).is_none());
-    assert!(rt; !map.is(array));
-    Ok(())
+    let (map, taken) = read(rt.alloc(), bytes).expect(&rt, "a map");
+    assert!(rt; taken == bytes.len() - 1);
+    assert!(rt; has_parts(&map) == Some(true));
 }
 
 #[test]
@@ -287,7 +284,7 @@ fn heads(rt: HostRuntime) {
         ),
     ];
     for (major, argument, bytes) in heads {
-        assert_eq!(rt; head(major, argument).as_slice(), bytes);
+        assert!(rt; head(major, argument).as_slice() == bytes);
     }
     laws::one_item();
     laws::what_is_written();
@@ -330,7 +327,7 @@ fn array_of(alloc: Global, count: u16, item: &[u8]) -> Result<Vec<u8>, AllocErro
 }
 
 #[test]
-fn memory_is_bounded_by_the_bytes(rt: HostRuntime) -> Result<(), Fail> {
+fn memory_is_bounded_by_the_bytes(rt: HostRuntime) {
     let spellings: [(u16, &[u8]); 10] = [
         (1152, b"\x00"),
         (1025, b"\x00"),
@@ -350,10 +347,9 @@ fn memory_is_bounded_by_the_bytes(rt: HostRuntime) -> Result<(), Fail> {
         (500, b"\xc1\x40"),
     ];
     for (count, spelling) in spellings {
-        let bytes = array_of(rt.alloc(), count, spelling)?;
+        let bytes = array_of(rt.alloc(), count, spelling).expect(&rt, "memory");
         assert!(rt; is_bounded(rt.alloc(), &bytes));
     }
-    Ok(())
 }
 
 /// Whether the bytes are an item that holds at most 192 bytes of memory for each of them.
@@ -371,7 +367,7 @@ const OF_EVERY_KIND: &[u8] = b"\x83\x41a\x61b\xa1\x01\xc1\x81\x00";
 #[test]
 fn a_refused_allocation_is_want_of_memory(rt: HostRuntime) {
     match read(rt.alloc(), OF_EVERY_KIND) {
-        Ok((_, taken)) => assert_eq!(rt; taken, OF_EVERY_KIND.len()),
-        Err(fault) => assert_eq!(rt; fault.number(), 9),
+        Ok((_, taken)) => assert!(rt; taken == OF_EVERY_KIND.len()),
+        Err(fault) => assert!(rt; fault.number() == 9),
     }
 }

@@ -1,6 +1,7 @@
 //! Tests of `osc_coap`.
 use osc_coap::*;
-use std::test::*;
+use std::process::Abort;
+use std::test::Fail;
 
 /// A GET with the token 00003974 and the options Uri-Host "localhost" and Uri-Path "tv1".
 const REQUEST: [u8; 22] = [
@@ -9,12 +10,15 @@ const REQUEST: [u8; 22] = [
 ];
 
 #[test]
-fn a_written_request(rt: HostRuntime) -> Result<(), Fail> {
+fn a_written_request(rt: HostRuntime) {
     let mut builder = MessageBuilder::start(Kind::Confirmable, 1, 0x5d1f, b"\x00\x00\x39\x74");
-    builder.option(3, b"localhost").ok().ok_or("room")?;
-    builder.option(11, b"tv1").ok().ok_or("room")?;
-    assert_eq!(rt; builder.bytes(), REQUEST.as_slice());
-    Ok(())
+    builder.option(3, b"localhost").expect(&rt, "room");
+    builder.option(11, b"tv1").expect(&rt, "room");
+    assert!(rt; builder.bytes() == REQUEST.as_slice());
+}
+
+fn parsed<'a>(rt: &impl Abort, datagram: &'a [u8]) -> MessageRef<'a> {
+    MessageRef::parse(datagram).expect(rt, "a message")
 }
 
 /// Whether it begins as those bytes do, and has no payload.
@@ -28,73 +32,47 @@ fn is_the_request(request: &MessageRef<'_>) -> bool {
 }
 
 #[test]
-fn a_request(rt: HostRuntime) -> Result<(), Fail> {
-    let request = MessageRef::parse(&REQUEST)?;
+fn a_request(rt: HostRuntime) {
+    let request = parsed(&rt, &REQUEST);
     assert!(rt; is_the_request(&request));
     assert!(rt; is_request_code(request.code()));
-    assert_eq!(rt; option_length(3, 11, b"tv1"), 4);
+    assert!(rt; option_length(3, 11, b"tv1") == 4);
     let mut options = request.options();
-    let all = (options.next(), options.next(), options.next());
-    assert_eq!(rt;
-        all,
-        (
-            Some((3, b"localhost".as_slice())),
-            Some((11, b"tv1".as_slice())),
-            None
-        )
-    );
-    Ok(())
+    assert!(rt; options.next() == Some((3, b"localhost".as_slice())));
+    assert!(rt; options.next() == Some((11, b"tv1".as_slice())));
+    assert!(rt; options.next().is_none());
 }
 
 /// A 2.05 to a request with a token of two bytes: an ETag and a payload of 31 bytes.
 #[test]
-fn a_reply(rt: HostRuntime) -> Result<(), Fail> {
+fn a_reply(rt: HostRuntime) {
     let mut builder = MessageBuilder::start(Kind::Acknowledgement, 0x45, 3, b"ab");
-    builder
-        .option(4, b"\x66\x68\x7a\xad\xf8\x62\xbd\x77")
-        .ok()
-        .ok_or("room")?;
-    builder.payload(&[0; 31]).ok().ok_or("room")?;
+    let etag = builder.option(4, b"\x66\x68\x7a\xad\xf8\x62\xbd\x77");
+    etag.expect(&rt, "room");
+    builder.payload(&[0; 31]).expect(&rt, "room");
     let start = b"\x62\x45\x00\x03ab\x48\x66\x68\x7a\xad\xf8\x62\xbd\x77\xff";
     assert!(rt; builder.bytes().starts_with(start));
-    assert_eq!(rt; builder.message().payload(), Some([0; 31].as_slice()));
-    assert_eq!(rt; builder.into_bytes().len(), 47);
-    Ok(())
+    assert!(rt; builder.message().payload() == Some([0; 31].as_slice()));
+    assert!(rt; builder.into_bytes().len() == 47);
 }
 
-/// A message with deltas and lengths of 13 and 269 and more, and the largest number.
-fn with_wide_options() -> Result<MessageBuilder, &'static str> {
-    let mut builder = MessageBuilder::start(Kind::NonConfirmable, 0x45, 7, b"");
-    builder.option(60, &[7; 13]).ok().ok_or("room")?;
-    builder.option(334, &[8; 300]).ok().ok_or("room")?;
-    builder.option(65535, b"x").ok().ok_or("room")?;
-    builder.payload(b"!").ok().ok_or("room")?;
-    Ok(builder)
-}
-
-/// Deltas 60, 274 and 65201, lengths 13, 300 and 1.
+/// Deltas of 60, 274 and 65201, and lengths of 13, 300 and 1, are written, and read again.
 #[test]
-fn wide_options_are_written(rt: HostRuntime) -> Result<(), Fail> {
-    let builder = with_wide_options()?;
+fn wide_options(rt: HostRuntime) {
+    let mut builder = MessageBuilder::start(Kind::NonConfirmable, 0x45, 7, b"");
+    builder.option(60, &[7; 13]).expect(&rt, "room");
+    builder.option(334, &[8; 300]).expect(&rt, "room");
+    builder.option(65535, b"x").expect(&rt, "room");
+    builder.payload(b"!").expect(&rt, "room");
     let datagram = builder.bytes();
     assert!(rt; datagram.starts_with(b"\x50\x45\x00\x07\xdd\x2f\x00\x07"));
-    assert_eq!(rt;
-        datagram.get(20..25),
-        Some(b"\xee\x00\x05\x00\x1f".as_slice())
-    );
-    assert_eq!(rt; datagram.get(325..), Some(b"\xe1\xfd\xa4x\xff!".as_slice()));
-    Ok(())
-}
-
-#[test]
-fn wide_options_are_read(rt: HostRuntime) -> Result<(), Fail> {
-    let builder = with_wide_options()?;
-    let mut options = MessageRef::parse(builder.bytes())?.options();
-    assert_eq!(rt; options.next(), Some((60, [7; 13].as_slice())));
-    assert_eq!(rt; options.next(), Some((334, [8; 300].as_slice())));
-    assert_eq!(rt; options.next(), Some((65535, b"x".as_slice())));
-    assert_eq!(rt; options.next(), None);
-    Ok(())
+    assert!(rt; datagram.get(20..25) == Some(b"\xee\x00\x05\x00\x1f".as_slice()));
+    assert!(rt; datagram.get(325..) == Some(b"\xe1\xfd\xa4x\xff!".as_slice()));
+    let mut options = parsed(&rt, datagram).options();
+    assert!(rt; options.next() == Some((60, [7; 13].as_slice())));
+    assert!(rt; options.next() == Some((334, [8; 300].as_slice())));
+    assert!(rt; options.next() == Some((65535, b"x".as_slice())));
+    assert!(rt; options.next().is_none());
 }
 
 /// The payload of a datagram, which outlives the message that lent it.
@@ -106,7 +84,7 @@ fn payload_in(datagram: &[u8]) -> Option<&[u8]> {
 #[test]
 fn a_payload_outlives_its_message(rt: HostRuntime) {
     let datagram = [0x60, 0x45, 0, 1, 0xff, 0x68, 0x69];
-    assert_eq!(rt; payload_in(&datagram), Some(b"hi".as_slice()));
+    assert!(rt; payload_in(&datagram) == Some(b"hi".as_slice()));
 }
 
 #[test]
@@ -145,8 +123,12 @@ fn faults(rt: HostRuntime) {
         (b"\x40\x01\x00\x0e\xe0\xfe\xf2\x10", format, Some(14)),
     ];
     for (datagram, error, id) in cases {
-        assert_eq!(rt; MessageRef::parse(datagram).err(), error, "at {datagram:?}");
-        assert_eq!(rt; kind_and_id(datagram), id.map(|id| (Kind::Confirmable, id)));
+        assert!(rt;
+            MessageRef::parse(datagram).err() == error,
+            "at {datagram:?}"
+        );
+        let head = id.map(|id| (Kind::Confirmable, id));
+        assert!(rt; kind_and_id(datagram) == head, "at {datagram:?}");
     }
 }
 
@@ -157,67 +139,64 @@ fn a_full_datagram(rt: HostRuntime) -> Result<(), Fail> {
     let Err(error) = builder.option(8, &[97; 1146]) else {
         return Err("too long".into());
     };
-    assert_eq!(rt; error, DatagramTooLong);
+    assert!(rt; error == DatagramTooLong);
     let Err(_) = builder.payload(&[97; 1148]) else {
         return Err("too long".into());
     };
-    assert_eq!(rt; builder.bytes(), b"\x40\x02\x00\x01".as_slice());
-    assert_eq!(rt; builder.payload(&[97; 1147]), Ok(()));
-    assert_eq!(rt; builder.bytes().len(), DATAGRAM_LIMIT);
+    assert!(rt; builder.bytes() == b"\x40\x02\x00\x01".as_slice());
+    assert!(rt; builder.payload(&[97; 1147]) == Ok(()));
+    assert!(rt; builder.bytes().len() == DATAGRAM_LIMIT);
     Ok(())
 }
 
 #[test]
-fn printed(rt: HostRuntime) -> Result<(), Fail> {
-    let alloc = rt.alloc();
-    for (kind, name) in [
-        (Kind::Confirmable, "CON"),
-        (Kind::NonConfirmable, "NON"),
-        (Kind::Acknowledgement, "ACK"),
-        (Kind::Reset, "RST"),
-    ] {
-        assert_eq!(rt; format!(in alloc; "{kind}")?.as_str(), name);
+fn printed(rt: HostRuntime) {
+    let kinds = (
+        Kind::Confirmable,
+        Kind::NonConfirmable,
+        Kind::Acknowledgement,
+        Kind::Reset,
+    );
+    let names = format!(in rt.alloc(); "{} {} {} {}", kinds.0, kinds.1, kinds.2, kinds.3);
+    assert!(rt; names.expect(&rt, "memory").as_str() == "CON NON ACK RST");
+    let faults = [
+        (ParseError::Version, "12 the version is not 1"),
+        (ParseError::Format, "13 the bytes are no CoAP message"),
+    ];
+    for (error, text) in faults {
+        let printed = format!(in rt.alloc(); "{} {error}", error.number());
+        assert!(rt; printed.expect(&rt, "memory").as_str() == text);
     }
-    let version = format!(in alloc; "{} {}", ParseError::Version.number(), ParseError::Version)?;
-    assert_eq!(rt; version.as_str(), "12 the version is not 1");
-    let format = format!(in alloc; "{} {}", ParseError::Format.number(), ParseError::Format)?;
-    assert_eq!(rt; format.as_str(), "13 the bytes are no CoAP message");
-    let long = format!(in alloc; "{} {}", DatagramTooLong.number(), DatagramTooLong)?;
-    assert_eq!(rt; long.as_str(), "14 the message is longer than 1152 bytes");
-    Ok(())
+    let long = format!(in rt.alloc(); "{} {}", DatagramTooLong.number(), DatagramTooLong);
+    assert!(rt; long.expect(&rt, "memory").as_str() == "14 the message is longer than 1152 bytes");
 }
 
 /// The plaintext of a GET with Uri-Path "tv1".
 #[test]
-fn a_requests_plaintext(rt: HostRuntime) -> Result<(), Fail> {
+fn a_requests_plaintext(rt: HostRuntime) {
     let mut builder = PlaintextBuilder::start(1);
-    builder.option(11, b"tv1").ok().ok_or("room")?;
-    assert_eq!(rt; builder.bytes(), b"\x01\xb3tv1".as_slice());
-    Ok(())
-}
-
-#[test]
-fn a_requests_plaintext_is_read(rt: HostRuntime) -> Result<(), Fail> {
-    let request = PlaintextRef::parse(b"\x01\xb3tv1").ok_or("a plaintext")?;
-    assert_eq!(rt; (request.code(), request.payload()), (1, None));
+    builder.option(11, b"tv1").expect(&rt, "room");
+    assert!(rt; builder.bytes() == b"\x01\xb3tv1".as_slice());
+    let request = PlaintextRef::parse(b"\x01\xb3tv1").expect(&rt, "a plaintext");
+    assert!(rt; request.code() == 1);
+    assert!(rt; request.payload().is_none());
     let mut options = request.options();
     let option = Some((11, b"tv1".as_slice()));
-    let all = (options.rest().next(), options.next(), options.next());
-    assert_eq!(rt; all, (option, option, None));
-    Ok(())
+    assert!(rt; options.rest().next() == option);
+    assert!(rt; options.next() == option);
+    assert!(rt; options.next().is_none());
 }
 
 /// The plaintext of a 2.05 with a payload.
 #[test]
-fn a_replys_plaintext(rt: HostRuntime) -> Result<(), Fail> {
+fn a_replys_plaintext(rt: HostRuntime) {
     let mut builder = PlaintextBuilder::start(0x45);
-    builder.payload(b"Hello World!").ok().ok_or("room")?;
-    assert_eq!(rt; builder.bytes(), b"\x45\xffHello World!".as_slice());
-    let reply = PlaintextRef::parse(builder.bytes()).ok_or("a plaintext")?;
-    assert_eq!(rt; reply.payload(), Some(b"Hello World!".as_slice()));
-    assert_eq!(rt; reply.length(), 14);
+    builder.payload(b"Hello World!").expect(&rt, "room");
+    assert!(rt; builder.bytes() == b"\x45\xffHello World!".as_slice());
+    let reply = PlaintextRef::parse(builder.bytes()).expect(&rt, "a plaintext");
+    assert!(rt; reply.payload() == Some(b"Hello World!".as_slice()));
+    assert!(rt; reply.length() == 14);
     assert!(rt; is_response_code(reply.code()));
-    Ok(())
 }
 
 /// No bytes, a marker with nothing behind it, a length of 15.

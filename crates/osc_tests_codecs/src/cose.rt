@@ -3,7 +3,6 @@ use osc_ccm::Ccm;
 use osc_cose::*;
 use osc_model::Bytes;
 use std::alloc::Global;
-use std::test::Fail;
 
 /// An object's bytes, and its parts.
 struct Case {
@@ -90,15 +89,14 @@ fn refusal(alloc: Global, bytes: &[u8]) -> Option<u8> {
 }
 
 #[test]
-fn parses(rt: HostRuntime) -> Result<(), Fail> {
+fn parses(rt: HostRuntime) {
     for case in &OBJECTS {
-        let object = parse0(rt.alloc(), case.bytes)?;
+        let object = parse0(rt.alloc(), case.bytes).expect(&rt, "an object");
         assert!(rt; has_parts(&object, case));
     }
     for bytes in NO_OBJECTS {
-        assert_eq!(rt; refusal(rt.alloc(), bytes), Some(10));
+        assert!(rt; refusal(rt.alloc(), bytes) == Some(10), "at {bytes:?}");
     }
-    Ok(())
 }
 
 /// Protected header, external associated data, Enc_structure; the second is of RFC 8613 appendix C.4.
@@ -116,13 +114,12 @@ const STRUCTURES: [(&[u8], &[u8], &[u8]); 2] = [
 ];
 
 #[test]
-fn structures(rt: HostRuntime) -> Result<(), Fail> {
+fn structures(rt: HostRuntime) {
     for (protected, external_aad, structure) in STRUCTURES {
         let mut out = Vec::new(rt.alloc());
-        enc_structure(protected, external_aad, &mut out)?;
-        assert_eq!(rt; out.as_slice(), structure);
+        enc_structure(protected, external_aad, &mut out).expect(&rt, "memory");
+        assert!(rt; out.as_slice() == structure);
     }
-    Ok(())
 }
 
 /// RFC 8613 appendix C.4.
@@ -135,11 +132,6 @@ const EXTERNAL_AAD: &[u8] = b"\x85\x01\x81\x0a\x40\x41\x14\x40";
 const TEXT: &[u8] = b"\x01\xb3\x74\x76\x31";
 
 const SEALED: &[u8] = b"\x61\x2f\x10\x92\xf1\x77\x6f\x1c\x16\x68\xb3\x82\x5e";
-
-/// The object of the text under this protected header, whose IV is the nonce.
-fn sealed(alloc: Global, protected: &[u8]) -> Result<Encrypt0, Fail> {
-    Ok(seal0::<Ccm<8>>(alloc, &KEY, &NONCE, protected, EXTERNAL_AAD, TEXT)?)
-}
 
 /// Whether it has this protected header, and the nonce as its IV.
 fn is_under(object: &Encrypt0, protected: &[u8]) -> bool {
@@ -167,24 +159,20 @@ const HEADERS: [(&[u8], u8, u8); 7] = [
 ];
 
 #[test]
-fn seals(rt: HostRuntime) -> Result<(), Fail> {
-    let object = sealed(rt.alloc(), b"")?;
-    assert_eq!(rt; object.ciphertext.as_slice(), SEALED);
-    Ok(())
+fn seals(rt: HostRuntime) {
+    let object = seal0::<Ccm<8>>(rt.alloc(), &KEY, &NONCE, b"", EXTERNAL_AAD, TEXT);
+    assert!(rt; object.expect(&rt, "an object").ciphertext.as_slice() == SEALED);
 }
 
 #[test]
-fn seals_and_opens(rt: HostRuntime) -> Result<(), Fail> {
+fn seals_and_opens(rt: HostRuntime) {
     for (protected, right, other) in HEADERS {
-        let object = sealed(rt.alloc(), protected)?;
+        let object = seal0::<Ccm<8>>(rt.alloc(), &KEY, &NONCE, protected, EXTERNAL_AAD, TEXT);
+        let object = object.expect(&rt, "an object");
         assert!(rt; is_under(&object, protected));
-        let opens = (
-            opened(rt.alloc(), &object, EXTERNAL_AAD),
-            opened(rt.alloc(), &object, b"\x85"),
-        );
-        assert_eq!(rt; opens, (right, other));
+        assert!(rt; opened(rt.alloc(), &object, EXTERNAL_AAD) == right);
+        assert!(rt; opened(rt.alloc(), &object, b"\x85") == other);
     }
-    Ok(())
 }
 
 /// A whole object with tag 16, IV and a text of 20 bytes (RFC 9052 appendix C.4.1), and the key of its examples.
@@ -196,10 +184,9 @@ const EXAMPLE_KEY: [u8; 16] = *b"\x84\x9b\x57\x86\x45\x7c\x14\x91\xbe\x3a\x76\xd
 const EXAMPLE_IV: [u8; 13] = *b"\x89\xf5\x2f\x65\xa1\xc5\x80\x93\x3b\x52\x61\xa7\x8c";
 
 #[test]
-fn the_example_opens(rt: HostRuntime) -> Result<(), Fail> {
-    let object = parse0(rt.alloc(), EXAMPLE)?;
-    assert_eq!(rt; slice_of(&object.iv), Some(EXAMPLE_IV.as_slice()));
-    let text = open0::<Ccm<8>>(rt.alloc(), &object, &EXAMPLE_KEY, &EXAMPLE_IV, b"")?;
-    assert_eq!(rt; text.as_slice(), b"This is the content.".as_slice());
-    Ok(())
+fn the_example_opens(rt: HostRuntime) {
+    let object = parse0(rt.alloc(), EXAMPLE).expect(&rt, "an object");
+    assert!(rt; slice_of(&object.iv) == Some(EXAMPLE_IV.as_slice()));
+    let text = open0::<Ccm<8>>(rt.alloc(), &object, &EXAMPLE_KEY, &EXAMPLE_IV, b"");
+    assert!(rt; text.expect(&rt, "genuine").as_slice() == b"This is the content.".as_slice());
 }

@@ -2,17 +2,15 @@
 use osc_model::{Code, Method, Path};
 use osc_scope::Verdict::{Granted, NoMethod, NoPath};
 use osc_scope::{Scope, Verdict, text_to_cbor};
-use std::alloc::Global;
-use std::test::Fail;
+use std::alloc::{AllocError, Global};
 
 #[test]
-fn a_scope_grants_what_it_was_given(rt: HostRuntime) -> Result<(), Fail> {
-    let alloc = rt.alloc();
-    let mut scope = Scope::new(alloc);
+fn a_scope_grants_what_it_was_given(rt: HostRuntime) {
+    let mut scope = Scope::new(rt.alloc());
     for method in [Method::Get, Method::Put, Method::Get] {
-        if let Some(path) = Path::from_text(alloc, b"/a/b")? {
-            scope.allow(alloc, path, method)?;
-        }
+        let path = Path::from_text(rt.alloc(), b"/a/b").expect(&rt, "memory");
+        let path = path.expect(&rt, "a path");
+        scope.allow(rt.alloc(), path, method).expect(&rt, "memory");
     }
     let rows: [(&[u8], u8, Verdict); 8] = [
         (b"/a/b", 1, Granted),
@@ -25,22 +23,18 @@ fn a_scope_grants_what_it_was_given(rt: HostRuntime) -> Result<(), Fail> {
         (b"a/b", 1, NoPath),
     ];
     for (text, code, verdict) in rows {
-        let path = Path::from_text(alloc, text)?;
-        assert_eq!(rt; scope.verdict(path.as_ref(), Code(code)), verdict);
+        let path = Path::from_text(rt.alloc(), text).expect(&rt, "memory");
+        assert!(rt;
+            scope.verdict(path.as_ref(), Code(code)) == verdict,
+            "{code} at {text:?}"
+        );
     }
-    Ok(())
 }
 
 /// What a scope says of GET, POST, PUT and DELETE on a path.
-fn verdicts(alloc: Global, scope: &Scope, text: &[u8]) -> Result<[Verdict; 4], Fail> {
+fn verdicts(alloc: Global, scope: &Scope, text: &[u8]) -> Result<[Verdict; 4], AllocError> {
     let path = Path::from_text(alloc, text)?;
-    let path = path.as_ref();
-    Ok([
-        scope.verdict(path, Code(1)),
-        scope.verdict(path, Code(2)),
-        scope.verdict(path, Code(3)),
-        scope.verdict(path, Code(4)),
-    ])
+    Ok([1, 2, 3, 4].map(|code| scope.verdict(path.as_ref(), Code(code))))
 }
 
 /// Three entries, two of them of one path.
@@ -70,20 +64,21 @@ const NO_TEXTS: [&[u8]; 12] = [
 ];
 
 #[test]
-fn texts_are_written(rt: HostRuntime) -> Result<(), Fail> {
-    let alloc = rt.alloc();
+fn texts_are_written(rt: HostRuntime) {
     for (text, bytes) in WRITTEN {
-        let mut out = Vec::new(alloc);
-        text_to_cbor(alloc, text, &mut out)?;
-        assert_eq!(rt; out.as_slice(), bytes);
+        let mut out = Vec::new(rt.alloc());
+        text_to_cbor(rt.alloc(), text, &mut out).expect(&rt, "a scope");
+        assert!(rt; out.as_slice() == bytes);
     }
-    let mut out = Vec::from_slice(alloc, b"before")?;
+    let mut out = Vec::from_slice(rt.alloc(), b"before").expect(&rt, "memory");
     for text in NO_TEXTS {
-        let answer = text_to_cbor(alloc, text, &mut out);
-        assert_eq!(rt; answer.map_err(|error| error.number()).err(), Some(24));
-        assert_eq!(rt; out.as_slice(), b"before".as_slice());
+        let refusal = text_to_cbor(rt.alloc(), text, &mut out).err();
+        assert!(rt;
+            refusal.map(|error| error.number()) == Some(24),
+            "at {text:?}"
+        );
+        assert!(rt; out.as_slice() == b"before".as_slice(), "at {text:?}");
     }
-    Ok(())
 }
 
 /// Bytes, a path, and what is granted on it.
@@ -118,15 +113,16 @@ const NO_SCOPES: [&[u8]; 12] = [
 ];
 
 #[test]
-fn bytes_are_read(rt: HostRuntime) -> Result<(), Fail> {
-    let alloc = rt.alloc();
+fn bytes_are_read(rt: HostRuntime) {
     for (bytes, path, granted) in READ {
-        let scope = Scope::from_cbor(alloc, bytes)?;
-        assert_eq!(rt; verdicts(alloc, &scope, path)?, granted);
+        let scope = Scope::from_cbor(rt.alloc(), bytes).expect(&rt, "a scope");
+        assert!(rt; verdicts(rt.alloc(), &scope, path).ok() == Some(granted));
     }
     for bytes in NO_SCOPES {
-        let answer = Scope::from_cbor(alloc, bytes);
-        assert_eq!(rt; answer.map_err(|error| error.number()).err(), Some(24));
+        let refusal = Scope::from_cbor(rt.alloc(), bytes).err();
+        assert!(rt;
+            refusal.map(|error| error.number()) == Some(24),
+            "at {bytes:?}"
+        );
     }
-    Ok(())
 }
