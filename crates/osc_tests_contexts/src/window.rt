@@ -1,6 +1,5 @@
 //! The window at its ends.
 use osc_window::Window;
-use std::test::*;
 
 /// Numbers, and whether each is fresh where the fresh ones before it were accepted.
 const NEAR_NOUGHT: [(u64, bool); 9] = [
@@ -42,7 +41,7 @@ fn each_number_is_accepted_once(rt: HostRuntime) {
     for rows in [&NEAR_NOUGHT[..], &SCATTERED[..], &NEAR_END[..]] {
         let mut window = Window::new();
         for (number, fresh) in rows {
-            assert_eq!(rt; window.is_fresh(*number), *fresh);
+            assert!(rt; window.is_fresh(*number) == *fresh, "at {number}");
             if window.is_fresh(*number) {
                 window.accept(*number);
             }
