@@ -84,8 +84,8 @@ fn request(alloc: Global, code: u8, id: u16, number: u64, payload: &[u8]) -> Res
     message.option(11, b"log")?;
     message.payload(payload)?;
     let name = name(alloc)?;
-    let taken = number_of(alloc, &name, number)?;
     let room = Room::new(alloc, &name, 1152)?;
+    let taken = number_of(alloc, &name, number)?;
     let made = protect_in(room, taken, &message.message())?;
     Ok(Vec::from_slice(alloc, made.message.bytes())?)
 }
@@ -131,14 +131,14 @@ fn served_once(rt: HostRuntime) -> Result<(), Fail> {
     let mut server = server(alloc)?;
     let post = request(alloc, 2, 0x0203, 0, b"a")?;
     let reply = answer(alloc, &mut server, &post)?;
-    assert_eq!(rt; opened(alloc, 0, &reply)?.as_slice(), b"\x41");
+    assert_eq!(rt; opened(alloc, 0, &reply)?.as_slice(), b"\x41".as_slice());
     let again = answer(alloc, &mut server, &post)?;
     assert_eq!(rt; again.as_slice(), reply.as_slice());
     let other = request(alloc, 2, 0x0204, 0, b"a")?;
     let replayed = answer(alloc, &mut server, &other)?;
     assert_eq!(rt;
         replayed.as_slice(),
-        b"\x60\x81\x02\x04\xd0\x01\xffReplay detected"
+        b"\x60\x81\x02\x04\xd0\x01\xffReplay detected".as_slice()
     );
     let get = request(alloc, 1, 0x0205, 1, b"")?;
     let read = answer(alloc, &mut server, &get)?;
@@ -166,7 +166,7 @@ fn changed_bits(rt: HostRuntime) -> Result<(), Fail> {
         assert!(rt; server.tree().is_empty());
     }
     let reply = answer(alloc, &mut server, &post)?;
-    assert_eq!(rt; opened(alloc, 0, &reply)?.as_slice(), b"\x41");
+    assert_eq!(rt; opened(alloc, 0, &reply)?.as_slice(), b"\x41".as_slice());
     Ok(())
 }
 
@@ -184,7 +184,7 @@ fn started_again(rt: HostRuntime) -> Result<(), Fail> {
     let refused = answer(alloc, &mut server, &get)?;
     assert_eq!(rt;
         refused.as_slice(),
-        b"\x60\x81\x00\x02\xd0\x01\xffSecurity context not found"
+        b"\x60\x81\x00\x02\xd0\x01\xffSecurity context not found".as_slice()
     );
     Ok(())
 }

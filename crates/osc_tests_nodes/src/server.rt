@@ -191,7 +191,17 @@ fn unprotected_requests(rt: HostRuntime) -> Result<(), Fail> {
             ),
             (
                 b"\x40\x01\x00\x1a\x93\x09\x00\x05\x21e\xff\0",
-                b"\x60\x82\x00\x1a",
+                b"\x60\x81\x00\x1a\xd0\x01\xffSecurity context not found",
+            ),
+            (
+                b"\x40\x02\x00\x24\x91\x20\xff\0",
+                b"\x60\x82\x00\x24\xffFailed to decode COSE",
+            ),
+            // A GET and an unreadable POST at authz-info.
+            (b"\x40\x01\x00\x16\xbaauthz-info", b"\x60\x85\x00\x16"),
+            (
+                b"\x40\x02\x00\x17\xbaauthz-info\xff\xa0",
+                b"\x60\x80\x00\x17",
             ),
             // Proxy-Scheme and Proxy-Uri, the second also beside OSCORE.
             (b"\x40\x01\x00\x1b\xb1e\xd4\x0fcoap", b"\x60\xa5\x00\x1b"),
