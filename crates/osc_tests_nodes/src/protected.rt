@@ -1,14 +1,15 @@
 //! A token posted to a server, and protected requests under the context that it makes.
-ghost use Rattle.std.specs.Prelude.{◌≡◌, ◌≤◌, IfOk, length};
+ghost use Rattle.std.specs.Prelude.{◌≡◌, ◌<◌, ◌≤◌, IfOk};
 ghost use Rattle.osc_model.specs.declared.context.Side.TheVariants.{Client};
 ghost use Rattle.osc_context.specs.Derivation.{taken_of};
+ghost use Rattle.osc_context.specs.Nonce.{greatest_number};
 ghost use Rattle.osc_protect.specs.Protection.{HasShortContext};
 
 use osc_authz::ServerDesk;
 use osc_ccm::Ccm;
 use osc_coap::{Kind, MessageBuilder, MessageRef};
 use osc_context::{SendNumber, derive};
-use osc_model::{Bytes, ContextName, Draw, Moment, Peer, Side};
+use osc_model::{Bytes, ContextName, Draw, Moment, Peer, Side, Step};
 use osc_protect::{
     MessageTooLong, ProtectedRequest, Room, open_response, protect_request, read_response,
 };
@@ -17,6 +18,7 @@ use osc_server::Server;
 use osc_token::Audience;
 use osc_tree::Tree;
 use std::alloc::{AllocError, Global};
+use std::process::Abort;
 use std::test::*;
 
 const CLIENT: Peer = Peer {
@@ -79,7 +81,9 @@ fn protect_in(
 }
 
 /// A confirmable request on `/log` with this code, message ID and payload, protected under this number.
-fn request(alloc: Global, code: u8, id: u16, number: u64, payload: &[u8]) -> Result<Vec<u8>, Fail> {
+fn request(alloc: Global, code: u8, id: u16, number: u64, payload: &[u8]) -> Result<Vec<u8>, Fail>
+    requires { 0 < code }
+{
     let mut message = MessageBuilder::start(Kind::Confirmable, code, id, b"");
     message.option(11, b"log")?;
     message.payload(payload)?;
@@ -91,7 +95,9 @@ fn request(alloc: Global, code: u8, id: u16, number: u64, payload: &[u8]) -> Res
 }
 
 /// What is sealed in a reply to the request of this number.
-fn opened(alloc: Global, number: u64, reply: &[u8]) -> Result<Vec<u8>, Fail> {
+fn opened(alloc: Global, number: u64, reply: &[u8]) -> Result<Vec<u8>, Fail>
+    requires { number ≤ greatest_number }
+{
     let message = MessageRef::parse(reply)?;
     let response = read_response(&message)?;
     let name = name(alloc)?;
@@ -103,88 +109,130 @@ fn opened(alloc: Global, number: u64, reply: &[u8]) -> Result<Vec<u8>, Fail> {
     }
 }
 
-/// A server without resources that answered the post.
-fn server(alloc: Global) -> Result<Server, Fail> {
+/// A server without resources and contexts.
+fn server(alloc: Global) -> Result<Server, AllocError> {
     let desk = ServerDesk::new(alloc, KEY, Audience::new(alloc, "s")?);
-    let mut server = Server::new(alloc, Tree::new(alloc), desk, Scope::new(alloc))?;
-    if answer(alloc, &mut server, POST)?.as_slice() != POSTED {
-        return Err("not posted")?;
-    }
-    Ok(server)
+    Server::new(alloc, Tree::new(alloc), desk, Scope::new(alloc))
 }
 
 /// What the server sends for the datagram; its nonce would end in 2.
-fn answer(alloc: Global, server: &mut Server, datagram: &[u8]) -> Result<Vec<u8>, AllocError> {
+fn answer(alloc: Global, server: &mut Server, datagram: &[u8]) -> Vec<u8> {
     let mut drawn = [0; 32];
     drawn[7] = 2;
-    let step = server.on_datagram::<Ccm<8>>(alloc, Moment::START, CLIENT, datagram, &Draw(drawn))?;
-    match step.out.as_slice() {
-        [sent] => Vec::from_slice(alloc, sent.bytes.as_slice()),
-        _ => Ok(Vec::new(alloc)),
+    match server.on_datagram::<Ccm<8>>(alloc, Moment::START, CLIENT, datagram, &Draw(drawn)) {
+        Ok(step) => sent(alloc, &step),
+        Err(_) => Vec::new(alloc),
     }
+}
+
+/// The bytes of the one datagram that is sent, or no bytes.
+fn sent(alloc: Global, step: &Step) -> Vec<u8> {
+    match step.out.as_slice() {
+        [sent] => Vec::from_slice(alloc, sent.bytes.as_slice()).unwrap_or(Vec::new(alloc)),
+        _ => Vec::new(alloc),
+    }
+}
+
+/// The server answers the datagram so.
+fn check(rt: &impl Abort, alloc: Global, server: &mut Server, datagram: &[u8], reply: &[u8]) {
+    let answered = answer(alloc, server, datagram);
+    assert!(rt; answered.as_slice() == reply);
+}
+
+/// The server serves the request of this number, which isn't repeated; what is sealed in its reply ends so.
+fn check_served(
+    rt: &impl Abort,
+    alloc: Global,
+    server: &mut Server,
+    number: u64,
+    datagram: &[u8],
+    end: &[u8],
+) -> Result<(), Fail>
+    requires { number ≤ greatest_number }
+{
+    let reply = answer(alloc, server, datagram);
+    let text = opened(alloc, number, &reply)?;
+    assert!(rt; text.as_slice().ends_with(end));
+    Ok(())
 }
 
 /// A request is served once, a repeat gets the same bytes, and the same request in another message is a replay.
-#[test]
-fn served_once(rt: HostRuntime) -> Result<(), Fail> {
-    let alloc = rt.alloc();
-    let mut server = server(alloc)?;
+fn serves_once(rt: &impl Abort, alloc: Global, server: &mut Server) -> Result<(), Fail> {
+    check(rt, alloc, server, POST, POSTED);
     let post = request(alloc, 2, 0x0203, 0, b"a")?;
-    let reply = answer(alloc, &mut server, &post)?;
-    assert_eq!(rt; opened(alloc, 0, &reply)?.as_slice(), b"\x41".as_slice());
-    let again = answer(alloc, &mut server, &post)?;
-    assert_eq!(rt; again.as_slice(), reply.as_slice());
+    check_served(rt, alloc, server, 0, &post, b"\x41")?;
+    let first = answer(alloc, server, &post);
+    check(rt, alloc, server, &post, &first);
     let other = request(alloc, 2, 0x0204, 0, b"a")?;
-    let replayed = answer(alloc, &mut server, &other)?;
-    assert_eq!(rt;
-        replayed.as_slice(),
-        b"\x60\x81\x02\x04\xd0\x01\xffReplay detected".as_slice()
+    check(
+        rt,
+        alloc,
+        server,
+        &other,
+        b"\x60\x81\x02\x04\xd0\x01\xffReplay detected",
     );
     let get = request(alloc, 1, 0x0205, 1, b"")?;
-    let read = answer(alloc, &mut server, &get)?;
-    let text = opened(alloc, 1, &read)?;
-    assert_eq!(rt; text.as_slice().last(), Some(&b'a'));
-    Ok(())
+    check_served(rt, alloc, server, 1, &get, b"\xffa")
 }
 
-/// Each bit of the tag's last byte, changed, is told, and leaves the number fresh and the tree as it is.
 #[test]
-fn changed_bits(rt: HostRuntime) -> Result<(), Fail> {
-    let alloc = rt.alloc();
-    let mut server = server(alloc)?;
+fn served_once(rt: HostRuntime) -> Result<(), Fail> {
+    let mut server = server(rt.alloc())?;
+    serves_once(&rt, rt.alloc(), &mut server)
+}
+
+/// The request with this bit of the tag's last byte changed, in a message of its own.
+fn changed(alloc: Global, request: &[u8], bit: u8) -> Result<Vec<u8>, AllocError> {
+    let mut changed = Vec::from_slice(alloc, request)?;
+    if let Some(id) = changed.get_mut(3) {
+        *id = bit;
+    }
+    if let Some(last) = changed.last_mut() {
+        *last ^= bit;
+    }
+    Ok(changed)
+}
+
+/// A changed bit is told, and leaves the number fresh and the tree as it is.
+fn tells_changes(rt: &impl Abort, alloc: Global, server: &mut Server) -> Result<(), Fail> {
+    check(rt, alloc, server, POST, POSTED);
     let post = request(alloc, 2, 0, 0, b"a")?;
-    for bit in 0..8u8 {
-        let mut changed = post.clone()?;
-        if let Some(id) = changed.get_mut(3) {
-            *id = bit + 1;
-        }
-        if let Some(last) = changed.last_mut() {
-            *last ^= 1 << bit;
-        }
-        let refused = answer(alloc, &mut server, &changed)?;
+    for bit in [1, 2, 4, 8, 16, 32, 64, 128] {
+        let other = changed(alloc, &post, bit)?;
+        let refused = answer(alloc, server, &other);
         assert!(rt; refused.as_slice().ends_with(b"\xffDecryption failed"));
         assert!(rt; server.tree().is_empty());
     }
-    let reply = answer(alloc, &mut server, &post)?;
-    assert_eq!(rt; opened(alloc, 0, &reply)?.as_slice(), b"\x41".as_slice());
-    Ok(())
+    check_served(rt, alloc, server, 0, &post, b"\x41")
+}
+
+#[test]
+fn changed_bits(rt: HostRuntime) -> Result<(), Fail> {
+    let mut server = server(rt.alloc())?;
+    tells_changes(&rt, rt.alloc(), &mut server)
 }
 
 /// A server that started again has its resources, and no context.
-#[test]
-fn started_again(rt: HostRuntime) -> Result<(), Fail> {
-    let alloc = rt.alloc();
-    let mut server = server(alloc)?;
+fn starts_again(rt: &impl Abort, alloc: Global, server: &mut Server) -> Result<(), Fail> {
+    check(rt, alloc, server, POST, POSTED);
     let post = request(alloc, 2, 1, 0, b"a")?;
-    answer(alloc, &mut server, &post)?;
+    check_served(rt, alloc, server, 0, &post, b"\x41")?;
     server.on_tick(alloc, Moment::START)?;
     server.restart();
-    assert_eq!(rt; server.tree().len(), 1);
+    assert!(rt; server.tree().len() == 1);
     let get = request(alloc, 1, 2, 1, b"")?;
-    let refused = answer(alloc, &mut server, &get)?;
-    assert_eq!(rt;
-        refused.as_slice(),
-        b"\x60\x81\x00\x02\xd0\x01\xffSecurity context not found".as_slice()
+    check(
+        rt,
+        alloc,
+        server,
+        &get,
+        b"\x60\x81\x00\x02\xd0\x01\xffSecurity context not found",
     );
     Ok(())
+}
+
+#[test]
+fn started_again(rt: HostRuntime) -> Result<(), Fail> {
+    let mut server = server(rt.alloc())?;
+    starts_again(&rt, rt.alloc(), &mut server)
 }
