@@ -5,3 +5,4 @@ pub mod Requests
 pub mod Replies
 pub mod Served
 pub mod StepKinds
+pub mod Telling

@@ -1,4 +1,5 @@
 pub mod State
 pub mod Case
 pub mod Table
+pub mod Told
 pub mod Parts

@@ -18,6 +18,7 @@ ghost use Rattle.osc_run.specs.ServerKinds.{ServerStep};
 ghost use Rattle.osc_server.specs.Case.{IsAnswered, case_of as case_in};
 ghost use Rattle.osc_server.specs.Parts.{AsksGet, IsShort, SendsTo};
 ghost use Rattle.osc_server.specs.State.{core};
+ghost use Rattle.osc_server.specs.Told.{AreTold};
 ghost use Rattle.osc_server.specs.Table.{Answers, AnswersGet, AnswersPost, AnswersProtected, Replies, Sends, again, answered, datagram, refusal_to as refusal_to_of};
 
 use crate::answer::{refusal_to, reply_to, sending, sending_bytes};
@@ -110,6 +111,7 @@ impl Server {
         ensures one { IfOk result (λ step. length step.out ≤ 1) }
         ensures messages { IfOk result (λ step. All (λ d. (m : Message) × Spells d.bytes m) step.out) }
         ensures addressed { IfOk result (λ step. All (λ d. d.to ≡ from) step.out) }
+        ensures told { IfOk result (λ step. AreTold A.is_sealing self.old now from step) }
         ensures kind { IfOk result (λ step. ServerStep (core self.old) now step.notes (core self.new)) }
         ensures same { self.new.open_scope ≡ self.old.open_scope }
         ensures err { OnErr result (self.new ≡ self.old) }
@@ -121,6 +123,7 @@ impl Server {
         kinds::posts_that_agree::<A>();
         kinds::posts_that_are_refused::<A>();
         kinds::requests_that_open();
+        kinds::what_is_sealed();
         drawn(draw);
         self.desk.has_a_table();
         let heard = self.endpoint.on_datagram(now, from, bytes);
