@@ -6,7 +6,7 @@ ghost use Rattle.osc_coap.specs.Message.{Message, Spells};
 use osc_authz::ServerDesk;
 use osc_ccm::Ccm;
 use osc_coap::MessageRef;
-use osc_model::{Bytes, Draw, Method, Moment, Path, Peer, Resource, Step};
+use osc_model::{Bytes, Datagram, Draw, Method, Moment, Path, Peer, Resource, Step};
 use osc_scope::Scope;
 use osc_server::Server;
 use osc_token::Audience;
@@ -38,7 +38,11 @@ pub extern "C" fn osc_bench_serve(
         return 0;
     }
     match server_of(alloc, resources) {
-        Ok(mut server) => serve_new(alloc, &mut server, datagram, rounds).unwrap_or(0),
+        Ok(mut server) => {
+            let sent = serve_new(alloc, &mut server, datagram, rounds);
+            drop(server);
+            sent.unwrap_or(0)
+        }
         Err(_) => 0,
     }
 }
@@ -52,7 +56,11 @@ pub extern "C" fn osc_bench_repeat(alloc: Global, datagram: &[u8], rounds: u64) 
         return 0;
     }
     match server_of(alloc, 1) {
-        Ok(mut server) => serve_again(alloc, &mut server, datagram, rounds).unwrap_or(0),
+        Ok(mut server) => {
+            let sent = serve_again(alloc, &mut server, datagram, rounds);
+            drop(server);
+            sent.unwrap_or(0)
+        }
         Err(_) => 0,
     }
 }
@@ -162,18 +170,37 @@ fn bytes_sent(
     now: Moment,
     datagram: &[u8],
 ) -> Result<u64, AllocError> {
+    match answer(alloc, server, now, datagram) {
+        Ok(step) => Ok(length_of(step)),
+        Err(error) => Err(error),
+    }
+}
+
+// What answers the datagram.
+fn answer(
+    alloc: Global,
+    server: &mut Server,
+    now: Moment,
+    datagram: &[u8],
+) -> Result<Step, AllocError> {
     let from = Peer {
         address: [127, 0, 0, 1],
         port: 9000,
     };
-    let step = server.on_datagram::<Ccm<8>>(alloc, now, from, datagram, &Draw([0; 32]))?;
-    Ok(length_of(&step))
+    server.on_datagram::<Ccm<8>>(alloc, now, from, datagram, &Draw([0; 32]))
 }
 
 // How many bytes the step sends.
-fn length_of(step: &Step) -> u64 {
+fn length_of(step: Step) -> u64 {
+    let sent = length_in(step.out.as_slice());
+    drop(step);
+    sent
+}
+
+// How many bytes the datagrams have.
+fn length_in(datagrams: &[Datagram]) -> u64 {
     let mut sent = 0u64;
-    for datagram in step.out.as_slice() {
+    for datagram in datagrams {
         sent = sent.wrapping_add(datagram.bytes.len() as u64);
     }
     sent

@@ -61,11 +61,13 @@ fn protect_next(
 {
     let room = Room::new(alloc, name, DATAGRAM_LIMIT)?;
     let Ok(number) = sender.take_number() else {
+        drop(room);
         return Ok(None);
     };
     match protect_request::<Ccm<8>>(room, number, request) {
         Ok(made) => Ok(Some(made)),
-        Err(MessageTooLong { room: _, number }) => {
+        Err(MessageTooLong { room, number }) => {
+            drop(room);
             number.spend();
             Ok(None)
         }
@@ -78,37 +80,124 @@ fn bytes_protected(
     rounds: u64,
 ) -> Result<u64, AllocError> {
     let name = name_of(alloc)?;
-    let Ok((mut sender, _)) = derive(alloc, &name, Side::Client) else {
-        return Ok(0);
-    };
+    bytes_protected_under(alloc, &name, request, rounds)
+}
+
+fn bytes_protected_under(
+    alloc: Global,
+    name: &ContextName,
+    request: &MessageRef<'_>,
+    rounds: u64,
+) -> Result<u64, AllocError>
+    requires { name.now.id_context ≡ None }
+{
+    match derive(alloc, name, Side::Client) {
+        Ok((mut sender, _)) => protect_again(alloc, name, &mut sender, request, rounds),
+        Err(_) => Ok(0),
+    }
+}
+
+// Protects the request so many times, each time under the next number.
+fn protect_again(
+    alloc: Global,
+    name: &ContextName,
+    sender: &mut SenderContext,
+    request: &MessageRef<'_>,
+    rounds: u64,
+) -> Result<u64, AllocError>
+    requires short { name.now.id_context ≡ None }
+    requires sender { sender.old ≡ sender_of name.now Client sender.old.next }
+{
     let mut made = 0u64;
     for _ in 0..rounds {
-        if let Some(protected) = protect_next(alloc, &name, &mut sender, request)? {
-            made = made.wrapping_add(protected.message.bytes().len() as u64);
-        }
+        made = made.wrapping_add(protected_length(alloc, name, sender, request)?);
     }
     Ok(made)
 }
 
+// How long the request is under the next number; 0 where there is none, and where it doesn't fit.
+fn protected_length(
+    alloc: Global,
+    name: &ContextName,
+    sender: &mut SenderContext,
+    request: &MessageRef<'_>,
+) -> Result<u64, AllocError>
+    requires short { name.now.id_context ≡ None }
+    requires sender { sender.old ≡ sender_of name.now Client sender.old.next }
+    ensures { sender.new ≡ sender_of name.now Client sender.new.next }
+{
+    match protect_next(alloc, name, sender, request)? {
+        Some(protected) => {
+            let length = protected.message.bytes().len() as u64;
+            drop(protected);
+            Ok(length)
+        }
+        None => Ok(0),
+    }
+}
+
 fn bytes_opened(alloc: Global, request: &MessageRef<'_>, rounds: u64) -> Result<u64, AllocError> {
     let name = name_of(alloc)?;
-    let Ok((mut sender, _)) = derive(alloc, &name, Side::Client) else {
-        return Ok(0);
-    };
-    let Ok((_, recipient)) = derive(alloc, &name, Side::Server) else {
-        return Ok(0);
-    };
-    let Some(protected) = protect_next(alloc, &name, &mut sender, request)? else {
-        return Ok(0);
-    };
-    let message = protected.message.message();
-    let Ok(sealed) = read_request(&message) else {
-        return Ok(0);
-    };
-    if !sealed.is_for(&name) {
-        return Ok(0);
+    bytes_opened_under(alloc, &name, request, rounds)
+}
+
+fn bytes_opened_under(
+    alloc: Global,
+    name: &ContextName,
+    request: &MessageRef<'_>,
+    rounds: u64,
+) -> Result<u64, AllocError>
+    requires { name.now.id_context ≡ None }
+{
+    match protect_once(alloc, name, request)? {
+        Some(protected) => {
+            let opened = open_protected(alloc, name, &protected.message.message(), rounds);
+            drop(protected);
+            opened
+        }
+        None => Ok(0),
     }
-    open_again(alloc, &name, &recipient, &sealed, rounds)
+}
+
+// The request under the first number, if it fits.
+fn protect_once(
+    alloc: Global,
+    name: &ContextName,
+    request: &MessageRef<'_>,
+) -> Result<Option<ProtectedRequest>, AllocError>
+    requires { name.now.id_context ≡ None }
+{
+    match derive(alloc, name, Side::Client) {
+        Ok((mut sender, _)) => protect_next(alloc, name, &mut sender, request),
+        Err(_) => Ok(None),
+    }
+}
+
+// Opens the protected request so many times, where it is one of this name.
+fn open_protected(
+    alloc: Global,
+    name: &ContextName,
+    protected: &MessageRef<'_>,
+    rounds: u64,
+) -> Result<u64, AllocError> {
+    match read_request(protected) {
+        Ok(sealed) if sealed.is_for(name) => open_derived(alloc, name, &sealed, rounds),
+        _ => Ok(0),
+    }
+}
+
+fn open_derived(
+    alloc: Global,
+    name: &ContextName,
+    sealed: &SealedRequestRef<'_>,
+    rounds: u64,
+) -> Result<u64, AllocError>
+    requires { IsFor name.now sealed.now }
+{
+    match derive(alloc, name, Side::Server) {
+        Ok((_, recipient)) => open_again(alloc, name, &recipient, sealed, rounds),
+        Err(_) => Ok(0),
+    }
 }
 
 // Opens the request once.
@@ -124,7 +213,10 @@ fn open_once(
     let room = RequestRoom::new(alloc, name, sealed.sealed().len())?;
     match open_request::<Ccm<8>>(room, recipient, sealed) {
         Ok(opened) => Ok(length_of(opened)),
-        Err(_) => Ok(0),
+        Err(error) => {
+            drop(error);
+            Ok(0)
+        }
     }
 }
 

@@ -60,9 +60,11 @@ fn tokens_read(alloc: Global, rounds: u64) -> Result<u64, AllocError> {
     let audience = Audience::new(alloc, "s")?;
     let mut granted = 0u64;
     for _ in 0..rounds {
-        if read::<Ccm<8>>(alloc, &token, &KEY, &audience, Moment::START)?.is_ok() {
+        let outcome = read::<Ccm<8>>(alloc, &token, &KEY, &audience, Moment::START)?;
+        if outcome.is_ok() {
             granted = granted.wrapping_add(1);
         }
+        drop(outcome);
     }
     Ok(granted)
 }
@@ -71,11 +73,23 @@ fn tokens_read(alloc: Global, rounds: u64) -> Result<u64, AllocError> {
 fn post_of(alloc: Global, id: u8) -> Result<Vec<u8>, AllocError> {
     let token = token_of(alloc, id)?;
     let secret = Bytes::from_slice(alloc, &[id; 16])?;
-    let mut body = Vec::new(alloc);
-    if let Ok(client) = ClientDesk::new(Bytes::from_vec(token), secret, Bytes::new(alloc), None) {
-        let exchange = client.start(None, &Draw([id; 32]));
-        client.write_post(alloc, &exchange, &mut body)?;
+    match ClientDesk::new(Bytes::from_vec(token), secret, Bytes::new(alloc), None) {
+        Ok(client) => {
+            let body = first_post(alloc, &client, id);
+            drop(client);
+            body
+        }
+        Err(_) => Ok(Vec::new(alloc)),
     }
+}
+
+// The payload of the client's first post.
+fn first_post(alloc: Global, client: &ClientDesk, id: u8) -> Result<Vec<u8>, AllocError> {
+    let exchange = client.start(None, &Draw([id; 32]));
+    let mut body = Vec::new(alloc);
+    let written = client.write_post(alloc, &exchange, &mut body);
+    drop(exchange);
+    written?;
     Ok(body)
 }
 
