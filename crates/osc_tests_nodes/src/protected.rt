@@ -236,3 +236,50 @@ fn started_again(rt: HostRuntime) -> Result<(), Fail> {
     let mut server = server(rt.alloc())?;
     starts_again(&rt, rt.alloc(), &mut server)
 }
+
+/// The longest payloads are served, and longer ones refused, in a reply that is sealed (4.13).
+fn serves_long_payloads(rt: &impl Abort, alloc: Global, server: &mut Server) -> Result<(), Fail> {
+    check(rt, alloc, server, POST, POSTED);
+    let post = request(alloc, 2, 1, 0, &[b'a'; 512])?;
+    check_served(rt, alloc, server, 0, &post, b"\x41")?;
+    let get = request(alloc, 1, 2, 1, b"")?;
+    check_served(rt, alloc, server, 1, &get, &[b'a'; 512])?;
+    let more = request(alloc, 2, 3, 2, b"b")?;
+    check_served(rt, alloc, server, 2, &more, b"\x8d")?;
+    let long = request(alloc, 2, 4, 3, &[b'a'; 1100])?;
+    check_served(rt, alloc, server, 3, &long, b"\x8d")
+}
+
+#[test]
+fn long_payloads(rt: HostRuntime) -> Result<(), Fail> {
+    let mut server = server(rt.alloc())?;
+    serves_long_payloads(&rt, rt.alloc(), &mut server)
+}
+
+/// The datagram with this last byte of its message ID.
+fn numbered(alloc: Global, datagram: &[u8], id: u8) -> Result<Vec<u8>, AllocError> {
+    let mut numbered = Vec::from_slice(alloc, datagram)?;
+    if let Some(byte) = numbered.get_mut(3) {
+        *byte = id;
+    }
+    Ok(numbered)
+}
+
+/// Each proper beginning of a request, in a message of its own, leaves the number fresh and the tree as it is.
+fn refuses_beginnings(rt: &impl Abort, alloc: Global, server: &mut Server) -> Result<(), Fail> {
+    check(rt, alloc, server, POST, POSTED);
+    let post = request(alloc, 2, 0, 0, b"a")?;
+    for length in 0..post.len() {
+        let other = numbered(alloc, &post[..length], (length % 256) as u8)?;
+        answer(alloc, server, &other);
+        assert!(rt; server.tree().is_empty());
+    }
+    let whole = request(alloc, 2, 0x0300, 0, b"a")?;
+    check_served(rt, alloc, server, 0, &whole, b"\x41")
+}
+
+#[test]
+fn beginnings(rt: HostRuntime) -> Result<(), Fail> {
+    let mut server = server(rt.alloc())?;
+    refuses_beginnings(&rt, rt.alloc(), &mut server)
+}
