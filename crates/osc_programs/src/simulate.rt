@@ -158,7 +158,9 @@ fn trace_lines(
 {
     let server = first_server(alloc, lines)?;
     let mut progress = Progress::beginning(alloc, server);
-    trace_from(alloc, &mut progress, lines, with_bytes, text)
+    let traced = trace_from(alloc, &mut progress, lines, with_bytes, text);
+    drop(progress);
+    traced
 }
 
 // How far a run has come.
@@ -311,9 +313,16 @@ fn serve(
     let step = progress
         .server
         .on_datagram::<Ccm<8>>(alloc, progress.now, from.address(), bytes, &draw)?;
-    let text = counted_text(alloc, &mut progress.sent, &step, with_bytes)?;
-    note(&mut progress.notes, step);
-    Ok(text)
+    match counted_text(alloc, &mut progress.sent, &step, with_bytes) {
+        Ok(text) => {
+            note(&mut progress.notes, step);
+            Ok(text)
+        }
+        Err(error) => {
+            drop(step);
+            Err(error)
+        }
+    }
 }
 
 // Notes a step of the server, for which there is room.

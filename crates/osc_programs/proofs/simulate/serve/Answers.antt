@@ -12,8 +12,8 @@ counted_text-requires-clause-printable c k d lt =
     let message = c.in_ok-step.ensures.messages k d lt in
     record { to = c.args.from; addressed = c.in_ok-step.ensures.addressed k d lt ∙ c.address.ensures; message = message.0; spelled = message.1 }
 
-pub returns-clause-serves : goal.returns-clause-serves
-returns-clause-serves c =
+pub returns-in-Ok-clause-serves : goal.returns-in-Ok-clause-serves
+returns-in-Ok-clause-serves c =
     let old = c.args.progress.now in
     let step = c.in_ok-step.step in
     let server = c.on_datagram.new.self in
@@ -32,12 +32,12 @@ returns-clause-serves c =
       c.note.new.notes.room,
       answered.1,
       answers,
-      c.in_ok-text.ensures.prints,
+      c.in-Ok.ensures.prints,
       λ i. record {
         server = server;
         notes = record { steps = noted i; room = c.note.new.notes.room };
         now = old.now;
         events = old.events;
-        sent = c.in_ok-text.ensures.sent i;
+        sent = c.in-Ok.ensures.sent i;
       },
     )

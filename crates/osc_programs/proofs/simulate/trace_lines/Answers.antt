@@ -9,4 +9,4 @@ returns c =
     let begins = c.beginning-progress.ensures in
     let of_lines : Begins (first_server c.args.lines.now) first =
     record { server = begins.server ∙ c.in_ok-server.ensures; notes = begins.notes; moment = begins.moment; events = begins.events; sent = begins.sent } in
-    IfOk-weaker c.trace_from.result _ _ (λ _ t. (t.0 ++ t.1, (t.0, t.1, first, t.2, of_lines, t.3, t.4, refl), t.5)) c.trace_from.ensures
+    IfOk-weaker c.trace_from-traced.result _ _ (λ _ t. (t.0 ++ t.1, (t.0, t.1, first, t.2, of_lines, t.3, t.4, refl), t.5)) c.trace_from-traced.ensures
