@@ -40,7 +40,8 @@ pub enum Case<'a> {
     Unauthorised(MessageRef<'a>),
 }
 
-const GET: u8 = 1;
+/// The code of a GET.
+pub(crate) const GET: u8 = 1;
 
 const POST: u8 = 2;
 

@@ -1,8 +1,7 @@
 //! The server.
 ghost use Rattle.std.specs.Prelude.{◌≡◌, ◌≤◌, ◌<◌, [], ◌∷◌, length, IsOk, IfOk, OnErr};
 ghost use Rattle.std.specs.List.{All};
-ghost use Rattle.osc_authz.specs.Table.{IsTable, accepted};
-ghost use Rattle.osc_coap.specs.Message.{Message, HasSpelling, Spells, spelling};
+ghost use Rattle.osc_coap.specs.Message.{Message, Spells, spelling};
 ghost use Rattle.osc_message.specs.declared.handling.Handling.TheVariants.{Dropped};
 ghost use Rattle.osc_message.specs.declared.heard.Heard.TheVariants as heard;
 ghost use Rattle.osc_message.specs.Endpoint.{after_tick, fresh, settled};
@@ -96,8 +95,8 @@ impl Server {
     /// confirmable. A request that is answered is noted, so that a repeat is answered by the same bytes. The draw gives the
     /// first message ID of the server's own, and the nonce of a post.
     ///
-    /// Without memory for it an `AllocError`; then nothing has changed. But for the memory of the resources themselves, whose
-    /// want is answered by 5.00, to a GET on an open path and to a request that opened.
+    /// Without memory for it an `AllocError`; then nothing has changed. What the resources themselves lack of memory is answered,
+    /// by 5.00, to a GET on an open path and to a request that opened.
     pub fn on_datagram<A: Aead>(
         &mut self,
         alloc: Global,

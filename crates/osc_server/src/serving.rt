@@ -11,6 +11,7 @@ ghost use Rattle.osc_server.specs.Table.{IsMeant, IsRefused, IsSealed, reply_to 
 ghost use Rattle.osc_window.specs.Window.{IsFresh};
 
 use crate::answer::reply_to;
+use crate::case::GET;
 use crate::refusal::Refusal;
 use osc_authz::laws::meant_contexts;
 use osc_authz::{ServerContext, ServerDesk};
@@ -41,8 +42,6 @@ pub struct Served {
     /// Room for the reply.
     pub room: ReplyRoom,
 }
-
-const GET: u8 = 1;
 
 /// The most bytes of a reply's plaintext beside its payload: a code, an ETag, a Content-Format, and the payload marker.
 const PLAINTEXT_BESIDE_PAYLOAD: usize = 14;
