@@ -1,4 +1,5 @@
 pub mod Distinct
 pub mod History
 pub mod Keys
+pub mod Places
 pub mod Splits

@@ -1,9 +1,11 @@
 -- The table by keys, for the proofs: no public contract names it.
-use Rattle.std.specs.Prelude.{ℕ, Bool, true, ◌&&◌, not, nat_eq, nat_lt, bytes_eq, List, map, Option, Some, None, if◌then◌else◌}
+use Rattle.std.specs.Prelude.{ℕ, ◌≡◌, ◌<◌, ◌≤◌, ◌+◌, ◌-◌, take, drop, filter, length, count_by, Bool, true, ◌&&◌, not, nat_eq, nat_lt, bytes_eq, List, map, Option, Some, None, if◌then◌else◌}
 use Rattle.osc_model.specs.declared.node.Moment.{Moment}
 use Rattle.osc_model.specs.declared.node.Peer.{Peer}
 use Rattle.osc_dedup.specs.declared.table.Noted.{Noted}
-use Rattle.osc_dedup.specs.Table.{Entry}
+use Rattle.std.specs.List.{AllByRecursion}
+use Rattle.std.specs.Map.{lookup}
+use Rattle.osc_dedup.specs.Table.{Entry, most_entries}
 
 -- an address, a port and a message ID
 abbrev pub Key : Type 0
@@ -33,3 +35,34 @@ stays now replaced e = nat_lt now.ms e.1.until && is_other replaced e.0
 abbrev pub while_alive : Moment → Option Noted → Option Noted
 while_alive now None = None
 while_alive now (Some noted) = if nat_lt now.ms noted.until then Some noted else None
+
+-- how many entries, and keys of entries that went, a map has room for
+abbrev pub most_keys : ℕ
+most_keys = most_entries + most_entries
+
+-- what is noted at the key of an entry that went: it never lived
+abbrev pub nothing : Noted
+nothing = record { until = 0; reply = None }
+
+-- the first n entries went
+abbrev pub AreGone : ℕ → List (Key × Noted) → Type 0
+AreGone n es = AllByRecursion (λ e. e.1.until ≡ 0) (take n es)
+
+-- none of the entries dies before this moment, in ms
+abbrev pub AllLiveUntil : ℕ → List (Key × Noted) → Type 0
+AllLiveUntil ms es = AllByRecursion (λ e. ms ≤ e.1.until) es
+
+-- what stays where a key is noted, with a place for one more
+abbrev pub others : Moment → Key → List (Key × Noted) → List (Key × Noted)
+others now key es = drop (count_by (stays now (Some key)) es - 63) (filter (stays now (Some key)) es)
+
+-- The entries stand in a map with this much room, behind the keys of those that went, and there is a place for a new one of this key.
+pub record IsReady (key : Key) (entries es : List (Key × Noted)) (room gone live : ℕ) : Type 0 where
+  pub absent : lookup (same_key key) es ≡ None
+  pub within : gone ≤ length es
+  pub few : length es < gone + most_entries
+  pub free : length es < most_keys
+  pub places : most_keys ≤ length es + room
+  pub before : AreGone gone es
+  pub lives : AllLiveUntil live (drop gone es)
+  pub is_left : drop gone es ≡ entries

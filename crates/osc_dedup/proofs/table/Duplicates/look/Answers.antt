@@ -1,13 +1,18 @@
 use Rattle.std.proofs.Common.{ap, sym, ◌∙◌}
 use Rattle.std.specs.Map.{lookup}
-use Rattle.osc_dedup.specs.Table.{looked}
+use Rattle.std.specs.Option.{option_map}
+use Rattle.std.specs.List.{find}
+use Rattle.osc_dedup.specs.Table.{looked, is_of}
 use Rattle.osc_dedup.specs.Keys.{same_key, while_alive}
 use Rattle.osc_dedup.proofs.Keys.{looked_keys}
+use Rattle.osc_dedup.proofs.Places.{alive_behind}
 use Rattle.osc_dedup.proofs.table.Duplicates.look.Goals as goal
 
 pub returns : goal.returns
 returns c =
+    let es = c.self.inside.kept.entries in
     c.while_alive.ensures
-    ∙ ap (while_alive c.args.now) (c.get.ensures.value ∙ ap (λ k. lookup (same_key k) c.self.inside.kept.entries) c.key_of.ensures)
-    ∙ sym (looked_keys c.args.now c.args.peer c.args.id c.self.inside.kept.entries c.self.invariant.4)
+    ∙ ap (while_alive c.args.now) (c.get.ensures.value ∙ ap (λ k. lookup (same_key k) es) c.key_of.ensures)
+    ∙ sym (looked_keys c.args.now c.args.peer c.args.id es c.self.invariant.6)
+    ∙ ap (λ entries. option_map (λ entry. entry.noted) (find (is_of c.args.peer c.args.id) entries)) (alive_behind c.args.now c.self.inside.gone es c.self.invariant.7)
     ∙ ap (looked c.args.now c.args.peer c.args.id) c.self.view_is
