@@ -11,4 +11,6 @@ mod script;
 #[cfg(test)]
 mod server;
 #[cfg(test)]
+mod tokens;
+#[cfg(test)]
 mod tree;

@@ -38,16 +38,28 @@ const POST: &[u8] =
 const POSTED: &[u8] =
     b"\x68\x41\x01\x00\x00\x00\x00\x00\x00\x00\x00\x01\xc1\x13\xff\xa2\x18\x2a\x48\0\0\0\0\0\0\0\x02\x18\x2c\x41\x01";
 
+/// What an exchange of the token gave: the last byte of the server's nonce, and the ID that the client sends.
+#[derive(Clone, Copy)]
+struct Exchanged {
+    nonce: u8,
+    id: u8,
+}
+
+/// The exchange whose answer is `POSTED`.
+const FIRST: Exchanged = Exchanged { nonce: 2, id: 1 };
+
 /// The name of the context that the exchange makes (RFC 9203 section 4.3): the salt is the token's, which is empty, and the two
 /// nonces, each as CBOR.
-fn name(alloc: Global) -> Result<ContextName, AllocError>
+fn name(alloc: Global, exchanged: Exchanged) -> Result<ContextName, AllocError>
     ensures { IfOk result (λ name. HasShortContext name) }
 {
+    let mut salt = *b"\x40\x48\0\0\0\0\0\0\0\x01\x48\0\0\0\0\0\0\0\0";
+    salt[18] = exchanged.nonce;
     Ok(ContextName {
         secret: Bytes::from_slice(alloc, b"\0\0\0\0\0\0\0\0\0\0\0\0\0\0\0\x01")?,
-        salt: Bytes::from_slice(alloc, b"\x40\x48\0\0\0\0\0\0\0\x01\x48\0\0\0\0\0\0\0\x02")?,
+        salt: Bytes::from_slice(alloc, &salt)?,
         id_context: None,
-        client_id: Bytes::from_slice(alloc, b"\x01")?,
+        client_id: Bytes::from_slice(alloc, &[exchanged.id])?,
         server_id: Bytes::from_slice(alloc, b"\x00")?,
     })
 }
@@ -80,27 +92,42 @@ fn protect_in(
     }
 }
 
-/// A confirmable request on `/log` with this code, message ID and payload, protected under this number.
+/// A confirmable request on `/log` with this code, message ID and payload, protected under this number of the first exchange's
+/// context.
 fn request(alloc: Global, code: u8, id: u16, number: u64, payload: &[u8]) -> Result<Vec<u8>, Fail>
+    requires { 0 < code }
+{
+    request_under(alloc, FIRST, code, id, number, payload)
+}
+
+/// The same under the context of this exchange.
+fn request_under(
+    alloc: Global,
+    exchanged: Exchanged,
+    code: u8,
+    id: u16,
+    number: u64,
+    payload: &[u8],
+) -> Result<Vec<u8>, Fail>
     requires { 0 < code }
 {
     let mut message = MessageBuilder::start(Kind::Confirmable, code, id, b"");
     message.option(11, b"log")?;
     message.payload(payload)?;
-    let name = name(alloc)?;
+    let name = name(alloc, exchanged)?;
     let room = Room::new(alloc, &name, 1152)?;
     let taken = number_of(alloc, &name, number)?;
     let made = protect_in(room, taken, &message.message())?;
     Ok(Vec::from_slice(alloc, made.message.bytes())?)
 }
 
-/// What is sealed in a reply to the request of this number.
-fn opened(alloc: Global, number: u64, reply: &[u8]) -> Result<Vec<u8>, Fail>
+/// What is sealed in a reply to the request of this number under the context of this exchange.
+fn opened(alloc: Global, exchanged: Exchanged, number: u64, reply: &[u8]) -> Result<Vec<u8>, Fail>
     requires { number ≤ greatest_number }
 {
     let message = MessageRef::parse(reply)?;
     let response = read_response(&message)?;
-    let name = name(alloc)?;
+    let name = name(alloc, exchanged)?;
     let (_, recipient) = derive(alloc, &name, Side::Client)?;
     let room = Room::new(alloc, &name, response.sealed().len())?;
     match open_response::<Ccm<8>>(room, &recipient, number, &response) {
@@ -117,8 +144,13 @@ fn server(alloc: Global) -> Result<Server, AllocError> {
 
 /// What the server sends for the datagram; its nonce would end in 2.
 fn answer(alloc: Global, server: &mut Server, datagram: &[u8]) -> Vec<u8> {
+    answer_drawn(alloc, server, datagram, 2)
+}
+
+/// The same where its nonce would end in this byte.
+fn answer_drawn(alloc: Global, server: &mut Server, datagram: &[u8], nonce: u8) -> Vec<u8> {
     let mut drawn = [0; 32];
-    drawn[7] = 2;
+    drawn[7] = nonce;
     match server.on_datagram::<Ccm<8>>(alloc, Moment::START, CLIENT, datagram, &Draw(drawn)) {
         Ok(step) => sent(alloc, &step),
         Err(_) => Vec::new(alloc),
@@ -139,7 +171,8 @@ fn check(rt: &impl Abort, alloc: Global, server: &mut Server, datagram: &[u8], r
     assert!(rt; answered.as_slice() == reply);
 }
 
-/// The server serves the request of this number, which isn't repeated; what is sealed in its reply ends so.
+/// The server serves the request of this number of the first exchange's context, which isn't repeated; what is sealed in its reply
+/// ends so.
 fn check_served(
     rt: &impl Abort,
     alloc: Global,
@@ -150,8 +183,23 @@ fn check_served(
 ) -> Result<(), Fail>
     requires { number ≤ greatest_number }
 {
+    check_served_under(rt, alloc, server, FIRST, number, datagram, end)
+}
+
+/// The same under the context of this exchange.
+fn check_served_under(
+    rt: &impl Abort,
+    alloc: Global,
+    server: &mut Server,
+    exchanged: Exchanged,
+    number: u64,
+    datagram: &[u8],
+    end: &[u8],
+) -> Result<(), Fail>
+    requires { number ≤ greatest_number }
+{
     let reply = answer(alloc, server, datagram);
-    let text = opened(alloc, number, &reply)?;
+    let text = opened(alloc, exchanged, number, &reply)?;
     assert!(rt; text.as_slice().ends_with(end));
     Ok(())
 }
@@ -181,27 +229,70 @@ fn served_once(rt: HostRuntime) -> Result<(), Fail> {
     serves_once(&rt, rt.alloc(), &mut server)
 }
 
-/// The request with this bit of the tag's last byte changed, in a message of its own.
-fn changed(alloc: Global, request: &[u8], bit: u8) -> Result<Vec<u8>, AllocError> {
-    let mut changed = Vec::from_slice(alloc, request)?;
-    if let Some(id) = changed.get_mut(3) {
-        *id = bit;
+/// The datagram with this message ID.
+fn numbered(alloc: Global, datagram: &[u8], id: u16) -> Result<Vec<u8>, AllocError> {
+    let mut numbered = Vec::from_slice(alloc, datagram)?;
+    for (at, byte) in [2, 3].into_iter().zip(id.to_be_bytes()) {
+        if let Some(old) = numbered.get_mut(at) {
+            *old = byte;
+        }
     }
-    if let Some(last) = changed.last_mut() {
-        *last ^= bit;
+    Ok(numbered)
+}
+
+/// The datagram with this one of its bits changed, the first byte's highest bit being bit 0.
+fn changed(alloc: Global, datagram: &[u8], bit: u8) -> Result<Vec<u8>, AllocError> {
+    let mut changed = Vec::from_slice(alloc, datagram)?;
+    if let Some(byte) = changed.get_mut((bit / 8) as usize) {
+        *byte ^= 128 >> (bit % 8);
     }
     Ok(changed)
 }
 
-/// A changed bit is told, and leaves the number fresh and the tree as it is.
+/// Bits of a protected request of 24 bytes, from the first to before the last, and what answers the request where one of them is
+/// changed, but for the message ID. The bits are those of the version and type, the token's length, the code, the OSCORE option's
+/// delta, length, flags, Partial IV and kid, the payload marker, and what is sealed.
+const REFUSED: [(u8, u8, &[u8]); 15] = [
+    (0, 3, b""),
+    (4, 5, b"\x70\x00"),
+    (5, 6, b"\x64\x81\x93\x09\x00\x01"),
+    (6, 11, b"\x70\x00"),
+    (14, 15, b"\x70\x00"),
+    (32, 33, b"\x60\x81"),
+    (33, 34, b"\x70\x00"),
+    (34, 36, b"\x60\x81"),
+    (36, 40, b"\x70\x00"),
+    (40, 48, b"\x60\x82\xffFailed to decode COSE"),
+    (48, 56, b"\x60\x80\xffDecryption failed"),
+    (56, 64, b"\x60\x81\xd0\x01\xffSecurity context not found"),
+    (64, 72, b"\x70\x00"),
+    (72, 128, b"\x60\x80\xffDecryption failed"),
+    (128, 192, b"\x60\x80\xffDecryption failed"),
+];
+
+/// Whether the answer has these bytes beside its message ID.
+fn is_but_for_id(answer: &[u8], bytes: &[u8]) -> bool {
+    match (answer, bytes) {
+        ([], []) => true,
+        ([kind, code, _, _, rest @ ..], [first, second, others @ ..]) => {
+            kind == first && code == second && rest == others
+        }
+        _ => false,
+    }
+}
+
+/// A changed bit of what is protected, or of what says how, is told, and leaves the number fresh and the tree as it is.
 fn tells_changes(rt: &impl Abort, alloc: Global, server: &mut Server) -> Result<(), Fail> {
     check(rt, alloc, server, POST, POSTED);
     let post = request(alloc, 2, 0, 0, b"a")?;
-    for bit in [1, 2, 4, 8, 16, 32, 64, 128] {
-        let other = changed(alloc, &post, bit)?;
-        let refused = answer(alloc, server, &other);
-        assert!(rt; refused.as_slice().ends_with(b"\xffDecryption failed"));
-        assert!(rt; server.tree().is_empty());
+    assert!(rt; post.len() == 24);
+    for (first, end, told) in &REFUSED {
+        for bit in *first..*end {
+            let other = changed(alloc, &numbered(alloc, &post, 0x0200 + bit as u16)?, bit)?;
+            let refused = answer(alloc, server, &other);
+            assert!(rt; is_but_for_id(&refused, told));
+            assert!(rt; server.tree().is_empty());
+        }
     }
     check_served(rt, alloc, server, 0, &post, b"\x41")
 }
@@ -210,6 +301,37 @@ fn tells_changes(rt: &impl Abort, alloc: Global, server: &mut Server) -> Result<
 fn changed_bits(rt: HostRuntime) -> Result<(), Fail> {
     let mut server = server(rt.alloc())?;
     tells_changes(&rt, rt.alloc(), &mut server)
+}
+
+/// The bits of a protected request that nothing protects: its type, its code among those of requests, and its message ID.
+const UNPROTECTED: [u8; 21] = [
+    3, 11, 12, 13, 15, 16, 17, 18, 19, 20, 21, 22, 23, 24, 25, 26, 27, 28, 29, 30, 31,
+];
+
+/// A request is served whatever its outer type, code and message ID are.
+fn serves_changed(
+    rt: &impl Abort,
+    alloc: Global,
+    server: &mut Server,
+    bit: u8,
+) -> Result<(), Fail> {
+    check(rt, alloc, server, POST, POSTED);
+    let post = request(alloc, 2, 0x0203, 0, b"a")?;
+    let other = changed(alloc, &post, bit)?;
+    check_served(rt, alloc, server, 0, &other, b"\x41")
+}
+
+fn served_alone(rt: &impl Abort, alloc: Global, bit: u8) -> Result<(), Fail> {
+    let mut server = server(alloc)?;
+    serves_changed(rt, alloc, &mut server, bit)
+}
+
+#[test]
+fn bits_that_nothing_protects(rt: HostRuntime) -> Result<(), Fail> {
+    for bit in &UNPROTECTED {
+        served_alone(&rt, rt.alloc(), *bit)?;
+    }
+    Ok(())
 }
 
 /// A server that started again has its resources, and no context.
@@ -256,21 +378,12 @@ fn long_payloads(rt: HostRuntime) -> Result<(), Fail> {
     serves_long_payloads(&rt, rt.alloc(), &mut server)
 }
 
-/// The datagram with this last byte of its message ID.
-fn numbered(alloc: Global, datagram: &[u8], id: u8) -> Result<Vec<u8>, AllocError> {
-    let mut numbered = Vec::from_slice(alloc, datagram)?;
-    if let Some(byte) = numbered.get_mut(3) {
-        *byte = id;
-    }
-    Ok(numbered)
-}
-
 /// Each proper beginning of a request, in a message of its own, leaves the number fresh and the tree as it is.
 fn refuses_beginnings(rt: &impl Abort, alloc: Global, server: &mut Server) -> Result<(), Fail> {
     check(rt, alloc, server, POST, POSTED);
     let post = request(alloc, 2, 0, 0, b"a")?;
     for length in 0..post.len() {
-        let other = numbered(alloc, &post[..length], (length % 256) as u8)?;
+        let other = numbered(alloc, &post[..length], 0x0200 + (length % 256) as u16)?;
         answer(alloc, server, &other);
         assert!(rt; server.tree().is_empty());
     }
@@ -282,4 +395,101 @@ fn refuses_beginnings(rt: &impl Abort, alloc: Global, server: &mut Server) -> Re
 fn beginnings(rt: HostRuntime) -> Result<(), Fail> {
     let mut server = server(rt.alloc())?;
     refuses_beginnings(&rt, rt.alloc(), &mut server)
+}
+
+/// The token is posted again in a message of this ID, and the server's nonce ends in this byte: its answer gives the ID 02.
+fn posts_again(
+    rt: &impl Abort,
+    alloc: Global,
+    server: &mut Server,
+    id: u16,
+    nonce: u8,
+) -> Result<(), Fail> {
+    let post = numbered(alloc, POST, id)?;
+    let answered = answer_drawn(alloc, server, &post, nonce);
+    assert!(rt; answered.as_slice().ends_with(&[nonce, 0x18, 0x2c, 0x41, 2]));
+    Ok(())
+}
+
+/// A context that was confirmed is served until the newest post's has opened a request; the one between is gone.
+fn keeps_the_confirmed(rt: &impl Abort, alloc: Global, server: &mut Server) -> Result<(), Fail> {
+    check(rt, alloc, server, POST, POSTED);
+    let first = request(alloc, 2, 0x0300, 0, b"a")?;
+    check_served(rt, alloc, server, 0, &first, b"\x41")?;
+    posts_again(rt, alloc, server, 0x0301, 3)?;
+    posts_again(rt, alloc, server, 0x0302, 4)?;
+    let second = request_under(alloc, Exchanged { nonce: 3, id: 2 }, 2, 0x0303, 0, b"b")?;
+    check(
+        rt,
+        alloc,
+        server,
+        &second,
+        b"\x60\x80\x03\x03\xffDecryption failed",
+    );
+    let again = request(alloc, 2, 0x0304, 1, b"c")?;
+    check_served(rt, alloc, server, 1, &again, b"\x44")?;
+    let third = Exchanged { nonce: 4, id: 2 };
+    let newest = request_under(alloc, third, 1, 0x0305, 0, b"")?;
+    check_served_under(rt, alloc, server, third, 0, &newest, b"\xffac")?;
+    let late = request(alloc, 2, 0x0306, 2, b"d")?;
+    check(
+        rt,
+        alloc,
+        server,
+        &late,
+        b"\x60\x81\x03\x06\xd0\x01\xffSecurity context not found",
+    );
+    Ok(())
+}
+
+#[test]
+fn a_token_posted_again(rt: HostRuntime) -> Result<(), Fail> {
+    let mut server = server(rt.alloc())?;
+    keeps_the_confirmed(&rt, rt.alloc(), &mut server)
+}
+
+/// Whether the step that answers the datagram is refused memory.
+fn is_refused(alloc: Global, server: &mut Server, datagram: &[u8]) -> bool {
+    let mut drawn = [0; 32];
+    drawn[7] = 2;
+    server
+        .on_datagram::<Ccm<8>>(alloc, Moment::START, CLIENT, datagram, &Draw(drawn))
+        .is_err()
+}
+
+/// A post that is refused memory leaves the server as it was: the same datagram then gets its answer.
+#[test]
+fn a_refused_allocation_of_a_post(rt: HostRuntime) {
+    let alloc = rt.alloc();
+    let Ok(mut server) = server(alloc) else {
+        return;
+    };
+    is_refused(alloc, &mut server, POST);
+    let answered = answer(alloc, &mut server, POST);
+    drop(server);
+    assert!(&rt; answered.as_slice() == POSTED);
+}
+
+/// A request that is refused memory changes nothing, and is then served. Where the tree alone lacks memory, 5.00 is sealed.
+fn serves_or_stays(rt: &impl Abort, alloc: Global, server: &mut Server) -> Result<(), Fail> {
+    check(rt, alloc, server, POST, POSTED);
+    let post = request(alloc, 2, 0x0203, 0, b"a")?;
+    if is_refused(alloc, server, &post) {
+        assert!(rt; server.tree().is_empty());
+    }
+    let reply = answer(alloc, server, &post);
+    let text = opened(alloc, FIRST, 0, &reply)?;
+    if text.as_slice() == b"\xa0".as_slice() {
+        assert!(rt; server.tree().is_empty());
+    } else {
+        assert!(rt; text.as_slice() == b"\x41".as_slice());
+        assert!(rt; server.tree().len() == 1);
+    }
+    Ok(())
+}
+
+#[test]
+fn a_refused_allocation_of_a_request(rt: HostRuntime) -> Result<(), Fail> {
+    let mut server = server(rt.alloc())?;
+    serves_or_stays(&rt, rt.alloc(), &mut server)
 }
