@@ -14,6 +14,8 @@
 uint64_t osc_bench_parse(const uint8_t *datagram, size_t length);
 uint64_t osc_bench_serve(uint16_t resources, const uint8_t *datagram, size_t length, uint64_t rounds);
 uint64_t osc_bench_repeat(const uint8_t *datagram, size_t length, uint64_t rounds);
+uint64_t osc_bench_serve_gets(uint8_t contexts, uint16_t rounds);
+uint64_t osc_bench_serve_posts(uint8_t contexts, uint16_t rounds);
 uint64_t osc_bench_read_item(const uint8_t *bytes, size_t length, uint64_t rounds);
 uint64_t osc_bench_protect(const uint8_t *request, size_t length, uint64_t rounds);
 uint64_t osc_bench_unprotect(const uint8_t *request, size_t length, uint64_t rounds);
@@ -48,7 +50,7 @@ static const uint8_t POST_MANY[] = {
     'p', 'p', 'p', 'p', 'p', 'p', 'p', 'p', 'p', 'p', 'p', 'p', 'p', 'p', 'p', 'p'};
 
 static void row(const char *name, uint64_t calls, double best) {
-    printf("%-44s %12.0f /s %9.1f ns\n", name, (double)calls / best, 1e9 * best / (double)calls);
+    printf("%-48s %12.0f /s %9.1f ns\n", name, (double)calls / best, 1e9 * best / (double)calls);
 }
 
 typedef uint64_t (*rounds_run)(uint64_t rounds);
@@ -108,6 +110,44 @@ static void repeat(const char *name, const uint8_t *datagram, size_t length) {
     row(name, CALLS, best);
 }
 
+/* ---- protected requests: a reply has a header and a token of 4 bytes each, an empty option OSCORE, the marker, and what is sealed
+   with a tag of 8 bytes: a code, and for a GET an ETag of 9 bytes, the marker and 64 bytes */
+
+enum { REQUESTS = 4608, CHANGED = 19, CONTENT = 93 };
+
+typedef uint64_t (*protected_run)(uint8_t contexts, uint16_t rounds);
+
+static void serve_protected(const char *name, protected_run run, uint8_t contexts) {
+    double set_up = 1e9, whole = 1e9;
+    for (int i = 0; i < RUNS; i++) {
+        double start = seconds();
+        sink = run(contexts, 0);
+        double taken = seconds() - start;
+        if (taken < set_up) set_up = taken;
+        start = seconds();
+        sink = run(contexts, REQUESTS);
+        taken = seconds() - start;
+        if (taken < whole) whole = taken;
+    }
+    row(name, REQUESTS, whole - set_up);
+}
+
+static int protected_requests(void) {
+    static const uint8_t CONTEXTS[] = {1, 64};
+    for (size_t i = 0; i < sizeof CONTEXTS; i++) {
+        if (osc_bench_serve_gets(CONTEXTS[i], REQUESTS) != REQUESTS * CONTENT
+            || osc_bench_serve_posts(CONTEXTS[i], REQUESTS) != REQUESTS * CHANGED) {
+            fprintf(stderr, "bench: a protected request was not served\n");
+            return 1;
+        }
+    }
+    serve_protected("Server::on_datagram, protected GET, 1 context", osc_bench_serve_gets, 1);
+    serve_protected("Server::on_datagram, protected GET, 64 contexts", osc_bench_serve_gets, 64);
+    serve_protected("Server::on_datagram, protected POST, 1 context", osc_bench_serve_posts, 1);
+    serve_protected("Server::on_datagram, protected POST, 64 contexts", osc_bench_serve_posts, 64);
+    return 0;
+}
+
 /* ---- CBOR */
 
 /* The claims of a token: audience, confirmation with input material, scope; 13 items. */
@@ -123,7 +163,7 @@ static void items(const char *name, const uint8_t *bytes, size_t length, uint64_
         double taken = seconds() - start;
         if (taken < best) best = taken;
     }
-    printf("%-44s %12.0f /s %9.1f ns\n", name, (double)(rounds * count) / best, 1e9 * best / (double)(rounds * count));
+    printf("%-48s %12.0f /s %9.1f ns\n", name, (double)(rounds * count) / best, 1e9 * best / (double)(rounds * count));
 }
 
 static int cbor(void) {
@@ -161,7 +201,7 @@ static int oscore(void) {
     return 0;
 }
 
-/* ---- tokens: 73 bytes, with a date, and GET and POST on one path */
+/* ---- tokens: 73 bytes, with a date, and GET, POST and DELETE on one path */
 
 static uint64_t post_alone(uint64_t rounds) { return osc_bench_post(0, rounds); }
 
@@ -195,7 +235,7 @@ static void cipher(const char *name, cipher_run run, const uint8_t *in, size_t l
     }
     char title[64];
     snprintf(title, sizeof title, "%s, %zu bytes", name, text);
-    printf("%-44s %12.0f /s %9.1f MiB/s\n", title, (double)rounds / best, (double)rounds * (double)text / best / 1048576.0);
+    printf("%-48s %12.0f /s %9.1f MiB/s\n", title, (double)rounds / best, (double)rounds * (double)text / best / 1048576.0);
 }
 
 static uint64_t encrypt(uint64_t rounds) { return osc_bench_encrypt(rounds); }
@@ -292,6 +332,6 @@ int main(void) {
     serve("Server::on_datagram, GET, 1st of 1,024", 1024, GET_R000, sizeof GET_R000);
     serve("Server::on_datagram, GET, 1,000th of 1,024", 1024, GET_R999, sizeof GET_R999);
     repeat("Server::on_datagram, a repeat", GET_R000, sizeof GET_R000);
-    if (cbor() != 0 || oscore() != 0 || tokens() != 0) return 1;
+    if (protected_requests() != 0 || cbor() != 0 || oscore() != 0 || tokens() != 0) return 1;
     return ciphers();
 }

@@ -1,9 +1,10 @@
-//! What a harness in C times: messages read, datagrams served, items read, requests protected and opened,
+//! What a harness in C times: messages read, datagrams served, protected and not, items read, requests protected and opened,
 //! tokens read and posted, and ciphers.
 #![tactic(auto)]
 
 mod cipher;
 mod messages;
 mod objects;
+mod protected;
 mod protection;
 mod tokens;

@@ -170,24 +170,25 @@ fn bytes_sent(
     now: Moment,
     datagram: &[u8],
 ) -> Result<u64, AllocError> {
-    match answer(alloc, server, now, datagram) {
+    match answer(alloc, server, now, [0; 32], datagram) {
         Ok(step) => Ok(length_of(step)),
         Err(error) => Err(error),
     }
 }
 
-// What answers the datagram.
-fn answer(
+// What answers the datagram, where these bytes are drawn.
+pub(crate) fn answer(
     alloc: Global,
     server: &mut Server,
     now: Moment,
+    drawn: [u8; 32],
     datagram: &[u8],
 ) -> Result<Step, AllocError> {
     let from = Peer {
         address: [127, 0, 0, 1],
         port: 9000,
     };
-    server.on_datagram::<Ccm<8>>(alloc, now, from, datagram, &Draw([0; 32]))
+    server.on_datagram::<Ccm<8>>(alloc, now, from, datagram, &Draw(drawn))
 }
 
 // How many bytes the step sends.

@@ -49,7 +49,7 @@ fn name_of(alloc: Global) -> Result<ContextName, AllocError>
 }
 
 // The request under the next number, if there is one and it fits.
-fn protect_next(
+pub(crate) fn protect_next(
     alloc: Global,
     name: &ContextName,
     sender: &mut SenderContext,

@@ -6,10 +6,10 @@ use osc_model::{Bytes, Draw, Moment};
 use osc_token::{Audience, Claims, InputMaterial, MintError, mint, read};
 use std::alloc::{AllocError, Global};
 
-const KEY: [u8; 16] = [7; 16];
+pub(crate) const KEY: [u8; 16] = [7; 16];
 
-/// GET and POST on `/log`.
-const SCOPE: &[u8] = b"\x81\x82\x64/log\x03";
+/// GET, POST and DELETE on `/log`.
+const SCOPE: &[u8] = b"\x81\x82\x64/log\x0b";
 
 /// Reads a token so many times, and answers how often it was granted; 0 for want of memory.
 #[unsafe(no_mangle)]
@@ -70,7 +70,7 @@ fn tokens_read(alloc: Global, rounds: u64) -> Result<u64, AllocError> {
 }
 
 // The payload of a post of the token of this id.
-fn post_of(alloc: Global, id: u8) -> Result<Vec<u8>, AllocError> {
+pub(crate) fn post_of(alloc: Global, id: u8) -> Result<Vec<u8>, AllocError> {
     let token = token_of(alloc, id)?;
     let secret = Bytes::from_slice(alloc, &[id; 16])?;
     match ClientDesk::new(Bytes::from_vec(token), secret, Bytes::new(alloc), None) {
