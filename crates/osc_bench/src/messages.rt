@@ -1,6 +1,6 @@
 //! Messages read, and datagrams served.
 
-ghost use Rattle.std.specs.Prelude.{◌≡◌, ◌≤◌, length, IsTrue};
+ghost use Rattle.std.specs.Prelude.{◌≡◌, ◌≤◌, ◌<◌, length, IsTrue};
 ghost use Rattle.osc_coap.specs.Message.{Message, Spells};
 
 use osc_authz::ServerDesk;
@@ -24,13 +24,16 @@ pub extern "C" fn osc_bench_parse(datagram: &[u8]) -> u64
     }
 }
 
-/// Serves the datagram so many times, each time with a message ID of its own, so that each is new, by a server of so many
-/// resources, `/r000` and so on up to 1024 of them, each open, and answers how many bytes it sent in all; 0 for want of
-/// memory, and for a datagram that isn't 4 to 64 bytes long. From the 64th round on the duplicate table is full.
+/// Serves the datagram so many times, each time with a message ID of its own, so that each is new, and so many milliseconds
+/// after the one before, by a server of so many resources, `/r000` and so on up to 1024 of them, each open. Answers how many
+/// bytes it sent in all; 0 for want of memory, and for a datagram that isn't 4 to 64 bytes long. Where 64 of them come within
+/// 247,000 ms, the duplicate table is full from the 64th round on; where they are as far apart as that, none that was
+/// noted lives when the next one comes.
 #[unsafe(no_mangle)]
 pub extern "C" fn osc_bench_serve(
     alloc: Global,
     resources: u16,
+    apart: u32,
     datagram: &[u8],
     rounds: u64,
 ) -> u64 {
@@ -39,7 +42,7 @@ pub extern "C" fn osc_bench_serve(
     }
     match server_of(alloc, resources) {
         Ok(mut server) => {
-            let sent = serve_new(alloc, &mut server, datagram, rounds);
+            let sent = serve_new(alloc, &mut server, apart, datagram, rounds);
             drop(server);
             sent.unwrap_or(0)
         }
@@ -68,8 +71,17 @@ pub extern "C" fn osc_bench_repeat(alloc: Global, datagram: &[u8], rounds: u64) 
 // The most bytes that a datagram has here.
 const ROOM: usize = 64;
 
-// The most rounds, each a millisecond later than the one before.
-const MOST_ROUNDS: u64 = 1 << 32;
+// The most rounds.
+const MOST_ROUNDS: u64 = 1 << 30;
+
+// The moment of a round, where each is so many milliseconds after the one before.
+fn moment_of(round: u64, apart: u32) -> Moment
+    requires { round < MOST_ROUNDS }
+{
+    Moment {
+        ms: round * apart as u64,
+    }
+}
 
 fn fits(datagram: &[u8]) -> bool
     ensures { IsTrue result → (4 ≤ length datagram.now) × (length datagram.now ≤ ROOM) }
@@ -123,6 +135,7 @@ fn put(alloc: Global, tree: &mut Tree, path: Path) -> Result<(), AllocError> {
 fn serve_new(
     alloc: Global,
     server: &mut Server,
+    apart: u32,
     datagram: &[u8],
     rounds: u64,
 ) -> Result<u64, AllocError>
@@ -137,7 +150,7 @@ fn serve_new(
     for round in 0..rounds.min(MOST_ROUNDS) {
         let id = own_id.wrapping_add((round % 65536) as u16).wrapping_add(1);
         copy[2..4].copy_from_slice(&id.to_be_bytes());
-        let bytes = bytes_sent(alloc, server, Moment { ms: round }, copy)?;
+        let bytes = bytes_sent(alloc, server, moment_of(round, apart), copy)?;
         sent = sent.wrapping_add(bytes);
     }
     Ok(sent)
@@ -153,7 +166,7 @@ fn serve_again(
     requires long { 4 ≤ length datagram.now }
     requires short { length datagram.now ≤ ROOM }
 {
-    serve_new(alloc, server, datagram, 63)?;
+    serve_new(alloc, server, 1, datagram, 63)?;
     bytes_sent(alloc, server, Moment { ms: 63 }, datagram)?;
     let mut sent = 0u64;
     for round in 0..rounds.min(MOST_ROUNDS) {
