@@ -1,5 +1,6 @@
-/* Times the functions of osc_bench, and mbedTLS's ciphers beside them where that library is installed. One thread, one
-   process, monotonic clock; each row is the best of several runs. */
+/* Times the functions of osc_bench, and the ciphers of mbedTLS and OpenSSL beside them where these libraries are installed. One
+   thread, one process (and one for each choice of instructions that OpenSSL may use), monotonic clock; each row is the best of several
+   runs. */
 #include <stddef.h>
 #include <stdint.h>
 #include <stdio.h>
@@ -9,6 +10,10 @@
 #ifdef WITH_MBEDTLS
 #include <mbedtls/aes.h>
 #include <mbedtls/ccm.h>
+#endif
+
+#ifdef WITH_OPENSSL
+#include <openssl/evp.h>
 #endif
 
 uint64_t osc_bench_parse(const uint8_t *datagram, size_t length);
@@ -55,7 +60,8 @@ static void row(const char *name, uint64_t calls, double best) {
 
 typedef uint64_t (*rounds_run)(uint64_t rounds);
 
-static void timed(const char *name, rounds_run run, uint64_t rounds) {
+/* The best time of so many rounds, in seconds. */
+static double best_of(rounds_run run, uint64_t rounds) {
     double best = 1e9;
     for (int i = 0; i < RUNS; i++) {
         double start = seconds();
@@ -63,8 +69,10 @@ static void timed(const char *name, rounds_run run, uint64_t rounds) {
         double taken = seconds() - start;
         if (taken < best) best = taken;
     }
-    row(name, rounds, best);
+    return best;
 }
+
+static void timed(const char *name, rounds_run run, uint64_t rounds) { row(name, rounds, best_of(run, rounds)); }
 
 static void parse(const char *name, const uint8_t *datagram, size_t length) {
     enum { CALLS = 2000000 };
@@ -225,7 +233,11 @@ static int tokens(void) {
 
 typedef uint64_t (*cipher_run)(const uint8_t *in, size_t length, uint8_t *out, size_t room, uint64_t rounds);
 
-static void cipher(const char *name, cipher_run run, const uint8_t *in, size_t length, size_t text) {
+enum { LENGTH_COUNT = 4 };
+static const size_t LENGTHS[LENGTH_COUNT] = {16, 64, 256, 1024};
+
+/* What a call takes, in ns, where `in` has `length` bytes for so many bytes of text. */
+static double cipher_ns(cipher_run run, const uint8_t *in, size_t length, size_t text) {
     enum { BYTES = 4 << 20 };
     uint64_t rounds = BYTES / (text + 64);
     uint8_t out[1040];
@@ -236,34 +248,30 @@ static void cipher(const char *name, cipher_run run, const uint8_t *in, size_t l
         double taken = seconds() - start;
         if (taken < best) best = taken;
     }
-    char title[64];
-    snprintf(title, sizeof title, "%s, %zu bytes", name, text);
-    printf("%-48s %12.0f /s %9.1f MiB/s\n", title, (double)rounds / best, (double)rounds * (double)text / best / 1048576.0);
+    return 1e9 * best / (double)rounds;
 }
 
-static uint64_t encrypt(uint64_t rounds) { return osc_bench_encrypt(rounds); }
+static void cipher_row(const char *name, size_t text, double ns) {
+    char title[64];
+    snprintf(title, sizeof title, "%s, %zu bytes", name, text);
+    printf("%-44s %12.0f /s %9.1f ns %9.1f MiB/s", title, 1e9 / ns, ns, 1e9 * (double)text / ns / 1048576.0);
+}
 
-#ifdef WITH_MBEDTLS
+#if defined WITH_MBEDTLS || defined WITH_OPENSSL
 static const uint8_t KEY[16] = {7, 7, 7, 7, 7, 7, 7, 7, 7, 7, 7, 7, 7, 7, 7, 7};
 static const uint8_t NONCE[13] = {5, 5, 5, 5, 5, 5, 5, 5, 5, 5, 5, 5, 5};
 static const uint8_t AAD[8] = {3, 3, 3, 3, 3, 3, 3, 3};
+#endif
 
-static void mbedtls_encrypt(void) {
-    enum { ROUNDS = 200000 };
+#ifdef WITH_MBEDTLS
+static uint64_t mbedtls_encrypt(uint64_t rounds) {
     mbedtls_aes_context aes;
     mbedtls_aes_init(&aes);
     mbedtls_aes_setkey_enc(&aes, KEY, 128);
-    double best = 1e9;
-    for (int run = 0; run < RUNS; run++) {
-        uint8_t block[16] = {0};
-        double start = seconds();
-        for (int i = 0; i < ROUNDS; i++) mbedtls_aes_crypt_ecb(&aes, MBEDTLS_AES_ENCRYPT, block, block);
-        double taken = seconds() - start;
-        if (taken < best) best = taken;
-        sink = block[0];
-    }
+    uint8_t block[16] = {0};
+    for (uint64_t i = 0; i < rounds; i++) mbedtls_aes_crypt_ecb(&aes, MBEDTLS_AES_ENCRYPT, block, block);
     mbedtls_aes_free(&aes);
-    row("mbedTLS AES-128", ROUNDS, best);
+    return block[0];
 }
 
 static mbedtls_ccm_context keyed(void) {
@@ -294,13 +302,128 @@ static uint64_t mbedtls_open(const uint8_t *sealed, size_t length, uint8_t *out,
 }
 #endif
 
-static int ciphers(void) {
-    static const size_t LENGTHS[] = {16, 64, 256, 1024};
-    timed("Aes128::encrypt", encrypt, 200000);
-#ifdef WITH_MBEDTLS
-    mbedtls_encrypt();
+#ifdef WITH_OPENSSL
+/* What OpenSSL takes for a block, and for sealing and opening each length, in ns. OpenSSL reads which instructions it may use when it is
+   loaded, so a child process of this program takes the figures. */
+enum { FIGURES = 1 + 2 * LENGTH_COUNT };
+static double openssl_plain[FIGURES], openssl_all[FIGURES];
+
+static EVP_CIPHER_CTX *openssl_keyed(int seals) {
+    EVP_CIPHER_CTX *ctx = EVP_CIPHER_CTX_new();
+    EVP_CipherInit_ex(ctx, EVP_aes_128_ccm(), NULL, NULL, NULL, seals);
+    EVP_CIPHER_CTX_ctrl(ctx, EVP_CTRL_AEAD_SET_IVLEN, 13, NULL);
+    EVP_CIPHER_CTX_ctrl(ctx, EVP_CTRL_AEAD_SET_TAG, 8, NULL);
+    EVP_CipherInit_ex(ctx, NULL, NULL, KEY, NULL, seals);
+    return ctx;
+}
+
+static uint64_t openssl_seal(const uint8_t *text, size_t length, uint8_t *out, size_t room, uint64_t rounds) {
+    (void)room;
+    EVP_CIPHER_CTX *ctx = openssl_keyed(1);
+    uint64_t sum = 0;
+    for (uint64_t i = 0; i < rounds; i++) {
+        int made = 0;
+        EVP_CipherInit_ex(ctx, NULL, NULL, NULL, NONCE, 1);
+        EVP_EncryptUpdate(ctx, NULL, &made, NULL, (int)length);
+        EVP_EncryptUpdate(ctx, NULL, &made, AAD, 8);
+        EVP_EncryptUpdate(ctx, out, &made, text, (int)length);
+        EVP_EncryptFinal_ex(ctx, out + made, &made);
+        sum += EVP_CIPHER_CTX_ctrl(ctx, EVP_CTRL_AEAD_GET_TAG, 8, out + length) == 1;
+    }
+    EVP_CIPHER_CTX_free(ctx);
+    return sum;
+}
+
+static uint64_t openssl_open(const uint8_t *sealed, size_t length, uint8_t *out, size_t room, uint64_t rounds) {
+    (void)room;
+    EVP_CIPHER_CTX *ctx = openssl_keyed(0);
+    uint64_t sum = 0;
+    for (uint64_t i = 0; i < rounds; i++) {
+        int made = 0;
+        EVP_CIPHER_CTX_ctrl(ctx, EVP_CTRL_AEAD_SET_TAG, 8, (void *)(sealed + length - 8));
+        EVP_CipherInit_ex(ctx, NULL, NULL, NULL, NONCE, 0);
+        EVP_DecryptUpdate(ctx, NULL, &made, NULL, (int)length - 8);
+        EVP_DecryptUpdate(ctx, NULL, &made, AAD, 8);
+        sum += EVP_DecryptUpdate(ctx, out, &made, sealed, (int)length - 8) == 1;
+    }
+    EVP_CIPHER_CTX_free(ctx);
+    return sum;
+}
+
+static const uint8_t IV[16];
+
+/* Encrypts so many blocks, each with what came out last in it. */
+static uint64_t openssl_encrypt(uint64_t rounds) {
+    static uint8_t blocks[16 * 1000];
+    EVP_CIPHER_CTX *ctx = EVP_CIPHER_CTX_new();
+    EVP_EncryptInit_ex(ctx, EVP_aes_128_cbc(), NULL, KEY, IV);
+    for (uint64_t i = 0; i < rounds; i += 1000) {
+        int made = 0;
+        EVP_EncryptUpdate(ctx, blocks, &made, blocks, sizeof blocks);
+    }
+    EVP_CIPHER_CTX_free(ctx);
+    return blocks[0];
+}
+
+/* The child's work: its figures, one a line. */
+static int print_openssl(void) {
+    printf("%.1f\n", 1e9 * best_of(openssl_encrypt, 200000) / 200000);
+    for (size_t i = 0; i < LENGTH_COUNT; i++) {
+        uint8_t text[1024], sealed[1040], out[1040];
+        memset(text, 'p', sizeof text);
+        if (openssl_seal(text, LENGTHS[i], sealed, sizeof sealed, 1) != 1
+            || openssl_open(sealed, LENGTHS[i] + 8, out, sizeof out, 1) != 1
+            || osc_bench_open(sealed, LENGTHS[i] + 8, out, sizeof out, 1) != LENGTHS[i]) {
+            fprintf(stderr, "bench: OpenSSL and this code don't open alike\n");
+            return 1;
+        }
+        printf("%.1f\n%.1f\n", cipher_ns(openssl_seal, text, LENGTHS[i], LENGTHS[i]),
+            cipher_ns(openssl_open, sealed, LENGTHS[i] + 8, LENGTHS[i]));
+    }
+    return 0;
+}
+
+/* Takes the figures of a child that may use these instructions; 0 where it gave them all. */
+static int read_openssl(const char *program, const char *environment, double figures[FIGURES]) {
+    char command[4096];
+    if (snprintf(command, sizeof command, "%s '%s' openssl", environment, program) >= (int)sizeof command) return 1;
+    FILE *child = popen(command, "r");
+    if (child == NULL) return 1;
+    int count = 0;
+    while (count < FIGURES && fscanf(child, "%lf", &figures[count]) == 1) count++;
+    return pclose(child) != 0 || count != FIGURES;
+}
 #endif
-    for (size_t i = 0; i < sizeof LENGTHS / sizeof *LENGTHS; i++) {
+
+/* Ends a row, with what it takes for one of OpenSSL's ns: without AES and vector instructions, and with them. */
+static void end_row(size_t figure, double ns) {
+#ifdef WITH_OPENSSL
+    printf("  %6.2f  %6.2f\n", ns / openssl_plain[figure], ns / openssl_all[figure]);
+#else
+    (void)figure;
+    (void)ns;
+    printf("\n");
+#endif
+}
+
+static void block_row(const char *name, rounds_run run) {
+    enum { BLOCKS = 200000 };
+    double ns = 1e9 * best_of(run, BLOCKS) / BLOCKS;
+    printf("%-44s %12.0f /s %9.1f ns                ", name, 1e9 / ns, ns);
+    end_row(0, ns);
+}
+
+static uint64_t encrypt(uint64_t rounds) { return osc_bench_encrypt(rounds); }
+
+static int ciphers(void) {
+#ifdef WITH_OPENSSL
+    printf("Ciphers; the last two columns: as many times what OpenSSL takes without AES and vector instructions, and with them\n");
+#endif
+    block_row("Aes128::encrypt", encrypt);
+#ifdef WITH_MBEDTLS
+    block_row("mbedTLS AES-128", mbedtls_encrypt);
+#endif
+    for (size_t i = 0; i < LENGTH_COUNT; i++) {
         size_t length = LENGTHS[i];
         uint8_t text[1024], sealed[1040], out[1040];
         memset(text, 'p', sizeof text);
@@ -309,21 +432,42 @@ static int ciphers(void) {
             fprintf(stderr, "bench: a text was not sealed or not opened\n");
             return 1;
         }
-        cipher("Ccm<8>::seal", osc_bench_seal, text, length, length);
-        cipher("Ccm<8>::open", osc_bench_open, sealed, length + 8, length);
+        double ns = cipher_ns(osc_bench_seal, text, length, length);
+        cipher_row("Ccm<8>::seal", length, ns);
+        end_row(1 + 2 * i, ns);
+        ns = cipher_ns(osc_bench_open, sealed, length + 8, length);
+        cipher_row("Ccm<8>::open", length, ns);
+        end_row(2 + 2 * i, ns);
 #ifdef WITH_MBEDTLS
         if (mbedtls_open(sealed, length + 8, out, sizeof out, 1) != 1) {
             fprintf(stderr, "bench: mbedTLS does not open what was sealed\n");
             return 1;
         }
-        cipher("mbedTLS CCM seal", mbedtls_seal, text, length, length);
-        cipher("mbedTLS CCM open", mbedtls_open, sealed, length + 8, length);
+        ns = cipher_ns(mbedtls_seal, text, length, length);
+        cipher_row("mbedTLS CCM seal", length, ns);
+        end_row(1 + 2 * i, ns);
+        ns = cipher_ns(mbedtls_open, sealed, length + 8, length);
+        cipher_row("mbedTLS CCM open", length, ns);
+        end_row(2 + 2 * i, ns);
 #endif
     }
     return 0;
 }
 
-int main(void) {
+int main(int count, char **words) {
+#ifdef WITH_OPENSSL
+    if (count == 2 && strcmp(words[1], "openssl") == 0) return print_openssl();
+    if (read_openssl(words[0], "OPENSSL_ia32cap=0:0", openssl_plain) != 0 || read_openssl(words[0], "", openssl_all) != 0) {
+        fprintf(stderr, "bench: OpenSSL was not timed\n");
+        return 1;
+    }
+#else
+    (void)words;
+#endif
+    if (count != 1) {
+        fprintf(stderr, "bench: no such word\n");
+        return 2;
+    }
     if (osc_bench_serve(1, 1, GET_R000, sizeof GET_R000, 1) == 0 || osc_bench_repeat(GET_R000, sizeof GET_R000, 1) == 0
         || osc_bench_parse(POST_MANY, sizeof POST_MANY) != 6) {
         fprintf(stderr, "bench: a datagram was not served or not read\n");
