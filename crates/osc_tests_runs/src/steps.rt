@@ -5,7 +5,8 @@ use osc_model::{
 use osc_run::{Grant, Minted, Noted, Notes};
 use osc_scope::Scope;
 use osc_token::InputMaterial;
-use std::alloc::{AllocError, Global};
+use std::alloc::Global;
+use std::process::Abort;
 
 /// The secret of the one context, and the token key.
 const SECRET: u8 = 7;
@@ -85,118 +86,108 @@ pub(crate) const RUN: [Row; 10] = [
 ];
 
 /// The name with this secret, and client ID 01, or with nothing else.
-fn name(alloc: Global, secret: u8, of_token: bool) -> Result<ContextName, AllocError> {
+fn name(rt: &impl Abort, alloc: Global, secret: u8, of_token: bool) -> ContextName {
     let client_id: &[u8] = if of_token { b"" } else { b"\x01" };
-    Ok(ContextName {
-        secret: Bytes::from_slice(alloc, &[secret])?,
+    ContextName {
+        secret: Bytes::from_slice(alloc, &[secret]).expect(rt, "memory"),
         salt: Bytes::new(alloc),
         id_context: None,
-        client_id: Bytes::from_slice(alloc, client_id)?,
+        client_id: Bytes::from_slice(alloc, client_id).expect(rt, "memory"),
         server_id: Bytes::new(alloc),
-    })
+    }
 }
 
 /// The note of a use by this end.
-fn note(alloc: Global, side: Side, used: Use) -> Result<Note, AllocError> {
-    Ok(Note {
-        context: name(alloc, used.secret, used.secret == KEY)?,
+fn note(rt: &impl Abort, alloc: Global, side: Side, used: Use) -> Note {
+    Note {
+        context: name(rt, alloc, used.secret, used.secret == KEY),
         side,
         number: used.number,
         nonce: [used.nonce; 13],
-        aad: Bytes::from_slice(alloc, &[used.aad])?,
-        plaintext: Bytes::from_slice(alloc, &[used.text])?,
-    })
+        aad: Bytes::from_slice(alloc, &[used.aad]).expect(rt, "memory"),
+        plaintext: Bytes::from_slice(alloc, &[used.text]).expect(rt, "memory"),
+    }
 }
 
 /// The entry of a request that was served, and answered 2.04.
-fn entry(alloc: Global, asked: Use) -> Result<Entry, AllocError> {
-    Ok(Entry {
-        context: name(alloc, asked.secret, false)?,
+fn entry(rt: &impl Abort, alloc: Global, asked: Use) -> Entry {
+    Entry {
+        context: name(rt, alloc, asked.secret, false),
         number: asked.number,
-        plaintext: Bytes::from_slice(alloc, &[asked.text])?,
+        plaintext: Bytes::from_slice(alloc, &[asked.text]).expect(rt, "memory"),
         moment: Moment::START,
         reply: Reply::bare(alloc, Code(68)),
-    })
+    }
 }
 
 /// The notes of a step that opened a token.
-fn posted(alloc: Global, claims: u8, nonce: u8) -> Result<StepNotes, AllocError> {
+fn posted(rt: &impl Abort, alloc: Global, claims: u8, nonce: u8) -> StepNotes {
     let opening = Use {
         secret: KEY,
         text: claims,
         ..FIRST
     };
-    Ok(
-        StepNotes::quiet()
-            .with_open(note(alloc, Side::Server, opening)?)
-            .with_drawn([nonce; 8]),
-    )
+    StepNotes::quiet()
+        .with_open(note(rt, alloc, Side::Server, opening))
+        .with_drawn([nonce; 8])
 }
 
 /// The notes of a step that served a request.
-fn served(alloc: Global, asked: Use) -> Result<StepNotes, AllocError> {
-    let opens = note(alloc, Side::Server, asked)?;
-    let seals = note(alloc, Side::Server, reply_to(asked))?;
-    Ok(
-        StepNotes::quiet()
-            .with_open(opens)
-            .with_seal(seals)
-            .with_entry(entry(alloc, asked)?),
-    )
+fn served(rt: &impl Abort, alloc: Global, asked: Use) -> StepNotes {
+    StepNotes::quiet()
+        .with_open(note(rt, alloc, Side::Server, asked))
+        .with_seal(note(rt, alloc, Side::Server, reply_to(asked)))
+        .with_entry(entry(rt, alloc, asked))
 }
 
 /// The notes of a step that accepted the reply to a request.
-fn answered(alloc: Global, asked: Use) -> Result<StepNotes, AllocError> {
-    let opens = note(alloc, Side::Client, reply_to(asked))?;
-    Ok(
-        StepNotes::quiet()
-            .with_open(opens)
-            .with_result(ClientResult::Answer(Reply::bare(alloc, Code(68)))),
-    )
+fn answered(rt: &impl Abort, alloc: Global, asked: Use) -> StepNotes {
+    StepNotes::quiet()
+        .with_open(note(rt, alloc, Side::Client, reply_to(asked)))
+        .with_result(ClientResult::Answer(Reply::bare(alloc, Code(68))))
 }
 
 /// The step that the row stands for.
-fn noted(alloc: Global, row: Row) -> Result<Noted, AllocError> {
-    Ok(match row {
+fn noted(rt: &impl Abort, alloc: Global, row: Row) -> Noted {
+    match row {
         Row::Started(nonce) => Noted::by_client(
             0,
             false,
             StepNotes::quiet().with_drawn([nonce; 8]),
         ),
-        Row::Posted(claims, nonce) => Noted::by_server(posted(alloc, claims, nonce)?),
+        Row::Posted(claims, nonce) => Noted::by_server(posted(rt, alloc, claims, nonce)),
         Row::Made => Noted::by_client(0, false, StepNotes::quiet().with_result(ClientResult::Made)),
         Row::Asked(lied, asked) => {
-            let seals = note(alloc, Side::Client, asked)?;
+            let seals = note(rt, alloc, Side::Client, asked);
             Noted::by_client(0, lied, StepNotes::quiet().with_seal(seals))
         }
-        Row::Served(asked) => Noted::by_server(served(alloc, asked)?),
-        Row::Answered(asked) => Noted::by_client(0, false, answered(alloc, asked)?),
+        Row::Served(asked) => Noted::by_server(served(rt, alloc, asked)),
+        Row::Answered(asked) => Noted::by_client(0, false, answered(rt, alloc, asked)),
         Row::Reflected(asked) => {
-            let opens = note(alloc, Side::Server, reply_to(asked))?;
+            let opens = note(rt, alloc, Side::Server, reply_to(asked));
             Noted::by_server(StepNotes::quiet().with_open(opens))
         }
         Row::Relayed => Noted::by_proxy(0, StepNotes::quiet()),
-    })
+    }
 }
 
 /// The notes of the rows.
-pub(crate) fn run(alloc: Global, rows: &[Row]) -> Result<Notes, AllocError> {
+pub(crate) fn run(rt: &impl Abort, alloc: Global, rows: &[Row]) -> Notes {
     let mut notes = Notes::new(alloc);
     for row in rows {
-        let step = noted(alloc, *row)?;
-        notes.reserve()?;
-        notes.add(step);
+        notes.reserve().expect(rt, "memory");
+        notes.add(noted(rt, alloc, *row));
     }
-    Ok(notes)
+    notes
 }
 
 /// A grant with this secret, whose token has these claims.
-pub(crate) fn minted(alloc: Global, secret: u8, claims: u8) -> Result<Minted, AllocError> {
-    Ok(Minted {
+pub(crate) fn minted(rt: &impl Abort, alloc: Global, secret: u8, claims: u8) -> Minted {
+    Minted {
         grant: Grant {
             material: InputMaterial {
                 id: Bytes::new(alloc),
-                secret: Bytes::from_slice(alloc, &[secret])?,
+                secret: Bytes::from_slice(alloc, &[secret]).expect(rt, "memory"),
                 salt: Bytes::new(alloc),
                 id_context: None,
             },
@@ -205,8 +196,8 @@ pub(crate) fn minted(alloc: Global, secret: u8, claims: u8) -> Result<Minted, Al
             expires: None,
             holder: 0,
         },
-        text: Bytes::from_slice(alloc, &[claims])?,
-    })
+        text: Bytes::from_slice(alloc, &[claims]).expect(rt, "memory"),
+    }
 }
 
 /// What was minted before the runs: a grant for the context, and one for another.
