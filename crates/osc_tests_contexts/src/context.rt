@@ -1,7 +1,8 @@
 //! Contexts: the published examples, and the sender sequence numbers.
 use osc_context::*;
 use osc_model::{Bytes, ContextName, Side};
-use std::alloc::{AllocError, Global};
+use std::alloc::Global;
+use std::process::Abort;
 
 /// What an end seals with: its ID, its key, and its nonce at number 0.
 #[derive(Clone, Copy)]
@@ -109,28 +110,26 @@ const EXAMPLES: [Example; 3] = [
 /// The master secret of the examples.
 const SECRET: [u8; 16] = [1, 2, 3, 4, 5, 6, 7, 8, 9, 10, 11, 12, 13, 14, 15, 16];
 
-fn id_context_of(alloc: Global, bytes: Option<&[u8]>) -> Result<Option<Bytes>, AllocError> {
-    match bytes {
-        Some(bytes) => Ok(Some(Bytes::from_slice(alloc, bytes)?)),
-        None => Ok(None),
-    }
+fn id_context_of(rt: &impl Abort, alloc: Global, bytes: Option<&[u8]>) -> Option<Bytes> {
+    Some(Bytes::from_slice(alloc, bytes?).expect(rt, "memory"))
 }
 
 /// A name with the examples' master secret.
 fn name(
+    rt: &impl Abort,
     alloc: Global,
     salt: &[u8],
     id_context: Option<&[u8]>,
     client_id: &[u8],
     server_id: &[u8],
-) -> Result<ContextName, AllocError> {
-    Ok(ContextName {
-        secret: Bytes::from_slice(alloc, &SECRET)?,
-        salt: Bytes::from_slice(alloc, salt)?,
-        id_context: id_context_of(alloc, id_context)?,
-        client_id: Bytes::from_slice(alloc, client_id)?,
-        server_id: Bytes::from_slice(alloc, server_id)?,
-    })
+) -> ContextName {
+    ContextName {
+        secret: Bytes::from_slice(alloc, &SECRET).expect(rt, "memory"),
+        salt: Bytes::from_slice(alloc, salt).expect(rt, "memory"),
+        id_context: id_context_of(rt, alloc, id_context),
+        client_id: Bytes::from_slice(alloc, client_id).expect(rt, "memory"),
+        server_id: Bytes::from_slice(alloc, server_id).expect(rt, "memory"),
+    }
 }
 
 /// Whether it is this end of the example.
@@ -151,43 +150,41 @@ fn opens_of(recipient: &RecipientContext, end: &End, common_iv: &[u8; 13]) -> bo
 
 /// Whether this side of the name is the one end of the example, and opens what the other seals.
 fn is_end(
+    rt: &impl Abort,
     alloc: Global,
     name: &ContextName,
     side: Side,
     ends: (&End, &End),
     common_iv: &[u8; 13],
-) -> Result<bool, DeriveError> {
-    let (sender, recipient) = derive(alloc, name, side)?;
-    Ok(seals_as(&sender, ends.0, common_iv) && opens_of(&recipient, ends.1, common_iv))
+) -> bool {
+    let (sender, recipient) = derive(alloc, name, side).expect(rt, "a context");
+    let seals = seals_as(&sender, ends.0, common_iv);
+    drop(sender);
+    let opens = opens_of(&recipient, ends.1, common_iv);
+    drop(recipient);
+    seals && opens
 }
 
-/// Whether both sides of the name are the ends of the example.
-fn has_ends(alloc: Global, name: &ContextName, example: &Example) -> Result<bool, DeriveError> {
+/// Whether both sides of the example's name are its ends.
+fn has_ends(rt: &impl Abort, alloc: Global, example: &Example) -> bool {
     let Example {
+        salt,
+        id_context,
+        common_iv,
         client,
         server,
-        common_iv,
-        ..
     } = example;
-    Ok(
-        is_end(alloc, name, Side::Client, (client, server), common_iv)?
-            && is_end(alloc, name, Side::Server, (server, client), common_iv)?,
-    )
+    let name = name(rt, alloc, salt, *id_context, client.id, server.id);
+    let client_is_end = is_end(rt, alloc, &name, Side::Client, (client, server), common_iv);
+    let server_is_end = is_end(rt, alloc, &name, Side::Server, (server, client), common_iv);
+    drop(name);
+    client_is_end && server_is_end
 }
 
 #[test]
 fn examples(rt: HostRuntime) {
-    for example in EXAMPLES {
-        let (client_id, server_id) = (example.client.id, example.server.id);
-        let name = name(
-            rt.alloc(),
-            example.salt,
-            example.id_context,
-            client_id,
-            server_id,
-        );
-        let name = name.expect(&rt, "memory");
-        assert!(rt; has_ends(rt.alloc(), &name, &example) == Ok(true));
+    for example in &EXAMPLES {
+        assert!(rt; has_ends(&rt, rt.alloc(), example));
     }
 }
 
@@ -210,18 +207,29 @@ fn laws_are_there(_rt: HostRuntime) {
 }
 
 /// What the client of the first example seals and opens with.
-fn first_client(alloc: Global) -> Result<(SenderContext, RecipientContext), DeriveError> {
-    let name = name(alloc, EXAMPLES[0].salt, None, b"", b"\x01");
-    derive(alloc, &name.map_err(|_| DeriveError::Memory)?, Side::Client)
+fn first_client(rt: &impl Abort, alloc: Global) -> (SenderContext, RecipientContext) {
+    let name = name(rt, alloc, EXAMPLES[0].salt, None, b"", b"\x01");
+    let client = derive(alloc, &name, Side::Client).expect(rt, "a context");
+    drop(name);
+    client
+}
+
+/// What the client of the first example seals with.
+fn first_sender(rt: &impl Abort, alloc: Global) -> SenderContext {
+    let (sender, recipient) = first_client(rt, alloc);
+    drop(recipient);
+    sender
 }
 
 /// Nothing of a key is printed.
 #[test]
 fn what_is_printed(rt: HostRuntime) {
-    let (mut sender, recipient) = first_client(rt.alloc()).expect(&rt, "a context");
+    let (mut sender, recipient) = first_client(&rt, rt.alloc());
     let number = sender.take_number().expect(&rt, "a number");
     let printed = format!(in rt.alloc(); "{sender:?} {recipient:?} {number:?}");
     number.spend();
+    drop(sender);
+    drop(recipient);
     let printed = printed.expect(&rt, "memory");
     assert!(rt; printed.as_str() == "SenderContext RecipientContext SendNumber");
 }
@@ -236,13 +244,18 @@ const IDS: [(&[u8], &[u8], Option<DeriveError>); 6] = [
     (b"12345678", b"12345678", Some(DeriveError::IdTooLong)),
 ];
 
+/// Why this side of the name has no context.
+fn refusal_of(alloc: Global, name: &ContextName, side: Side) -> Option<DeriveError> {
+    derive(alloc, name, side).err()
+}
+
 #[test]
 fn refused_ids(rt: HostRuntime) {
     for (client_id, server_id, refusal) in IDS {
-        let name = name(rt.alloc(), b"", None, client_id, server_id);
-        let name = name.expect(&rt, "memory");
-        assert!(rt; derive(rt.alloc(), &name, Side::Client).err() == refusal);
-        assert!(rt; derive(rt.alloc(), &name, Side::Server).err() == refusal);
+        let name = name(&rt, rt.alloc(), b"", None, client_id, server_id);
+        assert!(rt; refusal_of(rt.alloc(), &name, Side::Client) == refusal);
+        assert!(rt; refusal_of(rt.alloc(), &name, Side::Server) == refusal);
+        drop(name);
     }
 }
 
@@ -263,7 +276,7 @@ fn taken(sender: &mut SenderContext) -> Result<u64, u8> {
 
 #[test]
 fn numbers(rt: HostRuntime) {
-    let (mut sender, _) = first_client(rt.alloc()).expect(&rt, "a context");
+    let mut sender = first_sender(&rt, rt.alloc());
     assert!(rt; sender.next_number() == 0);
     assert!(rt; taken(&mut sender) == Ok(0));
     assert!(rt; taken(&mut sender) == Ok(1));
@@ -274,13 +287,15 @@ fn numbers(rt: HostRuntime) {
     assert!(rt; taken(&mut sender) == Ok(1_099_511_627_775));
     assert!(rt; taken(&mut sender) == Err(18));
     assert!(rt; sender.next_number() == 1_099_511_627_776);
+    drop(sender);
 }
 
 #[test]
 fn a_number_is_seen_before_it_is_spent(rt: HostRuntime) {
-    let (mut sender, _) = first_client(rt.alloc()).expect(&rt, "a context");
+    let mut sender = first_sender(&rt, rt.alloc());
     sender.skip_to(20);
     let number = sender.take_number().expect(&rt, "a number");
+    drop(sender);
     assert!(rt; number.get() == 20);
     assert!(rt; number.spend() == 20);
 }

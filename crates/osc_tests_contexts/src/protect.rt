@@ -12,7 +12,7 @@ use osc_model::{Bytes, ContextName, Note, Side};
 use osc_protect::*;
 use std::alloc::{AllocError, Global};
 use std::fmt;
-use std::test::*;
+use std::process::Abort;
 
 /// The master secret of the examples.
 const SECRET: [u8; 16] = [1, 2, 3, 4, 5, 6, 7, 8, 9, 10, 11, 12, 13, 14, 15, 16];
@@ -114,46 +114,36 @@ fn name_of(alloc: Global, context: &Context) -> Result<ContextName, AllocError>
     })
 }
 
-/// The client protects a message in this room.
-fn protect_in(
-    room: Room,
-    number: SendNumber,
-    message: &MessageRef<'_>,
-) -> Result<ProtectedRequest, Fail>
-    requires number { number ≡ taken_of room.name Client number.number }
-    requires short { HasShortContext room.name }
-    requires room { 1152 ≤ room.most }
+/// The number that this side takes next, once it has skipped to this one.
+fn number_of(
+    rt: &impl Abort,
+    alloc: Global,
+    name: &ContextName,
+    side: Side,
+    number: u64,
+) -> SendNumber
+    ensures { result ≡ taken_of name.now side result.number }
 {
-    match protect_request::<Ccm<8>>(room, number, message) {
-        Ok(made) => Ok(made),
-        Err(MessageTooLong { room: _, number }) => {
-            number.spend();
-            Err("too long")?
-        }
-    }
-}
-
-/// The number that the client takes next, once it has skipped to this one.
-fn client_number(alloc: Global, name: &ContextName, number: u64) -> Result<SendNumber, Fail>
-    ensures { IfOk result (λ taken. taken ≡ taken_of name.now Client taken.number) }
-{
-    let (mut sender, _) = derive(alloc, name, Side::Client)?;
+    let (mut sender, recipient) = derive(alloc, name, side).expect(rt, "a context");
+    drop(recipient);
     sender.skip_to(number);
-    Ok(sender.take_number()?)
+    sender.take_number().expect(rt, "a number")
 }
 
 /// The client protects a request of this number.
 fn protect_at(
+    rt: &impl Abort,
     alloc: Global,
     name: &ContextName,
     number: u64,
     datagram: &[u8],
-) -> Result<ProtectedRequest, Fail>
+) -> ProtectedRequest
     requires { HasShortContext name.now }
 {
-    let message = MessageRef::parse(datagram)?;
-    let room = Room::new(alloc, name, DATAGRAM_LIMIT)?;
-    protect_in(room, client_number(alloc, name, number)?, &message)
+    let message = MessageRef::parse(datagram).expect(rt, "a message");
+    let number = number_of(rt, alloc, name, Side::Client, number);
+    let room = Room::new(alloc, name, DATAGRAM_LIMIT).expect(rt, "memory");
+    protect_request::<Ccm<8>>(room, number, &message).expect(rt, "a request that fits")
 }
 
 /// What the server opens of a request in this room, and the right to reply.
@@ -161,55 +151,45 @@ fn open_in(
     room: RequestRoom,
     recipient: &RecipientContext,
     sealed: &SealedRequestRef<'_>,
-) -> Result<OpenedRequest, RequestNotGenuine>
+) -> Option<OpenedRequest>
     requires recipient { recipient.now ≡ recipient_of room.name Server }
     requires named { IsFor room.name sealed.now }
     requires room { length sealed.now.sealed ≤ room.most }
-    ensures { IfOk result (λ opened. opened.right.context ≡ room.name) }
+    ensures { IfSome result (λ opened. opened.right.context ≡ room.name) }
 {
-    open_request::<Ccm<8>>(room, recipient, sealed)
+    open_request::<Ccm<8>>(room, recipient, sealed).ok()
 }
 
-/// What the server opens of a request in this room, if it is genuine; it doesn't reply.
-fn opened_in(
-    room: RequestRoom,
-    recipient: &RecipientContext,
-    sealed: &SealedRequestRef<'_>,
-) -> Option<Note>
-    requires recipient { recipient.now ≡ recipient_of room.name Server }
-    requires named { IsFor room.name sealed.now }
-    requires room { length sealed.now.sealed ≤ room.most }
-{
-    match open_in(room, recipient, sealed) {
-        Ok(OpenedRequest { note, right }) => {
-            right.forgo();
-            Some(note)
-        }
-        Err(_) => None,
-    }
+/// The note alone, without a reply.
+fn note_of(opened: OpenedRequest) -> Note {
+    let OpenedRequest { note, right } = opened;
+    right.forgo();
+    note
 }
 
 /// What the server opens of a request of this context, if it is genuine.
 fn open_under(
+    rt: &impl Abort,
     alloc: Global,
     name: &ContextName,
     sealed: &SealedRequestRef<'_>,
-) -> Result<Option<Note>, Fail>
+) -> Option<Note>
     requires { IsFor name.now sealed.now }
 {
-    let (_, recipient) = derive(alloc, name, Side::Server)?;
-    let room = RequestRoom::new(alloc, name, sealed.sealed().len())?;
-    Ok(opened_in(room, &recipient, sealed))
+    let (sender, recipient) = derive(alloc, name, Side::Server).expect(rt, "a context");
+    drop(sender);
+    let room = RequestRoom::new(alloc, name, sealed.sealed().len()).expect(rt, "memory");
+    let opened = open_in(room, &recipient, sealed);
+    drop(recipient);
+    Some(note_of(opened?))
 }
 
 /// What the server opens of a request, if it is genuine.
-fn open_at(alloc: Global, name: &ContextName, datagram: &[u8]) -> Result<Option<Note>, Fail> {
-    let message = MessageRef::parse(datagram)?;
-    let sealed = read_request(&message)?;
-    if !sealed.is_for(name) {
-        return Err("another context")?;
-    }
-    open_under(alloc, name, &sealed)
+fn open_at(rt: &impl Abort, alloc: Global, name: &ContextName, datagram: &[u8]) -> Option<Note> {
+    let message = MessageRef::parse(datagram).expect(rt, "a message");
+    let sealed = read_request(&message).expect(rt, "a request");
+    assert!(rt; sealed.is_for(name));
+    open_under(rt, alloc, name, &sealed)
 }
 
 /// Whether both ends noted the same of a request.
@@ -228,42 +208,42 @@ const REQUEST_TEXT: &[u8] = b"\x01\xb3tv1";
 
 /// Whether the server opens the published text of the published request, and notes the same as who sealed it.
 fn opens_alike(
+    rt: &impl Abort,
     alloc: Global,
     name: &ContextName,
     sealed: &Note,
     example: &Example,
-) -> Result<bool, Fail> {
-    match open_at(alloc, name, example.protected)? {
-        Some(opened) => {
-            Ok(opened.plaintext.as_slice() == REQUEST_TEXT && are_alike(sealed, &opened))
-        }
-        None => Ok(false),
-    }
+) -> bool {
+    let opened = open_at(rt, alloc, name, example.protected).expect(rt, "a genuine request");
+    let alike = opened.plaintext.as_slice() == REQUEST_TEXT && are_alike(sealed, &opened);
+    drop(opened);
+    alike
 }
 
 /// Whether the client protects the example as published, and the server opens it.
-fn is_protected(alloc: Global, name: &ContextName, example: &Example) -> Result<bool, Fail>
+fn is_protected(rt: &impl Abort, alloc: Global, name: &ContextName, example: &Example) -> bool
     requires { HasShortContext name.now }
 {
-    let made = protect_at(alloc, name, 20, example.message)?;
-    if made.message.bytes() != example.protected {
-        return Ok(false);
-    }
-    opens_alike(alloc, name, &made.note, example)
+    let made = protect_at(rt, alloc, name, 20, example.message);
+    let alike = made.message.bytes() == example.protected
+        && opens_alike(rt, alloc, name, &made.note, example);
+    drop(made);
+    alike
 }
 
 /// Whether an example is protected as published, and opened again.
-fn is_as_published(alloc: Global, example: &Example) -> Result<bool, Fail> {
-    let name = name_of(alloc, &CONTEXTS[example.context.min(2)])?;
-    is_protected(alloc, &name, example)
+fn is_as_published(rt: &impl Abort, alloc: Global, example: &Example) -> bool {
+    let name = name_of(alloc, &CONTEXTS[example.context.min(2)]).expect(rt, "memory");
+    let as_published = is_protected(rt, alloc, &name, example);
+    drop(name);
+    as_published
 }
 
 #[test]
-fn requests(rt: HostRuntime) -> Result<(), Fail> {
+fn requests(rt: HostRuntime) {
     for example in REQUESTS {
-        assert!(rt; is_as_published(rt.alloc(), &example)?);
+        assert!(rt; is_as_published(&rt, rt.alloc(), &example));
     }
-    Ok(())
 }
 
 /// The associated data of the example of appendix C.4 (RFC 8613 section 5.4).
@@ -272,33 +252,37 @@ const AAD: &[u8] = b"\x83\x68Encrypt0\x40\x48\x85\x01\x81\x0a\x40\x41\x14\x40";
 /// The nonce of that example.
 const NONCE: [u8; 13] = *b"\x46\x22\xd4\xdd\x6d\x94\x41\x68\xee\xfb\x54\x98\x68";
 
-fn is_sealed_as_published(alloc: Global, name: &ContextName) -> Result<bool, Fail>
+fn is_sealed_as_published(rt: &impl Abort, alloc: Global, name: &ContextName) -> bool
     requires { HasShortContext name.now }
 {
-    let made = protect_at(alloc, name, 20, REQUESTS[0].message)?;
-    Ok(made.note.nonce == NONCE && made.note.aad.as_slice() == AAD)
+    let made = protect_at(rt, alloc, name, 20, REQUESTS[0].message);
+    let as_published = made.note.nonce == NONCE && made.note.aad.as_slice() == AAD;
+    drop(made);
+    as_published
 }
 
 #[test]
-fn the_nonce_and_the_associated_data(rt: HostRuntime) -> Result<(), Fail> {
-    let name = name_of(rt.alloc(), &CONTEXTS[0])?;
-    assert!(rt; is_sealed_as_published(rt.alloc(), &name)?);
-    Ok(())
+fn the_nonce_and_the_associated_data(rt: HostRuntime) {
+    let name = name_of(rt.alloc(), &CONTEXTS[0]).expect(&rt, "memory");
+    assert!(rt; is_sealed_as_published(&rt, rt.alloc(), &name));
+    drop(name);
 }
 
 /// A holder that seals the published text under the published number makes the published request.
 fn uncounted_at(
+    rt: &impl Abort,
     alloc: Global,
     name: &ContextName,
     datagram: &[u8],
     text: &[u8],
-) -> Result<Option<UncountedRequest>, Fail>
+) -> Option<UncountedRequest>
     requires { HasShortContext name.now }
 {
-    let message = MessageRef::parse(datagram)?;
-    let (sender, _) = derive(alloc, name, Side::Client)?;
-    let room = Room::new(alloc, name, DATAGRAM_LIMIT)?;
-    Ok(protect_uncounted::<Ccm<8>>(room, &sender, 20, &message, text).ok())
+    let message = MessageRef::parse(datagram).expect(rt, "a message");
+    let (sender, recipient) = derive(alloc, name, Side::Client).expect(rt, "a context");
+    drop(recipient);
+    let room = Room::new(alloc, name, DATAGRAM_LIMIT).expect(rt, "memory");
+    protect_uncounted::<Ccm<8>>(room, &sender, 20, &message, text).ok()
 }
 
 /// Whether these are its bytes, or there are none where it didn't fit a datagram.
@@ -311,59 +295,23 @@ fn is_made(made: &Option<UncountedRequest>, bytes: Option<&[u8]>) -> bool {
 }
 
 /// Whether the holder makes this of a text.
-fn makes(alloc: Global, text: &[u8], bytes: Option<&[u8]>) -> Result<bool, Fail> {
-    let name = name_of(alloc, &CONTEXTS[0])?;
-    let made = uncounted_at(alloc, &name, REQUESTS[0].message, text)?;
-    Ok(is_made(&made, bytes))
+fn makes(rt: &impl Abort, alloc: Global, text: &[u8], bytes: Option<&[u8]>) -> bool {
+    let name = name_of(alloc, &CONTEXTS[0]).expect(rt, "memory");
+    let made = uncounted_at(rt, alloc, &name, REQUESTS[0].message, text);
+    drop(name);
+    let as_said = is_made(&made, bytes);
+    drop(made);
+    as_said
 }
 
 #[test]
-fn uncounted_requests(rt: HostRuntime) -> Result<(), Fail> {
-    assert!(rt; makes(rt.alloc(), REQUEST_TEXT, Some(REQUESTS[0].protected))?);
-    Ok(())
+fn uncounted_requests(rt: HostRuntime) {
+    assert!(rt; makes(&rt, rt.alloc(), REQUEST_TEXT, Some(REQUESTS[0].protected)));
 }
 
 #[test]
-fn texts_that_are_too_long(rt: HostRuntime) -> Result<(), Fail> {
-    assert!(rt; makes(rt.alloc(), &[7; 1152], None)?);
-    Ok(())
-}
-
-/// The server replies in this room under the nonce of the request.
-fn reply_in(
-    right: ReplyRight,
-    room: TextRoom,
-    sender: &SenderContext,
-    message: &MessageRef<'_>,
-) -> Result<ProtectedResponse, Fail>
-    requires sender { sender.now ≡ sender_of right.context Server sender.now.next }
-    requires room { 1152 ≤ room }
-{
-    match protect_reply::<Ccm<8>>(right, room, sender, message) {
-        Ok(made) => Ok(made),
-        Err(ReplyTooLong { room: _, right }) => {
-            right.forgo();
-            Err("too long")?
-        }
-    }
-}
-
-/// The server takes the room for the reply, and replies.
-fn reply_to(
-    alloc: Global,
-    right: ReplyRight,
-    sender: &SenderContext,
-    message: &MessageRef<'_>,
-) -> Result<ProtectedResponse, Fail>
-    requires { sender.now ≡ sender_of right.context Server sender.now.next }
-{
-    match TextRoom::new(alloc, DATAGRAM_LIMIT) {
-        Ok(room) => reply_in(right, room, sender, message),
-        Err(_) => {
-            right.forgo();
-            Err("no memory")?
-        }
-    }
+fn texts_that_are_too_long(rt: HostRuntime) {
+    assert!(rt; makes(&rt, rt.alloc(), &[7; 1152], None));
 }
 
 /// The right alone, without the note of the opening.
@@ -374,88 +322,53 @@ fn right_of(opened: OpenedRequest) -> ReplyRight
     right
 }
 
-/// The right to reply to what the server opens in this room, if it is genuine.
-fn right_to_reply(
-    room: RequestRoom,
-    recipient: &RecipientContext,
-    sealed: &SealedRequestRef<'_>,
-) -> Option<ReplyRight>
-    requires recipient { recipient.now ≡ recipient_of room.name Server }
-    requires named { IsFor room.name sealed.now }
-    requires room { length sealed.now.sealed ≤ room.most }
-    ensures { IfSome result (λ right. right.context ≡ room.name) }
-{
-    Some(right_of(open_in(room, recipient, sealed).ok()?))
-}
-
 /// The server opens a request of this context, and replies.
 fn reply_under(
+    rt: &impl Abort,
     alloc: Global,
     name: &ContextName,
     sealed: &SealedRequestRef<'_>,
     reply: &MessageRef<'_>,
-) -> Result<ProtectedResponse, Fail>
+) -> ProtectedResponse
     requires { IsFor name.now sealed.now }
 {
-    let (sender, recipient) = derive(alloc, name, Side::Server)?;
-    let room = RequestRoom::new(alloc, name, sealed.sealed().len())?;
-    match right_to_reply(room, &recipient, sealed) {
-        Some(right) => reply_to(alloc, right, &sender, reply),
-        None => Err("not genuine")?,
-    }
+    let (sender, recipient) = derive(alloc, name, Side::Server).expect(rt, "a context");
+    let room = RequestRoom::new(alloc, name, sealed.sealed().len()).expect(rt, "memory");
+    let opened = open_in(room, &recipient, sealed).expect(rt, "a genuine request");
+    drop(recipient);
+    let right = right_of(opened);
+    let room = TextRoom::new(alloc, DATAGRAM_LIMIT).expect(rt, "memory");
+    let made = protect_reply::<Ccm<8>>(right, room, &sender, reply).expect(rt, "a reply that fits");
+    drop(sender);
+    made
 }
 
-/// The server opens a request, and replies.
-fn replied(alloc: Global, request: &[u8], reply: &[u8]) -> Result<ProtectedResponse, Fail> {
-    let name = name_of(alloc, &CONTEXTS[0])?;
-    let reply = MessageRef::parse(reply)?;
-    let request = MessageRef::parse(request)?;
-    let sealed = read_request(&request)?;
-    if !sealed.is_for(&name) {
-        return Err("another context")?;
-    }
-    reply_under(alloc, &name, &sealed, &reply)
-}
-
-/// The number that the server takes next, once it has skipped to this one.
-fn server_number(alloc: Global, name: &ContextName, number: u64) -> Result<SendNumber, Fail>
-    ensures { IfOk result (λ taken. taken ≡ taken_of name.now Server taken.number) }
-{
-    let (mut sender, _) = derive(alloc, name, Side::Server)?;
-    sender.skip_to(number);
-    Ok(sender.take_number()?)
-}
-
-/// The server responds to the request of number 20 in this room.
-fn respond_in(
-    room: Room,
-    number: SendNumber,
-    message: &MessageRef<'_>,
-) -> Result<ProtectedResponse, Fail>
-    requires number { number ≡ taken_of room.name Server number.number }
-    requires id { length room.name.client_id ≤ longest_id }
-    requires room { 1152 ≤ room.most }
-{
-    match protect_response::<Ccm<8>>(room, 20, number, message) {
-        Ok(made) => Ok(made),
-        Err(MessageTooLong { room: _, number }) => {
-            number.spend();
-            Err("too long")?
-        }
-    }
+/// The server opens a request of the first context, and replies.
+fn replied(rt: &impl Abort, alloc: Global, request: &[u8], reply: &[u8]) -> ProtectedResponse {
+    let name = name_of(alloc, &CONTEXTS[0]).expect(rt, "memory");
+    let reply = MessageRef::parse(reply).expect(rt, "a message");
+    let request = MessageRef::parse(request).expect(rt, "a message");
+    let sealed = read_request(&request).expect(rt, "a request");
+    assert!(rt; sealed.is_for(&name));
+    let made = reply_under(rt, alloc, &name, &sealed, &reply);
+    drop(name);
+    made
 }
 
 /// The server responds to the request of number 20 under a number of its own.
 fn respond(
+    rt: &impl Abort,
     alloc: Global,
     name: &ContextName,
     number: u64,
-    message: &MessageRef<'_>,
-) -> Result<ProtectedResponse, Fail>
+    datagram: &[u8],
+) -> ProtectedResponse
     requires { length name.now.client_id ≤ longest_id }
 {
-    let room = Room::new(alloc, name, DATAGRAM_LIMIT)?;
-    respond_in(room, server_number(alloc, name, number)?, message)
+    let message = MessageRef::parse(datagram).expect(rt, "a message");
+    let number = number_of(rt, alloc, name, Side::Server, number);
+    let room = Room::new(alloc, name, DATAGRAM_LIMIT).expect(rt, "memory");
+    protect_response::<Ccm<8>>(room, 20, number, &message).expect(rt, "a response that fits")
 }
 
 /// The plaintext of the responses.
@@ -467,47 +380,47 @@ fn is_published(made: &ProtectedResponse, example: &Example) -> bool {
 }
 
 #[test]
-fn sealed_responses(rt: HostRuntime) -> Result<(), Fail> {
-    let alloc = rt.alloc();
-    let made = replied(alloc, REQUESTS[0].protected, RESPONSES[0].message)?;
+fn sealed_responses(rt: HostRuntime) {
+    let made = replied(&rt, rt.alloc(), REQUESTS[0].protected, RESPONSES[0].message);
     assert!(rt; is_published(&made, &RESPONSES[0]));
-    Ok(())
+    drop(made);
 }
 
 /// Whether a response under a number of the server's own is the published one.
-fn is_numbered(alloc: Global, name: &ContextName) -> Result<bool, Fail>
+fn is_numbered(rt: &impl Abort, alloc: Global, name: &ContextName) -> bool
     requires { length name.now.client_id ≤ longest_id }
 {
-    let message = MessageRef::parse(RESPONSES[1].message)?;
-    let made = respond(alloc, name, 0, &message)?;
-    Ok(is_published(&made, &RESPONSES[1]))
+    let made = respond(rt, alloc, name, 0, RESPONSES[1].message);
+    let published = is_published(&made, &RESPONSES[1]);
+    drop(made);
+    published
 }
 
 #[test]
-fn sealed_responses_with_a_number(rt: HostRuntime) -> Result<(), Fail> {
-    let name = name_of(rt.alloc(), &CONTEXTS[0])?;
+fn sealed_responses_with_a_number(rt: HostRuntime) {
+    let name = name_of(rt.alloc(), &CONTEXTS[0]).expect(&rt, "memory");
     assert!(rt; name.client_id.len() <= ID_LIMIT);
-    assert!(rt; is_numbered(rt.alloc(), &name)?);
-    Ok(())
+    assert!(rt; is_numbered(&rt, rt.alloc(), &name));
+    drop(name);
 }
 
 /// What the client opens of a response to its request of this number, if it is genuine.
 fn open_response_at(
+    rt: &impl Abort,
     alloc: Global,
     name: &ContextName,
     number: u64,
     datagram: &[u8],
-) -> Result<Option<Note>, Fail>
+) -> Option<Note>
     requires { number ≤ 20 }
 {
-    let message = MessageRef::parse(datagram)?;
-    let sealed = read_response(&message)?;
-    let (sender, recipient) = derive(alloc, name, Side::Client)?;
-    if sender.id().len() > ID_LIMIT {
-        return Err("an ID")?;
-    }
-    let room = Room::new(alloc, name, sealed.sealed().len())?;
-    Ok(open_response::<Ccm<8>>(room, &recipient, number, &sealed).ok())
+    let message = MessageRef::parse(datagram).expect(rt, "a message");
+    let sealed = read_response(&message).expect(rt, "a response");
+    let (sender, recipient) = derive(alloc, name, Side::Client).expect(rt, "a context");
+    assert!(rt; sender.id().len() <= ID_LIMIT);
+    drop(sender);
+    let room = Room::new(alloc, name, sealed.sealed().len()).expect(rt, "memory");
+    open_response::<Ccm<8>>(room, &recipient, number, &sealed).ok()
 }
 
 /// Whether the client opens the published text.
@@ -518,32 +431,42 @@ fn is_opened(note: &Note) -> bool {
 /// Whether what the client opens of a datagram, as the response to its request of this number, is the published text; none where
 /// it isn't genuine.
 fn opens(
+    rt: &impl Abort,
     alloc: Global,
     name: &ContextName,
     number: u64,
     datagram: &[u8],
-) -> Result<Option<bool>, Fail>
+) -> Option<bool>
     requires { number ≤ 20 }
 {
-    let note = open_response_at(alloc, name, number, datagram)?;
-    Ok(note.map(|note| is_opened(&note)))
+    let note = open_response_at(rt, alloc, name, number, datagram)?;
+    let opened = is_opened(&note);
+    drop(note);
+    Some(opened)
 }
 
 /// What the client opens of the published response: as that to its request of number 20, and as that to another.
-fn opened_as(alloc: Global, example: &Example) -> Result<(Option<bool>, Option<bool>), Fail> {
-    let name = name_of(alloc, &CONTEXTS[0])?;
-    let published = opens(alloc, &name, 20, example.protected)?;
-    Ok((published, opens(alloc, &name, 19, example.protected)?))
+fn opened_as(rt: &impl Abort, alloc: Global, example: &Example) -> (Option<bool>, Option<bool>) {
+    let name = name_of(alloc, &CONTEXTS[0]).expect(rt, "memory");
+    let published = opens(rt, alloc, &name, 20, example.protected);
+    let other = opens(rt, alloc, &name, 19, example.protected);
+    drop(name);
+    (published, other)
+}
+
+/// Whether a datagram is a protected response.
+fn is_response(rt: &impl Abort, datagram: &[u8]) -> bool {
+    let message = MessageRef::parse(datagram).expect(rt, "a message");
+    read_response(&message).is_ok()
 }
 
 /// To another request they are no responses, and the plain one is none.
 #[test]
-fn opened_responses(rt: HostRuntime) -> Result<(), Fail> {
+fn opened_responses(rt: HostRuntime) {
     for example in RESPONSES {
-        assert_eq!(rt; opened_as(rt.alloc(), &example)?, (Some(true), None));
-        assert!(rt; read_response(&MessageRef::parse(example.message)?).is_err());
+        assert!(rt; opened_as(&rt, rt.alloc(), &example) == (Some(true), None));
+        assert!(rt; !is_response(&rt, example.message));
     }
-    Ok(())
 }
 
 /// Options and payloads one after another, and their numbers if they are requests. The last is that of appendix C.4.
@@ -571,18 +494,17 @@ fn with_options(alloc: Global, options: &[u8]) -> Result<Vec<u8>, AllocError> {
 }
 
 /// The number of a request, if it is one.
-fn number_in(alloc: Global, options: &[u8]) -> Result<Option<u64>, Fail> {
-    let datagram = with_options(alloc, options)?;
-    let message = MessageRef::parse(&datagram)?;
-    Ok(read_request(&message).ok().map(|sealed| sealed.number()))
+fn number_in(rt: &impl Abort, alloc: Global, options: &[u8]) -> Option<u64> {
+    let datagram = with_options(alloc, options).expect(rt, "memory");
+    let message = MessageRef::parse(&datagram).expect(rt, "a message");
+    Some(read_request(&message).ok()?.number())
 }
 
 #[test]
-fn what_is_a_request(rt: HostRuntime) -> Result<(), Fail> {
+fn what_is_a_request(rt: HostRuntime) {
     for (options, number) in ARRIVING {
-        assert!(rt; number_in(rt.alloc(), options)? == number);
+        assert!(rt; number_in(&rt, rt.alloc(), options) == number);
     }
-    Ok(())
 }
 
 /// Contexts by their places, options and payloads, and whether they name that context. Where the name has an id context, a
@@ -596,39 +518,49 @@ const NAMED: [(usize, &[u8], bool); 6] = [
     (2, b"\x92\x09\x14\xff\x61", true),
 ];
 
-/// Whether a request names a context.
-fn names(alloc: Global, context: usize, options: &[u8]) -> Result<bool, Fail> {
-    let name = name_of(alloc, &CONTEXTS[context.min(2)])?;
-    let datagram = with_options(alloc, options)?;
-    Ok(read_request(&MessageRef::parse(&datagram)?)?.is_for(&name))
+/// Whether a request of these options and payload names a context.
+fn is_for(rt: &impl Abort, alloc: Global, name: &ContextName, options: &[u8]) -> bool {
+    let datagram = with_options(alloc, options).expect(rt, "memory");
+    let message = MessageRef::parse(&datagram).expect(rt, "a message");
+    read_request(&message).expect(rt, "a request").is_for(name)
+}
+
+/// The same of the context at this place.
+fn names(rt: &impl Abort, alloc: Global, context: usize, options: &[u8]) -> bool {
+    let name = name_of(alloc, &CONTEXTS[context.min(2)]).expect(rt, "memory");
+    let named = is_for(rt, alloc, &name, options);
+    drop(name);
+    named
 }
 
 #[test]
-fn what_is_named(rt: HostRuntime) -> Result<(), Fail> {
+fn what_is_named(rt: HostRuntime) {
     for (context, options, is_named) in NAMED {
-        assert!(rt; names(rt.alloc(), context, options)? == is_named);
+        assert!(rt; names(&rt, rt.alloc(), context, options) == is_named);
     }
-    Ok(())
 }
 
 /// Whether a request of these options and payload is none that the server opens.
-fn is_forged(alloc: Global, options: &[u8]) -> Result<bool, Fail> {
-    let name = name_of(alloc, &CONTEXTS[0])?;
-    let datagram = with_options(alloc, options)?;
-    Ok(open_at(alloc, &name, &datagram)?.is_none())
+fn is_forged(rt: &impl Abort, alloc: Global, options: &[u8]) -> bool {
+    let name = name_of(alloc, &CONTEXTS[0]).expect(rt, "memory");
+    let datagram = with_options(alloc, options).expect(rt, "memory");
+    let opened = open_at(rt, alloc, &name, &datagram);
+    drop(name);
+    let forged = opened.is_none();
+    drop(opened);
+    forged
 }
 
 /// The last bit of the tag turned, and bytes shorter than a tag.
 #[test]
-fn forged_requests(rt: HostRuntime) -> Result<(), Fail> {
+fn forged_requests(rt: HostRuntime) {
     let forged: [&[u8]; 2] = [
         b"\x92\x09\x14\xff\x61\x2f\x10\x92\xf1\x77\x6f\x1c\x16\x68\xb3\x82\x5f",
         b"\x92\x09\x14\xff\x61\x2f\x10\x92\xf1\x77\x6f",
     ];
     for options in forged {
-        assert!(rt; is_forged(rt.alloc(), options)?);
+        assert!(rt; is_forged(&rt, rt.alloc(), options));
     }
-    Ok(())
 }
 
 /// A POST with so many bytes of payload.
@@ -641,113 +573,116 @@ fn post_of(alloc: Global, size: usize) -> Result<Vec<u8>, AllocError> {
     Ok(datagram)
 }
 
-/// Room and number are handed back with a message that is too long, and serve another.
-fn protect_instead(
-    room: Room,
-    number: SendNumber,
-    too_long: &MessageRef<'_>,
-    message: &MessageRef<'_>,
-) -> Result<ProtectedRequest, Fail>
-    requires number { number ≡ taken_of room.name Client number.number }
-    requires short { HasShortContext room.name }
-    requires room { 1152 ≤ room.most }
-{
-    match protect_request::<Ccm<8>>(room, number, too_long) {
-        Ok(_) => Err("it is too long")?,
-        Err(MessageTooLong { room, number }) => protect_in(room, number, message),
-    }
-}
-
-/// A request that is too long in this room, and then one that isn't; answers the length of what protects it.
+/// A request that is too long in this room, and then one that isn't: room and number are handed back, and serve the other. Answers
+/// the length of what protects it.
 fn protected_length(
+    rt: &impl Abort,
     alloc: Global,
     name: &ContextName,
     too_long: &MessageRef<'_>,
     message: &MessageRef<'_>,
-) -> Result<usize, Fail>
+) -> usize
     requires { HasShortContext name.now }
 {
-    let room = Room::new(alloc, name, DATAGRAM_LIMIT)?;
-    let made = protect_instead(room, client_number(alloc, name, 0)?, too_long, message)?;
-    Ok(made.message.bytes().len())
+    let number = number_of(rt, alloc, name, Side::Client, 0);
+    let room = Room::new(alloc, name, DATAGRAM_LIMIT).expect(rt, "memory");
+    let MessageTooLong { room, number } = protect_request::<Ccm<8>>(
+        room, number, too_long,
+    ).expect_err(rt, "it is too long");
+    let made = protect_request::<Ccm<8>>(room, number, message).expect(rt, "it fits");
+    let length = made.message.bytes().len();
+    drop(made);
+    length
 }
 
 /// The same of POSTs with so many bytes of payload.
 fn protected_size(
+    rt: &impl Abort,
     alloc: Global,
     name: &ContextName,
     too_long: usize,
     size: usize,
-) -> Result<usize, Fail>
+) -> usize
     requires { HasShortContext name.now }
 {
-    let (too_long, post) = (post_of(alloc, too_long)?, post_of(alloc, size)?);
-    let too_long = MessageRef::parse(&too_long)?;
-    let message = MessageRef::parse(&post)?;
-    protected_length(alloc, name, &too_long, &message)
+    let too_long = post_of(alloc, too_long).expect(rt, "memory");
+    let post = post_of(alloc, size).expect(rt, "memory");
+    let too_long = MessageRef::parse(&too_long).expect(rt, "a message");
+    let message = MessageRef::parse(&post).expect(rt, "a message");
+    protected_length(rt, alloc, name, &too_long, &message)
 }
 
 /// Protected as a request of number 0, a payload takes 18 bytes more: 4 of header, 3 of the option, the payload marker, the
 /// sealed code and inner marker, and the tag.
 #[test]
-fn long_requests(rt: HostRuntime) -> Result<(), Fail> {
-    let name = name_of(rt.alloc(), &CONTEXTS[0])?;
-    assert!(rt; protected_size(rt.alloc(), &name, 1135, 1134)? == 1152);
-    Ok(())
+fn long_requests(rt: HostRuntime) {
+    let name = name_of(rt.alloc(), &CONTEXTS[0]).expect(&rt, "memory");
+    assert!(rt; protected_size(&rt, rt.alloc(), &name, 1135, 1134) == 1152);
+    drop(name);
+}
+
+/// Whether a POST with so many bytes of payload fits, protected, a datagram.
+fn post_fits(rt: &impl Abort, alloc: Global, name: &ContextName, size: usize) -> bool
+    requires short { HasShortContext name.now }
+    requires id { length name.now.client_id ≤ longest_id }
+{
+    let datagram = post_of(alloc, size).expect(rt, "memory");
+    let message = MessageRef::parse(&datagram).expect(rt, "a message");
+    fits::<Ccm<8>>(name, 0, &message)
 }
 
 #[test]
-fn what_fits(rt: HostRuntime) -> Result<(), Fail> {
-    let alloc = rt.alloc();
-    let name = name_of(alloc, &CONTEXTS[0])?;
+fn what_fits(rt: HostRuntime) {
+    let name = name_of(rt.alloc(), &CONTEXTS[0]).expect(&rt, "memory");
     assert!(rt; name.client_id.len() <= ID_LIMIT);
     for (size, fitting) in [(0, true), (1134, true), (1135, false), (1147, false)] {
-        let datagram = post_of(alloc, size)?;
-        let message = MessageRef::parse(&datagram)?;
-        assert!(rt; fits::<Ccm<8>>(&name, 0, &message) == fitting);
+        assert!(rt; post_fits(&rt, rt.alloc(), &name, size) == fitting);
     }
-    Ok(())
+    drop(name);
 }
 
 /// The empty option of a reply takes 2 bytes less.
 #[test]
-fn long_replies(rt: HostRuntime) -> Result<(), Fail> {
-    let alloc = rt.alloc();
-    let datagram = post_of(alloc, 1136)?;
-    let made = replied(alloc, REQUESTS[0].protected, &datagram)?;
+fn long_replies(rt: HostRuntime) {
+    let datagram = post_of(rt.alloc(), 1136).expect(&rt, "memory");
+    let made = replied(&rt, rt.alloc(), REQUESTS[0].protected, &datagram);
     assert!(rt; made.message.bytes().len() == 1152);
-    Ok(())
+    drop(made);
 }
 
 /// Whether a value is printed as this text.
-fn prints<T: fmt::Debug>(alloc: Global, value: &T, text: &str) -> Result<bool, Fail> {
-    Ok(format!(in alloc; "{value:?}")?.as_str() == text)
+fn prints<T: fmt::Debug>(rt: &impl Abort, alloc: Global, value: &T, text: &str) -> bool {
+    format!(in alloc; "{value:?}").expect(rt, "memory").as_str() == text
 }
 
-fn room_is_hidden(alloc: Global, name: &ContextName) -> Result<bool, Fail> {
-    let room = Room::new(alloc, name, 7)?;
-    prints(alloc, &room, "Room")
+fn room_is_hidden(rt: &impl Abort, alloc: Global, name: &ContextName) -> bool {
+    let room = Room::new(alloc, name, 7).expect(rt, "memory");
+    let hidden = prints(rt, alloc, &room, "Room");
+    drop(room);
+    hidden
 }
 
-fn request_room_is_hidden(alloc: Global, name: &ContextName) -> Result<bool, Fail> {
-    let room = RequestRoom::new(alloc, name, 7)?;
-    prints(alloc, &room, "RequestRoom")
+fn request_room_is_hidden(rt: &impl Abort, alloc: Global, name: &ContextName) -> bool {
+    let room = RequestRoom::new(alloc, name, 7).expect(rt, "memory");
+    let hidden = prints(rt, alloc, &room, "RequestRoom");
+    drop(room);
+    hidden
 }
 
-fn text_room_is_hidden(alloc: Global) -> Result<bool, Fail> {
-    let room = TextRoom::new(alloc, 7)?;
-    prints(alloc, &room, "TextRoom")
+fn text_room_is_hidden(rt: &impl Abort, alloc: Global) -> bool {
+    let room = TextRoom::new(alloc, 7).expect(rt, "memory");
+    prints(rt, alloc, &room, "TextRoom")
 }
 
 /// Nothing of a key or a text is printed.
 #[test]
-fn what_is_printed(rt: HostRuntime) -> Result<(), Fail> {
-    let name = name_of(rt.alloc(), &CONTEXTS[0])?;
-    assert!(rt; room_is_hidden(rt.alloc(), &name)?);
-    assert!(rt; request_room_is_hidden(rt.alloc(), &name)?);
-    assert!(rt; text_room_is_hidden(rt.alloc())?);
-    assert!(rt; prints(rt.alloc(), &Malformed, "Malformed")?);
-    Ok(())
+fn what_is_printed(rt: HostRuntime) {
+    let name = name_of(rt.alloc(), &CONTEXTS[0]).expect(&rt, "memory");
+    assert!(rt; room_is_hidden(&rt, rt.alloc(), &name));
+    assert!(rt; request_room_is_hidden(&rt, rt.alloc(), &name));
+    assert!(rt; text_room_is_hidden(&rt, rt.alloc()));
+    assert!(rt; prints(&rt, rt.alloc(), &Malformed, "Malformed"));
+    drop(name);
 }
 
 #[test]
