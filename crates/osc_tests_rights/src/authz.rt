@@ -1,11 +1,11 @@
 //! Exchanges, and what the desk refuses.
-use osc_authz::{ClientContext, ClientDesk, GrantError, PostAnswer, PostError, ServerDesk};
+use osc_authz::{ClientContext, ClientDesk, GrantError, Post, PostAnswer, PostError, ServerDesk};
 use osc_cbor::{Item, write};
 use osc_ccm::Ccm;
 use osc_model::{Bytes, Code, ContextName, Draw, Moment};
-use osc_token::{Audience, Claims, InputMaterial, MintError, TokenError, mint};
+use osc_token::{Audience, Claims, InputMaterial, TokenError, mint};
 use std::alloc::{AllocError, Global};
-use std::test::*;
+use std::process::Abort;
 
 /// The key that the server shares with the issuer of tokens.
 const KEY: [u8; 16] = *b"@ABCDEFGHIJKLMNO";
@@ -55,44 +55,49 @@ fn until(expires: Option<u64>) -> Said {
     Said { expires, ..RIGHT }
 }
 
-/// The token of this id.
-fn token_of(alloc: Global, id: u8, said: Said) -> Result<Vec<u8>, AllocError> {
-    let claims = Claims {
-        audience: Audience::new(alloc, said.audience)?,
+/// The claims of the token of this id.
+fn claims_of(rt: &impl Abort, alloc: Global, id: u8, said: Said) -> Claims {
+    Claims {
+        audience: Audience::new(alloc, said.audience).expect(rt, "memory"),
         not_before: said.not_before,
         expires: said.expires,
         material: InputMaterial {
-            id: Bytes::from_slice(alloc, &[id])?,
-            secret: Bytes::from_slice(alloc, &secret_of(id))?,
+            id: Bytes::from_slice(alloc, &[id]).expect(rt, "memory"),
+            secret: Bytes::from_slice(alloc, &secret_of(id)).expect(rt, "memory"),
             salt: Bytes::new(alloc),
             id_context: None,
         },
-        scope: Bytes::from_slice(alloc, said.scope)?,
-    };
-    let mut token = Vec::new(alloc);
-    match mint::<Ccm<8>>(alloc, &claims, &KEY, &iv_of(id), &mut token) {
-        Err(MintError::Memory) => Err(AllocError),
-        _ => Ok(token),
+        scope: Bytes::from_slice(alloc, said.scope).expect(rt, "memory"),
     }
 }
 
+/// The token of this id.
+fn token_of(rt: &impl Abort, alloc: Global, id: u8, said: Said) -> Vec<u8> {
+    let claims = claims_of(rt, alloc, id, said);
+    let mut token = Vec::new(alloc);
+    mint::<Ccm<8>>(alloc, &claims, &KEY, &iv_of(id), &mut token).expect(rt, "a token");
+    drop(claims);
+    token
+}
+
 /// A client that was granted this token.
-fn client_of(alloc: Global, id: u8, said: Said) -> Result<ClientDesk, Fail> {
-    let token = Bytes::from_vec(token_of(alloc, id, said)?);
-    let secret = Bytes::from_slice(alloc, &secret_of(id))?;
-    Ok(
-        ClientDesk::new(token, secret, Bytes::new(alloc), None)
-            .ok()
-            .ok_or("not granted")?,
-    )
+fn client_of(rt: &impl Abort, alloc: Global, id: u8, said: Said) -> ClientDesk {
+    let token = Bytes::from_vec(token_of(rt, alloc, id, said));
+    let secret = Bytes::from_slice(alloc, &secret_of(id)).expect(rt, "memory");
+    ClientDesk::new(token, secret, Bytes::new(alloc), None).expect(rt, "a grant")
 }
 
 /// A post of the token of this id.
-fn post_of(alloc: Global, id: u8, said: Said) -> Result<Vec<u8>, Fail> {
-    let client = client_of(alloc, id, said)?;
+fn post_of(rt: &impl Abort, alloc: Global, id: u8, said: Said) -> Vec<u8> {
+    let client = client_of(rt, alloc, id, said);
+    let exchange = client.start(None, &drawn(1));
     let mut body = Vec::new(alloc);
-    client.write_post(alloc, &client.start(None, &drawn(1)), &mut body)?;
-    Ok(body)
+    client
+        .write_post(alloc, &exchange, &mut body)
+        .expect(rt, "memory");
+    drop(exchange);
+    drop(client);
+    body
 }
 
 fn desk_of(alloc: Global) -> Result<ServerDesk, AllocError> {
@@ -100,12 +105,24 @@ fn desk_of(alloc: Global) -> Result<ServerDesk, AllocError> {
 }
 
 /// What a post comes to: the server's recipient ID, or the number of the refusal, and whether the token opened.
+type Outcome = (Result<u8, u8>, bool);
+
+/// What this post came to.
+fn outcome_of(post: &Post) -> Outcome {
+    let answer = match post.answer {
+        Ok(answer) => Ok(answer.recipient_id),
+        Err(error) => Err(error.number()),
+    };
+    (answer, post.opened.is_some())
+}
+
+/// What a post at this moment comes to.
 fn posted(
     desk: &mut ServerDesk,
     alloc: Global,
     at: u64,
     body: &[u8],
-) -> Result<(Result<u8, u8>, bool), AllocError> {
+) -> Result<Outcome, AllocError> {
     posted_with(desk, alloc, at, body, 2)
 }
 
@@ -116,14 +133,12 @@ fn posted_with(
     at: u64,
     body: &[u8],
     last: u8,
-) -> Result<(Result<u8, u8>, bool), AllocError> {
+) -> Result<Outcome, AllocError> {
     let now = Moment::new(at).unwrap_or(Moment::START);
     let post = desk.post::<Ccm<8>>(alloc, now, body, &drawn(last))?;
-    let answer = match post.answer {
-        Ok(answer) => Ok(answer.recipient_id),
-        Err(error) => Err(error.number()),
-    };
-    Ok((answer, post.opened.is_some()))
+    let outcome = outcome_of(&post);
+    drop(post);
+    Ok(outcome)
 }
 
 /// Whether a live context has this recipient ID.
@@ -137,38 +152,36 @@ const POST: &[u8] =
     b"\xa3\x01\x58\x46\x83\x43\xa1\x01\x0a\xa1\x05\x4d\0\0\0\0\0\0\0\0\0\0\0\0\x01\x58\x2f\x7a\x0e\xde\x21\x71\xa9\xef\x96\x11\xe8\xb2\x3a\xfd\x72\x3e\x78\x79\xca\xdf\xb8\x87\xe3\xcb\x88\x90\x1d\xd4\x04\x61\xe9\xf3\x01\x24\xce\xe0\x4d\x4a\x5e\x85\x93\x1d\x22\x4b\x7c\xe6\xb4\xe2\x18\x28\x48\0\0\0\0\0\0\0\x01\x18\x2b\x41\0";
 
 #[test]
-fn what_is_posted(rt: HostRuntime) -> Result<(), Fail> {
-    let body = post_of(rt.alloc(), 1, RIGHT)?;
-    assert_eq!(rt; body.as_slice(), POST);
-    Ok(())
+fn what_is_posted(rt: HostRuntime) {
+    let body = post_of(&rt, rt.alloc(), 1, RIGHT);
+    assert!(rt; body.as_slice() == POST);
 }
 
-/// What is answered to the post, where it isn't refused.
-fn answered(desk: &mut ServerDesk, alloc: Global) -> Result<Option<PostAnswer>, AllocError> {
-    let post = desk.post::<Ccm<8>>(alloc, Moment::START, POST, &drawn(2))?;
-    Ok(post.answer.ok())
+/// What is answered to the post.
+fn answered(rt: &impl Abort, alloc: Global, desk: &mut ServerDesk) -> PostAnswer {
+    let post = desk
+        .post::<Ccm<8>>(alloc, Moment::START, POST, &drawn(2))
+        .expect(rt, "memory");
+    let answer = post.answer;
+    drop(post);
+    answer.expect(rt, "an answer")
 }
 
 #[test]
-fn what_is_answered(rt: HostRuntime) -> Result<(), Fail> {
-    let mut desk = desk_of(rt.alloc())?;
-    let answer = answered(&mut desk, rt.alloc())?.ok_or("refused")?;
-    assert_eq!(rt;
-        answer.payload(),
-        *b"\xa2\x18\x2a\x48\0\0\0\0\0\0\0\x02\x18\x2c\x41\x01"
-    );
-    Ok(())
+fn what_is_answered(rt: HostRuntime) {
+    let mut desk = desk_of(rt.alloc()).expect(&rt, "memory");
+    let answer = answered(&rt, rt.alloc(), &mut desk);
+    drop(desk);
+    assert!(rt; answer.payload() == *b"\xa2\x18\x2a\x48\0\0\0\0\0\0\0\x02\x18\x2c\x41\x01");
 }
 
 /// The context that the client makes of an answer to the post.
-fn made_of(alloc: Global, answer: PostAnswer) -> Result<Option<ClientContext>, Fail> {
-    let client = client_of(alloc, 1, RIGHT)?;
+fn made_of(rt: &impl Abort, alloc: Global, answer: PostAnswer) -> ClientContext {
+    let client = client_of(rt, alloc, 1, RIGHT);
     let exchange = client.start(None, &drawn(1));
-    Ok(
-        client
-            .finish(alloc, exchange, Code::CREATED, &answer.payload())
-            .ok(),
-    )
+    let made = client.finish(alloc, exchange, Code::CREATED, &answer.payload());
+    drop(client);
+    made.expect(rt, "a context")
 }
 
 /// Whether this is the name of the exchange's context.
@@ -180,14 +193,17 @@ fn is_exchanged(name: &ContextName) -> bool {
 }
 
 #[test]
-fn both_ends_have_one_name(rt: HostRuntime) -> Result<(), Fail> {
-    let mut desk = desk_of(rt.alloc())?;
-    let answer = answered(&mut desk, rt.alloc())?.ok_or("refused")?;
-    let made = made_of(rt.alloc(), answer)?.ok_or("no context")?;
+fn both_ends_have_one_name(rt: HostRuntime) {
+    let mut desk = desk_of(rt.alloc()).expect(&rt, "memory");
+    let answer = answered(&rt, rt.alloc(), &mut desk);
+    let made = made_of(&rt, rt.alloc(), answer);
     assert!(rt; is_exchanged(made.name()));
-    let held = desk.find(Moment::START, &[1], None).ok_or("not found")?;
+    drop(made);
+    let held = desk
+        .find(Moment::START, &[1], None)
+        .expect(&rt, "a context");
     assert!(rt; is_exchanged(held.name()));
-    Ok(())
+    drop(desk);
 }
 
 /// Codes and payloads that make no context, and the number of the refusal.
@@ -207,15 +223,20 @@ const NO_CONTEXTS: [(Code, &[u8], u8); 9] = [
     (Code::CREATED, b"", 30),
 ];
 
+/// The number of the refusal of this answer, if it makes no context.
+fn refused_answer(client: &ClientDesk, alloc: Global, code: Code, payload: &[u8]) -> Option<u8> {
+    let exchange = client.start(None, &drawn(1));
+    let refusal = client.finish(alloc, exchange, code, payload).err()?;
+    Some(refusal.number())
+}
+
 #[test]
-fn other_answers_make_none(rt: HostRuntime) -> Result<(), Fail> {
-    let client = client_of(rt.alloc(), 1, RIGHT)?;
+fn other_answers_make_none(rt: HostRuntime) {
+    let client = client_of(&rt, rt.alloc(), 1, RIGHT);
     for (code, payload, number) in NO_CONTEXTS {
-        let exchange = client.start(None, &drawn(1));
-        let refused = client.finish(rt.alloc(), exchange, code, payload).err();
-        assert_eq!(rt; refused.map(|error| error.number()), Some(number));
+        assert!(rt; refused_answer(&client, rt.alloc(), code, payload) == Some(number));
     }
-    Ok(())
+    drop(client);
 }
 
 /// A request of number 0 opens under this recipient ID, where there is such a context and the number is fresh.
@@ -263,16 +284,22 @@ fn salt_end(desk: &ServerDesk, id: u8) -> Option<u8> {
     context.name().salt.as_slice().last().copied()
 }
 
-#[test]
-fn the_newest_post_waits_for_a_request(rt: HostRuntime) -> Result<(), Fail> {
-    let mut desk = desk_of(rt.alloc())?;
+/// Takes each step, and sees what it makes.
+fn take_steps(rt: &impl Abort, alloc: Global, desk: &mut ServerDesk) {
     for (event, id, salts) in STEPS {
-        assert_eq!(rt; step(&mut desk, rt.alloc(), event)?, Some(id));
-        assert_eq!(rt; [1, 2, 3].map(|id| salt_end(&desk, id)), salts);
+        let made = step(desk, alloc, event).expect(rt, "memory");
+        assert!(rt; made == Some(id));
+        assert!(rt; [1, 2, 3].map(|id| salt_end(desk, id)) == salts);
     }
+}
+
+#[test]
+fn the_newest_post_waits_for_a_request(rt: HostRuntime) {
+    let mut desk = desk_of(rt.alloc()).expect(&rt, "memory");
+    take_steps(&rt, rt.alloc(), &mut desk);
     desk.clear();
-    assert_eq!(rt; salt_end(&desk, 2), None);
-    Ok(())
+    assert!(rt; salt_end(&desk, 2).is_none());
+    drop(desk);
 }
 
 /// A client of this secret, salt and id context, of so many bytes; why it isn't made.
@@ -289,7 +316,7 @@ fn refused_grant(
 }
 
 #[test]
-fn lengths_of_grants(rt: HostRuntime) -> Result<(), Fail> {
+fn lengths_of_grants(rt: HostRuntime) {
     for (secret, salt, id_context, refusal) in [
         (1, 0, 0, None),
         (64, 64, 64, None),
@@ -298,24 +325,18 @@ fn lengths_of_grants(rt: HostRuntime) -> Result<(), Fail> {
         (1, 65, 65, Some(GrantError::Salt)),
         (1, 64, 65, Some(GrantError::IdContext)),
     ] {
-        assert_eq!(rt;
-            refused_grant(rt.alloc(), secret, salt, id_context)?,
-            refusal
-        );
+        let refused = refused_grant(rt.alloc(), secret, salt, id_context);
+        assert!(rt; refused.expect(&rt, "memory") == refusal);
     }
-    Ok(())
 }
 
-/// A desk at which the token ids 1 to 64 have a context until 100 s, whose recipient IDs are 1 to 64 in this order.
-fn full_desk(alloc: Global) -> Result<ServerDesk, Fail> {
-    let mut desk = desk_of(alloc)?;
+/// Fills a desk: the token ids 1 to 64 have a context until 100 s, whose recipient IDs are 1 to 64 in this order.
+fn fill(rt: &impl Abort, alloc: Global, desk: &mut ServerDesk) {
     for id in 1..65u8 {
-        let body = post_of(alloc, id, until(Some(100)))?;
-        if posted(&mut desk, alloc, 0, &body)? != (Ok(id), true) {
-            return Err("another recipient ID".into());
-        }
+        let body = post_of(rt, alloc, id, until(Some(100)));
+        let outcome = posted(desk, alloc, 0, &body).expect(rt, "memory");
+        assert!(rt; outcome == (Ok(id), true));
     }
-    Ok(desk)
 }
 
 /// Posts to the full desk: the token id, when it expires, the moment, and what the post comes to.
@@ -325,33 +346,46 @@ const FURTHER: [(u8, Option<u64>, u64, Result<u8, u8>); 3] = [
     (65, None, 100_000, Ok(1)),
 ];
 
+/// Posts the further tokens to the full desk.
+fn post_further(rt: &impl Abort, alloc: Global, desk: &mut ServerDesk) {
+    for (id, expires, at, answer) in FURTHER {
+        let body = post_of(rt, alloc, id, until(expires));
+        let outcome = posted(desk, alloc, at, &body).expect(rt, "memory");
+        assert!(rt; outcome == (answer, true));
+    }
+}
+
 #[test]
-fn sixty_four_tokens_have_contexts(rt: HostRuntime) -> Result<(), Fail> {
-    let mut desk = full_desk(rt.alloc())?;
+fn sixty_four_tokens_have_contexts(rt: HostRuntime) {
+    let mut desk = desk_of(rt.alloc()).expect(&rt, "memory");
+    fill(&rt, rt.alloc(), &mut desk);
     for id in 1..65u8 {
         assert!(rt; is_found(&desk, 99_999, id) && !is_found(&desk, 100_000, id));
     }
-    for (id, expires, at, outcome) in FURTHER {
-        let body = post_of(rt.alloc(), id, until(expires))?;
-        assert_eq!(rt; posted(&mut desk, rt.alloc(), at, &body)?, (outcome, true));
-    }
-    Ok(())
+    post_further(&rt, rt.alloc(), &mut desk);
+    drop(desk);
+}
+
+/// The post of this token, by a client that has this recipient ID.
+fn item_of(rt: &impl Abort, alloc: Global, token: Vec<u8>, client_id: &[u8]) -> Item {
+    let nonce = vec![in alloc; 1].expect(rt, "memory");
+    let client_id = Vec::from_slice(alloc, client_id).expect(rt, "memory");
+    let fields = vec![in alloc;
+        (Item::Unsigned(1), Item::Bytes(token)),
+        (Item::Unsigned(40), Item::Bytes(nonce)),
+        (Item::Unsigned(43), Item::Bytes(client_id)),
+    ];
+    Item::Map(fields.expect(rt, "memory"))
 }
 
 /// A post of the token of this id, which counts until this second, of a client that has this recipient ID.
-fn post_from(alloc: Global, id: u8, expires: u64, client_id: &[u8]) -> Result<Vec<u8>, AllocError> {
-    let token = token_of(alloc, id, until(Some(expires)))?;
-    let fields = vec![in alloc;
-        (Item::Unsigned(1), Item::Bytes(token)),
-        (Item::Unsigned(40), Item::Bytes(vec![in alloc; 1]?)),
-        (
-            Item::Unsigned(43),
-            Item::Bytes(Vec::from_slice(alloc, client_id)?)
-        ),
-    ]?;
+fn post_from(rt: &impl Abort, alloc: Global, id: u8, expires: u64, client_id: &[u8]) -> Vec<u8> {
+    let token = token_of(rt, alloc, id, until(Some(expires)));
+    let post = item_of(rt, alloc, token, client_id);
     let mut body = Vec::new(alloc);
-    write(&Item::Map(fields), &mut body)?;
-    Ok(body)
+    write(&post, &mut body).expect(rt, "memory");
+    drop(post);
+    body
 }
 
 /// Posts to one desk: the token id, the second at which it expires, the client's recipient ID, the moment in milliseconds,
@@ -368,14 +402,20 @@ const OFFERED: [(u8, u64, &[u8], u64, u8); 8] = [
     (5, 100, b"\x03", 50_000, 5),
 ];
 
-#[test]
-fn least_bytes_are_given_out(rt: HostRuntime) -> Result<(), Fail> {
-    let mut desk = desk_of(rt.alloc())?;
+/// Posts each, and sees which recipient ID it gets.
+fn post_offered(rt: &impl Abort, alloc: Global, desk: &mut ServerDesk) {
     for (token, expires, client_id, at, id) in OFFERED {
-        let body = post_from(rt.alloc(), token, expires, client_id)?;
-        assert_eq!(rt; posted(&mut desk, rt.alloc(), at, &body)?, (Ok(id), true));
+        let body = post_from(rt, alloc, token, expires, client_id);
+        let outcome = posted(desk, alloc, at, &body).expect(rt, "memory");
+        assert!(rt; outcome == (Ok(id), true));
     }
-    Ok(())
+}
+
+#[test]
+fn least_bytes_are_given_out(rt: HostRuntime) {
+    let mut desk = desk_of(rt.alloc()).expect(&rt, "memory");
+    post_offered(&rt, rt.alloc(), &mut desk);
+    drop(desk);
 }
 
 /// Payloads that are no posts, and the post of an empty token, with the number of the refusal.
@@ -425,34 +465,30 @@ const REFUSED: [(Said, u8); 4] = [
 ];
 
 /// What a post comes to at 10 s where there is one context, and whether that alone is there after it.
-fn posted_beside_one(alloc: Global, body: &[u8]) -> Result<((Result<u8, u8>, bool), bool), Fail> {
-    let mut desk = desk_of(alloc)?;
-    posted(&mut desk, alloc, 0, POST)?.0.ok().ok_or("refused")?;
-    let outcome = posted(&mut desk, alloc, 10_000, body)?;
-    Ok((outcome, is_found(&desk, 0, 1) && !is_found(&desk, 0, 2)))
+fn posted_beside_one(rt: &impl Abort, alloc: Global, body: &[u8]) -> (Outcome, bool) {
+    let mut desk = desk_of(alloc).expect(rt, "memory");
+    answered(rt, alloc, &mut desk);
+    let outcome = posted(&mut desk, alloc, 10_000, body).expect(rt, "memory");
+    let alone = is_found(&desk, 0, 1) && !is_found(&desk, 0, 2);
+    drop(desk);
+    (outcome, alone)
 }
 
 #[test]
-fn no_posts_change_nothing(rt: HostRuntime) -> Result<(), Fail> {
+fn no_posts_change_nothing(rt: HostRuntime) {
     for (body, number) in NO_POSTS {
-        assert_eq!(rt;
-            posted_beside_one(rt.alloc(), body)?,
-            ((Err(number), false), true)
-        );
+        let posted = posted_beside_one(&rt, rt.alloc(), body);
+        assert!(rt; posted == ((Err(number), false), true));
     }
-    Ok(())
 }
 
 #[test]
-fn refused_tokens_change_nothing(rt: HostRuntime) -> Result<(), Fail> {
+fn refused_tokens_change_nothing(rt: HostRuntime) {
     for (said, number) in REFUSED {
-        let body = post_of(rt.alloc(), 2, said)?;
-        assert_eq!(rt;
-            posted_beside_one(rt.alloc(), &body)?,
-            ((Err(number), true), true)
-        );
+        let body = post_of(&rt, rt.alloc(), 2, said);
+        let posted = posted_beside_one(&rt, rt.alloc(), &body);
+        assert!(rt; posted == ((Err(number), true), true));
     }
-    Ok(())
 }
 
 #[test]
@@ -468,7 +504,7 @@ fn codes_of_refusals(rt: HostRuntime) {
         (PostError::Full, Code::SERVICE_UNAVAILABLE),
     ];
     for (error, code) in codes {
-        assert_eq!(rt; error.code(), code);
+        assert!(rt; error.code() == code);
     }
 }
 
@@ -481,7 +517,7 @@ fn a_refused_allocation_leaves_the_desk(rt: HostRuntime) {
     };
     if posted(&mut desk, alloc, 0, POST).is_err() {
         assert!(rt; !is_found(&desk, 0, 1));
-        assert_eq!(rt; posted(&mut desk, alloc, 0, POST).ok(), Some((Ok(1), true)));
+        assert!(rt; posted(&mut desk, alloc, 0, POST).ok() == Some((Ok(1), true)));
     }
     assert!(rt; is_found(&desk, 0, 1));
 }

@@ -2,8 +2,8 @@
 use osc_model::{Code, Moment, Path};
 use osc_scope::{Scope, Verdict};
 use osc_token::{Audience, Claims, judge};
-use std::alloc::{AllocError, Global};
-use std::test::Fail;
+use std::alloc::Global;
+use std::process::Abort;
 
 /// {3: "s", 8: {4: {0: h'01', 2: SECRET}}, 9: h'8182642f6c6f6703'}, whose scope is [["/log", 3]].
 const TEXT: &[u8] =
@@ -12,9 +12,10 @@ const TEXT: &[u8] =
 const SECRET: [u8; 16] = *b"\0\0\0\0\0\0\0\0\0\0\0\0\0\0\0\x01";
 
 /// What the text comes to.
-fn judged(alloc: Global) -> Result<Option<(Claims, Scope)>, AllocError> {
-    let outcome = judge(alloc, TEXT, &Audience::new(alloc, "s")?, Moment::START)?;
-    Ok(outcome.ok())
+fn judged(rt: &impl Abort, alloc: Global) -> (Claims, Scope) {
+    let audience = Audience::new(alloc, "s").expect(rt, "memory");
+    let outcome = judge(alloc, TEXT, &audience, Moment::START).expect(rt, "memory");
+    outcome.expect(rt, "claims")
 }
 
 /// Whether these are the claims of the text.
@@ -27,29 +28,32 @@ fn are_said(claims: &Claims) -> bool {
 }
 
 #[test]
-fn what_a_text_claims(rt: HostRuntime) -> Result<(), Fail> {
-    let (claims, _) = judged(rt.alloc())?.ok_or("refused")?;
+fn what_a_text_claims(rt: HostRuntime) {
+    let (claims, scope) = judged(&rt, rt.alloc());
+    drop(scope);
     assert!(rt; are_said(&claims));
-    Ok(())
+    drop(claims);
 }
 
 /// What the scope of the text says of a method on `/log`.
-fn verdict_of(alloc: Global, code: Code) -> Result<Verdict, Fail> {
-    let (_, scope) = judged(alloc)?.ok_or("refused")?;
-    let path = Path::from_text(alloc, b"/log")?;
-    Ok(scope.verdict(path.as_ref(), code))
+fn verdict_of(rt: &impl Abort, alloc: Global, code: Code) -> Verdict {
+    let (claims, scope) = judged(rt, alloc);
+    drop(claims);
+    let path = Path::from_text(alloc, b"/log").expect(rt, "memory");
+    let verdict = scope.verdict(path.as_ref(), code);
+    drop(scope);
+    verdict
 }
 
 #[test]
-fn what_a_text_grants(rt: HostRuntime) -> Result<(), Fail> {
+fn what_a_text_grants(rt: HostRuntime) {
     for (code, verdict) in [
         (1, Verdict::Granted),
         (2, Verdict::Granted),
         (3, Verdict::NoMethod),
     ] {
-        assert_eq!(rt; verdict_of(rt.alloc(), Code(code))?, verdict);
+        assert!(rt; verdict_of(&rt, rt.alloc(), Code(code)) == verdict);
     }
-    Ok(())
 }
 
 /// The number of the refusal, or 0, the moment in milliseconds, and texts, which differ a little from
@@ -169,28 +173,29 @@ const CASES: [(u8, u64, &[&[u8]]); 10] = [
 
 /// The number of the refusal at this moment, or 0; nothing where there is no such moment.
 fn refusal_of(
+    rt: &impl Abort,
     alloc: Global,
     text: &[u8],
     audience: &Audience,
     ms: u64,
-) -> Result<Option<u8>, AllocError> {
-    let Some(now) = Moment::new(ms) else {
-        return Ok(None);
-    };
-    match judge(alloc, text, audience, now)? {
-        Ok(_) => Ok(Some(0)),
-        Err(error) => Ok(Some(error.number())),
+) -> Option<u8> {
+    let now = Moment::new(ms)?;
+    match judge(alloc, text, audience, now).expect(rt, "memory") {
+        Ok(claimed) => {
+            drop(claimed);
+            Some(0)
+        }
+        Err(error) => Some(error.number()),
     }
 }
 
 #[test]
-fn the_first_fault_answers(rt: HostRuntime) -> Result<(), Fail> {
-    let alloc = rt.alloc();
-    let audience = Audience::new(alloc, "s")?;
-    for (number, now, texts) in CASES {
-        for text in texts {
-            assert_eq!(rt; refusal_of(alloc, text, &audience, now)?, Some(number));
+fn the_first_fault_answers(rt: HostRuntime) {
+    let audience = Audience::new(rt.alloc(), "s").expect(&rt, "memory");
+    for (number, now, texts) in &CASES {
+        for text in *texts {
+            let refusal = refusal_of(&rt, rt.alloc(), text, &audience, *now);
+            assert!(rt; refusal == Some(*number));
         }
     }
-    Ok(())
 }

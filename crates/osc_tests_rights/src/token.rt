@@ -4,11 +4,14 @@ use osc_cose::{seal0, write0};
 use osc_model::{Bytes, ContextName, Note, Side};
 use osc_token::{Audience, Claims, InputMaterial, MintError, mint, open_token};
 use std::alloc::{AllocError, Global};
-use std::test::Fail;
+use std::process::Abort;
 
 const KEY: [u8; 16] = *b"@ABCDEFGHIJKLMNO";
 
 const IV: [u8; 13] = *b"\0\0\0\0\0\0\0\0\0\0\0\0\x01";
+
+/// The secret of the claims.
+const SECRET: [u8; 16] = *b"\0\0\0\0\0\0\0\0\0\0\0\0\0\0\0\x01";
 
 /// The text of `claims`: {3: "s", 8: {4: {0: h'01', 2: h'00..01'}}, 9: h'8182642f6c6f6703'}.
 const TEXT: &[u8] =
@@ -24,45 +27,40 @@ const WHOLE_TEXT: &[u8] =
 
 /// The claims of the text, with these optional parts.
 fn claims(
+    rt: &impl Abort,
     alloc: Global,
     not_before: Option<u64>,
     expires: Option<u64>,
     salt: &[u8],
     id_context: Option<Bytes>,
-) -> Result<Claims, AllocError> {
-    Ok(Claims {
-        audience: Audience::new(alloc, "s")?,
+) -> Claims {
+    Claims {
+        audience: Audience::new(alloc, "s").expect(rt, "memory"),
         not_before,
         expires,
         material: InputMaterial {
-            id: Bytes::from_slice(alloc, b"\x01")?,
-            secret: Bytes::from_slice(alloc, b"\0\0\0\0\0\0\0\0\0\0\0\0\0\0\0\x01")?,
-            salt: Bytes::from_slice(alloc, salt)?,
+            id: Bytes::from_slice(alloc, b"\x01").expect(rt, "memory"),
+            secret: Bytes::from_slice(alloc, &SECRET).expect(rt, "memory"),
+            salt: Bytes::from_slice(alloc, salt).expect(rt, "memory"),
             id_context,
         },
-        scope: Bytes::from_slice(alloc, b"\x81\x82\x64/log\x03")?,
-    })
+        scope: Bytes::from_slice(alloc, b"\x81\x82\x64/log\x03").expect(rt, "memory"),
+    }
 }
 
 /// The token of these claims.
-fn minted(
-    alloc: Global,
-    not_before: Option<u64>,
-    expires: Option<u64>,
-    salt: &[u8],
-    id_context: Option<Bytes>,
-) -> Result<Vec<u8>, MintError> {
-    let claims = claims(alloc, not_before, expires, salt, id_context)?;
+fn minted(alloc: Global, claims: Claims) -> Result<Vec<u8>, MintError> {
     let mut token = Vec::new(alloc);
-    mint::<Ccm<8>>(alloc, &claims, &KEY, &IV, &mut token)?;
-    Ok(token)
+    let minted = mint::<Ccm<8>>(alloc, &claims, &KEY, &IV, &mut token);
+    drop(claims);
+    minted.map(|()| token)
 }
 
 /// The note of the opening of the text.
-fn note(alloc: Global) -> Result<Note, AllocError> {
-    Ok(Note {
+fn note(rt: &impl Abort, alloc: Global) -> Note {
+    Note {
         context: ContextName {
-            secret: Bytes::from_slice(alloc, &KEY)?,
+            secret: Bytes::from_slice(alloc, &KEY).expect(rt, "memory"),
             salt: Bytes::new(alloc),
             id_context: None,
             client_id: Bytes::new(alloc),
@@ -71,22 +69,25 @@ fn note(alloc: Global) -> Result<Note, AllocError> {
         side: Side::Server,
         number: 0,
         nonce: IV,
-        aad: Bytes::from_slice(alloc, b"\x83\x68Encrypt0\x43\xa1\x01\x0a\x40")?,
-        plaintext: Bytes::from_slice(alloc, TEXT)?,
-    })
-}
-
-/// The text that the bytes open to, where they are genuine.
-fn opened(alloc: Global, bytes: &[u8], key: &[u8; 16]) -> Result<Option<Bytes>, AllocError> {
-    match open_token::<Ccm<8>>(alloc, bytes, key)? {
-        Some(note) => Ok(Some(note.plaintext)),
-        None => Ok(None),
+        aad: Bytes::from_slice(alloc, b"\x83\x68Encrypt0\x43\xa1\x01\x0a\x40").expect(rt, "memory"),
+        plaintext: Bytes::from_slice(alloc, TEXT).expect(rt, "memory"),
     }
 }
 
+/// The text of a note.
+fn text_of(note: Note) -> Bytes {
+    note.plaintext
+}
+
+/// The text that the bytes open to, where they are genuine.
+fn opened(rt: &impl Abort, alloc: Global, bytes: &[u8], key: &[u8; 16]) -> Option<Bytes> {
+    let note = open_token::<Ccm<8>>(alloc, bytes, key).expect(rt, "memory")?;
+    Some(text_of(note))
+}
+
 /// Whether the bytes open to a text.
-fn opens(alloc: Global, bytes: &[u8], key: &[u8; 16]) -> Result<bool, AllocError> {
-    Ok(opened(alloc, bytes, key)?.is_some())
+fn opens(rt: &impl Abort, alloc: Global, bytes: &[u8], key: &[u8; 16]) -> bool {
+    opened(rt, alloc, bytes, key).is_some()
 }
 
 /// A token of the text: what stands before its array, its unprotected header, and what is left over.
@@ -165,27 +166,35 @@ const OTHER_FORMS: [Form; 5] = [
 ];
 
 /// Whether the form opens to the note.
-fn is_opened(alloc: Global, form: &Form) -> Result<bool, AllocError> {
-    let bytes = form.bytes(alloc)?;
-    let noted = open_token::<Ccm<8>>(alloc, &bytes, &KEY)?;
-    Ok(noted == Some(note(alloc)?))
+fn is_opened(rt: &impl Abort, alloc: Global, form: &Form) -> bool {
+    let bytes = form.bytes(alloc).expect(rt, "memory");
+    let opened = open_token::<Ccm<8>>(alloc, &bytes, &KEY).expect(rt, "memory");
+    let opened = opened.expect(rt, "a genuine token");
+    let wanted = note(rt, alloc);
+    let same = opened == wanted;
+    drop(wanted);
+    drop(opened);
+    same
 }
 
 #[test]
-fn opens_each_form(rt: HostRuntime) -> Result<(), Fail> {
+fn opens_each_form(rt: HostRuntime) {
     for form in &FORMS {
-        assert!(rt; is_opened(rt.alloc(), form)?);
+        assert!(rt; is_opened(&rt, rt.alloc(), form));
     }
-    Ok(())
+}
+
+/// Whether the form opens to a text.
+fn form_opens(rt: &impl Abort, alloc: Global, form: &Form) -> bool {
+    let bytes = form.bytes(alloc).expect(rt, "memory");
+    opens(rt, alloc, &bytes, &KEY)
 }
 
 #[test]
-fn refuses_other_forms(rt: HostRuntime) -> Result<(), Fail> {
+fn refuses_other_forms(rt: HostRuntime) {
     for form in &OTHER_FORMS {
-        let bytes = form.bytes(rt.alloc())?;
-        assert!(rt; !opens(rt.alloc(), &bytes, &KEY)?);
+        assert!(rt; !form_opens(&rt, rt.alloc(), form));
     }
-    Ok(())
 }
 
 /// Nothing, arrays one level too deep, and bytes of one value.
@@ -196,22 +205,20 @@ const NO_TOKENS: [&[u8]; 3] = [
 ];
 
 #[test]
-fn refuses_other_bytes(rt: HostRuntime) -> Result<(), Fail> {
+fn refuses_other_bytes(rt: HostRuntime) {
     for bytes in NO_TOKENS {
-        assert!(rt; !opens(rt.alloc(), bytes, &KEY)?);
+        assert!(rt; !opens(&rt, rt.alloc(), bytes, &KEY));
     }
-    Ok(())
 }
 
 #[test]
-fn refuses_other_sealings(rt: HostRuntime) -> Result<(), Fail> {
-    let mut bytes = FORMS[0].bytes(rt.alloc())?;
-    assert!(rt; !opens(rt.alloc(), &bytes, b"@ABCDEFGHIJKLMNP")?);
+fn refuses_other_sealings(rt: HostRuntime) {
+    let mut bytes = FORMS[0].bytes(rt.alloc()).expect(&rt, "memory");
+    assert!(rt; !opens(&rt, rt.alloc(), &bytes, b"@ABCDEFGHIJKLMNP"));
     if let Some(byte) = bytes.last_mut() {
         *byte ^= 1;
     }
-    assert!(rt; !opens(rt.alloc(), &bytes, &KEY)?);
-    Ok(())
+    assert!(rt; !opens(&rt, rt.alloc(), &bytes, &KEY));
 }
 
 /// Protected headers, and whether a token that was sealed with one opens: another parameter, another algorithm, none.
@@ -221,28 +228,35 @@ const HEADERS: [(&[u8], bool); 3] = [
     (b"", false),
 ];
 
+/// A token of the text that was sealed with this protected header.
+fn sealed_with(rt: &impl Abort, alloc: Global, protected: &[u8]) -> Vec<u8> {
+    let object = seal0::<Ccm<8>>(alloc, &KEY, &IV, protected, b"", TEXT).expect(rt, "an object");
+    let mut bytes = Vec::new(alloc);
+    write0(alloc, object, &mut bytes).expect(rt, "memory");
+    bytes
+}
+
 #[test]
-fn asks_for_the_algorithm(rt: HostRuntime) -> Result<(), Fail> {
+fn asks_for_the_algorithm(rt: HostRuntime) {
     for (protected, genuine) in HEADERS {
-        let object = seal0::<Ccm<8>>(rt.alloc(), &KEY, &IV, protected, b"", TEXT)?;
-        let mut bytes = Vec::new(rt.alloc());
-        write0(rt.alloc(), object, &mut bytes)?;
-        assert_eq!(rt; opens(rt.alloc(), &bytes, &KEY)?, genuine);
+        let bytes = sealed_with(&rt, rt.alloc(), protected);
+        assert!(rt; opens(&rt, rt.alloc(), &bytes, &KEY) == genuine);
     }
-    Ok(())
 }
 
 #[test]
-fn mints(rt: HostRuntime) -> Result<(), Fail> {
-    let token = minted(rt.alloc(), None, None, b"", None)?;
-    assert_eq!(rt; token.as_slice(), FORMS[0].bytes(rt.alloc())?.as_slice());
-    Ok(())
+fn mints(rt: HostRuntime) {
+    let claims = claims(&rt, rt.alloc(), None, None, b"", None);
+    let token = minted(rt.alloc(), claims).expect(&rt, "a token");
+    let form = FORMS[0].bytes(rt.alloc()).expect(&rt, "memory");
+    assert!(rt; token.as_slice() == form.as_slice());
 }
 
-/// A token with each part.
-fn minted_whole(alloc: Global) -> Result<Vec<u8>, MintError> {
-    let id_context = Bytes::from_slice(alloc, b"\x0c")?;
-    minted(
+/// Claims with each part.
+fn whole_claims(rt: &impl Abort, alloc: Global) -> Claims {
+    let id_context = Bytes::from_slice(alloc, b"\x0c").expect(rt, "memory");
+    claims(
+        rt,
         alloc,
         Some(1700000000),
         Some(1704067200),
@@ -252,17 +266,17 @@ fn minted_whole(alloc: Global) -> Result<Vec<u8>, MintError> {
 }
 
 #[test]
-fn mints_each_part(rt: HostRuntime) -> Result<(), Fail> {
-    let token = minted_whole(rt.alloc())?;
-    let text = opened(rt.alloc(), &token, &KEY)?.ok_or("not opened")?;
-    assert_eq!(rt; text.as_slice(), WHOLE_TEXT);
-    Ok(())
+fn mints_each_part(rt: HostRuntime) {
+    let claims = whole_claims(&rt, rt.alloc());
+    let token = minted(rt.alloc(), claims).expect(&rt, "a token");
+    let text = opened(&rt, rt.alloc(), &token, &KEY).expect(&rt, "a genuine token");
+    assert!(rt; text.as_slice() == WHOLE_TEXT);
 }
 
 #[test]
-fn refuses_long_claims(rt: HostRuntime) -> Result<(), Fail> {
-    let salt = vec![in rt.alloc(); 0; 65536]?;
-    let refused = minted(rt.alloc(), None, None, &salt, None).err();
-    assert_eq!(rt; refused, Some(MintError::TooLong));
-    Ok(())
+fn refuses_long_claims(rt: HostRuntime) {
+    let salt = vec![in rt.alloc(); 0; 65536].expect(&rt, "memory");
+    let claims = claims(&rt, rt.alloc(), None, None, &salt, None);
+    let refused = minted(rt.alloc(), claims).err();
+    assert!(rt; refused == Some(MintError::TooLong));
 }
