@@ -3,6 +3,7 @@ use osc_ccm::Ccm;
 use osc_cose::*;
 use osc_model::Bytes;
 use std::alloc::Global;
+use std::process::Abort;
 
 /// An object's bytes, and its parts.
 struct Case {
@@ -82,17 +83,22 @@ fn has_parts(object: &Encrypt0, case: &Case) -> bool {
 
 /// The number of the refusal of bytes that are no object.
 fn refusal(alloc: Global, bytes: &[u8]) -> Option<u8> {
-    match parse0(alloc, bytes) {
-        Ok(_) => None,
-        Err(error) => Some(error.number()),
-    }
+    let error = parse0(alloc, bytes).err()?;
+    Some(error.number())
+}
+
+/// Whether the case's bytes are an object with its parts.
+fn is_parsed(rt: &impl Abort, alloc: Global, case: &Case) -> bool {
+    let object = parse0(alloc, case.bytes).expect(rt, "an object");
+    let same = has_parts(&object, case);
+    drop(object);
+    same
 }
 
 #[test]
 fn parses(rt: HostRuntime) {
     for case in &OBJECTS {
-        let object = parse0(rt.alloc(), case.bytes).expect(&rt, "an object");
-        assert!(rt; has_parts(&object, case));
+        assert!(rt; is_parsed(&rt, rt.alloc(), case));
     }
     for bytes in NO_OBJECTS {
         assert!(rt; refusal(rt.alloc(), bytes) == Some(10), "at {bytes:?}");
@@ -158,20 +164,26 @@ const HEADERS: [(&[u8], u8, u8); 7] = [
     (b"\xa1", 11, 11),
 ];
 
+/// An object of the text, with this protected header.
+fn sealed(rt: &impl Abort, alloc: Global, protected: &[u8]) -> Encrypt0 {
+    seal0::<Ccm<8>>(alloc, &KEY, &NONCE, protected, EXTERNAL_AAD, TEXT).expect(rt, "an object")
+}
+
 #[test]
 fn seals(rt: HostRuntime) {
-    let object = seal0::<Ccm<8>>(rt.alloc(), &KEY, &NONCE, b"", EXTERNAL_AAD, TEXT);
-    assert!(rt; object.expect(&rt, "an object").ciphertext.as_slice() == SEALED);
+    let object = sealed(&rt, rt.alloc(), b"");
+    assert!(rt; object.ciphertext.as_slice() == SEALED);
+    drop(object);
 }
 
 #[test]
 fn seals_and_opens(rt: HostRuntime) {
     for (protected, right, other) in HEADERS {
-        let object = seal0::<Ccm<8>>(rt.alloc(), &KEY, &NONCE, protected, EXTERNAL_AAD, TEXT);
-        let object = object.expect(&rt, "an object");
+        let object = sealed(&rt, rt.alloc(), protected);
         assert!(rt; is_under(&object, protected));
         assert!(rt; opened(rt.alloc(), &object, EXTERNAL_AAD) == right);
         assert!(rt; opened(rt.alloc(), &object, b"\x85") == other);
+        drop(object);
     }
 }
 
@@ -188,5 +200,6 @@ fn the_example_opens(rt: HostRuntime) {
     let object = parse0(rt.alloc(), EXAMPLE).expect(&rt, "an object");
     assert!(rt; slice_of(&object.iv) == Some(EXAMPLE_IV.as_slice()));
     let text = open0::<Ccm<8>>(rt.alloc(), &object, &EXAMPLE_KEY, &EXAMPLE_IV, b"");
+    drop(object);
     assert!(rt; text.expect(&rt, "genuine").as_slice() == b"This is the content.".as_slice());
 }

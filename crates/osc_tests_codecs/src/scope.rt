@@ -2,15 +2,27 @@
 use osc_model::{Code, Method, Path};
 use osc_scope::Verdict::{Granted, NoMethod, NoPath};
 use osc_scope::{Scope, Verdict, text_to_cbor};
-use std::alloc::{AllocError, Global};
+use std::alloc::Global;
+use std::process::Abort;
+
+/// Lets the scope grant a method on `/a/b`.
+fn allow(rt: &impl Abort, alloc: Global, scope: &mut Scope, method: Method) {
+    let path = Path::from_text(alloc, b"/a/b").expect(rt, "memory");
+    let path = path.expect(rt, "a path");
+    scope.allow(alloc, path, method).expect(rt, "memory");
+}
+
+/// What a scope says of a method on a path.
+fn verdict(rt: &impl Abort, alloc: Global, scope: &Scope, text: &[u8], code: u8) -> Verdict {
+    let path = Path::from_text(alloc, text).expect(rt, "memory");
+    scope.verdict(path.as_ref(), Code(code))
+}
 
 #[test]
 fn a_scope_grants_what_it_was_given(rt: HostRuntime) {
     let mut scope = Scope::new(rt.alloc());
     for method in [Method::Get, Method::Put, Method::Get] {
-        let path = Path::from_text(rt.alloc(), b"/a/b").expect(&rt, "memory");
-        let path = path.expect(&rt, "a path");
-        scope.allow(rt.alloc(), path, method).expect(&rt, "memory");
+        allow(&rt, rt.alloc(), &mut scope, method);
     }
     let rows: [(&[u8], u8, Verdict); 8] = [
         (b"/a/b", 1, Granted),
@@ -22,19 +34,11 @@ fn a_scope_grants_what_it_was_given(rt: HostRuntime) {
         (b"/a/b/c", 1, NoPath),
         (b"a/b", 1, NoPath),
     ];
-    for (text, code, verdict) in rows {
-        let path = Path::from_text(rt.alloc(), text).expect(&rt, "memory");
-        assert!(rt;
-            scope.verdict(path.as_ref(), Code(code)) == verdict,
-            "{code} at {text:?}"
-        );
+    for (text, code, meant) in rows {
+        let said = verdict(&rt, rt.alloc(), &scope, text, code);
+        assert!(rt; said == meant, "{code} at {text:?}");
     }
-}
-
-/// What a scope says of GET, POST, PUT and DELETE on a path.
-fn verdicts(alloc: Global, scope: &Scope, text: &[u8]) -> Result<[Verdict; 4], AllocError> {
-    let path = Path::from_text(alloc, text)?;
-    Ok([1, 2, 3, 4].map(|code| scope.verdict(path.as_ref(), Code(code))))
+    drop(scope);
 }
 
 /// Three entries, two of them of one path.
@@ -63,21 +67,31 @@ const NO_TEXTS: [&[u8]; 12] = [
     b"/:GET",
 ];
 
+/// Whether these bytes are written for the text.
+fn is_written(rt: &impl Abort, alloc: Global, text: &[u8], bytes: &[u8]) -> bool {
+    let mut out = Vec::new(alloc);
+    text_to_cbor(alloc, text, &mut out).expect(rt, "a scope");
+    out.as_slice() == bytes
+}
+
+/// The number of the refusal of a text, for which nothing is written after what was there.
+fn refused_text(rt: &impl Abort, alloc: Global, text: &[u8]) -> Option<u8> {
+    let mut out = Vec::from_slice(alloc, b"before").expect(rt, "memory");
+    let refusal = text_to_cbor(alloc, text, &mut out).err();
+    assert!(rt; out.as_slice() == b"before".as_slice(), "at {text:?}");
+    Some(refusal?.number())
+}
+
 #[test]
 fn texts_are_written(rt: HostRuntime) {
     for (text, bytes) in WRITTEN {
-        let mut out = Vec::new(rt.alloc());
-        text_to_cbor(rt.alloc(), text, &mut out).expect(&rt, "a scope");
-        assert!(rt; out.as_slice() == bytes);
+        assert!(rt; is_written(&rt, rt.alloc(), text, bytes));
     }
-    let mut out = Vec::from_slice(rt.alloc(), b"before").expect(&rt, "memory");
     for text in NO_TEXTS {
-        let refusal = text_to_cbor(rt.alloc(), text, &mut out).err();
         assert!(rt;
-            refusal.map(|error| error.number()) == Some(24),
+            refused_text(&rt, rt.alloc(), text) == Some(24),
             "at {text:?}"
         );
-        assert!(rt; out.as_slice() == b"before".as_slice(), "at {text:?}");
     }
 }
 
@@ -112,16 +126,39 @@ const NO_SCOPES: [&[u8]; 12] = [
     b"",
 ];
 
+/// Whether these bytes are a scope that says this of GET, POST, PUT and DELETE on a path.
+fn grants(
+    rt: &impl Abort,
+    alloc: Global,
+    bytes: &[u8],
+    path: &[u8],
+    verdicts: [Verdict; 4],
+) -> bool {
+    let scope = Scope::from_cbor(alloc, bytes).expect(rt, "a scope");
+    let said = [
+        verdict(rt, alloc, &scope, path, 1),
+        verdict(rt, alloc, &scope, path, 2),
+        verdict(rt, alloc, &scope, path, 3),
+        verdict(rt, alloc, &scope, path, 4),
+    ];
+    drop(scope);
+    said == verdicts
+}
+
+/// The number of the refusal of bytes that are no scope.
+fn refused_bytes(alloc: Global, bytes: &[u8]) -> Option<u8> {
+    let refusal = Scope::from_cbor(alloc, bytes).err()?;
+    Some(refusal.number())
+}
+
 #[test]
 fn bytes_are_read(rt: HostRuntime) {
     for (bytes, path, granted) in READ {
-        let scope = Scope::from_cbor(rt.alloc(), bytes).expect(&rt, "a scope");
-        assert!(rt; verdicts(rt.alloc(), &scope, path).ok() == Some(granted));
+        assert!(rt; grants(&rt, rt.alloc(), bytes, path, granted));
     }
     for bytes in NO_SCOPES {
-        let refusal = Scope::from_cbor(rt.alloc(), bytes).err();
         assert!(rt;
-            refusal.map(|error| error.number()) == Some(24),
+            refused_bytes(rt.alloc(), bytes) == Some(24),
             "at {bytes:?}"
         );
     }
