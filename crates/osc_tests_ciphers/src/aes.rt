@@ -40,7 +40,7 @@ fn published_examples(rt: HostRuntime) {
     for (key, block, want) in EXAMPLES {
         let cipher = Aes128::new(&key.to_be_bytes());
         let got = cipher.encrypt(block.to_be_bytes());
-        assert_eq!(rt; u128::from_be_bytes(got), want, "block {block}");
+        assert!(rt; u128::from_be_bytes(got) == want, "block {block}");
     }
     laws::a_block_is_sixteen_bytes();
     laws::one_inverse();
