@@ -92,26 +92,26 @@ const RESPONSES: [Example; 2] = [
 ];
 
 /// An id context, of which no bytes are none.
-fn id_context_of(alloc: Global, bytes: &[u8]) -> Result<Option<Bytes>, AllocError>
-    ensures { IfOk result (λ id_context. IfSome id_context (λ bytes. length bytes ≤ 64)) }
+fn id_context_of(rt: &impl Abort, alloc: Global, bytes: &[u8]) -> Option<Bytes>
+    ensures { IfSome result (λ bytes. length bytes ≤ 64) }
 {
     if bytes.is_empty() || bytes.len() > 64 {
-        return Ok(None);
+        return None;
     }
-    Ok(Some(Bytes::from_slice(alloc, bytes)?))
+    Some(Bytes::from_slice(alloc, bytes).expect(rt, "memory"))
 }
 
 /// The name of a context.
-fn name_of(alloc: Global, context: &Context) -> Result<ContextName, AllocError>
-    ensures { IfOk result (λ name. HasShortContext name) }
+fn name_of(rt: &impl Abort, alloc: Global, context: &Context) -> ContextName
+    ensures { HasShortContext result }
 {
-    Ok(ContextName {
-        secret: Bytes::from_slice(alloc, &SECRET)?,
-        salt: Bytes::from_slice(alloc, context.salt)?,
-        id_context: id_context_of(alloc, context.id_context)?,
-        client_id: Bytes::from_slice(alloc, context.client_id)?,
-        server_id: Bytes::from_slice(alloc, b"\x01")?,
-    })
+    ContextName {
+        secret: Bytes::from_slice(alloc, &SECRET).expect(rt, "memory"),
+        salt: Bytes::from_slice(alloc, context.salt).expect(rt, "memory"),
+        id_context: id_context_of(rt, alloc, context.id_context),
+        client_id: Bytes::from_slice(alloc, context.client_id).expect(rt, "memory"),
+        server_id: Bytes::from_slice(alloc, b"\x01").expect(rt, "memory"),
+    }
 }
 
 /// The number that this side takes next, once it has skipped to this one.
@@ -127,7 +127,9 @@ fn number_of(
     let (mut sender, recipient) = derive(alloc, name, side).expect(rt, "a context");
     drop(recipient);
     sender.skip_to(number);
-    sender.take_number().expect(rt, "a number")
+    let number = sender.take_number().expect(rt, "a number");
+    drop(sender);
+    number
 }
 
 /// The client protects a request of this number.
@@ -233,7 +235,7 @@ fn is_protected(rt: &impl Abort, alloc: Global, name: &ContextName, example: &Ex
 
 /// Whether an example is protected as published, and opened again.
 fn is_as_published(rt: &impl Abort, alloc: Global, example: &Example) -> bool {
-    let name = name_of(alloc, &CONTEXTS[example.context.min(2)]).expect(rt, "memory");
+    let name = name_of(rt, alloc, &CONTEXTS[example.context.min(2)]);
     let as_published = is_protected(rt, alloc, &name, example);
     drop(name);
     as_published
@@ -263,7 +265,7 @@ fn is_sealed_as_published(rt: &impl Abort, alloc: Global, name: &ContextName) ->
 
 #[test]
 fn the_nonce_and_the_associated_data(rt: HostRuntime) {
-    let name = name_of(rt.alloc(), &CONTEXTS[0]).expect(&rt, "memory");
+    let name = name_of(&rt, rt.alloc(), &CONTEXTS[0]);
     assert!(rt; is_sealed_as_published(&rt, rt.alloc(), &name));
     drop(name);
 }
@@ -296,7 +298,7 @@ fn is_made(made: &Option<UncountedRequest>, bytes: Option<&[u8]>) -> bool {
 
 /// Whether the holder makes this of a text.
 fn makes(rt: &impl Abort, alloc: Global, text: &[u8], bytes: Option<&[u8]>) -> bool {
-    let name = name_of(alloc, &CONTEXTS[0]).expect(rt, "memory");
+    let name = name_of(rt, alloc, &CONTEXTS[0]);
     let made = uncounted_at(rt, alloc, &name, REQUESTS[0].message, text);
     drop(name);
     let as_said = is_made(&made, bytes);
@@ -345,7 +347,7 @@ fn reply_under(
 
 /// The server opens a request of the first context, and replies.
 fn replied(rt: &impl Abort, alloc: Global, request: &[u8], reply: &[u8]) -> ProtectedResponse {
-    let name = name_of(alloc, &CONTEXTS[0]).expect(rt, "memory");
+    let name = name_of(rt, alloc, &CONTEXTS[0]);
     let reply = MessageRef::parse(reply).expect(rt, "a message");
     let request = MessageRef::parse(request).expect(rt, "a message");
     let sealed = read_request(&request).expect(rt, "a request");
@@ -398,7 +400,7 @@ fn is_numbered(rt: &impl Abort, alloc: Global, name: &ContextName) -> bool
 
 #[test]
 fn sealed_responses_with_a_number(rt: HostRuntime) {
-    let name = name_of(rt.alloc(), &CONTEXTS[0]).expect(&rt, "memory");
+    let name = name_of(&rt, rt.alloc(), &CONTEXTS[0]);
     assert!(rt; name.client_id.len() <= ID_LIMIT);
     assert!(rt; is_numbered(&rt, rt.alloc(), &name));
     drop(name);
@@ -447,7 +449,7 @@ fn opens(
 
 /// What the client opens of the published response: as that to its request of number 20, and as that to another.
 fn opened_as(rt: &impl Abort, alloc: Global, example: &Example) -> (Option<bool>, Option<bool>) {
-    let name = name_of(alloc, &CONTEXTS[0]).expect(rt, "memory");
+    let name = name_of(rt, alloc, &CONTEXTS[0]);
     let published = opens(rt, alloc, &name, 20, example.protected);
     let other = opens(rt, alloc, &name, 19, example.protected);
     drop(name);
@@ -527,7 +529,7 @@ fn is_for(rt: &impl Abort, alloc: Global, name: &ContextName, options: &[u8]) ->
 
 /// The same of the context at this place.
 fn names(rt: &impl Abort, alloc: Global, context: usize, options: &[u8]) -> bool {
-    let name = name_of(alloc, &CONTEXTS[context.min(2)]).expect(rt, "memory");
+    let name = name_of(rt, alloc, &CONTEXTS[context.min(2)]);
     let named = is_for(rt, alloc, &name, options);
     drop(name);
     named
@@ -542,7 +544,7 @@ fn what_is_named(rt: HostRuntime) {
 
 /// Whether a request of these options and payload is none that the server opens.
 fn is_forged(rt: &impl Abort, alloc: Global, options: &[u8]) -> bool {
-    let name = name_of(alloc, &CONTEXTS[0]).expect(rt, "memory");
+    let name = name_of(rt, alloc, &CONTEXTS[0]);
     let datagram = with_options(alloc, options).expect(rt, "memory");
     let opened = open_at(rt, alloc, &name, &datagram);
     drop(name);
@@ -616,7 +618,7 @@ fn protected_size(
 /// sealed code and inner marker, and the tag.
 #[test]
 fn long_requests(rt: HostRuntime) {
-    let name = name_of(rt.alloc(), &CONTEXTS[0]).expect(&rt, "memory");
+    let name = name_of(&rt, rt.alloc(), &CONTEXTS[0]);
     assert!(rt; protected_size(&rt, rt.alloc(), &name, 1135, 1134) == 1152);
     drop(name);
 }
@@ -633,7 +635,7 @@ fn post_fits(rt: &impl Abort, alloc: Global, name: &ContextName, size: usize) ->
 
 #[test]
 fn what_fits(rt: HostRuntime) {
-    let name = name_of(rt.alloc(), &CONTEXTS[0]).expect(&rt, "memory");
+    let name = name_of(&rt, rt.alloc(), &CONTEXTS[0]);
     assert!(rt; name.client_id.len() <= ID_LIMIT);
     for (size, fitting) in [(0, true), (1134, true), (1135, false), (1147, false)] {
         assert!(rt; post_fits(&rt, rt.alloc(), &name, size) == fitting);
@@ -677,7 +679,7 @@ fn text_room_is_hidden(rt: &impl Abort, alloc: Global) -> bool {
 /// Nothing of a key or a text is printed.
 #[test]
 fn what_is_printed(rt: HostRuntime) {
-    let name = name_of(rt.alloc(), &CONTEXTS[0]).expect(&rt, "memory");
+    let name = name_of(&rt, rt.alloc(), &CONTEXTS[0]);
     assert!(rt; room_is_hidden(&rt, rt.alloc(), &name));
     assert!(rt; request_room_is_hidden(&rt, rt.alloc(), &name));
     assert!(rt; text_room_is_hidden(&rt, rt.alloc()));

@@ -42,7 +42,7 @@ const VALUES: [(&[u8], Option<Said<'static>>); 15] = [
 
 #[test]
 fn values_read(rt: HostRuntime) {
-    for (value, meant) in VALUES {
-        assert!(rt; said(value) == meant, "at {value:?}");
+    for (value, meant) in &VALUES {
+        assert!(rt; said(value) == *meant, "at {value:?}");
     }
 }
