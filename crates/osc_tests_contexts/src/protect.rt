@@ -1,13 +1,13 @@
 //! Protection: the published examples, what is read before it is opened, what is too long, and what is printed.
-ghost use Rattle.std.specs.Prelude.{◌≡◌, ◌≤◌, IfOk, IfSome, length};
-ghost use Rattle.osc_model.specs.declared.context.Side.TheVariants.{Client, Server};
-ghost use Rattle.osc_context.specs.Derivation.{taken_of, sender_of, recipient_of};
-ghost use Rattle.osc_context.specs.Nonce.{longest_id, greatest_number};
+ghost use Rattle.std.specs.Prelude.{◌≡◌, ◌≤◌, IfSome, length};
+ghost use Rattle.osc_model.specs.declared.context.Side.TheVariants.{Server};
+ghost use Rattle.osc_context.specs.Derivation.{taken_of, recipient_of};
+ghost use Rattle.osc_context.specs.Nonce.{longest_id};
 ghost use Rattle.osc_protect.specs.Protection.{HasShortContext, IsFor};
 
 use osc_ccm::Ccm;
 use osc_coap::{DATAGRAM_LIMIT, MessageRef};
-use osc_context::{ID_LIMIT, RecipientContext, SendNumber, SenderContext, derive};
+use osc_context::{ID_LIMIT, RecipientContext, SendNumber, derive};
 use osc_model::{Bytes, ContextName, Note, Side};
 use osc_protect::*;
 use std::alloc::{AllocError, Global};
