@@ -1,3 +1,5 @@
+pub mod Bitmap
+pub mod Bits
 pub mod Lists
 pub mod Places
 pub mod Windows

@@ -63,16 +63,3 @@ to_filter {X} test (x ∷ xs) y has passes = by (test x) refl (first_or_later x 
     by true kept (inr behind) up = later x (filter test xs) y (up behind)
     by false gone (inl same) up = let wrong : true ≡ false = sym passes ∙ ap test (sym same) ∙ gone in absurd (cc)
     by false gone (inr behind) up = up behind
-
--- two tests that agree at each member keep the same
-pub same_filter : {X : Type 0} (p q : X → Bool) (xs : List X) → ((x : X) → Contains xs x → p x ≡ q x) → filter p xs ≡ filter q xs
-same_filter p q [] agree = refl
-same_filter p q (x ∷ xs) agree =
-    let rest : filter p xs ≡ filter q xs = same_filter p q xs (λ y behind. agree y (later x xs y behind)) in
-    let here : p x ≡ q x = agree x (first x xs) in
-    rw (here, rest) refl
-
-pub same_test : (a b : Bool) → (a ≡ true → b ≡ true) → (b ≡ true → a ≡ true) → a ≡ b
-same_test true b there back = sym (there refl)
-same_test false true there back = back refl
-same_test false false there back = refl

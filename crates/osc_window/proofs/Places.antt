@@ -1,9 +1,8 @@
 -- A number in its place in a rising list.
-use Rattle.std.proofs.Common.{◌≡◌, ◌≢◌, ℕ, ◌+◌, ◌-◌, ◌<◌, ◌≤◌, Bool, true, false, cond, List, [], ◌∷◌, length, filter, count_by, nat_lt, suc, refl, ap, ◌∙◌, ◌⊎◌, inl, inr, arith}
-use Rattle.std.specs.List.{All, Contains, insert}
-use Rattle.std.proofs.lemmas.Bool.{ltb-true, ltb-false, le-ltb}
+use Rattle.std.proofs.Common.{◌≡◌, ◌≢◌, ℕ, ◌<◌, ◌≤◌, Bool, true, false, cond, List, [], ◌∷◌, filter, nat_lt, refl, sym, ◌⊎◌, inl, inr, arith}
+use Rattle.std.specs.List.{All, Contains}
+use Rattle.std.proofs.lemmas.Bool.{ltb-true, ltb-false}
 use Rattle.std.proofs.lemmas.List.Elements.{All-head, All-tail, All-weaker, All-filter, All-cons}
-use Rattle.std.proofs.lemmas.List.Sums.{sum_by-cons}
 use Rattle.osc_window.specs.Window.{IsRising, put}
 use Rattle.osc_window.proofs.Lists.{none, first, later, first_or_later, all_from, all_at}
 
@@ -66,72 +65,6 @@ put_rising n (m ∷ ms) rising other = by (nat_lt m n) refl (put_rising n ms ris
         let lt : n < m = grind (arith, le, apart) in
         (above lt, rising)
 
--- before greater numbers its place is the first
-put_first : (n : ℕ) (xs : List ℕ) → All (λ k. n ≤ k) xs → put n xs ≡ n ∷ xs
-put_first n [] above = refl
-put_first n (m ∷ ms) above =
-    let high : nat_lt m n ≡ false = le-ltb m n (All-head (λ k. n ≤ k) m ms above) in rw high refl
-
-from_least : (n m : ℕ) (ms : List ℕ) → n ≤ m → All (λ k. m < k) ms → All (λ k. n ≤ k) (m ∷ ms)
-from_least n m ms le above =
-    All-cons (λ k. n ≤ k) m ms le (All-weaker (λ k. m < k) (λ k. n ≤ k) (λ k high. omega (arith, le, high)) ms above)
-
--- first some go and then the number comes in, or the other way round
-pub put_filter : (test : ℕ → Bool) (n : ℕ) (xs : List ℕ) → IsRising xs → test n ≡ true → put n (filter test xs) ≡ filter test (put n xs)
-put_filter test n [] rising kept = rw kept refl
-put_filter test n (m ∷ ms) rising kept = by (nat_lt m n) refl (put_filter test n ms rising.1 kept)
-  where
-    low_kept : (c : Bool) → nat_lt m n ≡ true → put n (filter test ms) ≡ filter test (put n ms)
-        → put n (cond c (m ∷ filter test ms) (filter test ms)) ≡ cond c (m ∷ filter test (put n ms)) (filter test (put n ms))
-    low_kept true low up = rw (low, up) refl
-    low_kept false low up = up
-
-    by : (b : Bool) → nat_lt m n ≡ b → put n (filter test ms) ≡ filter test (put n ms)
-        → put n (filter test (m ∷ ms)) ≡ filter test (cond b (m ∷ put n ms) (n ∷ m ∷ ms))
-    by true low up = low_kept (test m) low up
-    by false high up =
-        let above : All (λ k. n ≤ k) (m ∷ ms) = from_least n m ms (ltb-false m n high) rising.0 in
-        rw kept (put_first n (filter test (m ∷ ms)) (All-filter test (λ k. n ≤ k) (m ∷ ms) above))
-
-one_more : (k : ℕ) → 1 + k ≡ suc k
-one_more k = omega arith
-
--- the place is behind the lesser numbers
-pub put_insert : (n : ℕ) (xs : List ℕ) → IsRising xs → insert xs (count_by (λ m. nat_lt m n) xs) n ≡ put n xs
-put_insert n [] rising = refl
-put_insert n (m ∷ ms) rising = by (nat_lt m n) refl (put_insert n ms rising.1)
-  where
-    none_less : (ks : List ℕ) → All (λ k. n ≤ k) ks → count_by (λ k. nat_lt k n) ks ≡ 0
-    none_less [] above = refl
-    none_less (k ∷ ks) above =
-        let high : nat_lt k n ≡ false = le-ltb k n (All-head (λ j. n ≤ j) k ks above) in
-        rw high (none_less ks (All-tail (λ j. n ≤ j) k ks above))
-
-    by : (b : Bool) → nat_lt m n ≡ b → insert ms (count_by (λ k. nat_lt k n) ms) n ≡ put n ms
-        → insert (m ∷ ms) (count_by (λ k. nat_lt k n) (m ∷ ms)) n ≡ cond b (m ∷ put n ms) (n ∷ m ∷ ms)
-    by true low up =
-        let count : count_by (λ k. nat_lt k n) (m ∷ ms) ≡ suc (count_by (λ k. nat_lt k n) ms) =
-        sum_by-cons (λ k. cond (nat_lt k n) 1 0) m ms ∙ ap (λ b. cond b 1 0 + count_by (λ k. nat_lt k n) ms) low ∙ one_more (count_by (λ k. nat_lt k n) ms) in
-        rw count (ap (λ ks. m ∷ ks) up)
-    by false high up =
-        let above : All (λ k. n ≤ k) (m ∷ ms) = from_least n m ms (ltb-false m n high) rising.0 in
-        rw (none_less (m ∷ ms) above) refl
-
-pub length_put : (n : ℕ) (xs : List ℕ) → length (put n xs) ≡ length xs + 1
-length_put n [] = refl
-length_put n (m ∷ ms) = by (nat_lt m n) (length_put n ms)
-  where
-    by : (b : Bool) → length (put n ms) ≡ length ms + 1 → length (cond b (m ∷ put n ms) (n ∷ m ∷ ms)) ≡ length (m ∷ ms) + 1
-    by true up = let long : suc (length (put n ms)) ≡ suc (length ms) + 1 = omega (arith, up) in long
-    by false up = let long : suc (suc (length ms)) ≡ suc (length ms) + 1 = omega arith in long
-
--- a rising list is no longer than the range that it lies in
-pub length_rising : (low high : ℕ) (xs : List ℕ) → IsRising xs → All (λ k. low ≤ k) xs → All (λ k. k < high) xs → length xs ≤ high - low
-length_rising low high [] rising above below = omega arith
-length_rising low high (m ∷ ms) rising above below =
-    let up : length ms ≤ high - (m + 1) = length_rising (m + 1) high ms rising.1 (All-weaker (λ k. m < k) (λ k. m + 1 ≤ k) (λ k h. omega (arith, h)) ms rising.0) (All-tail (λ k. k < high) m ms below) in
-    omega (arith, up, All-head (λ k. low ≤ k) m ms above, All-head (λ k. k < high) m ms below)
-
 -- some of them rise too
 pub filter_rising : (test : ℕ → Bool) (xs : List ℕ) → IsRising xs → IsRising (filter test xs)
 filter_rising test [] rising = tt
@@ -140,3 +73,27 @@ filter_rising test (m ∷ ms) rising = by (test m) (filter_rising test ms rising
     by : (b : Bool) → IsRising (filter test ms) → IsRising (cond b (m ∷ filter test ms) (filter test ms))
     by true up = (All-filter test (λ k. m < k) ms rising.0, up)
     by false up = up
+
+-- two that rise and have the same members are one
+pub same_rising : (xs ys : List ℕ) → IsRising xs → IsRising ys → ((k : ℕ) → Contains xs k → Contains ys k) → ((k : ℕ) → Contains ys k → Contains xs k) → xs ≡ ys
+same_rising [] [] rising rising' there back = refl
+same_rising [] (y ∷ ys) rising rising' there back = absurd (none y (back y (first y ys)))
+same_rising (x ∷ xs) [] rising rising' there back = absurd (none x (there x (first x xs)))
+same_rising (x ∷ xs) (y ∷ ys) rising rising' there back =
+    let head : x ≡ y = least (first_or_later y ys x (there x (first x xs))) (first_or_later x xs y (back y (first y ys))) in
+    let tail : xs ≡ ys = same_rising xs ys rising.1 rising'.1
+    (λ k has. beyond ys y k (all_at (λ j. x < j) xs k rising.0 has) head (first_or_later y ys k (there k (later x xs k has))))
+    (λ k has. beyond xs x k (all_at (λ j. y < j) ys k rising'.0 has) (sym head) (first_or_later x xs k (back k (later y ys k has)))) in
+    rw (head, tail) refl
+  where
+    least : (y ≡ x) ⊎ Contains ys x → (x ≡ y) ⊎ Contains xs y → x ≡ y
+    least (inl same) above = sym same
+    least (inr behind) (inl same) = same
+    least (inr behind) (inr behind') =
+        let one : y < x = all_at (λ j. y < j) ys x rising'.0 behind in
+        let other : x < y = all_at (λ j. x < j) xs y rising.0 behind' in
+        absurd (omega (arith, one, other))
+
+    beyond : (zs : List ℕ) (z k : ℕ) {a : ℕ} → a < k → a ≡ z → (z ≡ k) ⊎ Contains zs k → Contains zs k
+    beyond zs z k above same (inl wrong) = absurd (omega (arith, above, same, wrong))
+    beyond zs z k above same (inr has) = has

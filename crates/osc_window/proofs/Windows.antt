@@ -1,11 +1,11 @@
 -- The window, the numbers that make it, and what is fresh.
-use Rattle.std.proofs.Common.{◌≡◌, ◌≢◌, ◌↔◌, ℕ, ◌+◌, ◌-◌, ◌<◌, ◌≤◌, true, not, ◌&&◌, List, [], ◌∷◌, length, filter, count_by, nat_lt, nat_eq, sym, ap, ◌∙◌, ◌⊎◌, inl, inr, arith}
-use Rattle.std.specs.List.{All, Contains, insert}
+use Rattle.std.proofs.Common.{◌≡◌, ◌≢◌, ◌↔◌, ℕ, ◌+◌, ◌<◌, ◌≤◌, true, not, ◌&&◌, List, [], ◌∷◌, nat_lt, nat_eq, sym, ◌⊎◌, inl, inr, arith}
+use Rattle.std.specs.List.{All, Contains}
 use Rattle.std.proofs.lemmas.Bool.{ltb-true, lt-ltb, eqb-false, ne_eqb, and_parts, not-true, not_from_false, and_from, cases_lt}
 use Rattle.std.proofs.lemmas.List.Elements.{All-head, All-tail, All-weaker, All-cons, All-nil}
 use Rattle.osc_window.specs.Window.{width, IsFresh, is_fresh, IsRising, IsWindowOf, IsWindow, put, is_near, with_accepted, AreAccepted, window_of}
-use Rattle.osc_window.proofs.Lists.{none, first, later, first_or_later, all_from, all_at, all_from_test, test_from_all, from_filter, to_filter, same_filter, same_test}
-use Rattle.osc_window.proofs.Places.{put_here, put_there, from_put, all_put, put_rising, put_filter, put_insert, length_put, length_rising, filter_rising}
+use Rattle.osc_window.proofs.Lists.{none, first, later, first_or_later, all_from, all_at, all_from_test, test_from_all, from_filter, to_filter}
+use Rattle.osc_window.proofs.Places.{put_here, put_there, from_put, all_put, put_rising, filter_rising, same_rising}
 
 pub width_some : 0 < width
 unfolding width
@@ -40,50 +40,36 @@ other_than w n fresh = All-weaker (λ m. (m ≢ n) × (m < n + width)) (λ m. m 
 below_end : (w : List ℕ) (n : ℕ) → IsFresh w n → All (λ m. m < n + width) w
 below_end w n fresh = All-weaker (λ m. (m ≢ n) × (m < n + width)) (λ m. m < n + width) (λ m both. both.1) w fresh
 
--- what stays in the window is what the new number leaves there
-pub near_agrees : (w : List ℕ) (n : ℕ) → IsWindow w → IsFresh w n → (m : ℕ) → Contains (put n w) m → nat_lt n (m + width) ≡ is_near (put n w) m
-near_agrees w n window fresh m has =
-    same_test (nat_lt n (m + width)) (is_near (put n w) m)
-    (λ low. near_from (put n w) m (all_put (λ k. k < m + width) n w (ltb-true n (m + width) low) (others (from_put n w m has))))
-    (λ near. lt-ltb n (m + width) (all_at (λ k. k < m + width) (put n w) n (near_all (put n w) m near) (put_here n w)))
+-- the members of the window once the number is accepted
+pub from_accepted : (w : List ℕ) (n m : ℕ) → Contains (with_accepted w n) m → ((n ≡ m) ⊎ Contains w m) × (n < m + width) × All (λ k. k < m + width) w
+from_accepted w n m has =
+    let both = from_filter (is_near (put n w)) (put n w) m has in
+    let near : All (λ k. k < m + width) (put n w) = near_all (put n w) m both.1 in (
+      from_put n w m both.0,
+      all_at (λ k. k < m + width) (put n w) n near (put_here n w),
+      all_from (λ k. k < m + width) w (λ k at. all_at (λ j. j < m + width) (put n w) k near (put_there n w k at)),
+    )
+
+pub to_accepted : (w : List ℕ) (n m : ℕ) → (n ≡ m) ⊎ Contains w m → n < m + width → All (λ k. k < m + width) w → Contains (with_accepted w n) m
+to_accepted w n m has low near =
+    to_filter (is_near (put n w)) (put n w) m (place has) (near_from (put n w) m (all_put (λ k. k < m + width) n w low near))
   where
-    others : (n ≡ m) ⊎ Contains w m → All (λ k. k < m + width) w
-    others (inl same) = rw (← same) (below_end w n fresh)
-    others (inr at) = all_at (λ j. All (λ k. k < j + width) w) w m window.near at
+    place : (n ≡ m) ⊎ Contains w m → Contains (put n w) m
+    place (inl same) = rw (← same) (put_here n w)
+    place (inr at) = put_there n w m at
 
-pub accepted_is : (w : List ℕ) (n : ℕ) → IsWindow w → IsFresh w n → put n (filter (λ m. nat_lt n (m + width)) w) ≡ with_accepted w n
-accepted_is w n window fresh =
-    put_filter (λ m. nat_lt n (m + width)) n w window.rising (lt-ltb n (n + width) (omega (arith, width_some)))
-    ∙ same_filter (λ m. nat_lt n (m + width)) (is_near (put n w)) (put n w) (near_agrees w n window fresh)
+pub accepted_rising : (w : List ℕ) (n : ℕ) → IsRising w → IsFresh w n → IsRising (with_accepted w n)
+accepted_rising w n rising fresh = filter_rising (is_near (put n w)) (put n w) (put_rising n w rising (other_than w n fresh))
 
-pub accepted_window : (w : List ℕ) (n : ℕ) → IsWindow w → IsFresh w n → IsWindow (with_accepted w n)
-accepted_window w n window fresh = record {
-  rising = filter_rising (is_near (put n w)) (put n w) (put_rising n w window.rising (other_than w n fresh));
-  near = all_from (λ m. All (λ k. k < m + width) (with_accepted w n)) (with_accepted w n) (λ m has. all_from (λ k. k < m + width) (with_accepted w n) (λ k at.
-      all_at (λ j. j < m + width) (put n w) k (near_all (put n w) m (from_filter (is_near (put n w)) (put n w) m has).1) (from_filter (is_near (put n w)) (put n w) k at).0));
-}
-
--- a window has room
-pub length_window : (w : List ℕ) → IsWindow w → length w ≤ width
-length_window [] window = omega arith
-length_window (m ∷ ms) window =
-    let above : All (λ k. m ≤ k) (m ∷ ms) = All-cons (λ k. m ≤ k) m ms (omega arith) (All-weaker (λ k. m < k) (λ k. m ≤ k) (λ k h. omega (arith, h)) ms window.rising.0) in
-    let below : All (λ k. k < m + width) (m ∷ ms) = All-head (λ j. All (λ k. k < j + width) (m ∷ ms)) m ms window.near in
-    let short : length (m ∷ ms) ≤ (m + width) - m = length_rising m (m + width) (m ∷ ms) window.rising above below in
-    omega (arith, short)
-
--- the new number at its place among those that stay
-pub placed : (w kept : List ℕ) (n place : ℕ) → IsWindow w → IsFresh w n → kept ≡ filter (λ m. nat_lt n (m + width)) w → place ≡ count_by (λ m. nat_lt m n) kept
-    → insert kept place n ≡ with_accepted w n
-placed w kept n place window fresh stays counted =
-    let rises : IsRising kept = rw stays (filter_rising (λ m. nat_lt n (m + width)) w window.rising) in
-    ap (λ k. insert kept k n) counted ∙ put_insert n kept rises ∙ ap (put n) stays ∙ accepted_is w n window fresh
-
-pub has_room : (w kept : List ℕ) (n : ℕ) → IsWindow w → IsFresh w n → kept ≡ filter (λ m. nat_lt n (m + width)) w → length kept < width
-has_room w kept n window fresh stays =
-    let most : length (with_accepted w n) ≤ width = length_window (with_accepted w n) (accepted_window w n window fresh) in
-    let same : length (put n kept) ≡ length (with_accepted w n) = ap length (ap (put n) stays ∙ accepted_is w n window fresh) in
-    omega (arith, most, same, length_put n kept)
+-- what rises and has its members
+pub accepted_is : (w v : List ℕ) (n : ℕ) → IsWindow w → IsFresh w n → IsRising v
+    → ((m : ℕ) → Contains v m → ((n ≡ m) ⊎ Contains w m) × (n < m + width) × All (λ k. k < m + width) w)
+    → ((m : ℕ) → (n ≡ m) ⊎ Contains w m → n < m + width → Contains v m)
+    → v ≡ with_accepted w n
+accepted_is w v n window fresh rising into out =
+    same_rising v (with_accepted w n) rising (accepted_rising w n window.rising fresh)
+    (λ m has. let parts = into m has in to_accepted w n m parts.0 parts.1 parts.2)
+    (λ m has. let parts = from_accepted w n m has in out m parts.0 parts.1)
 
 -- ---- windows of histories
 
@@ -130,39 +116,33 @@ pub empty_window_of : IsWindowOf [] []
 empty_window_of = record { rising = tt; members = λ m. ((λ has. absurd (none m has)), (λ both. absurd (none m both.0))) }
 
 pub more_window_of : (w accepted : List ℕ) (n : ℕ) → IsWindowOf w accepted → IsFresh accepted n → IsWindowOf (with_accepted w n) (n ∷ accepted)
-more_window_of w accepted n window fresh = record { rising = rises; members = λ m. (into m, out m) }
+more_window_of w accepted n window fresh = record {
+  rising = accepted_rising w n window.rising ((window_fresh w accepted n window).1 fresh);
+  members = λ m. (into m, out m);
+}
   where
-    fresh_here : IsFresh w n
-    fresh_here = (window_fresh w accepted n window).1 fresh
-
-    rises : IsRising (with_accepted w n)
-    rises = filter_rising (is_near (put n w)) (put n w) (put_rising n w window.rising (other_than w n fresh_here))
-
-    among : (m : ℕ) → Contains w m → Contains accepted m × All (λ k. k < m + width) accepted
-    among m has = (window.members m).0 has
-
     stands : (m : ℕ) → (n ≡ m) ⊎ Contains w m → n < m + width → Contains (n ∷ accepted) m × All (λ k. k < m + width) (n ∷ accepted)
     stands m (inl same) low = (
       rw (← same) (first n accepted),
       All-cons (λ k. k < m + width) n accepted low (rw (← same) (below_end accepted n fresh)),
     )
-    stands m (inr has) low = (later n accepted m (among m has).0, All-cons (λ k. k < m + width) n accepted low (among m has).1)
+    stands m (inr has) low =
+        let among = (window.members m).0 has in (later n accepted m among.0, All-cons (λ k. k < m + width) n accepted low among.1)
 
     into : (m : ℕ) → Contains (with_accepted w n) m → Contains (n ∷ accepted) m × All (λ k. k < m + width) (n ∷ accepted)
-    into m has =
-        let both = from_filter (is_near (put n w)) (put n w) m has in
-        stands m (from_put n w m both.0) (all_at (λ k. k < m + width) (put n w) n (near_all (put n w) m both.1) (put_here n w))
+    into m has = let parts = from_accepted w n m has in stands m parts.0 parts.1
 
-    near_here : (m : ℕ) → All (λ k. k < m + width) (n ∷ accepted) → All (λ k. k < m + width) (put n w)
-    near_here m near = all_put (λ k. k < m + width) n w (All-head (λ k. k < m + width) n accepted near)
-        (all_from (λ k. k < m + width) w (λ k has. all_at (λ j. j < m + width) accepted k (All-tail (λ j. j < m + width) n accepted near) (among k has).0))
+    near_here : (m : ℕ) → All (λ k. k < m + width) accepted → All (λ k. k < m + width) w
+    near_here m near = all_from (λ k. k < m + width) w (λ k has. all_at (λ j. j < m + width) accepted k near ((window.members k).0 has).0)
 
-    place : (m : ℕ) → (n ≡ m) ⊎ Contains accepted m → All (λ k. k < m + width) accepted → Contains (put n w) m
-    place m (inl same) near = rw (← same) (put_here n w)
-    place m (inr has) near = put_there n w m ((window.members m).1 (has, near))
+    place : (m : ℕ) → (n ≡ m) ⊎ Contains accepted m → All (λ k. k < m + width) accepted → (n ≡ m) ⊎ Contains w m
+    place m (inl same) near = inl same
+    place m (inr has) near = inr ((window.members m).1 (has, near))
 
     out : (m : ℕ) → Contains (n ∷ accepted) m × All (λ k. k < m + width) (n ∷ accepted) → Contains (with_accepted w n) m
-    out m both = to_filter (is_near (put n w)) (put n w) m (place m (first_or_later n accepted m both.0) (All-tail (λ k. k < m + width) n accepted both.1)) (near_from (put n w) m (near_here m both.1))
+    out m both =
+        let near : All (λ k. k < m + width) accepted = All-tail (λ k. k < m + width) n accepted both.1 in
+        to_accepted w n m (place m (first_or_later n accepted m both.0) near) (All-head (λ k. k < m + width) n accepted both.1) (near_here m near)
 
 pub history_window : (accepted : List ℕ) → AreAccepted accepted → IsWindowOf (window_of accepted) accepted
 history_window [] done = empty_window_of

@@ -1,56 +1,50 @@
-//! The numbers accepted lately, in order, without heap memory.
-ghost use Rattle.std.specs.Prelude.{◌≡◌, ◌≢◌, ◌↔◌, IsTrue, ◌<◌, ◌≤◌, ◌+◌, ℕ, List, [], length, filter, count_by, nat_lt};
-ghost use Rattle.osc_window.specs.Window.{width, IsFresh, IsWindow, with_accepted};
+//! The greatest accepted number and a bit for each number that the window spans.
+ghost use Rattle.std.specs.Prelude.{◌≡◌, ◌↔◌, IsTrue, ◌<◌, ◌*◌, ◌%◌, ◌^◌, ℕ, List, []};
+ghost use Rattle.std.specs.Int.{bit_at};
+ghost use Rattle.osc_window.specs.Window.{width, IsFresh, with_accepted};
 
-use arrayvec::ArrayVec;
 use std::marker::Model;
 
-/// How many numbers the window spans, and so how many it can hold.
-const WIDTH: usize = 32;
+/// How many numbers the window spans, and so how many bits it has.
+const WIDTH: u64 = 32;
 
-/// Whether one number is less than the width above another, or not above it at all.
+/// Whether there is a bit `i`, and it isn't set.
 #[tactic(auto, unfolding(crate::specs::Window::width))]
-fn is_below_end(number: u64, least: u64) -> bool
-    ensures { result ≡ nat_lt number (least + width) }
+fn is_clear(bits: u32, i: u64) -> bool
+    ensures { IsTrue result ↔ ((i < width) × (bit_at bits i ≡ 0)) }
 {
-    number < least || number - least < WIDTH as u64
+    i < WIDTH && bits >> i & 1 == 0
 }
 
-/// Whether a number is fresh beside one that was accepted.
-fn is_fresh_beside(n: u64, accepted: u64) -> bool
-    ensures { IsTrue result ↔ ((accepted ≢ n) × (accepted < n + width)) }
+/// Moves each bit up by some places: those past the last are gone.
+#[tactic(auto, unfolding(crate::specs::Window::width))]
+fn moved_up(bits: u32, places: u64) -> u32
+    ensures { result ≡ bits * 2 ^ places % 2 ^ width }
 {
-    accepted != n && is_below_end(accepted, n)
-}
-
-/// Keeps the numbers that are less than the width below another.
-fn retain_near(numbers: &mut ArrayVec<u64, WIDTH>, n: u64)
-    ensures { numbers.new.items ≡ filter (λ m. nat_lt n (m + width)) numbers.old.items }
-{
-    numbers.retain(|m| is_below_end(n, *m));
-}
-
-/// How many numbers of a list are less than another: its place, where the list rises.
-fn place_of(numbers: &[u64], n: u64) -> usize
-    ensures within { result ≤ length numbers.now }
-    ensures counted { result ≡ count_by (λ m. nat_lt m n) numbers.now }
-{
-    numbers.iter().filter(|m| **m < n).count()
+    if places < WIDTH { bits << places } else { 0 }
 }
 
 /// The replay window of a context (RFC 8613 sections 3.2.2 and 7.4): which numbers were accepted, as far as that still
 /// counts. Contracts see the rising list of the accepted numbers that are less than the width below the greatest.
 #[derive(Drop)]
 pub struct Window {
-    numbers: ArrayVec<u64, WIDTH>,
+    /// The greatest accepted number; 0 before any is accepted.
+    greatest: u64,
+    /// Bit i is set where the number i below the greatest was accepted; none is set before any is accepted.
+    bits: u32,
 }
 
 impl Model for Window {
+    ghost use Rattle.std.specs.Prelude.{◌≡◌, ◌<◌, ℕ, List};
+    ghost use Rattle.std.specs.Int.{bit_at};
+    ghost use Rattle.osc_window.specs.Bitmap.{numbers_of};
+
     ghost Value = { List ℕ };
 
-    ghost view = { λ window. window.numbers.items };
+    ghost view = { λ window. numbers_of window.greatest window.bits };
 
-    ghost invariant = { λ window. IsWindow window.numbers.items };
+    // A greatest number other than 0 was accepted.
+    ghost invariant = { λ window. 0 < window.greatest → bit_at window.bits 0 ≡ 1 };
 }
 
 impl Window {
@@ -59,7 +53,8 @@ impl Window {
         ensures { result ≡ [] }
     {
         Window {
-            numbers: ArrayVec::new(),
+            greatest: 0,
+            bits: 0,
         }
     }
 
@@ -67,7 +62,7 @@ impl Window {
     pub fn is_fresh(&self, n: u64) -> bool
         ensures { IsTrue result ↔ IsFresh self.now n }
     {
-        self.numbers.iter().all(|m| is_fresh_beside(n, *m))
+        n > self.greatest || is_clear(self.bits, self.greatest - n)
     }
 
     /// Accepts a fresh number: it is fresh no more, nor is any that is too far below it.
@@ -75,8 +70,11 @@ impl Window {
         requires { IsFresh self.old n }
         ensures { self.new ≡ with_accepted self.old n }
     {
-        retain_near(&mut self.numbers, n);
-        let index = place_of(self.numbers.as_slice(), n);
-        self.numbers.insert(index, n);
+        if n > self.greatest {
+            self.bits = moved_up(self.bits, n - self.greatest) | 1;
+            self.greatest = n;
+        } else {
+            self.bits |= 1 << (self.greatest - n);
+        }
     }
 }
