@@ -10,7 +10,9 @@ mod error;
 mod hkdf;
 pub mod laws;
 mod mac;
+mod prk;
 
 pub use error::OutputTooLong;
 pub use hkdf::{expand, extract};
 pub use mac::hmac;
+pub use prk::Prk;

@@ -44,11 +44,12 @@ fn padded(block: &[u8; 64], constant: u8) -> [u8; 64]
     padded
 }
 
-/// A code on its way: the text comes part by part.
-#[derive(Drop)]
+/// A code on its way: the text comes part by part. The states of both hashes stand after the key's block, so a clone of a
+/// code with an empty text begins another under the same key, and the key is hashed no more.
+#[derive(Clone, Drop)]
 pub(crate) struct Mac {
-    key: [u8; 64],
     inner: Sha256,
+    outer: Sha256,
 }
 
 impl Mac {
@@ -59,7 +60,16 @@ impl Mac {
         let key = block_key(key);
         let mut inner = Sha256::new();
         inner.update(padded(&key, 0x36).as_slice());
-        Mac { key, inner }
+        let mut outer = Sha256::new();
+        outer.update(padded(&key, 0x5c).as_slice());
+        Mac { inner, outer }
+    }
+
+    /// The same code once more.
+    pub(crate) fn copy(&self) -> Self
+        ensures { result ≡ self.now }
+    {
+        self.clone().unwrap()
     }
 
     /// Adds a part behind the text so far.
@@ -74,9 +84,7 @@ impl Mac {
     pub(crate) fn finalize(self) -> [u8; 32]
         ensures { (key text : List ℕ) → Holds self key text → result ≡ hmac_of key text }
     {
-        let Mac { key, inner } = self;
-        let mut outer = Sha256::new();
-        outer.update(padded(&key, 0x5c).as_slice());
+        let Mac { inner, mut outer } = self;
         outer.update(inner.finalize().as_slice());
         outer.finalize()
     }

@@ -179,3 +179,24 @@ fn the_most_output(rt: HostRuntime) {
     assert!(rt; out[8160] == 7);
     assert!(rt; OutputTooLong.number() == 4);
 }
+
+/// Whether the key is expanded into this output.
+fn gives(key: &Prk, info: &[u8], output: &[u8]) -> bool {
+    let mut out = [0; 82];
+    let length = output.len().min(82);
+    key.expand(info, &mut out[..length]).is_ok() && &out[..length] == output
+}
+
+/// A key that was expanded gives its output again.
+#[test]
+fn a_key_is_expanded_twice(rt: HostRuntime) {
+    for (ikm, salt, info, prk, output) in &OUTPUTS {
+        let key = Prk::extract(salt, ikm);
+        let same = *key.as_bytes() == *prk
+            && gives(&key, info, output)
+            && gives(&key, info, output);
+        assert!(rt; same, "at {info:?}");
+    }
+    let refused = Prk::extract(b"salt", b"key").expand(b"info", &mut [0; 8161]);
+    assert!(rt; refused == Err(OutputTooLong));
+}
