@@ -12,7 +12,7 @@ use crate::nonce::{ID_LIMIT, id_copy};
 use crate::recipient::RecipientContext;
 use crate::sender::SenderContext;
 use osc_cbor::Major;
-use osc_hkdf::{expand, extract};
+use osc_hkdf::Prk;
 use osc_model::{ContextName, Side};
 use std::alloc::{AllocError, Global};
 
@@ -39,18 +39,18 @@ pub(crate) fn info_of(
     Ok(out)
 }
 
-/// The pseudorandom key of this name, from which all is derived.
-fn prk_of(name: &ContextName) -> [u8; 32]
+/// The pseudorandom key of this name, from which all is derived: it is extracted once.
+fn prk_of(name: &ContextName) -> Prk
     ensures { result ≡ extract_of name.now.salt name.now.secret }
 {
-    extract(name.salt.as_slice(), name.secret.as_slice())
+    Prk::extract(name.salt.as_slice(), name.secret.as_slice())
 }
 
 /// The key under which the end with this ID seals, by the pseudorandom key.
 #[tactic(auto, unfolding(crate::specs::Derivation::derived))]
 fn derive_key(
     alloc: Global,
-    prk: &[u8; 32],
+    prk: &Prk,
     name: &ContextName,
     id: &[u8],
 ) -> Result<[u8; 16], AllocError>
@@ -59,23 +59,19 @@ fn derive_key(
 {
     let info = info_of(alloc, name, id, b"Key", 16)?;
     let mut key = [0; 16];
-    expand(prk, &info, &mut key).unwrap();
+    prk.expand(&info, &mut key).unwrap();
     Ok(key)
 }
 
 /// The common IV, by the pseudorandom key: no ID tells it from another.
 #[tactic(auto, unfolding(crate::specs::Derivation::derived))]
-fn derive_common_iv(
-    alloc: Global,
-    prk: &[u8; 32],
-    name: &ContextName,
-) -> Result<[u8; 13], AllocError>
+fn derive_common_iv(alloc: Global, prk: &Prk, name: &ContextName) -> Result<[u8; 13], AllocError>
     requires { prk.now ≡ extract_of name.now.salt name.now.secret }
     ensures { IfOk result (λ common_iv. common_iv ≡ common_iv_of name.now) }
 {
     let info = info_of(alloc, name, b"", b"IV", 13)?;
     let mut common_iv = [0; 13];
-    expand(prk, &info, &mut common_iv).unwrap();
+    prk.expand(&info, &mut common_iv).unwrap();
     Ok(common_iv)
 }
 
