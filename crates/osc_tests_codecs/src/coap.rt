@@ -252,3 +252,17 @@ fn no_plaintexts(rt: HostRuntime) {
         assert!(rt; PlaintextRef::parse(bytes).is_none(), "at {bytes:?}");
     }
 }
+
+/// The token and the first option's value of a datagram, which outlive the message and the options that lent them.
+fn token_and_value_in(datagram: &[u8]) -> Option<(&[u8], &[u8])> {
+    let message = MessageRef::parse(datagram).ok()?;
+    let (_, value) = message.options().next()?;
+    Some((message.token(), value))
+}
+
+#[test]
+fn a_token_and_a_value_outlive_their_message(rt: HostRuntime) {
+    let lent = token_and_value_in(&REQUEST);
+    let wanted = (b"\x00\x00\x39\x74".as_slice(), b"localhost".as_slice());
+    assert!(rt; lent == Some(wanted));
+}
