@@ -1,0 +1,72 @@
+-- Which kind of step each is.
+use Rattle.std.proofs.Common.{◌≡◌, ap, ℕ, Bool, true, false, List, Some, None, Option, Ok, refl, subst}
+use Rattle.osc_model.specs.Step.{sends}
+use Rattle.osc_model.specs.StepNotes.{quiet}
+use Rattle.osc_model.specs.declared.code.Code.{Code}
+use Rattle.osc_model.specs.declared.node.Moment.{Moment}
+use Rattle.osc_model.specs.declared.node.Peer.{Peer}
+use Rattle.osc_model.specs.declared.step.ClientResult.TheVariants as result
+use Rattle.osc_model.specs.declared.step.ClientResult.TheVariants.{Refused}
+use Rattle.osc_model.specs.declared.step.Datagram.{Datagram}
+use Rattle.osc_model.specs.declared.step.Step.{Step}
+use Rattle.osc_coap.specs.declared.kind.Kind.{Kind}
+use Rattle.osc_authz.specs.Begun.{Begun, Made as ClientContext}
+use Rattle.osc_authz.specs.Client.{Finishes}
+use Rattle.osc_run.specs.ClientKinds.{ClientStep, ClientIdle, Ended, IsMade}
+use Rattle.osc_run.specs.States.{ClientState, Nothing, Exchange as OpenExchange}
+use Rattle.osc_client.specs.Bounds.{HasContext}
+use Rattle.osc_client.specs.Case.{is_ended, is_reset}
+use Rattle.osc_client.specs.State.{State, core, outstanding}
+use Rattle.osc_client.specs.Table.{Answers, Settles}
+use Rattle.osc_client.specs.declared.case.Case.{Case}
+use Rattle.osc_client.specs.declared.case.Case.TheVariants.{Ignored, Reset, Repeated, Empty, Refused as RefusedCase, Rejected, Dropped, Counted}
+use Rattle.osc_client.specs.declared.waiting.Waiting.{Waiting}
+use Rattle.osc_client.proofs.Outcomes.{kind_after, something}
+use Rattle.osc_client.proofs.Own.{and_right}
+
+-- what is refused before it begins changes nothing
+pub refusals : (lied : Bool) (state : ClientState) (number : ℕ) → ClientStep lied state (record quiet { result = Some (Refused number) }) state
+refusals lied state number = ClientIdle (record { opened = None; refusal = Some number; noted = refl; is = refl })
+
+-- what only sends is idle
+quietly : (old new : State) (step : Step) (out : List Datagram) → step ≡ sends out → core new ≡ core old → ClientStep false (core old) step.notes (core new)
+quietly old new step out told same = ClientIdle (record { opened = None; refusal = None; noted = ap (λ (s : Step). s.notes) told; is = same })
+
+-- what a Reset ends
+settles : (ends : Bool) (old : State) (now : Moment) (from : Peer) (kind : Kind) (id : ℕ) (step : Step) (new : State)
+    → (ends ≡ true → outstanding old.context old.waiting ≡ Nothing → ⊥) → Settles ends old now from kind id step new → ClientStep false (core old) step.notes (core new)
+settles false old now from kind id step new something settled = quietly old new step _ settled.0 (ap core settled.1)
+settles true old now from kind id step new something settled =
+    Ended refl (record {
+      result = result.Unverified (record { 0 = 0 });
+      ending = tt;
+      noted = ap (λ (s : Step). s.notes) settled.0;
+      before = something refl;
+      is = ap core settled.1;
+    })
+
+-- a step of the table
+pub kind_of : (is_sealing : List ℕ → List ℕ → List ℕ → List ℕ → List ℕ → Type 0) (old : State) (now : Moment) (from : Peer) (case : Case) (step : Step) (new : State)
+    → HasContext old.context old.waiting
+    → ((begun : Begun) (came : Code) (payload : List ℕ) (made : ClientContext) (before : ClientState) → before.outstanding ≡ OpenExchange begun
+    → Finishes before.desk begun came payload (Ok made)
+    → IsMade before (record quiet { result = Some result.Made }) (record before { context = Some made; outstanding = Nothing }))
+    → Answers is_sealing old now from case step new → ClientStep false (core old) step.notes (core new)
+kind_of is_sealing old now from Ignored step new has makes answers = quietly old new step _ answers.0 (ap core answers.1)
+kind_of is_sealing old now from (Reset id) step new has makes answers = quietly old new step _ answers.0 (ap core answers.1)
+kind_of is_sealing old now from (Repeated id) step new has makes answers = quietly old new step _ answers.0 (ap core answers.1)
+kind_of is_sealing old now from (Empty kind id) step new has makes answers =
+    settles (is_ended old.next_hop from kind id old.waiting) old now from kind id step new (open_one old.waiting has) answers
+  where
+    open_one : (waiting : Option Waiting) → HasContext old.context waiting → is_ended old.next_hop from kind id waiting ≡ true → outstanding old.context waiting ≡ Nothing → ⊥
+    open_one None has ends e = let wrong : false ≡ true = and_right (is_reset kind) false ends in cc
+    open_one (Some waiting) has ends e = something old.context waiting.what has.0 e
+kind_of is_sealing old now from (RefusedCase message) step new has makes answers = quietly old new step _ answers.0 (ap core answers.1)
+kind_of is_sealing old now from (Rejected message) step new has makes answers = quietly old new step _ answers.0 (ap core answers.1)
+kind_of is_sealing old now from (Dropped message) step new has makes answers = quietly old new step _ answers.0 (ap core answers.1)
+kind_of is_sealing old now from (Counted message) step new has makes answers =
+    let held : HasContext old.context (Some answers.waiting) = subst (HasContext old.context) answers.waits has in
+    let kind = kind_after is_sealing old.desk message old.context answers.waiting answers.outcome answers.comes held.0 makes in
+    let before : core old ≡ record { desk = old.desk; context = old.context; outstanding = outstanding old.context (Some answers.waiting) } =
+    ap (λ (w : Option Waiting). record { desk = old.desk; context = old.context; outstanding = outstanding old.context w }) answers.waits in
+    rw (before, answers.told, answers.kept) kind

@@ -1,0 +1,35 @@
+-- What a tick leaves of the open messages.
+use Rattle.std.proofs.Common.{◌≡◌, ap, ℕ, true, List, [], ◌∷◌, ◌++◌, Option, Some, None}
+use Rattle.std.specs.List.{AllByRecursion, filter_map}
+use Rattle.osc_model.specs.declared.node.Moment.{Moment}
+use Rattle.osc_model.specs.declared.node.Peer.{Peer}
+use Rattle.osc_message.specs.declared.due.Due.{Due}
+use Rattle.osc_message.specs.declared.due.Due.TheVariants.{Keep, Send, GiveUp}
+use Rattle.osc_message.specs.Confirmables.{Open, is_named}
+use Rattle.osc_message.specs.Ticks.{after, dues, due_of, ticked}
+use Rattle.osc_client.specs.Bounds.{KeepsOwn}
+use Rattle.osc_client.specs.declared.waiting.Waiting.{Waiting}
+
+-- the names of the messages stay
+pub names_stay : (now : Moment) (peer : Peer) (id : ℕ) (base earlier all : List Open) → AllByRecursion (λ m. is_named peer id m ≡ true) all
+    → AllByRecursion (λ m. is_named peer id m ≡ true) (filter_map (after now) (dues now base earlier all))
+names_stay now peer id base earlier [] named = tt
+names_stay now peer id base earlier (m ∷ all) named = by (due_of now base earlier m m.sent) (names_stay now peer id base (earlier ++ m ∷ []) all named.1)
+  where
+    rest : List Open
+    rest = filter_map (after now) (dues now base (earlier ++ m ∷ []) all)
+
+    by : (due : Due) → AllByRecursion (λ x. is_named peer id x ≡ true) rest
+        → AllByRecursion (λ x. is_named peer id x ≡ true) (filter_map (after now) ((m, due) ∷ dues now base (earlier ++ m ∷ []) all))
+    by Keep up = (named.0, up)
+    by Send up = (named.0, up)
+    by GiveUp up = up
+
+pub named_after_tick : (now : Moment) (peer : Peer) (id : ℕ) (all : List Open) → AllByRecursion (λ m. is_named peer id m ≡ true) all
+    → AllByRecursion (λ m. is_named peer id m ≡ true) (ticked now all)
+named_after_tick now peer id all named = names_stay now peer id all [] all named
+
+-- and no message is open but that of what waits
+pub own_after_tick : (now : Moment) (peer : Peer) (waiting : Option Waiting) (sending : List Open) → KeepsOwn peer waiting sending → KeepsOwn peer waiting (ticked now sending)
+own_after_tick now peer None sending own = ap (ticked now) own
+own_after_tick now peer (Some waiting) sending own = named_after_tick now peer waiting.id sending own

@@ -1,0 +1,57 @@
+use Rattle.std.proofs.Common.{rules, ◌≡◌, false, Some, refl, ap, ap₂, sym, ◌∙◌, ◌+◌, [], ◌∷◌, List, subst}
+use Rattle.osc_coap.specs.Message.{Message}
+use Rattle.osc_client.specs.declared.waiting.OpenAsk.{OpenAsk}
+use Rattle.osc_client.specs.declared.waiting.Awaited.TheVariants.{Ask}
+use Rattle.osc_authz.specs.Begun.{Made}
+use Rattle.std.proofs.lemmas.Option.{same_Some}
+use Rattle.osc_client.specs.State.{State, core}
+use Rattle.osc_client.specs.Sending.{IsHindered, hindered, asks, datagram, opened, plain_of}
+use Rattle.osc_model.specs.StepNotes.{StepNotes, quiet}
+use Rattle.osc_model.specs.declared.step.Datagram.{Datagram}
+use Rattle.osc_model.specs.declared.step.Note.{Note}
+use Rattle.osc_protect.specs.Protection.{IsProtectedRequest, plain_bytes}
+use Rattle.osc_run.specs.ClientKinds.{request_note}
+use Rattle.osc_client.proofs.StepKinds.{refusals}
+use Rattle.osc_client.proofs.client.Client.ask.Goals as goal
+
+pub returns-in-Err-clause-asked : goal.returns-in-Err-clause-asked
+returns-in-Err-clause-asked g c =
+    let why : IsHindered g.A.Aead.is_sealing g.A.Aead.TAG c.args.self.now c.args.request.now c.args.draw.now c.in-Err.number = rw c.in-Err.is at c.in_ok-prepared.ensures.hindered in
+    hindered c.in-Err.number why (record { told = c.refused.ensures; kept = refl })
+
+pub returns-in-Err-clause-kind : goal.returns-in-Err-clause-kind
+returns-in-Err-clause-kind g c = rw c.refused.ensures (refusals false (core c.args.self.now) c.in-Err.number)
+
+pub returns-clause-asked : goal.returns-clause-asked
+returns-clause-asked g c =
+    let free = rw c.in-Ok.is at c.in_ok-prepared.ensures.free in
+    let held : c.self.inside.context ≡ Some c.unwrap-context.result.now = search rules in
+    let same : free.0 ≡ c.unwrap-context.result.now = same_Some free.0 c.unwrap-context.result.now (sym free.1.held ∙ ap (λ s. s.context) (sym c.self.view_is) ∙ held) in
+    let plain : c.in-Ok.prepared.0 ≡ plain_of c.args.self.now c.args.draw.now c.args.request.now = free.2 in
+    let asked = plain_of c.args.self.now c.args.draw.now c.args.request.now in
+    let message = c.protected-message.result.message in
+    let at_plain : IsProtectedRequest g.A.Aead.is_sealing c.unwrap-context.result.now.name c.unwrap-context.result.now.next asked message =
+    subst (λ m. IsProtectedRequest g.A.Aead.is_sealing c.unwrap-context.result.now.name c.unwrap-context.result.now.next m message) plain c.protected-message.ensures.protected in
+    let protected : IsProtectedRequest g.A.Aead.is_sealing free.0.name free.0.next asked message =
+    subst (λ (x : Made). IsProtectedRequest g.A.Aead.is_sealing x.name x.next asked message) (sym same) at_plain in
+    let note : c.protected-message.result.note ≡ request_note free.0.name free.0.next (plain_bytes asked) =
+    c.protected-message.ensures.note ∙ ap (λ m. request_note c.unwrap-context.result.now.name c.unwrap-context.result.now.next (plain_bytes m)) plain
+    ∙ ap (λ (x : Made). request_note x.name x.next (plain_bytes asked)) (sym same) in
+    let out : c.open-out.result ≡ datagram c.args.self.now.next_hop message ∷ [] =
+    c.open-out.ensures.sent ∙ ap (λ s. datagram s.next_hop message ∷ []) c.self.view_is in
+    let notes : c.with_seal.result ≡ record quiet { seals = Some (request_note free.0.name free.0.next (plain_bytes asked)) } =
+    c.with_seal.ensures ∙ ap₂ (λ (q : StepNotes) (n : Note). record q { seals = Some n }) c.quiet.ensures note in
+    let told : record { out = c.open-out.result; notes = c.with_seal.result } ≡ record {
+      out = datagram c.args.self.now.next_hop message ∷ [];
+      notes = record quiet { seals = Some (request_note free.0.name free.0.next (plain_bytes asked)) };
+    } = ap₂ (λ (o : List Datagram) (n : StepNotes). record { out = o; notes = n }) out notes in
+    let taken : c.protected-message.new.context ≡ record free.0 { next = free.0.next + 1 } =
+    c.protected-message.ensures.next ∙ ap (λ (x : Made). record x { next = x.next + 1 }) (sym same) in
+    let ask : c.protected-message.result.ask ≡ record { number = free.0.next; plaintext = plain_bytes asked } =
+    c.protected-message.ensures.ask ∙ ap₂ (λ (x : Made) (m : Message). record { number = x.next; plaintext = plain_bytes m }) (sym same) plain in
+    let kept : c.open-out.new.self ≡ opened (record c.args.self.now { context = Some (record free.0 { next = free.0.next + 1 }) }) c.args.now c.args.draw.now message
+    (Ask (record { number = free.0.next; plaintext = plain_bytes asked })) =
+    c.open-out.ensures.opened
+    ∙ ap (λ (s : State). opened (record s { context = Some c.protected-message.new.context }) c.args.now c.args.draw.now message (Ask c.protected-message.result.ask)) c.self.view_is
+    ∙ ap₂ (λ (k : Made) (a : OpenAsk). opened (record c.args.self.now { context = Some k }) c.args.now c.args.draw.now message (Ask a)) taken ask in
+    asks free.0 message free.1 protected told kept

@@ -1,0 +1,21 @@
+use Rattle.std.proofs.Common.{rules, ◌≡◌, ◌∙◌, ap, sym, true, Some}
+use Rattle.osc_client.specs.Bounds.{KeepsOwn}
+use Rattle.osc_client.specs.Case.{counts}
+use Rattle.osc_client.proofs.Own.{counted_gone, has_after, own_none}
+use Rattle.osc_client.proofs.Outcomes.{grant_after}
+use Rattle.osc_client.proofs.client.Client.count.Goals as goal
+
+pub invariant_of-self : goal.invariant_of-self
+invariant_of-self g c =
+    let w = c.unwrap-waiting.result in
+    let waits : c.self.inside.waiting ≡ Some w = search rules in
+    let counted : counts c.self.inside.next_hop c.args.from c.args.message (Some w) ≡ true =
+    ap (counts c.self.inside.next_hop c.args.from c.args.message) (sym waits) ∙ ap (λ s. counts s.next_hop c.args.from c.args.message s.waiting) c.self.view_is ∙ c.requires in
+    let own : KeepsOwn c.self.inside.next_hop (Some w) c.self.inside.endpoint.sending = rw waits at c.self.invariant.0 in
+    let none = counted_gone c.self.inside.next_hop c.args.from c.args.message w c.self.inside.endpoint.sending counted own in
+    let has = has_after c.in-Ok.field-0.outcome c.self.inside.context w (rw waits at c.self.invariant.1) in (
+      own_none c.self.inside.next_hop c.in-Ok.field-0.waiting c.settle.new.self.sending (ap (λ e. e.sending) c.settle.ensures ∙ none),
+      rw (c.learn-notes.ensures.context, c.in-Ok.ensures.waits) has,
+      rw c.learn-notes.ensures.context
+          (grant_after g.A.Aead.is_sealing c.self.inside.desk c.args.message c.self.inside.context w.what c.in-Ok.field-0.outcome c.in-Ok.ensures.comes c.self.invariant.2),
+    )

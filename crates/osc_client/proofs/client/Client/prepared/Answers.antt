@@ -1,0 +1,26 @@
+use Rattle.std.proofs.Common.{rules, ◌≡◌, ◌<◌, ◌≤◌, Some, None, refl, ap, ◌∙◌, false, true, arith}
+use Rattle.std.specs.Option.{IsSome}
+use Rattle.osc_context.specs.Nonce.{greatest_number}
+use Rattle.osc_message.specs.Endpoint.{own_id}
+use Rattle.osc_client.specs.Sending.{Fits, exhausted, too_long}
+use Rattle.osc_client.proofs.client.Client.prepared.Goals as goal
+
+pub returns-then-next_number-gt-NUMBER_LIMIT-clause-hindered : goal.returns-then-next_number-gt-NUMBER_LIMIT-clause-hindered
+returns-then-next_number-gt-NUMBER_LIMIT-clause-hindered g c =
+    let idle : c.args.self.now.waiting ≡ None = search rules in
+    let held : c.args.self.now.context ≡ Some c.in-Some.context = search rules in
+    let late : greatest_number < c.in-Some.context.next = omega (arith, c.if-next_number-gt-NUMBER_LIMIT.true, c.next_number.ensures, ap (λ s. s.next) c.sender.ensures) in
+    exhausted refl c.in-Some.context idle held late
+
+pub returns-in-None-clause-hindered : goal.returns-in-None-clause-hindered
+returns-in-None-clause-hindered g c =
+    let idle : c.args.self.now.waiting ≡ None = search rules in
+    let held : c.args.self.now.context ≡ Some c.in-Some.context = search rules in
+    let early : c.in-Some.context.next ≤ greatest_number = omega (arith, c.if-next_number-gt-NUMBER_LIMIT.false, c.next_number.ensures, ap (λ s. s.next) c.sender.ensures) in
+    let id : c.own_id-id.result ≡ own_id c.args.draw.now c.args.self.now.endpoint.next_id =
+    c.own_id-id.ensures ∙ ap (λ s. own_id c.args.draw.now s.endpoint.next_id) c.self.view_is in
+    let none : Fits g.A.Aead.is_sealing g.A.Aead.TAG c.args.self.now c.args.draw.now c.args.request.now c.in-Some.context → ⊥ = λ fits.
+    let some : IsSome c.fitting.result = c.fitting.ensures.fits.1 (rw (id, c.token.ensures) (fits.plain, fits.sealed)) in
+    let wrong : false ≡ true = rw c.in-None.is at some in
+    absurd (cc) in
+    too_long refl c.in-Some.context idle held early none

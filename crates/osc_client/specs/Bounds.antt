@@ -1,0 +1,58 @@
+-- What a client keeps true of its parts; no public contract rests on it.
+use Rattle.std.specs.Prelude.{◌≡◌, ◌≢◌, ◌≤◌, true, List, [], Option, Some, None, IfSome}
+use Rattle.std.specs.List.{AllByRecursion}
+use Rattle.osc_model.specs.declared.node.Peer.{Peer}
+use Rattle.osc_authz.specs.Begun.{Made as ClientContext}
+use Rattle.osc_authz.specs.declared.granted.ClientDesk.{ClientDesk}
+use Rattle.osc_message.specs.Confirmables.{Open, is_named}
+use Rattle.osc_model.specs.declared.context.ContextName.{ContextName}
+use Rattle.osc_protect.specs.Protection.{longest_message}
+use Rattle.osc_context.specs.Nonce.{greatest_number}
+use Rattle.osc_client.specs.Case.{counts}
+use Rattle.osc_client.specs.declared.case.Case.{Case}
+use Rattle.osc_client.specs.declared.case.Case.TheVariants.{Counted}
+use Rattle.osc_client.specs.declared.answering.Outcome.{Outcome}
+use Rattle.osc_client.specs.declared.answering.Outcome.TheVariants.{Stays}
+use Rattle.osc_client.specs.declared.asking.AskRoom.{AskRoom}
+use Rattle.osc_client.specs.declared.waiting.Awaited.{Awaited}
+use Rattle.osc_client.specs.declared.waiting.Awaited.TheVariants.{Exchange, Ask}
+use Rattle.osc_client.specs.declared.waiting.Waiting.{Waiting}
+
+-- no message is open but that of what waits
+abbrev pub KeepsOwn : Peer → Option Waiting → List Open → Type 0
+KeepsOwn next_hop None sending = sending ≡ []
+KeepsOwn next_hop (Some waiting) sending = AllByRecursion (λ message. is_named next_hop waiting.id message ≡ true) sending
+
+-- a request waits under the context that the client has
+abbrev pub NeedsContext : Option ClientContext → Awaited → Type 0
+NeedsContext context (Exchange begun) = Unit {0}
+NeedsContext context (Ask ask) = context ≢ None
+
+-- a request's number is one that may be taken
+abbrev pub IsLawful : Awaited → Type 0
+IsLawful (Exchange begun) = Unit {0}
+IsLawful (Ask ask) = ask.number ≤ greatest_number
+
+abbrev pub HasContext : Option ClientContext → Option Waiting → Type 0
+HasContext context None = Unit {0}
+HasContext context (Some waiting) = NeedsContext context waiting.what × IsLawful waiting.what
+
+-- the context was made of what was granted
+abbrev pub IsOfGrant : ClientDesk → Option ClientContext → Type 0
+IsOfGrant desk context = IfSome context (λ made. made.name.id_context ≡ desk.id_context)
+
+-- room for any request of the context of this name
+pub record IsRoomFor (name : ContextName) (room : AskRoom) : Type 0 where
+  pub seal : room.seal ≡ record { name = name; most = longest_message }
+  pub plaintext : room.plaintext ≡ longest_message
+  pub datagram : room.datagram ≡ longest_message
+
+-- an outcome that leaves nothing open
+abbrev pub IsEnd : Outcome → Type 0
+IsEnd (Stays opened) = ⊥
+IsEnd outcome = Unit {0}
+
+-- a response that counts does so for what waits
+abbrev pub AsksFor : Peer → Peer → Option Waiting → Case → Type 0
+AsksFor next_hop from waiting (Counted message) = counts next_hop from message waiting ≡ true
+AsksFor next_hop from waiting case = Unit {0}

@@ -1,0 +1,156 @@
+-- What a client sends of its own, and what it keeps then.
+use Rattle.std.specs.Prelude.{◌≡◌, ◌≢◌, ℕ, ◌+◌, ◌<◌, ◌≤◌, Bool, true, false, ◌==◌, nat_le, if◌then◌else◌, List, [], ◌∷◌, length, Option, Some, None, codes}
+use Rattle.osc_model.specs.Draw.{nonce_drawn, token_drawn}
+use Rattle.osc_model.specs.Step.{sends}
+use Rattle.osc_model.specs.StepNotes.{quiet}
+use Rattle.osc_model.specs.declared.node.Draw.{Draw}
+use Rattle.osc_model.specs.declared.node.Moment.{Moment}
+use Rattle.osc_model.specs.declared.node.Peer.{Peer}
+use Rattle.osc_model.specs.declared.request.Request.{Request}
+use Rattle.osc_model.specs.declared.step.ClientResult.TheVariants.{Refused, TimedOut}
+use Rattle.osc_model.specs.declared.step.Datagram.{Datagram}
+use Rattle.osc_model.specs.declared.step.Step.{Step}
+use Rattle.osc_cbor.specs.Spelling.{spelling as item_spelling}
+use Rattle.osc_coap.specs.Building.{bare, payload_of}
+use Rattle.osc_coap.specs.Message.{Message, spelling}
+use Rattle.osc_coap.specs.declared.kind.Kind.TheVariants.{Confirmable}
+use Rattle.osc_options.specs.Requests.{with_request}
+use Rattle.osc_message.specs.Confirmables.{Open, with_open}
+use Rattle.osc_message.specs.Endpoint.{EndpointState, own_id, id_taken, after_tick, fresh}
+use Rattle.osc_message.specs.Ticks.{ticked, tick_sends}
+use Rattle.osc_message.specs.Timeout.{timeout_of}
+use Rattle.osc_context.specs.Nonce.{greatest_number}
+use Rattle.osc_protect.specs.Protection.{IsProtectedRequest, longest_message, plain_bytes, request_length}
+use Rattle.osc_authz.specs.Begun.{Begun, Made as ClientContext}
+use Rattle.osc_authz.specs.Client.{offered_id}
+use Rattle.osc_authz.specs.Exchange.{post_item}
+use Rattle.osc_authz.specs.declared.granted.ClientDesk.{ClientDesk}
+use Rattle.osc_run.specs.ClientKinds.{request_note}
+use Rattle.osc_client.specs.State.{State}
+use Rattle.osc_client.specs.declared.waiting.Awaited.{Awaited}
+use Rattle.osc_client.specs.declared.waiting.Awaited.TheVariants.{Exchange, Ask}
+use Rattle.osc_client.specs.declared.waiting.Waiting.{Waiting}
+
+-- the message as a datagram for the peer
+abbrev pub datagram : Peer → Message → Datagram
+datagram peer message = record { to = peer; bytes = spelling message }
+
+-- ---- one thing is opened
+
+-- what was acknowledged is answered within EXCHANGE_LIFETIME, or not at all (RFC 7252 section 4.8.2)
+abbrev pub longest_wait : ℕ
+longest_wait = 247000
+
+-- the message layer once this confirmable message was made and went out
+abbrev pub sent : EndpointState → Moment → Peer → Draw → Message → EndpointState
+sent endpoint now to draw message =
+    record (id_taken draw endpoint) { sending = with_open now to (own_id draw endpoint.next_id) (timeout_of draw) (spelling message) endpoint.sending }
+
+abbrev pub waits : EndpointState → Moment → Draw → Awaited → Waiting
+waits endpoint now draw what = record { token = token_drawn draw; id = own_id draw endpoint.next_id; until = now.ms + longest_wait; what = what }
+
+abbrev pub opened : State → Moment → Draw → Message → Awaited → State
+opened old now draw message what = record old {
+  waiting = Some (waits old.endpoint now draw what);
+  endpoint = sent old.endpoint now old.next_hop draw message;
+}
+
+-- it isn't begun, for the reason of this number, and nothing changes
+pub record IsRefused (number : ℕ) (old : State) (step : Step) (new : State) : Type 0 where
+  pub told : step ≡ record { out = []; notes = record quiet { result = Some (Refused number) } }
+  pub kept : new ≡ old
+
+-- ---- an exchange (RFC 9203 section 4.1)
+
+abbrev pub begun_by : State → Draw → Begun
+begun_by old draw = record { nonce1 = nonce_drawn draw; recipient_id = offered_id old.context }
+
+-- the post: confirmable, to authz-info, as application/ace+cbor
+abbrev pub post_of : ClientDesk → Begun → ℕ → List ℕ → Message
+post_of desk begun id token =
+    record (bare Confirmable 2 id token) {
+      options = (11, codes "authz-info") ∷ (12, 19 ∷ []) ∷ [];
+      payload = payload_of (item_spelling (post_item desk.token begun.nonce1 (begun.recipient_id ∷ [])));
+    }
+
+abbrev pub post_by : State → Draw → Message
+post_by old draw = post_of old.desk (begun_by old draw) (own_id draw old.endpoint.next_id) (token_drawn draw)
+
+-- 17 where something is open, 14 where the post is longer than a datagram may be, and else it goes out
+pub data Exchanges (old : State) (now : Moment) (draw : Draw) (step : Step) (new : State) : Type 0 where
+  busy : old.waiting ≢ None → IsRefused 17 old step new → Exchanges old now draw step new
+  too_long : old.waiting ≡ None → longest_message < length (spelling (post_by old draw)) → IsRefused 14 old step new
+      → Exchanges old now draw step new
+  begins : old.waiting ≡ None → length (spelling (post_by old draw)) ≤ longest_message
+      → step ≡ record { out = datagram old.next_hop (post_by old draw) ∷ []; notes = record quiet { drawn = Some (nonce_drawn draw) } }
+      → new ≡ opened old now draw (post_by old draw) (Exchange (begun_by old draw))
+      → Exchanges old now draw step new
+
+-- ---- a tick
+
+-- What waits is over where it was acknowledged before and its time has come, or where it is given up without an acknowledgement
+-- (RFC 7252 sections 4.2 and 4.8.2).
+abbrev pub is_over_by : Moment → Bool → Bool → Option Waiting → Bool
+is_over_by now acknowledged none_left None = false
+is_over_by now acknowledged none_left (Some waiting) = if acknowledged then nat_le waiting.until now.ms else none_left
+
+abbrev pub is_over : Moment → List Open → Option Waiting → Bool
+is_over now sending waiting = is_over_by now (length sending == 0) (length (ticked now sending) == 0) waiting
+
+-- what is due goes out; what is over ends
+abbrev pub TicksBy : Bool → State → Moment → Step → State → Type 0
+TicksBy false old now step new = (step ≡ sends (tick_sends now old.endpoint.sending)) × (new ≡ record old { endpoint = after_tick now old.endpoint })
+TicksBy true old now step new =
+    (step ≡ record { out = tick_sends now old.endpoint.sending; notes = record quiet { result = Some TimedOut } })
+    × (new ≡ record old { waiting = None; endpoint = after_tick now old.endpoint })
+
+abbrev pub Ticks : State → Moment → Step → State → Type 0
+Ticks old now step new = TicksBy (is_over now old.endpoint.sending old.waiting) old now step new
+
+-- it starts again: the grant and the way to the server stay alone
+abbrev pub restarted : State → State
+restarted old = record old { context = None; waiting = None; endpoint = fresh }
+
+-- ---- a protected request (RFC 8613 section 8.1)
+
+abbrev pub plain_of : State → Draw → Request → Message
+plain_of old draw request = with_request (bare Confirmable request.code.0 (own_id draw old.endpoint.next_id) (token_drawn draw)) request
+
+-- `is_sealing key nonce aad text sealed` is the cipher's relation, and `tag` how long its tag is
+module _ (is_sealing : List ℕ → List ℕ → List ℕ → List ℕ → List ℕ → Type 0) (tag : ℕ) where
+  -- The request, protected under the next number of the context, is as long as a datagram may be at most.
+  pub record Fits (old : State) (draw : Draw) (request : Request) (context : ClientContext) : Type 0 where
+    pub plain : length (spelling (plain_of old draw request)) ≤ longest_message
+    pub sealed : request_length tag context.name context.next (plain_of old draw request) ≤ longest_message
+
+  -- why a request isn't sent, by its number: something is open; there is no context; its numbers are used up; the datagram would be
+  -- too long
+  pub data IsHindered (old : State) (request : Request) (draw : Draw) (number : ℕ) : Type 0 where
+    busy : number ≡ 17 → old.waiting ≢ None → IsHindered old request draw number
+    no_context : number ≡ 22 → old.waiting ≡ None → old.context ≡ None → IsHindered old request draw number
+    exhausted : number ≡ 18 → (context : ClientContext) → old.waiting ≡ None → old.context ≡ Some context → greatest_number < context.next
+        → IsHindered old request draw number
+    too_long : number ≡ 14 → (context : ClientContext) → old.waiting ≡ None → old.context ≡ Some context → context.next ≤ greatest_number
+        → (¬ Fits old draw request context) → IsHindered old request draw number
+
+  -- nothing hinders it, under this context
+  pub record IsFree (old : State) (request : Request) (draw : Draw) (context : ClientContext) : Type 0 where
+    pub idle : old.waiting ≡ None
+    pub held : old.context ≡ Some context
+    pub lawful : context.next ≤ greatest_number
+    pub fits : Fits old draw request context
+
+  -- It is refused; or the next number is taken, and the protected request goes out.
+  pub data Asks (old : State) (now : Moment) (request : Request) (draw : Draw) (step : Step) (new : State) : Type 0 where
+    hindered : (number : ℕ) → IsHindered old request draw number → IsRefused number old step new → Asks old now request draw step new
+    asks : (context : ClientContext) (protected : Message) → IsFree old request draw context
+        → IsProtectedRequest is_sealing context.name context.next (plain_of old draw request) protected
+        → step
+        ≡ record {
+          out = datagram old.next_hop protected ∷ [];
+          notes = record quiet { seals = Some (request_note context.name context.next (plain_bytes (plain_of old draw request))) };
+        }
+        → new
+        ≡ opened (record old { context = Some (record context { next = context.next + 1 }) }) now draw protected
+        (Ask (record { number = context.next; plaintext = plain_bytes (plain_of old draw request) }))
+        → Asks old now request draw step new

@@ -1,0 +1,32 @@
+-- What a client keeps.
+use Rattle.std.specs.Prelude.{Option, Some, None}
+use Rattle.osc_model.specs.declared.node.Peer.{Peer}
+use Rattle.osc_authz.specs.Begun.{Made as ClientContext}
+use Rattle.osc_authz.specs.declared.granted.ClientDesk.{ClientDesk}
+use Rattle.osc_message.specs.Endpoint.{EndpointState}
+use Rattle.osc_run.specs.States.{ClientState, Outstanding, Nothing, Exchange as OpenExchange, Ask as AskOf}
+use Rattle.osc_client.specs.declared.waiting.Awaited.{Awaited}
+use Rattle.osc_client.specs.declared.waiting.Awaited.TheVariants.{Exchange, Ask}
+use Rattle.osc_client.specs.declared.waiting.Waiting.{Waiting}
+
+-- what was granted; to whom it sends; its security context; what it waits for, one thing at most; and the message layer
+pub record State : Type 0 where
+  pub desk : ClientDesk
+  pub next_hop : Peer
+  pub context : Option ClientContext
+  pub waiting : Option Waiting
+  pub endpoint : EndpointState
+
+-- what waits, as a run knows it: a protected request was sealed under the context that the client has
+abbrev pub outstanding_of : Option ClientContext → Awaited → Outstanding
+outstanding_of context (Exchange begun) = OpenExchange begun
+outstanding_of (Some context) (Ask ask) = AskOf (record { context = context.name; number = ask.number; plaintext = ask.plaintext })
+outstanding_of None (Ask ask) = Nothing
+
+abbrev pub outstanding : Option ClientContext → Option Waiting → Outstanding
+outstanding context None = Nothing
+outstanding context (Some waiting) = outstanding_of context waiting.what
+
+-- what a run knows of it
+abbrev pub core : State → ClientState
+core state = record { desk = state.desk; context = state.context; outstanding = outstanding state.context state.waiting }

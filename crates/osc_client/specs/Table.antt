@@ -1,0 +1,80 @@
+-- What a client sends in each case, and what it keeps after it.
+use Rattle.std.specs.Prelude.{◌≡◌, ℕ, Bool, true, false, List, [], ◌∷◌, Option, Some, None, option_map}
+use Rattle.osc_model.specs.Code.{code}
+use Rattle.osc_model.specs.Step.{sends}
+use Rattle.osc_model.specs.StepNotes.{quiet}
+use Rattle.osc_model.specs.declared.bytes.Bytes.{Bytes}
+use Rattle.osc_model.specs.declared.node.Moment.{Moment}
+use Rattle.osc_model.specs.declared.node.Peer.{Peer}
+use Rattle.osc_model.specs.declared.step.ClientResult.TheVariants.{Unverified}
+use Rattle.osc_model.specs.declared.step.Datagram.{Datagram}
+use Rattle.osc_model.specs.declared.step.Step.{Step}
+use Rattle.osc_coap.specs.Building.{bare}
+use Rattle.osc_coap.specs.Message.{Message, spelling}
+use Rattle.osc_coap.specs.declared.kind.Kind.{Kind}
+use Rattle.osc_coap.specs.declared.kind.Kind.TheVariants.{Acknowledgement}
+use Rattle.osc_message.specs.Endpoint.{settled}
+use Rattle.osc_message.specs.Heard.{noted_reply}
+use Rattle.osc_message.specs.Sending.{acknowledgement, reset}
+use Rattle.osc_message.specs.declared.handling.Handling.TheVariants as handling
+use Rattle.osc_message.specs.declared.heard.Heard.TheVariants as heard
+use Rattle.osc_client.specs.Answering.{Comes, context_after, notes_of, waits_after}
+use Rattle.osc_client.specs.Case.{is_ended}
+use Rattle.osc_client.specs.Sending.{datagram}
+use Rattle.osc_client.specs.State.{State}
+use Rattle.osc_client.specs.declared.answering.Outcome.{Outcome}
+use Rattle.osc_client.specs.declared.case.Case.{Case}
+use Rattle.osc_client.specs.declared.case.Case.TheVariants.{Ignored, Reset, Repeated, Empty, Refused, Rejected, Dropped, Counted}
+use Rattle.osc_client.specs.declared.waiting.Waiting.{Waiting}
+
+-- the bytes that answered a repeated message go out again, where it was answered
+abbrev pub again : Peer → Option Bytes → List Datagram
+again from None = []
+again from (Some bytes) = (record { to = from; bytes = bytes }) ∷ []
+
+-- 4.02 (Bad Option), in the acknowledgement of the request (RFC 7252 section 5.4.1)
+abbrev pub refusal : Message → Message
+refusal message = bare Acknowledgement (code 4 2).0 message.id message.token
+
+-- the message, if there is one
+abbrev pub sent_to : Peer → Option Message → List Datagram
+sent_to peer None = []
+sent_to peer (Some message) = datagram peer message ∷ []
+
+-- an empty message settles what it names; a Reset ends it, as code 0.00
+abbrev pub Settles : Bool → State → Moment → Peer → Kind → ℕ → Step → State → Type 0
+Settles false old now from kind id step new =
+    (step ≡ sends []) × (new ≡ record old { endpoint = settled old.endpoint now from (heard.Empty kind id) handling.Dropped })
+Settles true old now from kind id step new =
+    (step ≡ record { out = []; notes = record quiet { result = Some (Unverified (record { 0 = 0 })) } })
+    × (new ≡ record old { waiting = None; endpoint = settled old.endpoint now from (heard.Empty kind id) handling.Dropped })
+
+-- `is_sealing key nonce aad text sealed` is the cipher's relation
+module _ (is_sealing : List ℕ → List ℕ → List ℕ → List ℕ → List ℕ → Type 0) where
+  -- A response that counts acknowledges the message that it answers, is noted, and is acknowledged where it is confirmable (RFC 7252
+  -- sections 4.2 and 5.2.2), whatever it comes to.
+  pub record Counts (old : State) (now : Moment) (from : Peer) (message : Message) (step : Step) (new : State) : Type 0 where
+    pub waiting : Waiting
+    pub waits : old.waiting ≡ Some waiting
+    pub outcome : Outcome
+    pub comes : Comes is_sealing old.desk old.context waiting.what message outcome
+    pub told : step ≡ record { out = sent_to from (acknowledgement message); notes = notes_of outcome }
+    pub kept : new
+        ≡ record old {
+          context = context_after outcome old.context;
+          waiting = waits_after outcome waiting;
+          endpoint = settled old.endpoint now from (heard.Message message) (handling.Counted waiting.id (option_map spelling (acknowledgement message)));
+        }
+
+  abbrev pub Answers : State → Moment → Peer → Case → Step → State → Type 0
+  Answers old now from Ignored step new = (step ≡ sends []) × (new ≡ old)
+  Answers old now from (Reset id) step new = (step ≡ sends (datagram from (reset id) ∷ [])) × (new ≡ old)
+  Answers old now from (Repeated id) step new = (step ≡ sends (again from (noted_reply old.endpoint.seen now from id))) × (new ≡ old)
+  Answers old now from (Empty kind id) step new = Settles (is_ended old.next_hop from kind id old.waiting) old now from kind id step new
+  Answers old now from (Refused message) step new =
+      (step ≡ sends (datagram from (refusal message) ∷ []))
+      × (new ≡ record old { endpoint = settled old.endpoint now from (heard.Message message) (handling.Answered (Some (spelling (refusal message)))) })
+  Answers old now from (Rejected message) step new = (step ≡ sends (datagram from (reset message.id) ∷ [])) × (new ≡ old)
+  Answers old now from (Dropped message) step new =
+      (step ≡ sends []) × (new ≡ record old { endpoint = settled old.endpoint now from (heard.Message message) handling.Dropped })
+  Answers old now from (Counted message) step new = Counts old now from message step new

@@ -1,0 +1,280 @@
+//! What an answer that counts comes to.
+ghost use Rattle.std.specs.Prelude.{◌≡◌, ◌≢◌, ◌≤◌, ℕ, List, true, None, Some, IfOk, IfErr, IfSome, IfNone};
+ghost use Rattle.osc_context.specs.Nonce.{greatest_number};
+ghost use Rattle.osc_model.specs.declared.reply.Reply.{Reply as AnyReply};
+ghost use Rattle.osc_options.specs.Split.{has_oscore as has_oscore_in};
+ghost use Rattle.osc_protect.specs.Protection.{IsResponse};
+ghost use Rattle.osc_run.specs.ClientKinds.{response_note};
+ghost use Rattle.osc_run.specs.Texts.{IsReplyIn};
+ghost use Rattle.osc_client.specs.Answering.{AskComes, Comes, ExchangeComes, IsFinish, IsSealedFor, context_after, is_error as is_error_of, is_success as is_success_of, notes_of, waits_after};
+ghost use Rattle.osc_client.specs.Bounds.{IsEnd, IsLawful, NeedsContext};
+ghost use Rattle.osc_client.specs.declared.answering.Outcome.TheVariants as outcome;
+ghost use Rattle.osc_model.specs.declared.step.ClientResult.TheVariants as ended;
+
+use crate::waiting::{Awaited, OpenAsk, Waiting};
+use osc_authz::{ClientContext, ClientDesk, FinishError, OpenExchange};
+use osc_ccm::Aead;
+use osc_coap::MessageRef;
+use osc_coap::laws::reading;
+use osc_model::{ClientResult, Code, Note, Reply, StepNotes};
+use osc_options::numbers::OSCORE;
+use osc_options::{PlaintextError, has_option, reply_of};
+use osc_protect::{Room, SealedResponseRef, open_response, read_response};
+use std::alloc::{AllocError, Global};
+
+/// What an answer that counts comes to.
+#[derive(Drop)]
+pub enum Outcome {
+    /// What waits stays open; the note is of what opened, if anything did.
+    Stays(Option<Note>),
+    /// The exchange made this context.
+    Makes(ClientContext),
+    /// The request is answered by this reply, which was opened as noted.
+    Answers(Note, Reply),
+    /// What waits ends so.
+    Ends(ClientResult),
+}
+
+/// What an answer comes to, and what waits still.
+#[derive(Drop)]
+pub(crate) struct Learnt {
+    pub outcome: Outcome,
+    pub waiting: Option<Waiting>,
+}
+
+/// Whether the code is of class 4 or 5.
+fn is_error(code: u8) -> bool
+    ensures { result ≡ is_error_of code }
+{
+    code / 32 == 4 || code / 32 == 5
+}
+
+/// Whether the code is of class 2.
+fn is_success(code: u8) -> bool
+    ensures { result ≡ is_success_of code }
+{
+    code / 32 == 2
+}
+
+/// How an unprotected error ends what waits.
+fn unverified(message: &MessageRef<'_>) -> Outcome
+    ensures { result ≡ outcome.Ends (ended.Unverified (record { 0 = message.now.code })) }
+{
+    Outcome::Ends(ClientResult::Unverified(Code(message.code())))
+}
+
+/// What an answer to an exchange comes to: the exchange stays, and is handed back; or it is used up. Want of memory hands it back
+/// too.
+fn exchange_outcome(
+    alloc: Global,
+    desk: &ClientDesk,
+    begun: OpenExchange,
+    message: &MessageRef<'_>,
+) -> Result<Result<Outcome, OpenExchange>, OpenExchange>
+    ensures comes { IfOk result (λ came. IfOk came (λ outcome. ExchangeComes desk.now begun message.now outcome × IsEnd outcome)) }
+    ensures stays { IfOk result (λ came. IfErr came (λ back. ExchangeComes desk.now begun message.now (outcome.Stays None) × (back ≡ begun))) }
+    ensures memory { IfErr result (λ back. back ≡ begun) }
+{
+    if has_option(message, OSCORE) {
+        return Ok(Err(begun));
+    }
+    if is_error(message.code()) {
+        return Ok(Ok(unverified(message)));
+    }
+    if !is_success(message.code()) {
+        return Ok(Err(begun));
+    }
+    match finish(alloc, desk, begun, message) {
+        Ok(outcome) => Ok(Ok(outcome)),
+        Err(back) => Err(back),
+    }
+}
+
+/// What an exchange comes to by a success; want of memory hands it back.
+fn finish(
+    alloc: Global,
+    desk: &ClientDesk,
+    begun: OpenExchange,
+    message: &MessageRef<'_>,
+) -> Result<Outcome, OpenExchange>
+    ensures finished { IfOk result (λ outcome. IsFinish desk.now begun message.now outcome × IsEnd outcome) }
+    ensures memory { IfErr result (λ back. back ≡ begun) }
+{
+    let payload = message.payload().unwrap_or(&[]);
+    match desk.finish(alloc, begun, Code(message.code()), payload) {
+        Ok(made) => Ok(Outcome::Makes(made)),
+        Err(FinishError::Memory(back)) => Err(back),
+        Err(FinishError::Fields) => Ok(Outcome::Ends(ClientResult::Refused(FIELDS))),
+        Err(FinishError::EqualIds) => Ok(Outcome::Ends(ClientResult::Refused(EQUAL_IDS))),
+    }
+}
+
+/// An answer to an exchange makes no context (30).
+const FIELDS: u8 = 30;
+
+/// The server's ID is the client's (20).
+const EQUAL_IDS: u8 = 20;
+
+/// What an answer to a protected request comes to.
+fn ask_outcome<A: Aead>(
+    alloc: Global,
+    context: &ClientContext,
+    ask: &OpenAsk,
+    message: &MessageRef<'_>,
+) -> Result<Outcome, AllocError>
+    requires { ask.now.number ≤ greatest_number }
+    ensures { IfOk result (λ outcome. AskComes A.is_sealing context.now ask.now message.now outcome) }
+{
+    if !has_option(message, OSCORE) {
+        return Ok(if is_error(message.code()) {
+            unverified(message)
+        } else {
+            Outcome::Stays(None)
+        });
+    }
+    match read_response(message) {
+        Ok(response) => opened_outcome::<A>(alloc, context, ask, message, &response),
+        Err(_) => Ok(Outcome::Stays(None)),
+    }
+}
+
+/// What a protected response comes to.
+fn opened_outcome<A: Aead>(
+    alloc: Global,
+    context: &ClientContext,
+    ask: &OpenAsk,
+    message: &MessageRef<'_>,
+    response: &SealedResponseRef<'_>,
+) -> Result<Outcome, AllocError>
+    requires number { ask.now.number ≤ greatest_number }
+    requires protected { has_oscore_in message.now.options ≡ true }
+    requires response { IsResponse message.now response.now }
+    ensures { IfOk result (λ outcome. AskComes A.is_sealing context.now ask.now message.now outcome) }
+{
+    match open::<A>(alloc, context, ask, response)? {
+        Some(note) => match reply_in(alloc, note.plaintext.as_slice())? {
+            Some(reply) => Ok(Outcome::Answers(note, reply)),
+            None => Ok(Outcome::Stays(Some(note))),
+        },
+        None => Ok(Outcome::Stays(None)),
+    }
+}
+
+/// Opens the response to the request, if it is genuine.
+fn open<A: Aead>(
+    alloc: Global,
+    context: &ClientContext,
+    ask: &OpenAsk,
+    response: &SealedResponseRef<'_>,
+) -> Result<Option<Note>, AllocError>
+    requires { ask.now.number ≤ greatest_number }
+    ensures opened { IfOk result (λ opened. IfSome opened (λ note. IsSealedFor A.is_sealing context.now ask.now response.now note.plaintext)) }
+    ensures noted { IfOk result (λ opened. IfSome opened (λ note. note ≡ response_note context.now.name ask.now.number response.now.own note.plaintext)) }
+    ensures none { IfOk result (λ opened. IfNone opened ((text : List ℕ) → ¬ IsSealedFor A.is_sealing context.now ask.now response.now text)) }
+{
+    // For the proof alone: the call tells how long the ID is.
+    let _id = context.sender().id();
+    let room = Room::new(alloc, context.name(), response.sealed().len())?;
+    Ok(open_response::<A>(room, context.recipient(), ask.number, response).ok())
+}
+
+/// The reply that a plaintext is, if it is one.
+fn reply_in(alloc: Global, plaintext: &[u8]) -> Result<Option<Reply>, AllocError>
+    ensures some { IfOk result (λ found. IfSome found (λ reply. IsReplyIn plaintext.now reply)) }
+    ensures none { IfOk result (λ found. IfNone found ((reply : AnyReply) → ¬ IsReplyIn plaintext.now reply)) }
+{
+    reading();
+    match reply_of(alloc, plaintext) {
+        Ok(reply) => Ok(Some(reply)),
+        Err(PlaintextError::Memory) => Err(AllocError),
+        Err(_) => Ok(None),
+    }
+}
+
+/// What an answer that counts comes to, and what waits then. Want of memory hands back what waits.
+pub(crate) fn outcome_of<A: Aead>(
+    alloc: Global,
+    desk: &ClientDesk,
+    context: &Option<ClientContext>,
+    waiting: Waiting,
+    message: &MessageRef<'_>,
+) -> Result<Learnt, Waiting>
+    requires context { NeedsContext context.now waiting.what }
+    requires number { IsLawful waiting.what }
+    ensures comes { IfOk result (λ come. Comes A.is_sealing desk.now context.now waiting.what message.now come.outcome) }
+    ensures waits { IfOk result (λ come. come.waiting ≡ waits_after come.outcome waiting) }
+    ensures memory { IfErr result (λ back. back ≡ waiting) }
+{
+    let Waiting {
+        token,
+        id,
+        until,
+        what,
+    } = waiting;
+    match what {
+        Awaited::Exchange(begun) => match exchange_outcome(alloc, desk, begun, message) {
+            Ok(Ok(outcome)) => Ok(Learnt {
+                outcome,
+                waiting: None,
+            }),
+            Ok(Err(back)) => Ok(Learnt {
+                outcome: Outcome::Stays(None),
+                waiting: Some(Waiting {
+                    token,
+                    id,
+                    until,
+                    what: Awaited::Exchange(back),
+                }),
+            }),
+            Err(back) => Err(Waiting {
+                token,
+                id,
+                until,
+                what: Awaited::Exchange(back),
+            }),
+        },
+        Awaited::Ask(ask) => {
+            let context = context.as_ref().unwrap();
+            match ask_outcome::<A>(alloc, context, &ask, message) {
+                Ok(Outcome::Stays(opened)) => Ok(Learnt {
+                    outcome: Outcome::Stays(opened),
+                    waiting: Some(Waiting {
+                        token,
+                        id,
+                        until,
+                        what: Awaited::Ask(ask),
+                    }),
+                }),
+                Ok(outcome) => Ok(Learnt {
+                    outcome,
+                    waiting: None,
+                }),
+                Err(_) => Err(Waiting {
+                    token,
+                    id,
+                    until,
+                    what: Awaited::Ask(ask),
+                }),
+            }
+        }
+    }
+}
+
+/// What is noted of an outcome; a context that was made takes the place of the old one.
+pub(crate) fn learn(context: &mut Option<ClientContext>, outcome: Outcome) -> StepNotes
+    ensures notes { result ≡ notes_of outcome }
+    ensures context { context.new ≡ context_after outcome context.old }
+{
+    match outcome {
+        Outcome::Stays(None) => StepNotes::quiet(),
+        Outcome::Stays(Some(note)) => StepNotes::quiet().with_open(note),
+        Outcome::Makes(made) => {
+            *context = Some(made);
+            StepNotes::quiet().with_result(ClientResult::Made)
+        }
+        Outcome::Answers(note, reply) => StepNotes::quiet()
+            .with_open(note)
+            .with_result(ClientResult::Answer(reply)),
+        Outcome::Ends(ending) => StepNotes::quiet().with_result(ending),
+    }
+}

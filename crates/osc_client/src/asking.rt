@@ -1,0 +1,131 @@
+//! Protected requests.
+ghost use Rattle.std.specs.Prelude.{◌≡◌, ◌≢◌, ◌≤◌, ◌<◌, [], ◌∷◌, length, None, Some, IfOk, IsSome, IfSome, ◌↔◌, ◌+◌};
+ghost use Rattle.osc_coap.specs.Building.{bare};
+ghost use Rattle.osc_coap.specs.Message.{spelling};
+ghost use Rattle.osc_coap.specs.declared.kind.Kind.TheVariants.{Confirmable};
+ghost use Rattle.osc_options.specs.Requests.{with_request};
+ghost use Rattle.osc_context.specs.Nonce.{greatest_number};
+ghost use Rattle.osc_protect.specs.Protection.{HasShortContext, IsProtectedRequest, longest_message, plain_bytes, request_length};
+ghost use Rattle.osc_client.specs.Bounds.{IsRoomFor};
+ghost use Rattle.osc_run.specs.ClientKinds.{request_note};
+
+use crate::waiting::OpenAsk;
+use osc_authz::ClientContext;
+use osc_ccm::Aead;
+use osc_coap::laws::length_of_spelling;
+use osc_coap::{DATAGRAM_LIMIT, Kind, MessageBuilder};
+use osc_message::{Buffer, ReplyRoom};
+use osc_model::{Note, Request};
+use osc_options::request_message;
+use osc_protect::{ProtectedRequest, Room, fits, protect_request};
+use std::alloc::{AllocError, Global};
+
+/// The request as a message under the context's next number, where it fits a datagram once it is protected.
+pub(crate) fn fitting<A: Aead>(
+    context: &ClientContext,
+    id: u16,
+    token: &[u8; 8],
+    request: &Request,
+) -> Option<MessageBuilder>
+    requires code { 0 < request.now.code.0 }
+    requires number { context.now.next ≤ greatest_number }
+    requires short { HasShortContext context.now.name }
+    ensures plain { IfSome result (λ plain. plain ≡ with_request (bare Confirmable request.now.code.0 id token.now) request.now) }
+    ensures fits { IsSome result ↔ ((length (spelling (with_request (bare Confirmable request.now.code.0 id token.now) request.now)) ≤ longest_message)
+        × (request_length A.TAG context.now.name context.now.next (with_request (bare Confirmable request.now.code.0 id token.now) request.now) ≤ longest_message)) }
+{
+    // For the proof alone: the call tells how long the ID is.
+    let _id = context.sender().id();
+    let plain = request_message(Kind::Confirmable, id, token, request).ok()?;
+    if fits::<A>(
+        context.name(),
+        context.sender().next_number(),
+        &plain.message(),
+    ) {
+        Some(plain)
+    } else {
+        None
+    }
+}
+
+/// The memory of a protected request, taken before its number.
+#[derive(Drop)]
+pub(crate) struct AskRoom {
+    /// For its seal.
+    pub seal: Room,
+    /// For its plaintext, which is kept while it waits.
+    pub plaintext: Buffer,
+    /// For the datagram, and for its retransmissions.
+    pub datagram: ReplyRoom,
+}
+
+impl AskRoom {
+    /// Room for any request under this context.
+    pub fn new(alloc: Global, context: &ClientContext) -> Result<AskRoom, AllocError>
+        ensures { IfOk result (λ room. IsRoomFor context.now.name room) }
+    {
+        Ok(AskRoom {
+            seal: Room::new(alloc, context.name(), DATAGRAM_LIMIT)?,
+            plaintext: Buffer::new(alloc, DATAGRAM_LIMIT)?,
+            datagram: ReplyRoom::new(alloc, DATAGRAM_LIMIT)?,
+        })
+    }
+}
+
+/// A protected request that is sent, and what is kept of it.
+#[derive(Drop)]
+pub(crate) struct Asked {
+    /// The protected request.
+    pub message: MessageBuilder,
+    /// The note of its seal.
+    pub note: Note,
+    /// What waits for the response.
+    pub ask: OpenAsk,
+    /// Room for the datagram, and for its retransmissions.
+    pub datagram: ReplyRoom,
+}
+
+/// Protects the request under the context's next number, which is taken; takes no memory.
+pub(crate) fn protected<A: Aead>(
+    context: &mut ClientContext,
+    room: AskRoom,
+    plain: &MessageBuilder,
+) -> Asked
+    requires number { context.old.next ≤ greatest_number }
+    requires short { HasShortContext context.old.name }
+    requires fits { request_length A.TAG context.old.name context.old.next plain.now ≤ longest_message }
+    requires room { IsRoomFor context.old.name room }
+    ensures protected { IsProtectedRequest A.is_sealing context.old.name context.old.next plain.now result.message }
+    ensures note { result.note ≡ request_note context.old.name context.old.next (plain_bytes plain.now) }
+    ensures ask { result.ask ≡ record { number = context.old.next; plaintext = plain_bytes plain.now } }
+    ensures lawful { result.ask.number ≤ greatest_number }
+    ensures datagram { result.datagram ≡ longest_message }
+    ensures short { length (spelling result.message) ≤ longest_message }
+    ensures next { context.new ≡ record context.old { next = context.old.next + 1 } }
+{
+    length_of_spelling();
+    let AskRoom {
+        seal,
+        plaintext,
+        datagram,
+    } = room;
+    let number = context.take_number().unwrap();
+    let taken = number.get();
+    let ProtectedRequest { message, note } = protect_request::<A>(
+        seal,
+        number,
+        &plain.message(),
+    ).unwrap();
+    // For the proof alone: the call tells how long the message is.
+    let _bytes = message.bytes();
+    let plaintext = plaintext.fill(note.plaintext.as_slice());
+    Asked {
+        message,
+        note,
+        ask: OpenAsk {
+            number: taken,
+            plaintext,
+        },
+        datagram,
+    }
+}

@@ -1,0 +1,396 @@
+//! The client.
+ghost use Rattle.std.specs.Prelude.{◌≡◌, ◌≤◌, ◌<◌, [], ◌∷◌, length, false, true, None, IfOk, IfErr, OnOk, OnErr, Some};
+ghost use Rattle.osc_coap.specs.Message.{spelling};
+ghost use Rattle.osc_model.specs.StepNotes.{quiet};
+ghost use Rattle.osc_model.specs.declared.step.ClientResult.TheVariants as result_of;
+ghost use Rattle.osc_authz.specs.Begun.{Made as AnyContext};
+ghost use Rattle.osc_message.specs.Endpoint.{fresh, settled};
+ghost use Rattle.osc_message.specs.Heard.{heard as heard_as, noted_reply as noted_reply_of};
+ghost use Rattle.osc_message.specs.Received.{Receives};
+ghost use Rattle.osc_message.specs.declared.handling.Handling.TheVariants as handling;
+ghost use Rattle.osc_message.specs.declared.heard.Heard.TheVariants as heard;
+ghost use Rattle.osc_message.specs.declared.received.Received.{Received as AnyReceived};
+ghost use Rattle.osc_model.specs.Step.{sends};
+ghost use Rattle.osc_client.specs.Case.{case_of as case_in, counts as counts_of, is_ended as is_ended_of};
+ghost use Rattle.osc_client.specs.Table.{Answers, Counts, Settles, again, refusal as refusal_of};
+ghost use Rattle.osc_message.specs.Ticks.{acts};
+ghost use Rattle.osc_run.specs.ClientKinds.{ClientStep};
+ghost use Rattle.osc_client.specs.State.{core};
+ghost use Rattle.osc_client.specs.Sending.{Asks, Exchanges, IsFree, IsHindered, Ticks, datagram, is_over_by, opened, plain_of, restarted};
+ghost use Rattle.osc_client.specs.Bounds.{AsksFor, IsLawful, IsRoomFor, NeedsContext};
+
+use crate::answering::{Learnt, learn, outcome_of};
+use crate::asking::{AskRoom, Asked, fitting, protected};
+use crate::case::{Case, case_of, is_ended};
+use crate::exchanging::post_message;
+use crate::sending::{acknowledged, noted, refusal, sending, sending_bytes};
+use crate::waiting::{Awaited, Waiting};
+use osc_authz::{ClientContext, ClientDesk};
+use osc_ccm::Aead;
+use osc_coap::{Kind, MessageBuilder, MessageRef};
+use osc_context::NUMBER_LIMIT;
+use osc_message::{Endpoint, Handling, Heard, ReplyRoom, reset};
+use osc_model::{ClientResult, Code, Datagrams, Draw, Moment, Peer, Request, Step, StepNotes};
+use osc_run::kinds;
+use std::alloc::{AllocError, Global};
+use std::marker::Model;
+
+/// Something is open already (17).
+const BUSY: u8 = 17;
+
+/// There is no context (22).
+const NO_CONTEXT: u8 = 22;
+
+/// The context's numbers are used up (18).
+const EXHAUSTED: u8 = 18;
+
+/// The datagram would be longer than one may be (14).
+const TOO_LONG: u8 = 14;
+
+/// How long an acknowledged message is waited for, in ms: EXCHANGE_LIFETIME (RFC 7252 section 4.8.2).
+const LONGEST_WAIT: u64 = 247_000;
+
+/// A client: what was granted, to whom it sends, its security context, what it waits for, and its message layer.
+#[derive(Drop)]
+pub struct Client {
+    desk: ClientDesk,
+    next_hop: Peer,
+    context: Option<ClientContext>,
+    waiting: Option<Waiting>,
+    endpoint: Endpoint,
+}
+
+impl Model for Client {
+    ghost use Rattle.osc_client.specs.State.{State};
+    ghost use Rattle.osc_client.specs.Bounds.{HasContext, IsOfGrant, KeepsOwn};
+
+    ghost Value = { State };
+
+    ghost view = { λ c. record { desk = c.desk; next_hop = c.next_hop; context = c.context; waiting = c.waiting; endpoint = c.endpoint } };
+
+    ghost invariant = { λ c. KeepsOwn c.next_hop c.waiting c.endpoint.sending × HasContext c.context c.waiting × IsOfGrant c.desk c.context };
+}
+
+/// A step that isn't begun, for the reason of this number.
+fn refused(alloc: Global, number: u8) -> Step
+    ensures { result ≡ record { out = []; notes = record quiet { result = Some (result_of.Refused number) } } }
+{
+    Step {
+        out: Datagrams::new(alloc),
+        notes: StepNotes::quiet().with_result(ClientResult::Refused(number)),
+    }
+}
+
+/// Whether what waits is over, where its message was acknowledged before this tick, or none is left after it.
+fn is_over(now: Moment, acknowledged: bool, none_left: bool, waiting: &Option<Waiting>) -> bool
+    ensures { result ≡ is_over_by now acknowledged none_left waiting.now }
+{
+    match waiting {
+        None => false,
+        Some(waiting) if acknowledged => waiting.until <= now.ms,
+        Some(_) => none_left,
+    }
+}
+
+impl Client {
+    /// A client that was granted this, and sends to this peer; it has no context and waits for nothing.
+    pub fn new(alloc: Global, desk: ClientDesk, next_hop: Peer) -> Result<Client, AllocError>
+        ensures { IfOk result (λ client. client ≡ record { desk = desk; next_hop = next_hop; context = None; waiting = None; endpoint = fresh }) }
+    {
+        Ok(Client {
+            desk,
+            next_hop,
+            context: None,
+            waiting: None,
+            endpoint: Endpoint::new(alloc)?,
+        })
+    }
+
+    /// Begins an exchange: posts the token, a drawn nonce and the recipient ID that it offers to authz-info. Refused, with nothing
+    /// changed, by 17 where something is open and by 14 where the post is longer than a datagram may be.
+    pub fn exchange(&mut self, alloc: Global, now: Moment, draw: &Draw) -> Result<Step, AllocError>
+        ensures exchanged { IfOk result (λ step. Exchanges self.old now draw.now step self.new) }
+        ensures kind { IfOk result (λ step. ClientStep false (core self.old) step.notes (core self.new)) }
+        ensures err { OnErr result (self.new ≡ self.old) }
+    {
+        kinds::exchanges_that_start();
+        if self.waiting.is_some() {
+            return Ok(refused(alloc, BUSY));
+        }
+        let begun = self.desk.start(self.context.as_ref(), draw);
+        let mut body = Vec::new(alloc);
+        self.desk.write_post(alloc, &begun, &mut body)?;
+        let Ok(post) = post_message(self.endpoint.own_id(draw), &draw.token(), &body) else {
+            return Ok(refused(alloc, TOO_LONG));
+        };
+        let room = ReplyRoom::new(alloc, post.bytes().len())?;
+        let nonce = *begun.nonce1();
+        let out = self.open(room, now, draw, &post, Awaited::Exchange(begun));
+        Ok(Step {
+            out,
+            notes: StepNotes::quiet().with_drawn(nonce),
+        })
+    }
+
+    /// Asks for this: protects the request under the context's next number, and sends it. Refused, with nothing changed, by 17 where
+    /// something is open, by 22 without a context, by 18 once its numbers are used up, and by 14 where the datagram would be
+    /// longer than one may be.
+    pub fn ask<A: Aead>(
+        &mut self,
+        alloc: Global,
+        now: Moment,
+        request: &Request,
+        draw: &Draw,
+    ) -> Result<Step, AllocError>
+        requires { 0 < request.now.code.0 }
+        ensures asked { IfOk result (λ step. Asks A.is_sealing A.TAG self.old now request.now draw.now step self.new) }
+        ensures kind { IfOk result (λ step. ClientStep false (core self.old) step.notes (core self.new)) }
+        ensures err { OnErr result (self.new ≡ self.old) }
+    {
+        let (plain, room) = match self.prepared::<A>(alloc, request, draw)? {
+            Ok(prepared) => prepared,
+            Err(number) => return Ok(refused(alloc, number)),
+        };
+        let context = self.context.as_mut().unwrap();
+        let Asked {
+            message,
+            note,
+            ask,
+            datagram,
+        } = protected::<A>(context, room, &plain);
+        let out = self.open(datagram, now, draw, &message, Awaited::Ask(ask));
+        Ok(Step {
+            out,
+            notes: StepNotes::quiet().with_seal(note),
+        })
+    }
+
+    /// The request as a message, and room for it; or the number of what hinders it.
+    fn prepared<A: Aead>(
+        &self,
+        alloc: Global,
+        request: &Request,
+        draw: &Draw,
+    ) -> Result<Result<(MessageBuilder, AskRoom), u8>, AllocError>
+        requires { 0 < request.now.code.0 }
+        ensures free { IfOk result (λ prepared. IfOk prepared (λ parts. (context : AnyContext)
+            × IsFree A.is_sealing A.TAG self.now request.now draw.now context
+            × (parts.0 ≡ plain_of self.now draw.now request.now) × IsRoomFor context.name parts.1)) }
+        ensures hindered { IfOk result (λ prepared. IfErr prepared (λ number. IsHindered A.is_sealing A.TAG self.now request.now draw.now number)) }
+    {
+        if self.waiting.is_some() {
+            return Ok(Err(BUSY));
+        }
+        let Some(context) = &self.context else {
+            return Ok(Err(NO_CONTEXT));
+        };
+        if context.sender().next_number() > NUMBER_LIMIT {
+            return Ok(Err(EXHAUSTED));
+        }
+        let id = self.endpoint.own_id(draw);
+        match fitting::<A>(context, id, &draw.token(), request) {
+            Some(plain) => Ok(Ok((plain, AskRoom::new(alloc, context)?))),
+            None => Ok(Err(TOO_LONG)),
+        }
+    }
+
+    /// Sends a confirmable message, for which there is room, and waits for what it opens; takes no memory.
+    fn open(
+        &mut self,
+        room: ReplyRoom,
+        now: Moment,
+        draw: &Draw,
+        message: &MessageBuilder,
+        what: Awaited,
+    ) -> Datagrams
+        requires idle { self.old.waiting ≡ None }
+        requires room { length (spelling message.now) ≤ room }
+        requires context { NeedsContext self.old.context what }
+        requires lawful { IsLawful what }
+        ensures sent { result ≡ datagram self.old.next_hop message.now ∷ [] }
+        ensures opened { self.new ≡ opened self.old now draw.now message.now what }
+    {
+        let (out, kept) = room.fill(self.next_hop, message.bytes());
+        let id = self.endpoint.take_id(draw);
+        self.endpoint
+            .send(now, self.next_hop, id, draw, kept)
+            .unwrap();
+        self.waiting = Some(Waiting {
+            token: draw.token(),
+            id,
+            until: now.ms + LONGEST_WAIT,
+            what,
+        });
+        out
+    }
+
+    /// These bytes came from this peer at this moment as one datagram: the step that answers them. What is sent is at most one
+    /// datagram, to that peer: a Reset, an acknowledgement, a refusal, or what answered the same message before. What comes of an
+    /// answer that counts stands in the step's notes. Without memory for it an `AllocError`; then nothing has changed.
+    pub fn on_datagram<A: Aead>(
+        &mut self,
+        alloc: Global,
+        now: Moment,
+        from: Peer,
+        bytes: &[u8],
+    ) -> Result<Step, AllocError>
+        ensures answered { IfOk result (λ step. (received : AnyReceived) × Receives bytes.now received
+            × Answers A.is_sealing self.old now from (case_in self.old.next_hop from self.old.waiting (heard_as self.old.endpoint.seen now from received)) step self.new) }
+        ensures kind { IfOk result (λ step. ClientStep false (core self.old) step.notes (core self.new)) }
+        ensures err { OnErr result (self.new ≡ self.old) }
+    {
+        kinds::exchanges_that_make();
+        let heard = self.endpoint.on_datagram(now, from, bytes);
+        let case = case_of(self.next_hop, from, &self.waiting, heard);
+        self.answer::<A>(alloc, now, from, case)
+    }
+
+    /// What is sent in this case, and what is kept after it.
+    fn answer<A: Aead>(
+        &mut self,
+        alloc: Global,
+        now: Moment,
+        from: Peer,
+        case: Case<'_>,
+    ) -> Result<Step, AllocError>
+        requires { AsksFor self.old.next_hop from self.old.waiting case }
+        ensures answered { IfOk result (λ step. Answers A.is_sealing self.old now from case.entry step self.new) }
+        ensures err { OnErr result (self.new ≡ self.old) }
+    {
+        match case {
+            Case::Ignored => Ok(Step::sending(Datagrams::new(alloc))),
+            Case::Reset(id) => sending(alloc, from, &reset(id)),
+            Case::Repeated(id) => self.repeat(alloc, now, from, id),
+            Case::Empty(kind, id) => Ok(self.settle_empty(alloc, now, from, kind, id)),
+            Case::Refused(message) => self.refuse(alloc, now, from, message),
+            Case::Rejected(message) => sending(alloc, from, &reset(message.id())),
+            Case::Dropped(message) => Ok(self.ignore(alloc, now, from, message)),
+            Case::Counted(message) => self.count::<A>(alloc, now, from, message),
+        }
+    }
+
+    /// Sends again what answered the message of this ID, if anything did.
+    fn repeat(&self, alloc: Global, now: Moment, from: Peer, id: u16) -> Result<Step, AllocError>
+        ensures { IfOk result (λ step. step ≡ sends (again from (noted_reply_of self.now.endpoint.seen now from id))) }
+    {
+        match self.endpoint.noted_reply(now, from, id) {
+            Some(bytes) => sending_bytes(alloc, from, bytes.clone()?),
+            None => Ok(Step::sending(Datagrams::new(alloc))),
+        }
+    }
+
+    /// Settles what an empty acknowledgement or Reset names; a Reset ends it.
+    fn settle_empty(&mut self, alloc: Global, now: Moment, from: Peer, kind: Kind, id: u16) -> Step
+        ensures { Settles (is_ended_of self.old.next_hop from kind id self.old.waiting) self.old now from kind id result self.new }
+    {
+        let is_ended = is_ended(self.next_hop, from, kind, id, &self.waiting);
+        self.endpoint
+            .settle(now, from, &Heard::Empty(kind, id), Handling::Dropped);
+        if is_ended {
+            self.waiting = None;
+            return Step {
+                out: Datagrams::new(alloc),
+                notes: StepNotes::quiet().with_result(ClientResult::Unverified(Code(0))),
+            };
+        }
+        Step::sending(Datagrams::new(alloc))
+    }
+
+    /// Refuses a request with a critical option that isn't recognised, and notes it for a repeat.
+    fn refuse(
+        &mut self,
+        alloc: Global,
+        now: Moment,
+        from: Peer,
+        message: MessageRef<'_>,
+    ) -> Result<Step, AllocError>
+        ensures sent { IfOk result (λ step. step ≡ sends (datagram from (refusal_of message.entry) ∷ [])) }
+        ensures kept { OnOk result (self.new ≡ record self.old { endpoint = settled self.old.endpoint now from (heard.Message message.entry) (handling.Answered (Some (spelling (refusal_of message.entry)))) }) }
+        ensures err { OnErr result (self.new ≡ self.old) }
+    {
+        let (out, bytes) = noted(alloc, from, &refusal(&message))?;
+        self.endpoint.settle(
+            now,
+            from,
+            &Heard::Message(message),
+            Handling::Answered(Some(bytes)),
+        );
+        Ok(Step::sending(out))
+    }
+
+    /// Ignores a message; an acknowledgement acknowledges all the same.
+    fn ignore(&mut self, alloc: Global, now: Moment, from: Peer, message: MessageRef<'_>) -> Step
+        ensures step { result ≡ sends [] }
+        ensures kept { self.new ≡ record self.old { endpoint = settled self.old.endpoint now from (heard.Message message.entry) handling.Dropped } }
+    {
+        self.endpoint
+            .settle(now, from, &Heard::Message(message), Handling::Dropped);
+        Step::sending(Datagrams::new(alloc))
+    }
+
+    /// What comes of a response that counts.
+    fn count<A: Aead>(
+        &mut self,
+        alloc: Global,
+        now: Moment,
+        from: Peer,
+        message: MessageRef<'_>,
+    ) -> Result<Step, AllocError>
+        requires { counts_of self.old.next_hop from message self.old.waiting ≡ true }
+        ensures answered { IfOk result (λ step. Counts A.is_sealing self.old now from message.entry step self.new) }
+        ensures err { OnErr result (self.new ≡ self.old) }
+    {
+        let (out, bytes) = acknowledged(alloc, from, &message)?;
+        let waiting = self.waiting.take().unwrap();
+        let id = waiting.id;
+        match outcome_of::<A>(alloc, &self.desk, &self.context, waiting, &message) {
+            Ok(Learnt { outcome, waiting }) => {
+                self.waiting = waiting;
+                let notes = learn(&mut self.context, outcome);
+                self.endpoint.settle(
+                    now,
+                    from,
+                    &Heard::Message(message),
+                    Handling::Counted(id, bytes),
+                );
+                Ok(Step { out, notes })
+            }
+            Err(waiting) => {
+                self.waiting = Some(waiting);
+                Err(AllocError)
+            }
+        }
+    }
+
+    /// Sends what is due again, and ends what waits once it is over: where it was acknowledged, 247 seconds after it was sent, and
+    /// else once its message is given up. Where nothing is sent or given up no memory is taken; without memory all stays as it was.
+    pub fn on_tick(&mut self, alloc: Global, now: Moment) -> Result<Step, AllocError>
+        ensures ticked { IfOk result (λ step. Ticks self.old now step self.new) }
+        ensures kind { IfOk result (λ step. ClientStep false (core self.old) step.notes (core self.new)) }
+        ensures err { OnErr result (self.new ≡ self.old) }
+        ensures needs_memory { OnErr result (acts now self.old.endpoint.sending ≡ true) }
+    {
+        let acknowledged = self.endpoint.open_messages() == 0;
+        let ticked = self.endpoint.on_tick(alloc, now)?;
+        let none_left = self.endpoint.open_messages() == 0;
+        if is_over(now, acknowledged, none_left, &self.waiting) {
+            self.waiting = None;
+            return Ok(Step {
+                out: ticked.out,
+                notes: StepNotes::quiet().with_result(ClientResult::TimedOut),
+            });
+        }
+        Ok(Step::sending(ticked.out))
+    }
+
+    /// Starts again: forgets its context, what it waits for and what was heard, and keeps its grant and the way to the server. Takes no
+    /// memory.
+    pub fn restart(&mut self)
+        ensures kind { ClientStep false (core self.old) quiet (core self.new) }
+        ensures restarted { self.new ≡ restarted self.old }
+    {
+        self.context = None;
+        self.waiting = None;
+        self.endpoint.clear();
+    }
+}

@@ -1,0 +1,16 @@
+//! A client: exchanges at authz-info (RFC 9203), and protected requests (RFC 8613). One event in, its step out. What it sends in
+//! each, and keeps after it, stands in `specs/Sending.antt`.
+#![tactic(auto)]
+
+mod answering;
+mod asking;
+mod case;
+mod client;
+mod exchanging;
+mod sending;
+mod waiting;
+
+pub use answering::Outcome;
+pub use case::Case;
+pub use client::Client;
+pub use waiting::{Awaited, OpenAsk, Waiting};

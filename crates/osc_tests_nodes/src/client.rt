@@ -1,0 +1,262 @@
+//! A client and a server, each by the datagrams of the other.
+use osc_authz::{ClientDesk, ServerDesk};
+use osc_ccm::Ccm;
+use osc_client::Client;
+use osc_model::{
+    Bytes, ClientResult, Code, Draw, ETags, Method, Moment, Path, Peer, Request, Step,
+};
+use osc_scope::Scope;
+use osc_server::Server;
+use osc_token::{Audience, Claims, InputMaterial, MintError, mint};
+use osc_tree::Tree;
+use std::alloc::{AllocError, Global};
+use std::process::Abort;
+use std::test::*;
+
+const SERVER: Peer = Peer {
+    address: [127, 0, 0, 1],
+    port: 5683,
+};
+
+const CLIENT: Peer = Peer {
+    address: [127, 0, 0, 1],
+    port: 7001,
+};
+
+/// The key that the server shares with the issuer of tokens.
+const KEY: [u8; 16] = *b"@ABCDEFGHIJKLMNO";
+
+const SECRET: [u8; 16] = [1; 16];
+
+fn material(alloc: Global) -> Result<InputMaterial, AllocError> {
+    Ok(InputMaterial {
+        id: Bytes::from_slice(alloc, &[1])?,
+        secret: Bytes::from_slice(alloc, &SECRET)?,
+        salt: Bytes::new(alloc),
+        id_context: None,
+    })
+}
+
+/// GET and POST on `/log`.
+fn claims(alloc: Global) -> Result<Claims, AllocError> {
+    let audience = Audience::new(alloc, "s")?;
+    let material = material(alloc)?;
+    Ok(Claims {
+        audience,
+        not_before: None,
+        expires: None,
+        material,
+        scope: Bytes::from_slice(alloc, b"\x81\x82\x64/log\x03")?,
+    })
+}
+
+fn token(alloc: Global) -> Result<Bytes, AllocError> {
+    let claims = claims(alloc)?;
+    let mut token = Vec::new(alloc);
+    let minted = mint::<Ccm<8>>(alloc, &claims, &KEY, &[1; 13], &mut token);
+    drop(claims);
+    match minted {
+        Err(MintError::Memory) => Err(AllocError),
+        _ => Ok(Bytes::from_vec(token)),
+    }
+}
+
+/// A client that was granted the token.
+fn client(alloc: Global) -> Result<Client, Fail> {
+    let secret = Bytes::from_slice(alloc, &SECRET)?;
+    let desk = ClientDesk::new(token(alloc)?, secret, Bytes::new(alloc), None)
+        .ok()
+        .ok_or("not granted")?;
+    Ok(Client::new(alloc, desk, SERVER)?)
+}
+
+/// A server without resources and contexts.
+fn server(alloc: Global) -> Result<Server, AllocError> {
+    let desk = ServerDesk::new(alloc, KEY, Audience::new(alloc, "s")?);
+    Server::new(alloc, Tree::new(alloc), desk, Scope::new(alloc))
+}
+
+/// A request on `/log`.
+fn request(alloc: Global, method: Method, payload: &[u8]) -> Result<Request, AllocError> {
+    Ok(Request {
+        code: method.code(),
+        path: Path::from_text(alloc, b"/log")?,
+        format: None,
+        accept: None,
+        if_match: ETags::new(alloc),
+        if_none_match: false,
+        payload: Bytes::from_slice(alloc, payload)?,
+    })
+}
+
+/// A draw of this byte alone.
+fn drawn(byte: u8) -> Draw {
+    Draw([byte; 32])
+}
+
+/// The bytes of the one datagram that is sent, or no bytes.
+fn sent(alloc: Global, step: Step) -> Vec<u8> {
+    let bytes = match step.out.as_slice() {
+        [sent] => Vec::from_slice(alloc, sent.bytes.as_slice()).unwrap_or(Vec::new(alloc)),
+        _ => Vec::new(alloc),
+    };
+    drop(step);
+    bytes
+}
+
+/// What the server sends for the client's datagram.
+fn served(alloc: Global, server: &mut Server, datagram: &[u8]) -> Vec<u8> {
+    match server.on_datagram::<Ccm<8>>(alloc, Moment::START, CLIENT, datagram, &drawn(9)) {
+        Ok(step) => sent(alloc, step),
+        Err(_) => Vec::new(alloc),
+    }
+}
+
+/// What the client sends to begin an exchange.
+fn begun(alloc: Global, client: &mut Client, byte: u8) -> Vec<u8> {
+    match client.exchange(alloc, Moment::START, &drawn(byte)) {
+        Ok(step) => sent(alloc, step),
+        Err(_) => Vec::new(alloc),
+    }
+}
+
+/// What the client sends to ask.
+fn asked(alloc: Global, client: &mut Client, request: &Request, byte: u8) -> Vec<u8> {
+    match client.ask::<Ccm<8>>(alloc, Moment::START, request, &drawn(byte)) {
+        Ok(step) => sent(alloc, step),
+        Err(_) => Vec::new(alloc),
+    }
+}
+
+/// How a step at the client went on, in one byte: 0 for nothing, 1 for a context, 2 and more by the class of an answer that opened
+/// or didn't, 200 for silence, and the number of a refusal behind 100.
+fn result_in(step: Step) -> u8 {
+    let told = match step.notes.result() {
+        None => 0,
+        Some(ClientResult::Made) => 1,
+        Some(ClientResult::Answer(reply)) => reply.code.0,
+        Some(ClientResult::Unverified(code)) => code.0 / 32,
+        Some(ClientResult::TimedOut) => 200,
+        Some(ClientResult::Refused(number)) => (*number % 100) + 100,
+    };
+    drop(step);
+    told
+}
+
+/// How the server's datagram goes on at the client.
+fn heard(alloc: Global, client: &mut Client, datagram: &[u8]) -> u8 {
+    match client.on_datagram::<Ccm<8>>(alloc, Moment::START, SERVER, datagram) {
+        Ok(step) => result_in(step),
+        Err(_) => 255,
+    }
+}
+
+/// How a tick at this moment in ms goes on.
+fn ticked(alloc: Global, client: &mut Client, ms: u64) -> u8 {
+    match client.on_tick(alloc, Moment::new(ms).unwrap_or(Moment::START)) {
+        Ok(step) => result_in(step),
+        Err(_) => 255,
+    }
+}
+
+/// How an ask that isn't sent goes on.
+fn hindered(alloc: Global, client: &mut Client, request: &Request) -> u8 {
+    match client.ask::<Ccm<8>>(alloc, Moment::START, request, &drawn(7)) {
+        Ok(step) => result_in(step),
+        Err(_) => 255,
+    }
+}
+
+/// The client gets a context.
+fn exchanges(rt: &impl Abort, alloc: Global, client: &mut Client, server: &mut Server) {
+    let post = begun(alloc, client, 1);
+    let answer = served(alloc, server, &post);
+    assert!(rt; heard(alloc, client, &answer) == 1);
+    assert!(rt; heard(alloc, client, &answer) == 0);
+}
+
+/// A request is answered once, and its answer isn't taken again.
+fn asks(
+    rt: &impl Abort,
+    alloc: Global,
+    client: &mut Client,
+    server: &mut Server,
+    request: &Request,
+    byte: u8,
+    code: Code,
+) {
+    let protected = asked(alloc, client, request, byte);
+    assert!(rt; hindered(alloc, client, request) == 117);
+    let answer = served(alloc, server, &protected);
+    assert!(rt; heard(alloc, client, &answer) == code.0);
+    assert!(rt; heard(alloc, client, &answer) == 0);
+}
+
+fn serves_a_client(
+    rt: &impl Abort,
+    alloc: Global,
+    client: &mut Client,
+    server: &mut Server,
+) -> Result<(), Fail> {
+    let post = request(alloc, Method::Post, b"a")?;
+    let get = request(alloc, Method::Get, b"")?;
+    let put = request(alloc, Method::Put, b"b")?;
+    assert!(rt; hindered(alloc, client, &post) == 122);
+    exchanges(rt, alloc, client, server);
+    asks(rt, alloc, client, server, &post, 2, Code::CREATED);
+    asks(rt, alloc, client, server, &get, 3, Code::CONTENT);
+    asks(rt, alloc, client, server, &put, 4, Code::METHOD_NOT_ALLOWED);
+    assert!(rt; server.tree().len() == 1);
+    drop(post);
+    drop(get);
+    drop(put);
+    Ok(())
+}
+
+#[test]
+fn an_exchange_and_three_requests(rt: HostRuntime) -> Result<(), Fail> {
+    let mut client = client(rt.alloc())?;
+    let mut server = server(rt.alloc())?;
+    let served = serves_a_client(&rt, rt.alloc(), &mut client, &mut server);
+    drop(server);
+    drop(client);
+    served
+}
+
+/// What nobody answers is sent five times, and given up; a restart forgets it, and a Reset ends it.
+fn waits_in_vain(rt: &impl Abort, alloc: Global, client: &mut Client) {
+    let post = begun(alloc, client, 0);
+    assert!(rt; post.starts_with(b"\x48\x02\0\0"));
+    for ms in [1_999, 2_000, 6_000, 14_000, 30_000, 61_999] {
+        assert!(rt; ticked(alloc, client, ms) == 0);
+    }
+    assert!(rt; ticked(alloc, client, 62_000) == 200);
+    assert!(rt; begun(alloc, client, 0).starts_with(b"\x48\x02\0\x01"));
+    client.restart();
+    assert!(rt; begun(alloc, client, 0).starts_with(b"\x48\x02\0\0"));
+    assert!(rt; heard(alloc, client, b"\x70\0\0\x01") == 0);
+    assert!(rt; begun(alloc, client, 0).is_empty());
+    let step = client.on_datagram::<Ccm<8>>(alloc, Moment::START, SERVER, b"\x70\0\0\0");
+    assert!(rt; matches_reset(step));
+    assert!(rt; begun(alloc, client, 0).starts_with(b"\x48\x02\0\x01"));
+}
+
+/// Whether the step ends what waits as code 0.00.
+fn matches_reset(step: Result<Step, AllocError>) -> bool {
+    match step {
+        Ok(step) => {
+            let is_reset = step.notes.result() == Some(&ClientResult::Unverified(Code(0)));
+            drop(step);
+            is_reset
+        }
+        Err(_) => false,
+    }
+}
+
+#[test]
+fn an_exchange_that_nobody_answers(rt: HostRuntime) -> Result<(), Fail> {
+    let mut client = client(rt.alloc())?;
+    waits_in_vain(&rt, rt.alloc(), &mut client);
+    drop(client);
+    Ok(())
+}
