@@ -1,3 +1,5 @@
+mod WordLemmas
+mod ColumnTables
 pub mod FieldLaws
 pub mod Inverses
 pub mod Schedule

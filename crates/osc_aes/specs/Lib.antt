@@ -2,3 +2,4 @@ pub mod Field
 pub mod SubBytes
 pub mod KeyExpansion
 pub mod Cipher
+pub mod Columns

@@ -1,86 +1,115 @@
-//! The rounds of the cipher (FIPS 197, section 5.1), each step as the standard has it. The state is a block: byte `i`
-//! stands in row `i % 4` and column `i / 4`.
-ghost use Rattle.std.specs.Prelude.{◌≡◌, ◌+◌, ◌*◌, ◌≤◌, ◌<◌, [], ◌∷◌, map};
-ghost use Rattle.osc_aes.specs.Cipher.{sub_bytes, shift_rows, mixed, mix_columns, add_round_key, cipher};
+//! The rounds of the cipher (FIPS 197, section 5.1). The state is four columns, each a word of 32 bits whose byte in
+//! row 0 is the most significant. A column of the next state is the sum of four entries of the tables of columns and a
+//! word of the key schedule.
+ghost use Rattle.std.specs.Prelude.{◌≡◌, ◌≤◌, [], ◌∷◌, map};
+ghost use Rattle.std.specs.Int.{w32, to_be_bytes};
+ghost use Rattle.osc_aes.specs.SubBytes.{sub_byte};
+ghost use Rattle.osc_aes.specs.Cipher.{sub_bytes, shift_rows, mixed, mix_columns, add_round_key, rounds, cipher};
+ghost use Rattle.osc_aes.specs.Columns.{bytes_of, diagonal};
 
-use crate::field::times_x;
+use crate::columns::{column_0, column_1, column_2, column_3};
 use crate::key_expansion::Words;
 use crate::sub_bytes::sub_byte;
+use crate::words::{bytes_of, words_of};
 
-type State = [u8; 16];
+type State = [u32; 4];
 
-/// Substitutes each byte (section 5.1.1).
-fn sub_bytes(state: &mut State)
-    ensures { state.new ≡ sub_bytes state.old }
+/// SubBytes, ShiftRows and MixColumns for one column of the next state: its byte in row r is made of that row's byte in
+/// the r-th of these columns (sections 5.1.1 to 5.1.3).
+fn mixed_column(a: u32, b: u32, c: u32, d: u32) -> u32
+    ensures { to_be_bytes w32 result ≡ map (λ r. mixed (map sub_byte (diagonal a b c d)) r 0) (0 ∷ 1 ∷ 2 ∷ 3 ∷ []) }
 {
-    'bytes: for i in 0..16 {
-        state[i] = sub_byte(state[i]);
-    }
+    column_0(a.to_be_bytes()[0])
+        ^ column_1(b.to_be_bytes()[1])
+        ^ column_2(c.to_be_bytes()[2])
+        ^ column_3(d.to_be_bytes()[3])
 }
 
-/// Turns row r left by r (section 5.1.2).
-#[tactic(auto, unfolding(crate::specs::Cipher::shift_rows))]
-fn shift_rows(state: &mut State)
-    ensures { state.new ≡ shift_rows state.old }
+/// SubBytes and ShiftRows for one column of the next state (sections 5.1.1 and 5.1.2).
+fn shifted_column(a: u32, b: u32, c: u32, d: u32) -> u32
+    ensures { to_be_bytes w32 result ≡ map sub_byte (diagonal a b c d) }
 {
-    let s = *state;
-    *state = [
-        s[0], s[5], s[10], s[15], s[4], s[9], s[14], s[3], s[8], s[13], s[2], s[7], s[12], s[1],
-        s[6], s[11],
-    ];
-}
-
-/// One column multiplied by the matrix (section 5.1.3).
-fn mix_column(a: u8, b: u8, c: u8, d: u8) -> [u8; 4]
-    ensures { result ≡ map (λ r. mixed (a ∷ b ∷ c ∷ d ∷ []) r 0) (0 ∷ 1 ∷ 2 ∷ 3 ∷ []) }
-{
-    let (xa, xb, xc, xd) = (times_x(a), times_x(b), times_x(c), times_x(d));
-    [
-        xa ^ (b ^ xb) ^ c ^ d,
-        a ^ xb ^ (c ^ xc) ^ d,
-        a ^ b ^ xc ^ (d ^ xd),
-        (a ^ xa) ^ b ^ c ^ xd,
-    ]
-}
-
-/// Multiplies each column by the matrix (section 5.1.3).
-#[tactic(auto, unfolding(crate::specs::Cipher::mix_columns))]
-fn mix_columns(state: &mut State)
-    ensures { state.new ≡ mix_columns state.old }
-{
-    let s = *state;
-    let [a0, a1, a2, a3] = mix_column(s[0], s[1], s[2], s[3]);
-    let [b0, b1, b2, b3] = mix_column(s[4], s[5], s[6], s[7]);
-    let [c0, c1, c2, c3] = mix_column(s[8], s[9], s[10], s[11]);
-    let [d0, d1, d2, d3] = mix_column(s[12], s[13], s[14], s[15]);
-    *state = [
-        a0, a1, a2, a3, b0, b1, b2, b3, c0, c1, c2, c3, d0, d1, d2, d3,
-    ];
+    u32::from_be_bytes([
+        sub_byte(a.to_be_bytes()[0]),
+        sub_byte(b.to_be_bytes()[1]),
+        sub_byte(c.to_be_bytes()[2]),
+        sub_byte(d.to_be_bytes()[3]),
+    ])
 }
 
 /// Adds the words `4 * round` to `4 * round + 3`, one to each column (section 5.1.4).
-fn add_round_key(state: &mut State, words: &Words, round: usize)
+fn add_round_key(state: State, words: &Words, round: usize) -> State
     requires { round ≤ 10 }
-    ensures { state.new ≡ add_round_key state.old words.now round }
+    ensures { bytes_of result ≡ add_round_key (bytes_of state) (bytes_of words.now) round }
 {
-    'bytes: for i in 0..16 {
-        state[i] ^= words[16 * round + i];
-    }
+    let [a, b, c, d] = state;
+    let at = 4 * round;
+    [
+        a ^ words[at],
+        b ^ words[at + 1],
+        c ^ words[at + 2],
+        d ^ words[at + 3],
+    ]
+}
+
+/// SubBytes, ShiftRows and MixColumns.
+fn mixed_columns(state: State) -> State
+    ensures { bytes_of result ≡ mix_columns (shift_rows (sub_bytes (bytes_of state))) }
+{
+    let [a, b, c, d] = state;
+    [
+        mixed_column(a, b, c, d),
+        mixed_column(b, c, d, a),
+        mixed_column(c, d, a, b),
+        mixed_column(d, a, b, c),
+    ]
+}
+
+/// SubBytes and ShiftRows.
+#[tactic(auto, unfolding(crate::specs::Columns::bytes_of, crate::specs::Cipher::shift_rows, crate::specs::Cipher::sub_bytes))]
+fn shifted_columns(state: State) -> State
+    ensures { bytes_of result ≡ shift_rows (sub_bytes (bytes_of state)) }
+{
+    let [a, b, c, d] = state;
+    [
+        shifted_column(a, b, c, d),
+        shifted_column(b, c, d, a),
+        shifted_column(c, d, a, b),
+        shifted_column(d, a, b, c),
+    ]
+}
+
+/// A round before the last.
+fn round(state: State, words: &Words, round: usize) -> State
+    requires { round ≤ 10 }
+    ensures { bytes_of result ≡ add_round_key (mix_columns (shift_rows (sub_bytes (bytes_of state)))) (bytes_of words.now) round }
+{
+    add_round_key(mixed_columns(state), words, round)
+}
+
+/// The state after nine rounds. They stand one by one and not in a loop, so that the compiler keeps the columns in
+/// registers of their own.
+#[tactic(auto, unfolding(crate::specs::Cipher::rounds))]
+fn nine_rounds(block: [u8; 16], words: &Words) -> State
+    ensures { bytes_of result ≡ rounds block (bytes_of words.now) 9 }
+{
+    let state = add_round_key(words_of(block), words, 0);
+    let state = round(state, words, 1);
+    let state = round(state, words, 2);
+    let state = round(state, words, 3);
+    let state = round(state, words, 4);
+    let state = round(state, words, 5);
+    let state = round(state, words, 6);
+    let state = round(state, words, 7);
+    let state = round(state, words, 8);
+    round(state, words, 9)
 }
 
 /// Ten rounds over the words of the key schedule, the last without MixColumns (section 5.1).
-#[tactic(auto, unfolding(crate::specs::Cipher::cipher, crate::specs::Cipher::rounds))]
-pub(crate) fn cipher(state: &mut State, words: &Words)
-    ensures { state.new ≡ cipher state.old words.now }
+#[tactic(auto, unfolding(crate::specs::Cipher::cipher))]
+pub(crate) fn cipher(block: [u8; 16], words: &Words) -> [u8; 16]
+    ensures { result ≡ cipher block (bytes_of words.now) }
 {
-    add_round_key(state, words, 0);
-    'rounds: for round in 1..10 {
-        sub_bytes(state);
-        shift_rows(state);
-        mix_columns(state);
-        add_round_key(state, words, round);
-    }
-    sub_bytes(state);
-    shift_rows(state);
-    add_round_key(state, words, 10);
+    let state = nine_rounds(block, words);
+    bytes_of(add_round_key(shifted_columns(state), words, 10))
 }

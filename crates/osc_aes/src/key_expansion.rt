@@ -1,13 +1,14 @@
 //! The key schedule (FIPS 197, section 5.2).
-ghost use Rattle.std.specs.Prelude.{◌≡◌, ◌+◌, ◌*◌, ◌≤◌, ◌<◌, ◌++◌, slice_index, take};
-ghost use Rattle.osc_aes.specs.KeyExpansion.{add_words, key_expansion, rot_word, round_constant, schedule_word, sub_word, word};
+ghost use Rattle.std.specs.Prelude.{◌≡◌, ◌+◌, ◌*◌, ◌%◌, ◌≤◌, ◌<◌, take, slice_index};
+ghost use Rattle.std.specs.Int.{w32, to_be_bytes};
+ghost use Rattle.osc_aes.specs.KeyExpansion.{add_words, key_expansion, rot_word, round_constant, sub_word, with_next};
+ghost use Rattle.osc_aes.specs.Columns.{bytes_of};
 
 use crate::sub_bytes::sub_byte;
+use crate::words::words_of;
 
-/// 44 words of four bytes each: four for each of eleven round keys.
-pub(crate) type Words = [u8; 176];
-
-type Word = [u8; 4];
+/// 44 words: four for each of eleven round keys. The first byte of a word is its most significant.
+pub(crate) type Words = [u32; 44];
 
 /// The first bytes of the round constants number 1 to 10.
 const ROUND_CONSTANTS: [u8; 10] = [0x01, 0x02, 0x04, 0x08, 0x10, 0x20, 0x40, 0x80, 0x1b, 0x36];
@@ -21,75 +22,61 @@ fn round_constant(j: usize) -> u8
     ROUND_CONSTANTS[j - 1]
 }
 
-/// The sum of two words.
-fn add_words(a: Word, b: Word) -> Word
-    ensures { result ≡ add_words a b }
-{
-    [a[0] ^ b[0], a[1] ^ b[1], a[2] ^ b[2], a[3] ^ b[3]]
-}
-
 /// A word turned left by one byte and substituted, with the round constant number `j` added.
-fn turned(word: Word, j: usize) -> Word
+fn turned(word: u32, j: usize) -> u32
     requires low { 1 ≤ j }
     requires high { j ≤ 10 }
-    ensures { result ≡ add_words (sub_word (rot_word word)) (round_constant j) }
+    ensures { to_be_bytes w32 result ≡ add_words (sub_word (rot_word (to_be_bytes w32 word))) (round_constant j) }
 {
-    let [a, b, c, d] = word;
-    [
+    let [a, b, c, d] = word.to_be_bytes();
+    u32::from_be_bytes([
         sub_byte(b) ^ round_constant(j),
         sub_byte(c),
         sub_byte(d),
         sub_byte(a),
-    ]
+    ])
 }
 
-/// Word `i` of the schedule, from the word four places before it and the word just before it.
-#[tactic(auto, unfolding(crate::specs::KeyExpansion::schedule_word))]
-fn schedule_word(i: usize, four_before: Word, before: Word) -> Word
+/// Writes word `4 * round`, which begins a round key.
+fn begin_round_key(words: &mut Words, round: usize)
+    requires low { 1 ≤ round }
+    requires high { round ≤ 10 }
+    ensures { take (4 * (4 * round + 1)) (bytes_of words.new)
+        ≡ with_next (take (4 * (4 * round)) (bytes_of words.old)) (4 * round) }
+{
+    let i = 4 * round;
+    words[i] = words[i - 4] ^ turned(words[i - 1], round);
+}
+
+/// Writes word `i`, which goes on with a round key.
+fn add_word(words: &mut Words, i: usize)
     requires low { 4 ≤ i }
     requires high { i < 44 }
-    ensures { result ≡ schedule_word i four_before before }
+    requires inner { 0 < i % 4 }
+    ensures { take (4 * (i + 1)) (bytes_of words.new) ≡ with_next (take (4 * i) (bytes_of words.old)) i }
 {
-    if i % 4 == 0 {
-        add_words(four_before, turned(before, i / 4))
-    } else {
-        add_words(four_before, before)
-    }
+    words[i] = words[i - 4] ^ words[i - 1];
 }
 
-/// Word `i` of `words`.
-fn word(words: &Words, i: usize) -> Word
-    requires { i < 44 }
-    ensures { result ≡ word words.now i }
+/// The words of the key, and zeros.
+fn key_and_zeros(key: &[u8; 16]) -> Words
+    ensures { take 16 (bytes_of result) ≡ key.now }
 {
-    let at = 4 * i;
-    [words[at], words[at + 1], words[at + 2], words[at + 3]]
-}
-
-/// Writes word `i` of `words`.
-fn put_word(words: &mut Words, i: usize, word: Word)
-    requires { i < 44 }
-    ensures { take (4 * (i + 1)) words.new ≡ take (4 * i) words.old ++ word }
-{
-    words[4 * i..4 * i + 4].copy_from_slice(&word);
-}
-
-/// Writes the first four words, which are the key's.
-fn put_key(words: &mut Words, key: &[u8; 16])
-    ensures { take 16 words.new ≡ key.now }
-{
-    words[..16].copy_from_slice(key);
+    let mut words = [0; 44];
+    words[..4].copy_from_slice(&words_of(*key));
+    words
 }
 
 /// The words of the schedule of `key`.
 pub(crate) fn key_expansion(key: &[u8; 16]) -> Words
-    ensures { result ≡ key_expansion key.now }
+    ensures { bytes_of result ≡ key_expansion key.now }
 {
-    let mut words = [0; 176];
-    put_key(&mut words, key);
-    'words: for i in 4..44 {
-        let next = schedule_word(i, word(&words, i - 4), word(&words, i - 1));
-        put_word(&mut words, i, next);
+    let mut words = key_and_zeros(key);
+    'rounds: for round in 1..11 {
+        begin_round_key(&mut words, round);
+        add_word(&mut words, 4 * round + 1);
+        add_word(&mut words, 4 * round + 2);
+        add_word(&mut words, 4 * round + 3);
     }
     words
 }

@@ -2,17 +2,19 @@
 //!
 //! `specs/` defines the cipher on lists of bytes, in the standard's terms: bytes as polynomials (`Field`), the
 //! substitution as the affine map of the inverse (`SubBytes`), the key schedule word by word (`KeyExpansion`) and the
-//! rounds on a state of rows and columns (`Cipher`). `Aes128::encrypt` gives what they define.
+//! rounds on a state of rows and columns (`Cipher`). `Aes128::encrypt` gives what they define, by tables of columns
+//! (`columns`, `Columns`).
 //!
-//! Nothing is claimed about time: the body looks bytes up in a table at places that depend on the key and on the
-//! block, so look-ups are not constant-time where a cache can show them. Nothing erases a key.
+//! Nothing is claimed about time. The bodies branch on no byte of a key or a block, but they look up tables at places
+//! that depend on both, so look-ups are not constant-time where a cache can show them. Nothing erases a key.
 #![tactic(auto)]
 
 mod cipher;
-mod field;
+pub mod columns;
 mod key_expansion;
 pub mod laws;
 mod sub_bytes;
+mod words;
 
 use cipher::cipher;
 use key_expansion::{Words, key_expansion};
@@ -27,12 +29,13 @@ pub struct Aes128 {
 impl Model for Aes128 {
     ghost use Rattle.std.specs.Prelude.{◌≡◌, ℕ, List, take};
     ghost use Rattle.osc_aes.specs.KeyExpansion.{key_expansion};
+    ghost use Rattle.osc_aes.specs.Columns.{bytes_of};
 
     ghost Value = { List ℕ };
 
-    ghost view = { λ a. take 16 a.words };
+    ghost view = { λ a. take 16 (bytes_of a.words) };
 
-    ghost invariant = { λ a. a.words ≡ key_expansion (take 16 a.words) };
+    ghost invariant = { λ a. bytes_of a.words ≡ key_expansion (take 16 (bytes_of a.words)) };
 }
 
 impl Aes128 {
@@ -52,8 +55,6 @@ impl Aes128 {
     pub fn encrypt(&self, block: [u8; 16]) -> [u8; 16]
         ensures { result ≡ encrypt_block self.now block }
     {
-        let mut state = block;
-        cipher(&mut state, &self.words);
-        state
+        cipher(block, &self.words)
     }
 }
