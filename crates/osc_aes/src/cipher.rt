@@ -105,11 +105,47 @@ fn nine_rounds(block: [u8; 16], words: &Words) -> State
     round(state, words, 9)
 }
 
+/// The last round, without MixColumns, as a block.
+fn last_round(state: State, words: &Words) -> [u8; 16]
+    ensures { result ≡ add_round_key (shift_rows (sub_bytes (bytes_of state))) (bytes_of words.now) 10 }
+{
+    bytes_of(add_round_key(shifted_columns(state), words, 10))
+}
+
 /// Ten rounds over the words of the key schedule, the last without MixColumns (section 5.1).
 #[tactic(auto, unfolding(crate::specs::Cipher::cipher))]
 pub(crate) fn cipher(block: [u8; 16], words: &Words) -> [u8; 16]
     ensures { result ≡ cipher block (bytes_of words.now) }
 {
-    let state = nine_rounds(block, words);
-    bytes_of(add_round_key(shifted_columns(state), words, 10))
+    last_round(nine_rounds(block, words), words)
+}
+
+/// The states of two blocks after nine rounds, round by round in turn: the table entries of one don't wait for those of
+/// the other.
+#[tactic(auto, unfolding(crate::specs::Cipher::rounds))]
+fn nine_rounds_of_two(one: [u8; 16], other: [u8; 16], words: &Words) -> (State, State)
+    ensures one { bytes_of result.0 ≡ rounds one (bytes_of words.now) 9 }
+    ensures other { bytes_of result.1 ≡ rounds other (bytes_of words.now) 9 }
+{
+    let (a, b) = (words_of(one), words_of(other));
+    let (a, b) = (add_round_key(a, words, 0), add_round_key(b, words, 0));
+    let (a, b) = (round(a, words, 1), round(b, words, 1));
+    let (a, b) = (round(a, words, 2), round(b, words, 2));
+    let (a, b) = (round(a, words, 3), round(b, words, 3));
+    let (a, b) = (round(a, words, 4), round(b, words, 4));
+    let (a, b) = (round(a, words, 5), round(b, words, 5));
+    let (a, b) = (round(a, words, 6), round(b, words, 6));
+    let (a, b) = (round(a, words, 7), round(b, words, 7));
+    let (a, b) = (round(a, words, 8), round(b, words, 8));
+    (round(a, words, 9), round(b, words, 9))
+}
+
+/// The ciphers of two blocks.
+#[tactic(auto, unfolding(crate::specs::Cipher::cipher))]
+pub(crate) fn cipher_two(one: [u8; 16], other: [u8; 16], words: &Words) -> ([u8; 16], [u8; 16])
+    ensures one { result.0 ≡ cipher one (bytes_of words.now) }
+    ensures other { result.1 ≡ cipher other (bytes_of words.now) }
+{
+    let (a, b) = nine_rounds_of_two(one, other, words);
+    (last_round(a, words), last_round(b, words))
 }

@@ -1,5 +1,5 @@
 -- Bytes as blocks, and blocks of a key stream.
-use Rattle.std.proofs.Common.{◌≡◌, ℕ, zero, suc, ◌+◌, ◌-◌, ◌*◌, ◌<◌, ◌≤◌, List, [], ◌∷◌, ◌++◌, length, take, drop, map, fold, min, replicate, refl, sym, ap, ◌∙◌, arith}
+use Rattle.std.proofs.Common.{◌≡◌, ℕ, zero, suc, ◌+◌, ◌-◌, ◌*◌, ◌<◌, ◌≤◌, List, [], ◌∷◌, ◌++◌, length, take, drop, map, fold, min, replicate, append-nil, refl, sym, ap, ◌∙◌, arith}
 use Rattle.std.specs.List.{range_with_len}
 use Rattle.std.proofs.lemmas.List.{length-take, take_at, drop_at, take_min, drop-replicate, drop-drop, length-drop}
 use Rattle.std.proofs.lemmas.List.Sums.{fold_push}
@@ -7,6 +7,11 @@ use Rattle.std.proofs.Math.Path.{ap₂}
 use Rattle.std.proofs.lemmas.List.FromFn.{map-range_with_len_more}
 use Rattle.osc_ccm.specs.Ccm.{xor, filled, piece, blocks, block_count, two_bytes, aad_blocks, mac_step}
 use Rattle.osc_ccm.specs.OneText.{length-xor}
+
+-- a whole block needs no zeros
+pub filled_whole : (p : List ℕ) → length p ≡ 16 → filled p ≡ p
+unfolding filled
+filled_whole p h = ap (λ n. p ++ replicate (16 - n) 0) h ∙ append-nil p
 
 -- xoring the front of a block that is filled up with zeros
 pub filled_xor : (p s : List ℕ) → length p ≤ length s → xor (take (length p) (filled p)) s ++ drop (length p) (filled p) ≡ filled (xor p s)

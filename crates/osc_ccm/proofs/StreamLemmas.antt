@@ -1,8 +1,9 @@
 -- The key stream block by block, and what is xored with it.
-use Rattle.std.proofs.Common.{◌≡◌, ℕ, zero, suc, ◌+◌, ◌-◌, ◌*◌, ◌<◌, ◌≤◌, List, [], ◌∷◌, ◌++◌, length, take, drop, append_assoc, append-nil, refl, sym, ap, ◌∙◌, arith}
+use Rattle.std.proofs.Common.{◌≡◌, ℕ, zero, suc, ◌+◌, ◌-◌, ◌*◌, ◌<◌, ◌≤◌, List, [], ◌∷◌, ◌++◌, length, take, drop, append_assoc, append-nil, min, inl, inr, refl, sym, ap, ◌∙◌, arith}
 use Rattle.std.specs.List.{range_with_len, flat_map}
 use Rattle.std.proofs.Math.Seq.{take-add}
-use Rattle.std.proofs.lemmas.List.{take_at, drop_at, take_all, drop_all, drop-drop, flat_map_more, map-id, length-append, length-take}
+use Rattle.std.proofs.lemmas.Bool.{cases_lt}
+use Rattle.std.proofs.lemmas.List.{take_at, drop_at, take_all, drop_all, drop-drop, flat_map_more, map-id, length-append, length-take, length-drop}
 use Rattle.std.proofs.lemmas.List.FromFn.{map-range_with_len_more}
 use Rattle.osc_ccm.specs.Ccm.{xor, piece, block_count, key_stream, stream_block, ciphered}
 use Rattle.osc_ccm.specs.OneText.{length-xor}
@@ -86,6 +87,28 @@ ciphered_more xs ys zs ks s m within long step so_far now =
     ∙ ap (λ l. done ++ xor (take 16 (drop m xs)) s ++ l) far
     ∙ ap (λ l. l ++ drop (m + 16) xs)
     (sym (xor-append (take m xs) (take 16 (drop m xs)) ks s same) ∙ ap (λ l. xor l (ks ++ s)) (sym (take-add m 16 xs)))
+
+-- what is not encrypted yet is as before
+pub left_same : (xs ys ks : List ℕ) (m : ℕ) → m ≤ length xs → length ks ≡ m → ys ≡ xor (take m xs) ks ++ drop m xs → drop m ys ≡ drop m xs
+left_same xs ys ks m within long so_far =
+    let done = xor (take m xs) ks in
+    let size : length done ≡ m = omega (arith, length-xor (take m xs) ks, length-take m xs) in
+    ap (drop m) so_far ∙ drop_at done (drop m xs) m size
+
+-- the piece that was encrypted last
+pub piece_after : (ys zs s : List ℕ) (m : ℕ) → m ≤ length ys → length s ≡ 16 → zs ≡ take m ys ++ xor (take 16 (drop m ys)) s ++ drop (m + 16) ys → take 16 (drop m zs) ≡ xor (take 16 (drop m ys)) s
+piece_after ys zs s m within step now =
+    let p = xor (take 16 (drop m ys)) s in
+    let front : length (take m ys) ≡ m = omega (arith, length-take m ys) in
+    let size : length p ≡ min 16 (length (drop m ys)) = omega (arith, length-xor (take 16 (drop m ys)) s, length-take 16 (drop m ys)) in
+    ap (λ l. take 16 (drop m l)) (now ∙ append_assoc (take m ys) p (drop (m + 16) ys))
+    ∙ ap (take 16) (drop_at (take m ys) (p ++ drop (m + 16) ys) m front)
+    ∙ elim (cases_lt (length (drop m ys)) 16) [
+      | inl short ↦
+          ap (λ l. take 16 (p ++ l)) (drop_all (m + 16) ys (omega (arith, length-drop m ys)))
+          ∙ ap (take 16) (append-nil p) ∙ take_all 16 p (omega arith)
+      | inr whole ↦ take_at p (drop (m + 16) ys) 16 (omega arith)
+    ]
 
 pub ciphered_all : (xs ys ks : List ℕ) (m : ℕ) → length xs ≤ m → ys ≡ xor (take m xs) ks ++ drop m xs → ys ≡ xor xs ks
 ciphered_all xs ys ks m past done =

@@ -1,9 +1,12 @@
 -- What xor of lists does to their parts.
 use Rattle.std.proofs.Common.{◌≡◌, ℕ, zero, suc, ◌+◌, ◌<◌, ◌≤◌, List, [], ◌∷◌, ◌++◌, length, get_or, set, take, drop, bit_xor, refl, sym, ap, ◌∙◌, arith, add-one, ◌↔◌}
 use Rattle.std.specs.Int.Bits.{bit_or, xor_self, xor_assoc, xor_zero_l, xor_zero_r}
-use Rattle.std.proofs.lemmas.List.{take_more, take_more_same, same_from_push}
+use Rattle.std.specs.Simd.Lanes.{put_chunk}
+use Rattle.std.proofs.lemmas.Simd.{put_chunk_whole}
+use Rattle.std.proofs.lemmas.List.{take_all, take_more, take_more_same, same_from_push}
 use Rattle.std.proofs.lemmas.Nat.{le_or_l, le_or_r}
 use Rattle.osc_ccm.specs.Ccm.{xor}
+use Rattle.osc_ccm.specs.OneText.{length-xor}
 
 pub xor-nil : (ys : List ℕ) → xor ys [] ≡ []
 xor-nil [] = refl
@@ -33,6 +36,12 @@ drop-xor zero xs ys = refl
 drop-xor (suc n) [] ys = refl
 drop-xor (suc n) (x ∷ xs) [] = sym (xor-nil (drop n xs))
 drop-xor (suc n) (x ∷ xs) (y ∷ ys) = drop-xor n xs ys
+
+-- sixteen lanes xored and stored
+pub stored : (xs ks : List ℕ) → length xs ≡ 16 → length ks ≡ 16 → put_chunk 0 xs (xor (take 16 xs) ks) ≡ xor xs ks
+stored xs ks long whole =
+    ap (λ l. put_chunk 0 xs (xor l ks)) (take_all 16 xs (omega arith))
+    ∙ put_chunk_whole xs (xor xs ks) (omega (arith, length-xor xs ks))
 
 -- a loop that xors ks into xs, byte by byte: what it reads, and its step
 pub xored_read : (xs ks : List ℕ) (i d : ℕ) → i ≤ length ks → get_or (xor (take i xs) ks ++ drop i xs) i d ≡ get_or xs i d

@@ -31,6 +31,29 @@ pub fn filled(bytes: &[u8]) -> [u8; 16]
     block
 }
 
+/// The 16 bytes at a block's place.
+fn whole(bytes: &[u8], index: usize) -> [u8; 16]
+    requires { 16 * index + 16 ≤ length bytes.now }
+    ensures { result ≡ piece bytes.now index }
+{
+    let start = 16 * index;
+    let mut block = [0; 16];
+    block.copy_from_slice(&bytes[start..start + 16]);
+    block
+}
+
+/// The bytes that go into a block, filled up with zeros.
+pub fn block_at(bytes: &[u8], index: usize) -> [u8; 16]
+    requires { 16 * index ≤ length bytes.now }
+    ensures { result ≡ filled (piece bytes.now index) }
+{
+    if bytes.len() - 16 * index < 16 {
+        filled(piece(bytes, index))
+    } else {
+        whole(bytes, index)
+    }
+}
+
 /// A byte of flags, the nonce, and a number in 2 bytes.
 pub fn flagged(flags: u8, nonce: &[u8; 13], number: usize) -> [u8; 16]
     requires { number ≤ 65535 }

@@ -1,18 +1,27 @@
 //! Authenticated encryption: the trait `Aead` with its law, and AES-CCM (RFC 3610), which meets it.
 //!
 //! `specs/Ccm.antt` defines which bytes are the CCM sealing of a text, over lists of blocks of 16
-//! bytes, and `Ccm` is proved against it block by block, in place, without memory of its own. Code
-//! generic over `Aead` knows the trait's clauses and laws alone.
+//! bytes, and `Ccm` is proved against it, in place, without an allocation. Code generic over `Aead`
+//! knows the trait's clauses and laws alone.
 //!
-//! Nothing is claimed of the time that a call takes: the comparison of tags doesn't stop at the first
-//! difference, but the block cipher may look bytes up at places that depend on the key.
+//! A block is xored as one vector of 16 lanes (`lanes`), and what is left of a text byte by byte.
+//! Sealing is one pass over the text: each step of the CBC-MAC goes beside a block of the key stream,
+//! so that the block cipher has two blocks at once. Opening is the same pass, into a buffer on the
+//! stack, for a text up to the 1,152 bytes of a datagram; only when the tag is found right is the text
+//! copied out. A longer text is gone over twice, for the tag and then for the text.
+//!
+//! Nothing is claimed of the time that a call takes: no branch depends on a byte of a key or a text
+//! but the verdict on a tag, whose comparison doesn't stop at the first difference; the block cipher
+//! looks up tables at places that depend on the key.
 #![tactic(auto)]
 
 mod aead;
 mod block;
 mod ccm;
 mod error;
+pub mod lanes;
 mod mac;
+mod pass;
 mod sealing;
 mod stream;
 

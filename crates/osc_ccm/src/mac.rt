@@ -3,16 +3,33 @@
 ghost use Rattle.std.specs.Prelude.{◌≡◌, ◌+◌, ◌*◌, ◌<◌, ◌≤◌, ◌∷◌, ◌++◌, fold, take, length};
 ghost use Rattle.osc_ccm.specs.Ccm.{xor, blocks, filled, two_bytes, ciphered, flagged, first_flags, aad_blocks, mac_step, cbc_mac, stream_block, tag_of};
 
-use crate::{block, stream};
+use crate::{block, lanes, stream};
 use osc_aes::Aes128;
 
 /// One block more under the CBC-MAC.
 fn mac_step(cipher: &Aes128, state: &mut [u8; 16], block: &[u8; 16])
     ensures { state.new ≡ mac_step cipher.now state.old block.now }
 {
-    block::xor_into(state, block);
-    let output = cipher.encrypt(*state);
+    *state = cipher.encrypt(lanes::xor(*state, *block));
+}
+
+/// One block more under the CBC-MAC, and block S_i of the key stream beside it.
+#[tactic(auto, unfolding(crate::specs::Ccm::stream_block))]
+pub fn step_and_stream(
+    cipher: &Aes128,
+    state: &mut [u8; 16],
+    block: &[u8; 16],
+    nonce: &[u8; 13],
+    index: usize,
+) -> [u8; 16]
+    requires { index ≤ 65535 }
+    ensures state { state.new ≡ mac_step cipher.now state.old block.now }
+    ensures stream { result ≡ stream_block cipher.now nonce.now index }
+{
+    let counter = block::flagged(1, nonce, index);
+    let (output, key) = cipher.encrypt_two(lanes::xor(*state, *block), counter);
     *state = output;
+    key
 }
 
 /// The blocks of some bytes under the CBC-MAC.
@@ -21,7 +38,7 @@ fn absorb(cipher: &Aes128, state: &mut [u8; 16], bytes: &[u8])
     ensures { state.new ≡ fold (mac_step cipher.now) state.old (blocks bytes.now) }
 {
     for index in 0..block::block_count(bytes.len()) {
-        let block = block::filled(block::piece(bytes, index));
+        let block = block::block_at(bytes, index);
         mac_step(cipher, state, &block);
     }
 }
@@ -77,41 +94,27 @@ fn first_flags(size: usize, aad: &[u8]) -> u8
     }
 }
 
-/// The CBC-MAC over the first block and the associated data.
-fn begin(cipher: &Aes128, size: usize, nonce: &[u8; 13], aad: &[u8], text_length: usize) -> [u8; 16]
-    requires low { 2 ≤ size }
-    requires high { size ≤ 16 }
-    requires aad { length aad.now ≤ 65279 }
-    requires text { text_length ≤ 65535 }
-    ensures { result ≡ cbc_mac cipher.now
-        (flagged (first_flags size aad.now) nonce.now text_length ∷ aad_blocks aad.now) }
-{
-    let mut state = [0; 16];
-    let first = block::flagged(first_flags(size, aad), nonce, text_length);
-    mac_step(cipher, &mut state, &first);
-    absorb_aad(cipher, &mut state, aad);
-    state
-}
-
-/// A block that begins with the tag of a text.
-#[tactic(auto, unfolding(crate::specs::Ccm::tag_of))]
-pub fn tag_of_text(
+/// The CBC-MAC over the first block and the associated data, and S_0, with which it is encrypted in the end.
+pub fn begin(
     cipher: &Aes128,
     size: usize,
     nonce: &[u8; 13],
     aad: &[u8],
-    text: &[u8],
-) -> [u8; 16]
+    text_length: usize,
+) -> ([u8; 16], [u8; 16])
     requires low { 2 ≤ size }
     requires high { size ≤ 16 }
     requires aad { length aad.now ≤ 65279 }
-    requires text { length text.now ≤ 65535 }
-    ensures { take size result ≡ tag_of cipher.now size nonce.now aad.now text.now }
+    requires text { text_length ≤ 65535 }
+    ensures state { result.0 ≡ cbc_mac cipher.now
+        (flagged (first_flags size aad.now) nonce.now text_length ∷ aad_blocks aad.now) }
+    ensures mask { result.1 ≡ stream_block cipher.now nonce.now 0 }
 {
-    let mut state = begin(cipher, size, nonce, aad, text.len());
-    absorb(cipher, &mut state, text);
-    block::xor_into(&mut state, &stream::stream_block(cipher, nonce, 0));
-    state
+    let mut state = [0; 16];
+    let first = block::flagged(first_flags(size, aad), nonce, text_length);
+    let mask = step_and_stream(cipher, &mut state, &first, nonce, 0);
+    absorb_aad(cipher, &mut state, aad);
+    (state, mask)
 }
 
 /// A block that begins with the tag of the text that a ciphertext stands for.
@@ -131,8 +134,7 @@ pub fn tag_of_ciphertext(
         ≡ tag_of cipher.now size nonce.now aad.now (ciphered cipher.now nonce.now bytes.now) }
     ensures whole { length (ciphered cipher.now nonce.now bytes.now) ≡ length bytes.now }
 {
-    let mut state = begin(cipher, size, nonce, aad, bytes.len());
+    let (mut state, mask) = begin(cipher, size, nonce, aad, bytes.len());
     absorb_ciphered(cipher, &mut state, nonce, bytes);
-    block::xor_into(&mut state, &stream::stream_block(cipher, nonce, 0));
-    state
+    lanes::xor(state, mask)
 }

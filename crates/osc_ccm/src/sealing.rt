@@ -6,8 +6,12 @@ ghost use Rattle.osc_ccm.specs.Ccm.{IsSealing, ciphered, sealing};
 
 use crate::aead::{AAD_LIMIT, TEXT_LIMIT};
 use crate::error::{OpenError, SealError};
-use crate::{block, mac, stream};
+use crate::{block, mac, pass, stream};
 use osc_aes::Aes128;
+
+/// The most bytes of a text that is opened in one pass, by a buffer on the stack: those of a datagram (RFC 7252 section
+/// 4.6).
+const BUFFERED: usize = 1152;
 
 /// Writes the bytes, encrypted or decrypted, to the beginning of `out`.
 fn write_ciphered(cipher: &Aes128, nonce: &[u8; 13], bytes: &[u8], out: &mut [u8])
@@ -38,8 +42,9 @@ fn write_sealed(
         ≡ sealing cipher.now size nonce.now aad.now text.now ++ drop (length text.now + size) out.old }
     ensures whole { length (sealing cipher.now size nonce.now aad.now text.now) ≡ length text.now + size }
 {
-    let block = mac::tag_of_text(cipher, size, nonce, aad, text);
-    write_ciphered(cipher, nonce, text, out);
+    let part = &mut out[..text.len()];
+    part.copy_from_slice(text);
+    let block = pass::seal_in_place(cipher, size, nonce, aad, part);
     out[text.len()..text.len() + size].copy_from_slice(&block[..size]);
 }
 
@@ -74,24 +79,129 @@ pub fn seal(
     Ok(length)
 }
 
+/// Whether the sealed bytes from `start` on are the beginning of a block, as a tag is.
+fn ends_with(sealed: &[u8], start: usize, size: usize, block: &[u8; 16]) -> bool
+    requires low { 2 ≤ size }
+    requires high { size ≤ 16 }
+    requires whole { start + size ≡ length sealed.now }
+    ensures { IsTrue result ↔ (drop start sealed.now ≡ take size block.now) }
+{
+    block::is_same(&sealed[start..], &block[..size])
+}
+
 /// Whether the bytes are the sealing of the text that they decrypt to.
 fn is_genuine(cipher: &Aes128, size: usize, nonce: &[u8; 13], aad: &[u8], sealed: &[u8]) -> bool
     requires low { 2 ≤ size }
     requires high { size ≤ 16 }
+    requires long { size ≤ length sealed.now }
     requires range { IsInRange (length sealed.now - size) (length aad.now) }
     ensures { IsTrue result
         ↔ IsSealing cipher.now size nonce.now aad.now
         (ciphered cipher.now nonce.now (take (length sealed.now - size) sealed.now)) sealed.now }
 {
+    let length = sealed.len() - size;
+    let block = mac::tag_of_ciphertext(cipher, size, nonce, aad, &sealed[..length]);
+    ends_with(sealed, length, size, &block)
+}
+
+/// Writes the text of sealed bytes to the beginning of `out`, if they are the sealing of one: goes over them once to find
+/// whether they are, and once more to decrypt them.
+fn open_in_two_passes(
+    cipher: &Aes128,
+    size: usize,
+    nonce: &[u8; 13],
+    aad: &[u8],
+    sealed: &[u8],
+    out: &mut [u8],
+) -> bool
+    requires low { 2 ≤ size }
+    requires high { size ≤ 16 }
+    requires long { size ≤ length sealed.now }
+    requires range { IsInRange (length sealed.now - size) (length aad.now) }
+    requires room { length sealed.now - size ≤ length out.old }
+    ensures genuine { IsTrue result
+        ↔ IsSealing cipher.now size nonce.now aad.now
+        (ciphered cipher.now nonce.now (take (length sealed.now - size) sealed.now)) sealed.now }
+    ensures written { IsTrue result → out.new
+        ≡ ciphered cipher.now nonce.now (take (length sealed.now - size) sealed.now)
+        ++ drop (length sealed.now - size) out.old }
+    ensures refused { ¬ IsTrue result → out.new ≡ out.old }
+{
+    let length = sealed.len() - size;
+    if !is_genuine(cipher, size, nonce, aad, sealed) {
+        return false;
+    }
+    write_ciphered(cipher, nonce, &sealed[..length], out);
+    true
+}
+
+/// Writes the text of sealed bytes to the beginning of `out`, if they are the sealing of one. It is decrypted into a
+/// buffer of this call's own, in one pass, and copied from there.
+fn open_in_one_pass(
+    cipher: &Aes128,
+    size: usize,
+    nonce: &[u8; 13],
+    aad: &[u8],
+    sealed: &[u8],
+    out: &mut [u8],
+) -> bool
+    requires low { 2 ≤ size }
+    requires high { size ≤ 16 }
+    requires long { size ≤ length sealed.now }
+    requires short { length sealed.now - size ≤ BUFFERED }
+    requires range { IsInRange (length sealed.now - size) (length aad.now) }
+    requires room { length sealed.now - size ≤ length out.old }
+    ensures genuine { IsTrue result
+        ↔ IsSealing cipher.now size nonce.now aad.now
+        (ciphered cipher.now nonce.now (take (length sealed.now - size) sealed.now)) sealed.now }
+    ensures written { IsTrue result → out.new
+        ≡ ciphered cipher.now nonce.now (take (length sealed.now - size) sealed.now)
+        ++ drop (length sealed.now - size) out.old }
+    ensures refused { ¬ IsTrue result → out.new ≡ out.old }
+{
+    let length = sealed.len() - size;
+    let mut buffer = [0; BUFFERED];
+    let text = &mut buffer[..length];
+    text.copy_from_slice(&sealed[..length]);
+    let block = pass::open_in_place(cipher, size, nonce, aad, text);
+    if !ends_with(sealed, length, size, &block) {
+        return false;
+    }
+    out[..length].copy_from_slice(text);
+    true
+}
+
+/// Writes the text of sealed bytes to the beginning of `out`, if they are the sealing of one.
+fn open_text(
+    cipher: &Aes128,
+    size: usize,
+    nonce: &[u8; 13],
+    aad: &[u8],
+    sealed: &[u8],
+    out: &mut [u8],
+) -> bool
+    requires low { 2 ≤ size }
+    requires high { size ≤ 16 }
+    requires range { IsInRange (length sealed.now - size) (length aad.now) }
+    requires room { length sealed.now - size ≤ length out.old }
+    ensures genuine { IsTrue result
+        ↔ IsSealing cipher.now size nonce.now aad.now
+        (ciphered cipher.now nonce.now (take (length sealed.now - size) sealed.now)) sealed.now }
+    ensures written { IsTrue result → out.new
+        ≡ ciphered cipher.now nonce.now (take (length sealed.now - size) sealed.now)
+        ++ drop (length sealed.now - size) out.old }
+    ensures refused { ¬ IsTrue result → out.new ≡ out.old }
+{
     if sealed.len() < size {
         return false;
     }
-    let length = sealed.len() - size;
-    let block = mac::tag_of_ciphertext(cipher, size, nonce, aad, &sealed[..length]);
-    block::is_same(&sealed[length..], &block[..size])
+    if sealed.len() - size > BUFFERED {
+        return open_in_two_passes(cipher, size, nonce, aad, sealed, out);
+    }
+    open_in_one_pass(cipher, size, nonce, aad, sealed, out)
 }
 
-/// Opens sealed bytes. Nothing is written before the tag is found right.
+/// Opens sealed bytes. Nothing is written to `out` before the tag is found right.
 pub fn open(
     cipher: &Aes128,
     size: usize,
@@ -122,9 +232,8 @@ pub fn open(
     if out.len() < length {
         return Err(OpenError::OutTooSmall);
     }
-    if !is_genuine(cipher, size, nonce, aad, sealed) {
+    if !open_text(cipher, size, nonce, aad, sealed, out) {
         return Err(OpenError::NotGenuine);
     }
-    write_ciphered(cipher, nonce, &sealed[..length], out);
     Ok(length)
 }

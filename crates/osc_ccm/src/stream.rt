@@ -3,7 +3,7 @@
 ghost use Rattle.std.specs.Prelude.{◌≡◌, ◌+◌, ◌*◌, ◌<◌, ◌≤◌, ◌++◌, length, take, drop};
 ghost use Rattle.osc_ccm.specs.Ccm.{xor, piece, filled, stream_block, ciphered};
 
-use crate::block;
+use crate::{block, lanes};
 use osc_aes::Aes128;
 
 /// Block S_i of the key stream.
@@ -15,15 +15,18 @@ pub fn stream_block(cipher: &Aes128, nonce: &[u8; 13], index: usize) -> [u8; 16]
     cipher.encrypt(block::flagged(1, nonce, index))
 }
 
-/// Xors the piece of the bytes at a block's place with a block.
-fn xor_piece(bytes: &mut [u8], index: usize, block: &[u8; 16])
+/// Xors the piece of the bytes at a block's place with a block: as lanes where it is whole, else byte by byte.
+pub fn xor_piece(bytes: &mut [u8], index: usize, block: &[u8; 16])
     requires { 16 * index ≤ length bytes.old }
     ensures { bytes.new ≡ take (16 * index) bytes.old
         ++ xor (piece bytes.old index) block.now ++ drop (16 * index + 16) bytes.old }
 {
     let start = 16 * index;
-    let count = (bytes.len() - start).min(16);
-    block::xor_into(&mut bytes[start..start + count], block);
+    if bytes.len() - start < 16 {
+        block::xor_into(&mut bytes[start..], block);
+    } else {
+        lanes::xor_into(&mut bytes[start..start + 16], *block);
+    }
 }
 
 /// Encrypts a text in place, or decrypts a ciphertext: both are xored with the key stream.

@@ -8,3 +8,7 @@ mod aes;
 mod ccm;
 #[cfg(test)]
 mod hkdf;
+#[cfg(test)]
+mod reference;
+#[cfg(test)]
+mod same;

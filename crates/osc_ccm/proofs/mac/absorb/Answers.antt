@@ -10,7 +10,7 @@ loop-index-preserved c =
     let state = c.loop-index.state in
     mac_more key c.args.state.now state c.mac_step.new.state (λ i. filled (piece c.args.bytes.now i)) c.loop-index.index
     c.loop-index.invariant
-    (c.mac_step.ensures ∙ ap (mac_step key state) (c.filled-block.ensures ∙ ap filled c.piece.ensures))
+    (c.mac_step.ensures ∙ ap (mac_step key state) (c.block_at-block.ensures))
 
 pub returns : goal.returns
 unfolding blocks
