@@ -1,6 +1,6 @@
 //! Authentication: the CBC-MAC and the tag (RFC 3610 section 2.2).
 
-ghost use Rattle.std.specs.Prelude.{◌≡◌, ◌+◌, ◌*◌, ◌<◌, ◌≤◌, ◌∷◌, ◌++◌, fold, take, length};
+ghost use Rattle.std.specs.Prelude.{◌≡◌, ◌+◌, ◌*◌, ◌<◌, ◌≤◌, [], ◌∷◌, ◌++◌, fold, take, length};
 ghost use Rattle.osc_ccm.specs.Ccm.{xor, blocks, filled, two_bytes, ciphered, flagged, first_flags, aad_blocks, mac_step, cbc_mac, stream_block, tag_of};
 
 use crate::{block, lanes, stream};
@@ -80,6 +80,25 @@ fn absorb_aad(cipher: &Aes128, state: &mut [u8; 16], aad: &[u8])
     }
 }
 
+/// The blocks of the associated data under the CBC-MAC, and S_1, which is made beside the first of them.
+fn absorb_aad_and_stream(
+    cipher: &Aes128,
+    state: &mut [u8; 16],
+    nonce: &[u8; 13],
+    aad: &[u8],
+) -> [u8; 16]
+    requires { length aad.now ≤ 65279 }
+    ensures state { state.new ≡ fold (mac_step cipher.now) state.old (aad_blocks aad.now) }
+    ensures stream { result ≡ stream_block cipher.now nonce.now 1 }
+{
+    if aad.is_empty() {
+        return stream::stream_block(cipher, nonce, 1);
+    }
+    let key = step_and_stream(cipher, state, &first_of_aad(aad), nonce, 1);
+    absorb(cipher, state, &aad[aad.len().min(14)..]);
+    key
+}
+
 /// The flags of the first block.
 fn first_flags(size: usize, aad: &[u8]) -> u8
     requires low { 2 ≤ size }
@@ -94,7 +113,27 @@ fn first_flags(size: usize, aad: &[u8]) -> u8
     }
 }
 
-/// The CBC-MAC over the first block and the associated data, and S_0, with which it is encrypted in the end.
+/// The CBC-MAC over the first block, and S_0, with which the tag is encrypted in the end.
+fn first_step(
+    cipher: &Aes128,
+    size: usize,
+    nonce: &[u8; 13],
+    aad: &[u8],
+    text_length: usize,
+) -> ([u8; 16], [u8; 16])
+    requires low { 2 ≤ size }
+    requires high { size ≤ 16 }
+    requires text { text_length ≤ 65535 }
+    ensures state { result.0 ≡ cbc_mac cipher.now (flagged (first_flags size aad.now) nonce.now text_length ∷ []) }
+    ensures mask { result.1 ≡ stream_block cipher.now nonce.now 0 }
+{
+    let mut state = [0; 16];
+    let first = block::flagged(first_flags(size, aad), nonce, text_length);
+    let mask = step_and_stream(cipher, &mut state, &first, nonce, 0);
+    (state, mask)
+}
+
+/// The CBC-MAC over the first block and the associated data, and S_0.
 pub fn begin(
     cipher: &Aes128,
     size: usize,
@@ -110,11 +149,31 @@ pub fn begin(
         (flagged (first_flags size aad.now) nonce.now text_length ∷ aad_blocks aad.now) }
     ensures mask { result.1 ≡ stream_block cipher.now nonce.now 0 }
 {
-    let mut state = [0; 16];
-    let first = block::flagged(first_flags(size, aad), nonce, text_length);
-    let mask = step_and_stream(cipher, &mut state, &first, nonce, 0);
+    let (mut state, mask) = first_step(cipher, size, nonce, aad, text_length);
     absorb_aad(cipher, &mut state, aad);
     (state, mask)
+}
+
+/// The CBC-MAC over the first block and the associated data, then S_0 and S_1.
+pub fn begin_and_stream(
+    cipher: &Aes128,
+    size: usize,
+    nonce: &[u8; 13],
+    aad: &[u8],
+    text_length: usize,
+) -> ([u8; 16], [u8; 16], [u8; 16])
+    requires low { 2 ≤ size }
+    requires high { size ≤ 16 }
+    requires aad { length aad.now ≤ 65279 }
+    requires text { text_length ≤ 65535 }
+    ensures state { result.0 ≡ cbc_mac cipher.now
+        (flagged (first_flags size aad.now) nonce.now text_length ∷ aad_blocks aad.now) }
+    ensures mask { result.1 ≡ stream_block cipher.now nonce.now 0 }
+    ensures stream { result.2 ≡ stream_block cipher.now nonce.now 1 }
+{
+    let (mut state, mask) = first_step(cipher, size, nonce, aad, text_length);
+    let key = absorb_aad_and_stream(cipher, &mut state, nonce, aad);
+    (state, mask, key)
 }
 
 /// A block that begins with the tag of the text that a ciphertext stands for.

@@ -20,15 +20,22 @@ fn encrypt_and_absorb(cipher: &Aes128, state: &mut [u8; 16], nonce: &[u8; 13], b
     }
 }
 
-/// Decrypts a ciphertext in place, and takes the blocks of its text under the CBC-MAC, each beside the key stream of the
-/// next.
-fn decrypt_and_absorb(cipher: &Aes128, state: &mut [u8; 16], nonce: &[u8; 13], bytes: &mut [u8])
-    requires { length bytes.old ≤ 65535 }
+/// Decrypts a ciphertext in place by the key stream, which begins with `first_key`, and takes the blocks of its text under
+/// the CBC-MAC, each beside the key stream of the next.
+fn decrypt_and_absorb(
+    cipher: &Aes128,
+    state: &mut [u8; 16],
+    nonce: &[u8; 13],
+    first_key: [u8; 16],
+    bytes: &mut [u8],
+)
+    requires key { first_key ≡ stream_block cipher.now nonce.now 1 }
+    requires short { length bytes.old ≤ 65535 }
     ensures state { state.new
         ≡ fold (mac_step cipher.now) state.old (blocks (ciphered cipher.now nonce.now bytes.old)) }
     ensures bytes { bytes.new ≡ ciphered cipher.now nonce.now bytes.old }
 {
-    let mut key = stream::stream_block(cipher, nonce, 1);
+    let mut key = first_key;
     for index in 0..block::block_count(bytes.len()) {
         stream::xor_piece(bytes, index, &key);
         let block = block::block_at(bytes, index);
@@ -74,7 +81,7 @@ pub fn open_in_place(
         ≡ tag_of cipher.now size nonce.now aad.now (ciphered cipher.now nonce.now bytes.old) }
     ensures bytes { bytes.new ≡ ciphered cipher.now nonce.now bytes.old }
 {
-    let (mut state, mask) = mac::begin(cipher, size, nonce, aad, bytes.len());
-    decrypt_and_absorb(cipher, &mut state, nonce, bytes);
+    let (mut state, mask, key) = mac::begin_and_stream(cipher, size, nonce, aad, bytes.len());
+    decrypt_and_absorb(cipher, &mut state, nonce, key, bytes);
     lanes::xor(state, mask)
 }

@@ -9,7 +9,7 @@ pub loop-index-init : goal.loop-index-init
 loop-index-init c = record {
   absorbed = refl;
   done = refl;
-  next = c.stream_block-key.ensures;
+  next = c.requires.key;
   whole = search rules;
   streamed = length-key_stream_none c.args.cipher.now c.args.nonce.now;
 }
