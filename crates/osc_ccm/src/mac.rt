@@ -7,7 +7,7 @@ use crate::{block, lanes, stream};
 use osc_aes::Aes128;
 
 /// One block more under the CBC-MAC.
-fn mac_step(cipher: &Aes128, state: &mut [u8; 16], block: &[u8; 16])
+pub fn mac_step(cipher: &Aes128, state: &mut [u8; 16], block: &[u8; 16])
     ensures { state.new ≡ mac_step cipher.now state.old block.now }
 {
     *state = cipher.encrypt(lanes::xor(*state, *block));

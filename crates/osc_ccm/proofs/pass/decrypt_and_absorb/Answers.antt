@@ -9,7 +9,7 @@ pub loop-index-init : goal.loop-index-init
 loop-index-init c = record {
   absorbed = refl;
   done = refl;
-  next = c.requires.key;
+  next = λ _. c.requires.key;
   whole = search rules;
   streamed = length-key_stream_none c.args.cipher.now c.args.nonce.now;
 }
@@ -29,21 +29,21 @@ loop-index-preserved c =
     let below : i < block_count (length xs) = omega arith in
     let long : 16 * i ≤ length ys = omega arith in
     let step : length s ≡ 16 = so_far.whole in
-    let one : length (stream_block key nonce (i + 1)) ≡ 16 = sym (ap length so_far.next) ∙ step in
+    let one : length (stream_block key nonce (i + 1)) ≡ 16 = sym (ap length (so_far.next below)) ∙ step in
     let next : 16 * (i + 1) ≡ 16 * i + 16 = omega arith in
-    let grown : ks ++ s ≡ key_stream key nonce (i + 1) = ap (λ l. ks ++ l) so_far.next ∙ sym (key_stream_more key nonce i) in
+    let grown : ks ++ s ≡ key_stream key nonce (i + 1) = ap (λ l. ks ++ l) (so_far.next below) ∙ sym (key_stream_more key nonce i) in
     let plain : piece zs i ≡ piece (ciphered key nonce xs) i =
     piece_after ys zs s (16 * i) long step c.xor_piece.ensures
     ∙ ap (λ l. xor (take 16 l) s) (left_same xs ys ks (16 * i) within so_far.streamed so_far.done)
-    ∙ ap (xor (piece xs i)) so_far.next
+    ∙ ap (xor (piece xs i)) (so_far.next below)
     ∙ sym (piece-ciphered key nonce xs i below so_far.streamed one) in
     record {
-      absorbed = mac_more key c.args.state.now c.loop-index.state c.step_and_stream-key.new.state (λ k. filled (piece (ciphered key nonce xs) k)) i so_far.absorbed
-          (c.step_and_stream-key.ensures.state ∙ ap (mac_step key c.loop-index.state) (c.block_at-block.ensures ∙ ap filled plain));
+      absorbed = mac_more key c.args.state.now c.loop-index.state c.step_towards-key.new.state (λ k. filled (piece (ciphered key nonce xs) k)) i so_far.absorbed
+          (c.step_towards-key.ensures.state ∙ ap (mac_step key c.loop-index.state) (c.block_at-block.ensures ∙ ap filled plain));
       done = ciphered_more xs ys zs ks s (16 * i) within so_far.streamed step so_far.done c.xor_piece.ensures
           ∙ ap (λ l. xor (take (16 * i + 16) xs) l ++ drop (16 * i + 16) xs) grown
           ∙ ap (λ n. xor (take n xs) (key_stream key nonce (i + 1)) ++ drop n xs) (sym next);
-      next = c.step_and_stream-key.ensures.stream ∙ ap (stream_block key nonce) (omega arith);
+      next = λ more. c.step_towards-key.ensures.stream (omega arith) ∙ ap (stream_block key nonce) (omega arith);
       whole = search rules;
       streamed = length-key_stream_more key nonce i so_far.streamed one;
     }
