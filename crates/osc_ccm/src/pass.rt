@@ -20,8 +20,9 @@ fn encrypt_and_absorb(cipher: &Aes128, state: &mut [u8; 16], nonce: &[u8; 13], b
     }
 }
 
-/// One block more under the CBC-MAC, number `index` of `count`, and beside it the key stream of the next one, if any.
-fn step_towards(
+/// One block more under the CBC-MAC, number `index` of `count`, and beside it the key stream of the next one. After the
+/// last one the answer is any block.
+fn step_and_next(
     cipher: &Aes128,
     state: &mut [u8; 16],
     block: &[u8; 16],
@@ -61,7 +62,7 @@ fn decrypt_and_absorb(
     for index in 0..count {
         stream::xor_piece(bytes, index, &key);
         let block = block::block_at(bytes, index);
-        key = step_towards(cipher, state, &block, nonce, index, count);
+        key = step_and_next(cipher, state, &block, nonce, index, count);
     }
 }
 

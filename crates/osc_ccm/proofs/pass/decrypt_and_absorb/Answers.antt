@@ -38,12 +38,12 @@ loop-index-preserved c =
     ∙ ap (xor (piece xs i)) (so_far.next below)
     ∙ sym (piece-ciphered key nonce xs i below so_far.streamed one) in
     record {
-      absorbed = mac_more key c.args.state.now c.loop-index.state c.step_towards-key.new.state (λ k. filled (piece (ciphered key nonce xs) k)) i so_far.absorbed
-          (c.step_towards-key.ensures.state ∙ ap (mac_step key c.loop-index.state) (c.block_at-block.ensures ∙ ap filled plain));
+      absorbed = mac_more key c.args.state.now c.loop-index.state c.step_and_next-key.new.state (λ k. filled (piece (ciphered key nonce xs) k)) i so_far.absorbed
+          (c.step_and_next-key.ensures.state ∙ ap (mac_step key c.loop-index.state) (c.block_at-block.ensures ∙ ap filled plain));
       done = ciphered_more xs ys zs ks s (16 * i) within so_far.streamed step so_far.done c.xor_piece.ensures
           ∙ ap (λ l. xor (take (16 * i + 16) xs) l ++ drop (16 * i + 16) xs) grown
           ∙ ap (λ n. xor (take n xs) (key_stream key nonce (i + 1)) ++ drop n xs) (sym next);
-      next = λ more. c.step_towards-key.ensures.stream (omega arith) ∙ ap (stream_block key nonce) (omega arith);
+      next = λ more. c.step_and_next-key.ensures.stream (omega arith) ∙ ap (stream_block key nonce) (omega arith);
       whole = search rules;
       streamed = length-key_stream_more key nonce i so_far.streamed one;
     }
