@@ -413,6 +413,16 @@ static void block_row(const char *name, rounds_run run) {
     end_row(0, ns);
 }
 
+/* A row for sealing and one for opening, of the i-th length. */
+static void both_rows(const char *seals, cipher_run seal, const char *opens, cipher_run open, const uint8_t *text, const uint8_t *sealed, size_t i) {
+    double ns = cipher_ns(seal, text, LENGTHS[i], LENGTHS[i]);
+    cipher_row(seals, LENGTHS[i], ns);
+    end_row(1 + 2 * i, ns);
+    ns = cipher_ns(open, sealed, LENGTHS[i] + 8, LENGTHS[i]);
+    cipher_row(opens, LENGTHS[i], ns);
+    end_row(2 + 2 * i, ns);
+}
+
 static uint64_t encrypt(uint64_t rounds) { return osc_bench_encrypt(rounds); }
 
 static int ciphers(void) {
@@ -432,23 +442,13 @@ static int ciphers(void) {
             fprintf(stderr, "bench: a text was not sealed or not opened\n");
             return 1;
         }
-        double ns = cipher_ns(osc_bench_seal, text, length, length);
-        cipher_row("Ccm<8>::seal", length, ns);
-        end_row(1 + 2 * i, ns);
-        ns = cipher_ns(osc_bench_open, sealed, length + 8, length);
-        cipher_row("Ccm<8>::open", length, ns);
-        end_row(2 + 2 * i, ns);
+        both_rows("Ccm<8>::seal", osc_bench_seal, "Ccm<8>::open", osc_bench_open, text, sealed, i);
 #ifdef WITH_MBEDTLS
         if (mbedtls_open(sealed, length + 8, out, sizeof out, 1) != 1) {
             fprintf(stderr, "bench: mbedTLS does not open what was sealed\n");
             return 1;
         }
-        ns = cipher_ns(mbedtls_seal, text, length, length);
-        cipher_row("mbedTLS CCM seal", length, ns);
-        end_row(1 + 2 * i, ns);
-        ns = cipher_ns(mbedtls_open, sealed, length + 8, length);
-        cipher_row("mbedTLS CCM open", length, ns);
-        end_row(2 + 2 * i, ns);
+        both_rows("mbedTLS CCM seal", mbedtls_seal, "mbedTLS CCM open", mbedtls_open, text, sealed, i);
 #endif
     }
     return 0;
