@@ -1,5 +1,6 @@
 pub mod Own
 pub mod Outcomes
 pub mod Reading
+pub mod Sent
 pub mod StepKinds
 pub mod Ticking

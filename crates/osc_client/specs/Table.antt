@@ -41,6 +41,12 @@ abbrev pub sent_to : Peer → Option Message → List Datagram
 sent_to peer None = []
 sent_to peer (Some message) = datagram peer message ∷ []
 
+-- one datagram at most, to this peer
+abbrev pub SendsOne : Peer → List Datagram → Type 0
+SendsOne peer [] = Unit {0}
+SendsOne peer (sent ∷ []) = sent.to ≡ peer
+SendsOne peer (sent ∷ next ∷ later) = ⊥
+
 -- an empty message settles what it names; a Reset ends it, as code 0.00
 abbrev pub Settles : Bool → State → Moment → Peer → Kind → ℕ → Step → State → Type 0
 Settles false old now from kind id step new =

@@ -12,7 +12,7 @@ ghost use Rattle.osc_message.specs.declared.heard.Heard.TheVariants as heard;
 ghost use Rattle.osc_message.specs.declared.received.Received.{Received as AnyReceived};
 ghost use Rattle.osc_model.specs.Step.{sends};
 ghost use Rattle.osc_client.specs.Case.{case_of as case_in, counts as counts_of, is_ended as is_ended_of};
-ghost use Rattle.osc_client.specs.Table.{Answers, Counts, Settles, again, refusal as refusal_of};
+ghost use Rattle.osc_client.specs.Table.{Answers, Counts, SendsOne, Settles, again, refusal as refusal_of};
 ghost use Rattle.osc_message.specs.Ticks.{acts};
 ghost use Rattle.osc_run.specs.ClientKinds.{ClientStep};
 ghost use Rattle.osc_client.specs.State.{core};
@@ -236,6 +236,7 @@ impl Client {
     ) -> Result<Step, AllocError>
         ensures answered { IfOk result (λ step. (received : AnyReceived) × Receives bytes.now received
             × Answers A.is_sealing self.old now from (case_in self.old.next_hop from self.old.waiting (heard_as self.old.endpoint.seen now from received)) step self.new) }
+        ensures sent { IfOk result (λ step. SendsOne from step.out) }
         ensures kind { IfOk result (λ step. ClientStep false (core self.old) step.notes (core self.new)) }
         ensures err { OnErr result (self.new ≡ self.old) }
     {

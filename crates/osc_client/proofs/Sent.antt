@@ -1,0 +1,48 @@
+-- What a client sends for a datagram: one at most, to whom that came from.
+use Rattle.std.proofs.Common.{◌≡◌, sym, ap, ℕ, Bool, true, false, List, [], ◌∷◌, Option, Some, None, refl, subst}
+use Rattle.osc_model.specs.declared.bytes.Bytes.{Bytes}
+use Rattle.osc_model.specs.declared.node.Moment.{Moment}
+use Rattle.osc_model.specs.declared.node.Peer.{Peer}
+use Rattle.osc_model.specs.declared.step.Datagram.{Datagram}
+use Rattle.osc_model.specs.declared.step.Step.{Step}
+use Rattle.osc_coap.specs.Message.{Message}
+use Rattle.osc_coap.specs.declared.kind.Kind.{Kind}
+use Rattle.osc_message.specs.Heard.{noted_reply}
+use Rattle.osc_message.specs.Sending.{acknowledgement, reset}
+use Rattle.osc_client.specs.Case.{is_ended}
+use Rattle.osc_client.specs.Sending.{datagram}
+use Rattle.osc_client.specs.State.{State}
+use Rattle.osc_client.specs.Table.{Answers, SendsOne, Settles, again, refusal, sent_to}
+use Rattle.osc_client.specs.declared.case.Case.{Case}
+use Rattle.osc_client.specs.declared.case.Case.TheVariants.{Ignored, Reset, Repeated, Empty, Refused, Rejected, Dropped, Counted}
+
+sent_by : (from : Peer) (step : Step) (out : List Datagram) → step.out ≡ out → SendsOne from out → SendsOne from step.out
+sent_by from step out is one = subst (SendsOne from) (sym is) one
+
+again_one : (from : Peer) (bytes : Option Bytes) → SendsOne from (again from bytes)
+again_one from None = tt
+again_one from (Some bytes) = refl
+
+sent_one : (from : Peer) (message : Option Message) → SendsOne from (sent_to from message)
+sent_one from None = tt
+sent_one from (Some message) = refl
+
+settled_one : (ends : Bool) (old : State) (now : Moment) (from : Peer) (kind : Kind) (id : ℕ) (step : Step) (new : State)
+    → Settles ends old now from kind id step new → SendsOne from step.out
+settled_one false old now from kind id step new settled = sent_by from step [] (ap (λ (s : Step). s.out) settled.0) tt
+settled_one true old now from kind id step new settled = sent_by from step [] (ap (λ (s : Step). s.out) settled.0) tt
+
+pub one_is_sent : (is_sealing : List ℕ → List ℕ → List ℕ → List ℕ → List ℕ → Type 0) (old : State) (now : Moment) (from : Peer) (case : Case) (step : Step) (new : State)
+    → Answers is_sealing old now from case step new → SendsOne from step.out
+one_is_sent is_sealing old now from Ignored step new answers = sent_by from step [] (ap (λ (s : Step). s.out) answers.0) tt
+one_is_sent is_sealing old now from (Reset id) step new answers = sent_by from step (datagram from (reset id) ∷ []) (ap (λ (s : Step). s.out) answers.0) refl
+one_is_sent is_sealing old now from (Repeated id) step new answers =
+    sent_by from step (again from (noted_reply old.endpoint.seen now from id)) (ap (λ (s : Step). s.out) answers.0) (again_one from (noted_reply old.endpoint.seen now from id))
+one_is_sent is_sealing old now from (Empty kind id) step new answers = settled_one (is_ended old.next_hop from kind id old.waiting) old now from kind id step new answers
+one_is_sent is_sealing old now from (Refused message) step new answers =
+    sent_by from step (datagram from (refusal message) ∷ []) (ap (λ (s : Step). s.out) answers.0) refl
+one_is_sent is_sealing old now from (Rejected message) step new answers =
+    sent_by from step (datagram from (reset message.id) ∷ []) (ap (λ (s : Step). s.out) answers.0) refl
+one_is_sent is_sealing old now from (Dropped message) step new answers = sent_by from step [] (ap (λ (s : Step). s.out) answers.0) tt
+one_is_sent is_sealing old now from (Counted message) step new answers =
+    sent_by from step (sent_to from (acknowledgement message)) (ap (λ (s : Step). s.out) answers.told) (sent_one from (acknowledgement message))
