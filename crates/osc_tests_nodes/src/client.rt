@@ -1,10 +1,10 @@
 //! A client and a server, each by the datagrams of the other.
+ghost use Rattle.std.specs.Prelude.{◌≡◌, ◌<◌, IfOk};
+
 use osc_authz::{ClientDesk, ServerDesk};
 use osc_ccm::Ccm;
 use osc_client::Client;
-use osc_model::{
-    Bytes, ClientResult, Code, Draw, ETags, Method, Moment, Path, Peer, Request, Step,
-};
+use osc_model::{Bytes, ClientResult, Code, Draw, ETags, Moment, Path, Peer, Request, Step};
 use osc_scope::Scope;
 use osc_server::Server;
 use osc_token::{Audience, Claims, InputMaterial, MintError, mint};
@@ -76,10 +76,12 @@ fn server(alloc: Global) -> Result<Server, AllocError> {
     Server::new(alloc, Tree::new(alloc), desk, Scope::new(alloc))
 }
 
-/// A request on `/log`.
-fn request(alloc: Global, method: Method, payload: &[u8]) -> Result<Request, AllocError> {
+/// A request of this code on `/log`.
+fn request(alloc: Global, code: u8, payload: &[u8]) -> Result<Request, AllocError>
+    ensures { IfOk result (λ request. request.code.0 ≡ code) }
+{
     Ok(Request {
-        code: method.code(),
+        code: Code(code),
         path: Path::from_text(alloc, b"/log")?,
         format: None,
         accept: None,
@@ -121,7 +123,9 @@ fn begun(alloc: Global, client: &mut Client, byte: u8) -> Vec<u8> {
 }
 
 /// What the client sends to ask.
-fn asked(alloc: Global, client: &mut Client, request: &Request, byte: u8) -> Vec<u8> {
+fn asked(alloc: Global, client: &mut Client, request: &Request, byte: u8) -> Vec<u8>
+    requires { 0 < request.now.code.0 }
+{
     match client.ask::<Ccm<8>>(alloc, Moment::START, request, &drawn(byte)) {
         Ok(step) => sent(alloc, step),
         Err(_) => Vec::new(alloc),
@@ -160,7 +164,9 @@ fn ticked(alloc: Global, client: &mut Client, ms: u64) -> u8 {
 }
 
 /// How an ask that isn't sent goes on.
-fn hindered(alloc: Global, client: &mut Client, request: &Request) -> u8 {
+fn hindered(alloc: Global, client: &mut Client, request: &Request) -> u8
+    requires { 0 < request.now.code.0 }
+{
     match client.ask::<Ccm<8>>(alloc, Moment::START, request, &drawn(7)) {
         Ok(step) => result_in(step),
         Err(_) => 255,
@@ -184,7 +190,9 @@ fn asks(
     request: &Request,
     byte: u8,
     code: Code,
-) {
+)
+    requires { 0 < request.now.code.0 }
+{
     let protected = asked(alloc, client, request, byte);
     assert!(rt; hindered(alloc, client, request) == 117);
     let answer = served(alloc, server, &protected);
@@ -198,9 +206,9 @@ fn serves_a_client(
     client: &mut Client,
     server: &mut Server,
 ) -> Result<(), Fail> {
-    let post = request(alloc, Method::Post, b"a")?;
-    let get = request(alloc, Method::Get, b"")?;
-    let put = request(alloc, Method::Put, b"b")?;
+    let post = request(alloc, 2, b"a")?;
+    let get = request(alloc, 1, b"")?;
+    let put = request(alloc, 3, b"b")?;
     assert!(rt; hindered(alloc, client, &post) == 122);
     exchanges(rt, alloc, client, server);
     asks(rt, alloc, client, server, &post, 2, Code::CREATED);
