@@ -54,7 +54,7 @@ pub fn mint<A: Aead>(
     if claims_len(claims) > CLAIMS_LIMIT {
         return Err(MintError::TooLong);
     }
-    let text = text_of(alloc, claims)?;
+    let text = claims_text(alloc, claims)?;
     let object = seal::<A>(alloc, key, iv, &text)?;
     Ok(write0(alloc, object, out)?)
 }
@@ -78,8 +78,9 @@ fn seal<A: Aead>(
     }
 }
 
-/// The text of claims.
-fn text_of(alloc: Global, claims: &Claims) -> Result<Vec<u8>, AllocError>
+/// The text of claims, which is sealed into their token: the map of them (RFC 8392 section 3). Claims and fields that aren't there,
+/// and an empty salt, are left out.
+pub fn claims_text(alloc: Global, claims: &Claims) -> Result<Vec<u8>, AllocError>
     ensures { IfOk result (λ text. text.items ≡ spelling (claims_item claims.now)) }
 {
     let item = item_of(alloc, claims)?;
