@@ -1,3 +1,4 @@
+pub mod Few
 pub mod Idle
 pub mod Limits
 pub mod Peers

@@ -9,7 +9,7 @@ ghost use Rattle.osc_message.specs.Confirmables.{Sent as AnySent, Open as AnyOpe
 ghost use Rattle.osc_message.specs.Limits.{IsWithinLimits};
 ghost use Rattle.osc_message.specs.Received.{Receives};
 ghost use Rattle.osc_message.specs.Schedule.{done_over, done_among, schedule, is_sending};
-ghost use Rattle.osc_message.specs.Ticks.{outstanding_due, dues, dues_of, after, ticked};
+ghost use Rattle.osc_message.specs.Ticks.{outstanding_due, dues, dues_of, after, ticked, tick_sends};
 ghost use Rattle.osc_message.specs.declared.received.Received.{Received as AnyReceived};
 
 use osc_coap::laws::{one_message, one_spelling};
@@ -39,6 +39,11 @@ pub fn ticks()
         → ticked now (front ++ message ∷ back) ≡ filter_map (after now) (dues now (front ++ message ∷ back) [] front)
         ++ (option_to_list (after now (message, outstanding_due now message sent))
         ++ filter_map (after now) (dues now (front ++ message ∷ back) (front ++ message ∷ []) back)) }
+{}
+
+/// A tick sends at most as many datagrams as there are open messages.
+pub fn ticks_send_few()
+    ensures { (now : AnyMoment) (all : List AnyOpen) → length (tick_sends now all) ≤ length all }
 {}
 
 /// Ticks do with a message that went out, whatever stands beside it at each of them, what its first going out and its timeout

@@ -128,6 +128,14 @@ impl Datagrams {
     {
         &self.items
     }
+
+    /// The datagrams, which are not copied.
+    pub fn into_vec(self) -> Vec<Datagram>
+        ensures { result.items ≡ self }
+    {
+        let Datagrams { items } = self;
+        items
+    }
 }
 
 /// What one event at a node did, beside changing the node.

@@ -1,6 +1,6 @@
 //! The notes of a run.
 
-ghost use Rattle.std.specs.Prelude.{◌≡◌, ◌<◌, ◌≤◌, ◌-◌, ◌↔◌, [], ◌∷◌, IfOk, IsOk, IsTrue, OnOk, OnErr, map};
+ghost use Rattle.std.specs.Prelude.{◌≡◌, ◌<◌, ◌≤◌, ◌-◌, ◌↔◌, [], ◌∷◌, IfOk, IsOk, IsTrue, OnOk, OnErr, map, reverse};
 ghost use Rattle.osc_run.specs.History.{history, questions, acceptances};
 ghost use Rattle.osc_run.specs.Premise.{Premise};
 
@@ -57,6 +57,13 @@ impl Notes {
         ensures { self.new ≡ record { steps = noted ∷ self.old.steps; room = self.old.room - 1 } }
     {
         self.items.push_reserved(noted);
+    }
+
+    /// The steps, the oldest first.
+    pub fn steps(&self) -> &[Noted]
+        ensures { reverse result.now ≡ self.now.steps }
+    {
+        &self.items
     }
 
     /// The requests that were served, the oldest first. Without memory there is no list.
