@@ -1,6 +1,9 @@
-pub mod Own
+pub mod Counted
 pub mod Outcomes
+pub mod Own
 pub mod Reading
 pub mod Sent
+pub mod Skipping
 pub mod StepKinds
+pub mod Telling
 pub mod Ticking

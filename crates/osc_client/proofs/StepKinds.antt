@@ -1,5 +1,5 @@
 -- Which kind of step each is.
-use Rattle.std.proofs.Common.{◌≡◌, ap, ℕ, Bool, true, false, List, Some, None, Option, Ok, refl, subst}
+use Rattle.std.proofs.Common.{◌≡◌, ◌≤◌, ap, ℕ, Bool, true, false, List, Some, None, Option, Ok, refl, subst}
 use Rattle.osc_model.specs.Step.{sends}
 use Rattle.osc_model.specs.StepNotes.{quiet}
 use Rattle.osc_model.specs.declared.code.Code.{Code}
@@ -12,10 +12,13 @@ use Rattle.osc_model.specs.declared.step.Step.{Step}
 use Rattle.osc_coap.specs.declared.kind.Kind.{Kind}
 use Rattle.osc_authz.specs.Begun.{Begun, Made as ClientContext}
 use Rattle.osc_authz.specs.Client.{Finishes}
-use Rattle.osc_run.specs.ClientKinds.{ClientStep, ClientIdle, Ended, IsMade}
+use Rattle.osc_run.specs.ClientKinds.{ClientStep, ClientIdle, Ended, IsMade, Lied}
 use Rattle.osc_run.specs.States.{ClientState, Nothing, Exchange as OpenExchange}
 use Rattle.osc_client.specs.Bounds.{HasContext}
 use Rattle.osc_client.specs.Case.{is_ended, is_reset}
+use Rattle.osc_context.specs.Nonce.{greatest_number}
+use Rattle.osc_model.specs.declared.node.Draw.{Draw}
+use Rattle.osc_client.specs.Lying.{LiesUnder, lies}
 use Rattle.osc_client.specs.State.{State, core, outstanding}
 use Rattle.osc_client.specs.Table.{Answers, Settles}
 use Rattle.osc_client.specs.declared.case.Case.{Case}
@@ -70,3 +73,10 @@ kind_of is_sealing old now from (Counted message) step new has makes answers =
     let before : core old ≡ record { desk = old.desk; context = old.context; outstanding = outstanding old.context (Some answers.waiting) } =
     ap (λ (w : Option Waiting). record { desk = old.desk; context = old.context; outstanding = outstanding old.context w }) answers.waits in
     rw (before, answers.told, answers.kept) kind
+
+-- a lie, under the context that the client has
+pub lied : (is_sealing : List ℕ → List ℕ → List ℕ → List ℕ → List ℕ → Type 0) (tag : ℕ) (old : State) (to : Peer) (context : ClientContext) (number : ℕ) (text : List ℕ) (draw : Draw) (step : Step)
+    → old.context ≡ Some context → number ≤ greatest_number → LiesUnder is_sealing tag to context number text draw step → ClientStep true (core old) step.notes (core old)
+lied is_sealing tag old to context number text draw step held lawful (LiesUnder.too_long long told) = rw told (refusals true (core old) 14)
+lied is_sealing tag old to context number text draw step held lawful (lies protected fits sealed told) =
+    Lied refl (record { context = context; number = number; lawful = lawful; plaintext = text; noted = ap (λ (s : Step). s.notes) told; held = held; is = refl })

@@ -55,9 +55,13 @@ opened old now draw message what = record old {
   endpoint = sent old.endpoint now old.next_hop draw message;
 }
 
+-- a step that sends nothing, and tells the reason by its number
+abbrev pub refusing : ℕ → Step
+refusing number = record { out = []; notes = record quiet { result = Some (Refused number) } }
+
 -- it isn't begun, for the reason of this number, and nothing changes
 pub record IsRefused (number : ℕ) (old : State) (step : Step) (new : State) : Type 0 where
-  pub told : step ≡ record { out = []; notes = record quiet { result = Some (Refused number) } }
+  pub told : step ≡ refusing number
   pub kept : new ≡ old
 
 -- ---- an exchange (RFC 9203 section 4.1)

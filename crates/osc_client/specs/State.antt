@@ -1,5 +1,5 @@
 -- What a client keeps.
-use Rattle.std.specs.Prelude.{Option, Some, None}
+use Rattle.std.specs.Prelude.{ℕ, max, Option, Some, None, option_map}
 use Rattle.osc_model.specs.declared.node.Peer.{Peer}
 use Rattle.osc_authz.specs.Begun.{Made as ClientContext}
 use Rattle.osc_authz.specs.declared.granted.ClientDesk.{ClientDesk}
@@ -30,3 +30,10 @@ outstanding context (Some waiting) = outstanding_of context waiting.what
 -- what a run knows of it
 abbrev pub core : State → ClientState
 core state = record { desk = state.desk; context = state.context; outstanding = outstanding state.context state.waiting }
+
+-- the number that is taken next is raised to this one, where there is a context; a lower one changes nothing
+abbrev pub raised_to : ℕ → ClientContext → ClientContext
+raised_to number context = record context { next = max context.next number }
+
+abbrev pub skipped_to : ℕ → State → State
+skipped_to number state = record state { context = option_map (raised_to number) state.context }

@@ -1,8 +1,10 @@
 //! The client.
-ghost use Rattle.std.specs.Prelude.{◌≡◌, ◌≤◌, ◌<◌, [], ◌∷◌, length, false, true, None, IfOk, IfErr, OnOk, OnErr, Some};
+ghost use Rattle.std.specs.Prelude.{◌≡◌, ◌≤◌, ◌<◌, [], ◌∷◌, length, false, true, None, IfOk, IfErr, OnOk, OnErr, Some, option_map};
 ghost use Rattle.osc_coap.specs.Message.{spelling};
 ghost use Rattle.osc_model.specs.StepNotes.{quiet};
+ghost use Rattle.osc_model.specs.declared.node.Moment.{Moment as AnyMoment};
 ghost use Rattle.osc_model.specs.declared.step.ClientResult.TheVariants as result_of;
+ghost use Rattle.osc_context.specs.Nonce.{greatest_number};
 ghost use Rattle.osc_authz.specs.Begun.{Made as AnyContext};
 ghost use Rattle.osc_message.specs.Endpoint.{fresh, settled};
 ghost use Rattle.osc_message.specs.Heard.{heard as heard_as, noted_reply as noted_reply_of};
@@ -14,8 +16,10 @@ ghost use Rattle.osc_model.specs.Step.{sends};
 ghost use Rattle.osc_client.specs.Case.{case_of as case_in, counts as counts_of, is_ended as is_ended_of};
 ghost use Rattle.osc_client.specs.Table.{Answers, Counts, SendsOne, Settles, again, refusal as refusal_of};
 ghost use Rattle.osc_message.specs.Ticks.{acts};
-ghost use Rattle.osc_run.specs.ClientKinds.{ClientStep};
-ghost use Rattle.osc_client.specs.State.{core};
+ghost use Rattle.osc_run.specs.ClientKinds.{ClientStep, IsSkipped};
+ghost use Rattle.osc_client.specs.State.{core, skipped_to};
+ghost use Rattle.osc_client.specs.Lying.{Lies};
+ghost use Rattle.osc_client.specs.Told.{AreTold, SealsNothing};
 ghost use Rattle.osc_client.specs.Sending.{Asks, Exchanges, IsFree, IsHindered, Ticks, datagram, is_over_by, opened, plain_of, restarted};
 ghost use Rattle.osc_client.specs.Bounds.{AsksFor, IsLawful, IsRoomFor, NeedsContext};
 
@@ -23,6 +27,8 @@ use crate::answering::{Learnt, learn, outcome_of};
 use crate::asking::{AskRoom, Asked, fitting, protected};
 use crate::case::{Case, case_of, is_ended};
 use crate::exchanging::post_message;
+use crate::lying::lie_under;
+use crate::refusing::{BUSY, EXHAUSTED, NO_CONTEXT, TOO_LONG, refused};
 use crate::sending::{acknowledged, noted, refusal, sending, sending_bytes};
 use crate::waiting::{Awaited, Waiting};
 use osc_authz::{ClientContext, ClientDesk};
@@ -34,18 +40,6 @@ use osc_model::{ClientResult, Code, Datagrams, Draw, Moment, Peer, Request, Step
 use osc_run::kinds;
 use std::alloc::{AllocError, Global};
 use std::marker::Model;
-
-/// Something is open already (17).
-const BUSY: u8 = 17;
-
-/// There is no context (22).
-const NO_CONTEXT: u8 = 22;
-
-/// The context's numbers are used up (18).
-const EXHAUSTED: u8 = 18;
-
-/// The datagram would be longer than one may be (14).
-const TOO_LONG: u8 = 14;
 
 /// How long an acknowledged message is waited for, in ms: EXCHANGE_LIFETIME (RFC 7252 section 4.8.2).
 const LONGEST_WAIT: u64 = 247_000;
@@ -69,16 +63,6 @@ impl Model for Client {
     ghost view = { λ c. record { desk = c.desk; next_hop = c.next_hop; context = c.context; waiting = c.waiting; endpoint = c.endpoint } };
 
     ghost invariant = { λ c. KeepsOwn c.next_hop c.waiting c.endpoint.sending × HasContext c.context c.waiting × IsOfGrant c.desk c.context };
-}
-
-/// A step that isn't begun, for the reason of this number.
-fn refused(alloc: Global, number: u8) -> Step
-    ensures { result ≡ record { out = []; notes = record quiet { result = Some (result_of.Refused number) } } }
-{
-    Step {
-        out: Datagrams::new(alloc),
-        notes: StepNotes::quiet().with_result(ClientResult::Refused(number)),
-    }
 }
 
 /// Whether what waits is over, where its message was acknowledged before this tick, or none is left after it.
@@ -106,11 +90,37 @@ impl Client {
         })
     }
 
+    /// To whom it sends.
+    pub fn next_hop(&self) -> Peer
+        ensures { result ≡ self.now.next_hop }
+    {
+        self.next_hop
+    }
+
+    /// Its security context, if it has one.
+    pub fn context(&self) -> Option<&ClientContext>
+        ensures { option_map (λ context. context.now) result ≡ self.now.context }
+    {
+        self.context.as_ref()
+    }
+
+    /// Raises the number that the context takes next to this one; a lower one changes nothing, and so does any without a context.
+    /// Takes no memory.
+    pub fn skip_to(&mut self, number: u64)
+        ensures skipped { self.new ≡ skipped_to number self.old }
+        ensures kind { IsSkipped (core self.old) (core self.new) }
+    {
+        if let Some(context) = &mut self.context {
+            context.skip_to(number);
+        }
+    }
+
     /// Begins an exchange: posts the token, a drawn nonce and the recipient ID that it offers to authz-info. Refused, with nothing
     /// changed, by 17 where something is open and by 14 where the post is longer than a datagram may be.
     pub fn exchange(&mut self, alloc: Global, now: Moment, draw: &Draw) -> Result<Step, AllocError>
         ensures exchanged { IfOk result (λ step. Exchanges self.old now draw.now step self.new) }
         ensures kind { IfOk result (λ step. ClientStep false (core self.old) step.notes (core self.new)) }
+        ensures told { IfOk result (λ step. SealsNothing self.old now step) }
         ensures err { OnErr result (self.new ≡ self.old) }
     {
         kinds::exchanges_that_start();
@@ -145,6 +155,7 @@ impl Client {
         requires { 0 < request.now.code.0 }
         ensures asked { IfOk result (λ step. Asks A.is_sealing A.TAG self.old now request.now draw.now step self.new) }
         ensures kind { IfOk result (λ step. ClientStep false (core self.old) step.notes (core self.new)) }
+        ensures told { IfOk result (λ step. AreTold A.is_sealing self.old now None step) }
         ensures err { OnErr result (self.new ≡ self.old) }
     {
         let (plain, room) = match self.prepared::<A>(alloc, request, draw)? {
@@ -163,6 +174,27 @@ impl Client {
             out,
             notes: StepNotes::quiet().with_seal(note),
         })
+    }
+
+    /// Seals any text at any lawful number in the client's context, as a holder can that keeps no rule, and sends it as a protected
+    /// request to the next hop. Refused by 22 without a context, and by 14 where the datagram would be longer than one may be. The
+    /// client stays as it is: nothing waits for an answer, nothing is sent again, and no number is taken.
+    pub fn lie<A: Aead>(
+        &self,
+        alloc: Global,
+        number: u64,
+        text: &[u8],
+        draw: &Draw,
+    ) -> Result<Step, AllocError>
+        requires { number ≤ greatest_number }
+        ensures lied { IfOk result (λ step. Lies A.is_sealing A.TAG self.now number text.now draw.now step) }
+        ensures kind { IfOk result (λ step. ClientStep true (core self.now) step.notes (core self.now)) }
+        ensures told { IfOk result (λ step. (now : AnyMoment) → AreTold A.is_sealing self.now now None step) }
+    {
+        match &self.context {
+            Some(context) => lie_under::<A>(alloc, self.next_hop, context, number, text, draw),
+            None => Ok(refused(alloc, NO_CONTEXT)),
+        }
     }
 
     /// The request as a message, and room for it; or the number of what hinders it.
@@ -238,6 +270,7 @@ impl Client {
             × Answers A.is_sealing self.old now from (case_in self.old.next_hop from self.old.waiting (heard_as self.old.endpoint.seen now from received)) step self.new) }
         ensures sent { IfOk result (λ step. SendsOne from step.out) }
         ensures kind { IfOk result (λ step. ClientStep false (core self.old) step.notes (core self.new)) }
+        ensures told { IfOk result (λ step. AreTold A.is_sealing self.old now (Some bytes.now) step) }
         ensures err { OnErr result (self.new ≡ self.old) }
     {
         kinds::exchanges_that_make();
@@ -368,6 +401,7 @@ impl Client {
     pub fn on_tick(&mut self, alloc: Global, now: Moment) -> Result<Step, AllocError>
         ensures ticked { IfOk result (λ step. Ticks self.old now step self.new) }
         ensures kind { IfOk result (λ step. ClientStep false (core self.old) step.notes (core self.new)) }
+        ensures told { IfOk result (λ step. SealsNothing self.old now step) }
         ensures err { OnErr result (self.new ≡ self.old) }
         ensures needs_memory { OnErr result (acts now self.old.endpoint.sending ≡ true) }
     {

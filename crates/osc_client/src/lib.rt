@@ -7,6 +7,8 @@ mod asking;
 mod case;
 mod client;
 mod exchanging;
+mod lying;
+mod refusing;
 mod sending;
 mod waiting;
 

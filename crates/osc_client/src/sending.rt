@@ -20,12 +20,25 @@ pub(crate) fn sending_bytes(alloc: Global, to: Peer, bytes: Bytes) -> Result<Ste
     Ok(Step::sending(out))
 }
 
+/// The message's datagram.
+pub(crate) fn message_out(
+    alloc: Global,
+    to: Peer,
+    message: &MessageBuilder,
+) -> Result<Datagrams, AllocError>
+    ensures { IfOk result (λ out. out ≡ datagram to message.now ∷ []) }
+{
+    let bytes = Bytes::from_slice(alloc, message.bytes())?;
+    let mut out = Datagrams::new(alloc);
+    out.push(Datagram { to, bytes })?;
+    Ok(out)
+}
+
 /// The step that sends this message to the peer.
 pub(crate) fn sending(alloc: Global, to: Peer, message: &MessageBuilder) -> Result<Step, AllocError>
     ensures { IfOk result (λ step. step ≡ sends (datagram to message.now ∷ [])) }
 {
-    let bytes = Bytes::from_slice(alloc, message.bytes())?;
-    sending_bytes(alloc, to, bytes)
+    Ok(Step::sending(message_out(alloc, to, message)?))
 }
 
 /// 4.02 in the acknowledgement of the request.

@@ -132,6 +132,24 @@ fn asked(alloc: Global, client: &mut Client, request: &Request, byte: u8) -> Vec
     }
 }
 
+/// What the client sends where its holder seals this text at this number.
+fn lied(alloc: Global, client: &Client, number: u64, text: &[u8], byte: u8) -> Vec<u8>
+    requires { number < 1_099_511_627_776 }
+{
+    match client.lie::<Ccm<8>>(alloc, number, text, &drawn(byte)) {
+        Ok(step) => sent(alloc, step),
+        Err(_) => Vec::new(alloc),
+    }
+}
+
+/// How a lie goes on that isn't sent.
+fn refused_lie(alloc: Global, client: &Client, text: &[u8]) -> u8 {
+    match client.lie::<Ccm<8>>(alloc, 0, text, &drawn(7)) {
+        Ok(step) => result_in(step),
+        Err(_) => 255,
+    }
+}
+
 /// How a step at the client went on, in one byte: 0 for nothing, 1 for a context, 2 and more by the class of an answer that opened
 /// or didn't, 200 for silence, and the number of a refusal behind 100.
 fn result_in(step: Step) -> u8 {
@@ -226,6 +244,44 @@ fn an_exchange_and_three_requests(rt: HostRuntime) -> Result<(), Fail> {
     let mut client = client(rt.alloc())?;
     let mut server = server(rt.alloc())?;
     let served = serves_a_client(&rt, rt.alloc(), &mut client, &mut server);
+    drop(server);
+    drop(client);
+    served
+}
+
+/// What a client seals at a number that it hasn't taken yet is served, and the request that takes the number is a replay. After the
+/// greatest number there is none.
+fn lies_and_skips(
+    rt: &impl Abort,
+    alloc: Global,
+    client: &mut Client,
+    server: &mut Server,
+) -> Result<(), Fail> {
+    let post = request(alloc, 2, b"a")?;
+    assert!(rt; refused_lie(alloc, client, b"\x02") == 122);
+    exchanges(rt, alloc, client, server);
+    assert!(rt; refused_lie(alloc, client, [0; 1152].as_slice()) == 114);
+    let lie = lied(alloc, client, 0, b"\x02\xb3log\xffb", 5);
+    assert!(rt; lie.starts_with(b"\x48\x02\x05\x05\x05"));
+    let replay = asked(alloc, client, &post, 6);
+    assert!(rt; served(alloc, server, &lie).starts_with(b"\x68\x44\x05\x05\x05"));
+    assert!(rt; server.tree().len() == 1);
+    let answer = served(alloc, server, &replay);
+    assert!(rt; answer.starts_with(b"\x68\x81"));
+    assert!(rt; heard(alloc, client, &answer) == 4);
+    client.skip_to(1_099_511_627_775);
+    client.skip_to(3);
+    asks(rt, alloc, client, server, &post, 8, Code::CHANGED);
+    assert!(rt; hindered(alloc, client, &post) == 118);
+    drop(post);
+    Ok(())
+}
+
+#[test]
+fn a_lie_and_the_last_number(rt: HostRuntime) -> Result<(), Fail> {
+    let mut client = client(rt.alloc())?;
+    let mut server = server(rt.alloc())?;
+    let served = lies_and_skips(&rt, rt.alloc(), &mut client, &mut server);
     drop(server);
     drop(client);
     served

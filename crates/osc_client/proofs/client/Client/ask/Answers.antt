@@ -12,6 +12,7 @@ use Rattle.osc_model.specs.declared.step.Note.{Note}
 use Rattle.osc_protect.specs.Protection.{IsProtectedRequest, plain_bytes}
 use Rattle.osc_run.specs.ClientKinds.{request_note}
 use Rattle.osc_client.proofs.StepKinds.{refusals}
+use Rattle.osc_client.proofs.Telling.{ask_told}
 use Rattle.osc_client.proofs.client.Client.ask.Goals as goal
 
 pub returns-in-Err-clause-asked : goal.returns-in-Err-clause-asked
@@ -55,3 +56,8 @@ returns-clause-asked g c =
     ∙ ap (λ (s : State). opened (record s { context = Some c.protected-message.new.context }) c.args.now c.args.draw.now message (Ask c.protected-message.result.ask)) c.self.view_is
     ∙ ap₂ (λ (k : Made) (a : OpenAsk). opened (record c.args.self.now { context = Some k }) c.args.now c.args.draw.now message (Ask a)) taken ask in
     asks free.0 message free.1 protected told kept
+
+pub returns-clause-told : goal.returns-clause-told
+returns-clause-told g c =
+    ask_told g.A.Aead.is_sealing c.args.self.now c.args.now g.A.Aead.TAG c.args.request.now c.args.draw.now
+    (record { out = c.open-out.result; notes = c.with_seal.result }) c.open-out.new.self (returns-clause-asked g c)

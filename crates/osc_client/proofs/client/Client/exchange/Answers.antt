@@ -1,4 +1,11 @@
-use Rattle.std.proofs.Common.{false}
+use Rattle.std.proofs.Common.{◌≡◌, false, List, [], ◌∷◌, Some, ap, ap₂, subst, sym, ◌∙◌}
+use Rattle.osc_model.specs.StepNotes.{StepNotes, quiet}
+use Rattle.osc_model.specs.declared.step.Datagram.{Datagram}
+use Rattle.osc_coap.specs.Message.{Message}
+use Rattle.osc_options.specs.Split.{has_oscore}
+use Rattle.osc_client.specs.Sending.{datagram}
+use Rattle.osc_client.specs.Told.{SealsNothing}
+use Rattle.osc_client.proofs.Telling.{begins_silently}
 use Rattle.osc_client.specs.State.{core}
 use Rattle.osc_client.proofs.StepKinds.{refusals}
 use Rattle.osc_client.proofs.client.Client.exchange.Goals as goal
@@ -8,3 +15,16 @@ returns-then-is_some-clause-kind c = rw c.refused.ensures (refusals false (core 
 
 pub returns-in_default-clause-kind : goal.returns-in_default-clause-kind
 returns-in_default-clause-kind c = rw c.refused-in_default.ensures (refusals false (core c.args.self.now) 14)
+
+pub returns-clause-told : goal.returns-clause-told
+returns-clause-told c =
+    let plain : has_oscore c.in-Ok.post.options ≡ false = ap (λ (m : Message). has_oscore m.options) c.in-Ok.ensures.ok in
+    let nonce = c.nonce1-nonce.result.now in
+    let out : c.open-out.result ≡ datagram c.args.self.now.next_hop c.in-Ok.post ∷ [] = c.open-out.ensures.sent in
+    let notes : c.with_drawn.result ≡ record quiet { drawn = Some nonce } = c.with_drawn.ensures ∙ ap (λ (q : StepNotes). record q { drawn = Some nonce }) c.quiet.ensures in
+    let told : record { out = c.open-out.result; notes = c.with_drawn.result } ≡ record {
+      out = datagram c.args.self.now.next_hop c.in-Ok.post ∷ [];
+      notes = record quiet { drawn = Some nonce };
+    } = ap₂ (λ (o : List Datagram) (n : StepNotes). record { out = o; notes = n }) out notes in
+    subst (SealsNothing c.args.self.now c.args.now) (sym told)
+    (begins_silently c.args.self.now c.args.now c.args.self.now.next_hop c.in-Ok.post nonce plain)

@@ -1,8 +1,14 @@
-use Rattle.std.proofs.Common.{subst}
+use Rattle.std.proofs.Common.{◌≡◌, ◌∙◌, ap, subst}
 use Rattle.std.proofs.lemmas.Result.{IfOk-weaker}
 use Rattle.osc_client.specs.Bounds.{HasContext}
+use Rattle.osc_message.specs.Heard.{heard}
+use Rattle.osc_client.specs.Case.{case_of}
+use Rattle.osc_client.specs.State.{State}
+use Rattle.osc_client.specs.Table.{Answers}
+use Rattle.osc_client.specs.declared.case.Case.{Case}
 use Rattle.osc_client.proofs.Sent.{one_is_sent}
 use Rattle.osc_client.proofs.StepKinds.{kind_of}
+use Rattle.osc_client.proofs.Telling.{datagram_told}
 use Rattle.osc_client.proofs.client.Client.on_datagram.Goals as goal
 
 pub returns-clause-kind : goal.returns-clause-kind
@@ -16,4 +22,15 @@ pub returns-clause-sent : goal.returns-clause-sent
 returns-clause-sent g c =
     IfOk-weaker c.answer.result _ _
     (λ step answers. one_is_sent g.A.Aead.is_sealing c.args.self.now c.args.now c.args.from c.case_of-case.result step c.answer.new.self answers)
+    c.answer.ensures.answered
+
+pub returns-clause-told : goal.returns-clause-told
+returns-clause-told g c =
+    let came = c.on_datagram-heard.ensures in
+    let case : c.case_of-case.result ≡ case_of c.args.self.now.next_hop c.args.from c.args.self.now.waiting (heard c.args.self.now.endpoint.seen c.args.now c.args.from came.0) =
+    c.case_of-case.ensures.case ∙ ap (λ h. case_of c.self.inside.next_hop c.args.from c.self.inside.waiting h) came.2
+    ∙ ap (λ (s : State). case_of s.next_hop c.args.from s.waiting (heard s.endpoint.seen c.args.now c.args.from came.0)) c.self.view_is in
+    IfOk-weaker c.answer.result _ _
+    (λ step answers. datagram_told g.A.Aead.is_sealing c.args.self.now c.args.now c.args.bytes.now c.args.from came.0 step c.answer.new.self came.1
+    (subst (λ (x : Case). Answers g.A.Aead.is_sealing c.args.self.now c.args.now c.args.from x step c.answer.new.self) case answers))
     c.answer.ensures.answered

@@ -1,5 +1,12 @@
-use Rattle.std.proofs.Common.{ap, sym, subst}
+use Rattle.std.proofs.Common.{rules, ◌≡◌, Some, ap, sym, subst}
+use Rattle.osc_message.specs.Ticks.{tick_sends}
+use Rattle.osc_model.specs.Step.{sends}
+use Rattle.osc_model.specs.StepNotes.{quiet}
+use Rattle.osc_model.specs.declared.step.ClientResult.TheVariants.{TimedOut}
+use Rattle.osc_model.specs.declared.step.Step.{Step}
+use Rattle.osc_client.specs.Told.{SealsNothing}
 use Rattle.osc_client.specs.Bounds.{KeepsOwn}
+use Rattle.osc_client.proofs.Telling.{ticks_silently, times_out_silently}
 use Rattle.osc_client.proofs.Ticking.{own_after_tick}
 use Rattle.osc_client.proofs.client.Client.on_tick.Goals as goal
 
@@ -10,3 +17,14 @@ invariant_of-self-else-is_over c =
       c.self.invariant.1,
       c.self.invariant.2,
     )
+
+pub returns-then-is_over-clause-told : goal.returns-then-is_over-clause-told
+returns-then-is_over-clause-told c =
+    let step : Step = record { out = tick_sends c.args.now c.args.self.now.endpoint.sending; notes = record quiet { result = Some TimedOut } } in
+    let told : record { out = c.in_ok-ticked.ticked.out; notes = c.with_result.result } ≡ step = search rules in
+    subst (SealsNothing c.args.self.now c.args.now) (sym told) (times_out_silently c.args.self.now c.args.now)
+
+pub returns-clause-told : goal.returns-clause-told
+returns-clause-told c =
+    let told : c.sending.result ≡ sends (tick_sends c.args.now c.args.self.now.endpoint.sending) = search rules in
+    subst (SealsNothing c.args.self.now c.args.now) (sym told) (ticks_silently c.args.self.now c.args.now)

@@ -1,0 +1,259 @@
+-- The notes of a step tell of its datagrams.
+use Rattle.std.proofs.Common.{◌≡◌, ◌∙◌, ℕ, Bool, true, false, ◌++◌, if◌then◌else◌, List, [], ◌∷◌, Option, Some, None, Result, Ok, Err, refl, sym, subst, ap}
+use Rattle.std.specs.List.{All, Contains, filter_map}
+use Rattle.std.proofs.lemmas.List.Elements.{All-nil, All-cons, All-head, All-contains_itself, Contains-append_right}
+use Rattle.std.proofs.lemmas.Option.{same_Some}
+use Rattle.osc_model.specs.Step.{sends}
+use Rattle.osc_model.specs.StepNotes.{StepNotes, quiet}
+use Rattle.osc_model.specs.declared.bytes.Bytes.{Bytes}
+use Rattle.osc_model.specs.declared.context.ContextName.{ContextName}
+use Rattle.osc_model.specs.declared.node.Draw.{Draw}
+use Rattle.osc_model.specs.declared.node.Moment.{Moment}
+use Rattle.osc_model.specs.declared.node.Peer.{Peer}
+use Rattle.osc_model.specs.declared.reply.Reply.{Reply}
+use Rattle.osc_model.specs.declared.request.Request.{Request}
+use Rattle.osc_model.specs.declared.step.ClientResult.{ClientResult}
+use Rattle.osc_model.specs.declared.step.ClientResult.TheVariants as result
+use Rattle.osc_model.specs.declared.step.ClientResult.TheVariants.{Answer}
+use Rattle.osc_model.specs.declared.step.Datagram.{Datagram}
+use Rattle.osc_model.specs.declared.step.Note.{Note}
+use Rattle.osc_model.specs.declared.step.Step.{Step}
+use Rattle.osc_coap.specs.Message.{Message, Spells}
+use Rattle.osc_coap.specs.declared.kind.Kind.{Kind}
+use Rattle.osc_options.specs.Split.{has_oscore}
+use Rattle.osc_protect.specs.Protection.{IsRequestOf, plain_bytes}
+use Rattle.osc_authz.specs.Begun.{Begun, Made as ClientContext}
+use Rattle.osc_authz.specs.declared.error.FinishError.{FinishError}
+use Rattle.osc_authz.specs.declared.error.FinishError.TheVariants.{Fields, EqualIds, Memory}
+use Rattle.osc_authz.specs.declared.granted.ClientDesk.{ClientDesk}
+use Rattle.osc_message.specs.Confirmables.{Open}
+use Rattle.osc_message.specs.Heard.{heard, noted_reply}
+use Rattle.osc_message.specs.Received.{Receives}
+use Rattle.osc_message.specs.Sending.{acknowledgement, empty_acknowledgement, is_confirmable, reset}
+use Rattle.osc_message.specs.Ticks.{datagram_of, due_of, dues, tick_sends}
+use Rattle.osc_message.specs.declared.due.Due.{Due}
+use Rattle.osc_message.specs.declared.due.Due.TheVariants.{Keep, Send, GiveUp}
+use Rattle.osc_message.specs.declared.received.Received.{Received}
+use Rattle.osc_message.specs.declared.received.Received.TheVariants as received
+use Rattle.osc_run.specs.ClientKinds.{IsEnding, request_note, response_note}
+use Rattle.osc_run.specs.Texts.{IsReplyIn}
+use Rattle.osc_client.specs.Answering.{AskComes, Comes, ExchangeComes, code_of, ended_by, notes_of}
+use Rattle.osc_client.specs.Answering as comes
+use Rattle.osc_client.specs.Case.{case_of, is_ended}
+use Rattle.osc_client.specs.Lying.{LiesUnder, lies, outside_of}
+use Rattle.osc_client.specs.Lying as lying
+use Rattle.osc_client.specs.Sending.{Asks, asks, datagram, hindered, plain_of, refusing}
+use Rattle.osc_client.specs.State.{State}
+use Rattle.osc_client.specs.Table.{Answers, Counts, Settles, again, refusal, sent_to}
+use Rattle.osc_client.specs.Told.{AreTold, IsOpenOf, IsSealOf, IsToldOf, NeedsNoSeal, SealsNothing, needs_none, noted_before, open_before, sealed_now, unprotected}
+use Rattle.osc_client.specs.declared.answering.Outcome.{Outcome}
+use Rattle.osc_client.specs.declared.answering.Outcome.TheVariants as outcome
+use Rattle.osc_client.specs.declared.case.Case.{Case}
+use Rattle.osc_client.specs.declared.case.Case.TheVariants as case
+use Rattle.osc_client.specs.declared.waiting.Awaited.{Awaited}
+use Rattle.osc_client.specs.declared.waiting.Awaited.TheVariants.{Exchange, Ask}
+use Rattle.osc_client.specs.declared.waiting.OpenAsk.{OpenAsk}
+use Rattle.osc_client.proofs.Counted.{counted_came}
+
+-- ---- steps that seal nothing
+
+module _ (old : State) (now : Moment) where
+  as_silent : (step it : Step) → step ≡ it → SealsNothing old now it → SealsNothing old now step
+  as_silent step it e told = subst (SealsNothing old now) (sym e) told
+
+  none_plain : All (λ it. NeedsNoSeal old now it) []
+  none_plain = All-nil (λ it. NeedsNoSeal old now it)
+
+  one_plain : (sent : Datagram) → NeedsNoSeal old now sent → All (λ it. NeedsNoSeal old now it) (sent ∷ [])
+  one_plain sent plain = All-cons (λ it. NeedsNoSeal old now it) sent [] plain none_plain
+
+  -- it only sends
+  silent : (out : List Datagram) → All (λ it. NeedsNoSeal old now it) out → SealsNothing old now (sends out)
+  silent out plain = record { out = plain; seals = refl; opens = refl; answers = λ reply e. cc }
+
+  -- something ends so
+  silent_end : (out : List Datagram) (ending : ClientResult) → IsEnding ending → All (λ it. NeedsNoSeal old now it) out
+      → SealsNothing old now (record { out = out; notes = record quiet { result = Some ending } })
+  silent_end out ending ends plain = record { out = plain; seals = refl; opens = refl; answers = no_answer ending ends }
+    where
+      no_answer : (e : ClientResult) → IsEnding e → (reply : Reply) → Some e ≡ Some (Answer reply) → ⊥
+      no_answer e lawful reply is = subst IsEnding (same_Some e (Answer reply) is) lawful
+
+  silent_refusal : (number : ℕ) → SealsNothing old now (refusing number)
+  silent_refusal number = silent_end [] (result.Refused number) tt none_plain
+
+  silent_message : (to : Peer) (m : Message) → has_oscore m.options ≡ false → SealsNothing old now (sends (datagram to m ∷ []))
+  silent_message to m plain = silent (datagram to m ∷ []) (one_plain (datagram to m) (unprotected m refl plain))
+
+  -- an exchange begins by this message
+  pub begins_silently : (to : Peer) (m : Message) (nonce : List ℕ) → has_oscore m.options ≡ false
+      → SealsNothing old now (record { out = datagram to m ∷ []; notes = record quiet { drawn = Some nonce } })
+  begins_silently to m nonce plain = record { out = one_plain (datagram to m) (unprotected m refl plain); seals = refl; opens = refl; answers = λ reply e. cc }
+
+  tick_out : (base earlier all : List Open) → ((m : Open) → Contains all m → Contains old.endpoint.sending m)
+      → All (λ it. NeedsNoSeal old now it) (filter_map datagram_of (dues now base earlier all))
+  tick_out base earlier [] within = none_plain
+  tick_out base earlier (m ∷ all) within =
+      by (due_of now base earlier m m.sent) (tick_out base (earlier ++ m ∷ []) all (λ x has. within x (Contains-append_right (m ∷ []) all x has)))
+    where
+      rest : List Datagram
+      rest = filter_map datagram_of (dues now base (earlier ++ m ∷ []) all)
+
+      by : (due : Due) → All (λ it. NeedsNoSeal old now it) rest
+          → All (λ it. NeedsNoSeal old now it) (filter_map datagram_of ((m, due) ∷ dues now base (earlier ++ m ∷ []) all))
+      by Keep up = up
+      by Send up = All-cons (λ it. NeedsNoSeal old now it) (record { to = m.to; bytes = m.bytes }) rest (open_before m (within m (All-head (Contains (m ∷ all)) m all (All-contains_itself (m ∷ all)))) refl) up
+      by GiveUp up = up
+
+  all_out : All (λ it. NeedsNoSeal old now it) (tick_sends now old.endpoint.sending)
+  all_out = tick_out old.endpoint.sending [] old.endpoint.sending (λ m has. has)
+
+  pub ticks_silently : SealsNothing old now (sends (tick_sends now old.endpoint.sending))
+  ticks_silently = silent (tick_sends now old.endpoint.sending) all_out
+
+  pub times_out_silently : SealsNothing old now (record { out = tick_sends now old.endpoint.sending; notes = record quiet { result = Some result.TimedOut } })
+  times_out_silently = silent_end (tick_sends now old.endpoint.sending) result.TimedOut tt all_out
+
+  again_silent : (from : Peer) (id : ℕ) (reply : Option Bytes) → noted_reply old.endpoint.seen now from id ≡ reply → SealsNothing old now (sends (again from reply))
+  again_silent from id None e = silent [] none_plain
+  again_silent from id (Some bytes) e = silent ((record { to = from; bytes = bytes }) ∷ []) (one_plain (record { to = from; bytes = bytes }) (noted_before id e))
+
+  settled_silent : (from : Peer) (ends : Bool) (kind : Kind) (id : ℕ) (step : Step) (new : State) → Settles ends old now from kind id step new → SealsNothing old now step
+  settled_silent from false kind id step new it = as_silent step _ it.0 (silent [] none_plain)
+  settled_silent from true kind id step new it = as_silent step _ it.0 (silent_end [] (result.Unverified (record { 0 = 0 })) tt none_plain)
+
+  acknowledged_out : (from : Peer) (id : ℕ) (confirms : Bool) → All (λ it. NeedsNoSeal old now it) (sent_to from (if confirms then Some (empty_acknowledgement id) else None))
+  acknowledged_out from id true = one_plain (datagram from (empty_acknowledgement id)) (unprotected (empty_acknowledgement id) refl refl)
+  acknowledged_out from id false = none_plain
+
+-- ---- requests and lies
+
+module _ (is_sealing : List ℕ → List ℕ → List ℕ → List ℕ → List ℕ → Type 0) (old : State) (now : Moment) where
+  as_sent : (came : Option (List ℕ)) (step it : Step) → step ≡ it → AreTold is_sealing old now came it → AreTold is_sealing old now came step
+  as_sent came step it e told = subst (AreTold is_sealing old now came) (sym e) told
+
+  -- a step that seals nothing
+  told_of : (came : Option (List ℕ)) (step : Step) → SealsNothing old now step → AreTold is_sealing old now came step
+  told_of came step it = record {
+    out = λ k d i. needs_none (it.out k d i);
+    seals = λ note e. absurd (cc (it.seals, e));
+    opens = λ note e. absurd (cc (it.opens, e));
+    answers = λ reply e. absurd (it.answers reply e);
+  }
+
+  told_refusal : (step : Step) (number : ℕ) → step ≡ refusing number → AreTold is_sealing old now None step
+  told_refusal step number e = told_of None step (as_silent old now step _ e (silent_refusal old now number))
+
+  -- a step that seals a request
+  told_seal : (to : Peer) (text : List ℕ) (name : ContextName) (number : ℕ) (m p : Message) → IsRequestOf is_sealing text name number m p
+      → AreTold is_sealing old now None (record { out = datagram to p ∷ []; notes = record quiet { seals = Some (request_note name number text) } })
+  told_seal to text name number m p it =
+      let note = request_note name number text in
+      let notes : StepNotes = record quiet { seals = Some note } in
+      let seal : IsSealOf is_sealing note (datagram to p) = record { message = p; bytes = refl; sealed = it.sealed; payload = ap (λ (x : Message). x.payload) it.whole; is_sealed = it.is_sealed } in
+      record {
+        out = All-cons (λ sent. IsToldOf is_sealing old now notes sent) (datagram to p) [] (sealed_now note refl seal) (All-nil (λ sent. IsToldOf is_sealing old now notes sent));
+        seals = λ other e. (datagram to p, refl, subst (λ n. IsSealOf is_sealing n (datagram to p)) (same_Some note other e) seal);
+        opens = λ other e. absurd (cc);
+        answers = λ reply e. absurd (cc);
+      }
+
+  pub ask_told : (tag : ℕ) (request : Request) (draw : Draw) (step : Step) (new : State) → Asks is_sealing tag old now request draw step new → AreTold is_sealing old now None step
+  ask_told tag request draw step new (hindered number why refused) = told_refusal step number refused.told
+  ask_told tag request draw step new (asks context protected free sealed told kept) =
+      as_sent None step _ told (told_seal old.next_hop (plain_bytes (plain_of old draw request)) context.name context.next (plain_of old draw request) protected sealed)
+
+  pub under_told : (tag : ℕ) (to : Peer) (context : ClientContext) (number : ℕ) (text : List ℕ) (draw : Draw) (step : Step)
+      → LiesUnder is_sealing tag to context number text draw step → AreTold is_sealing old now None step
+  under_told tag to context number text draw step (lying.LiesUnder.too_long long told) = told_refusal step 14 told
+  under_told tag to context number text draw step (lies protected fits sealed told) = as_sent None step _ told (told_seal to text context.name number (outside_of draw) protected sealed)
+
+  -- ---- a datagram
+
+  module _ (came : List ℕ) (from : Peer) where
+    -- what an outcome's notes tell of what opened
+    record Tells (o : Outcome) : Type 0 where
+      pub seals : (notes_of o).seals ≡ None
+      pub opens : (note : Note) → (notes_of o).opens ≡ Some note → (bytes : List ℕ) × (Some came ≡ Some bytes) × IsOpenOf is_sealing note bytes
+      pub answers : (reply : Reply) → (notes_of o).result ≡ Some (Answer reply) → (note : Note) × ((notes_of o).opens ≡ Some note) × IsReplyIn note.plaintext reply
+
+    stay_tells : Tells (outcome.Stays None)
+    stay_tells = record { seals = refl; opens = λ note e. absurd (cc); answers = λ reply e. absurd (cc) }
+
+    end_tells : (ending : ClientResult) → IsEnding ending → Tells (outcome.Ends ending)
+    end_tells ending ends = record {
+      seals = refl;
+      opens = λ note e. absurd (cc);
+      answers = λ reply e. absurd (subst IsEnding (same_Some ending (Answer reply) e) ends);
+    }
+
+    finish_tells : (it : Result ClientContext FinishError) → Tells (ended_by it)
+    finish_tells (Ok made) = record { seals = refl; opens = λ note e. absurd (cc); answers = λ reply e. absurd (cc) }
+    finish_tells (Err Fields) = end_tells (result.Refused 30) tt
+    finish_tells (Err EqualIds) = end_tells (result.Refused 20) tt
+    finish_tells (Err (Memory back)) = stay_tells
+
+    exchange_tells : (begun : Begun) (message : Message) (o : Outcome) → ExchangeComes old.desk begun message o → Tells o
+    exchange_tells begun message o (comes.protected plain is) = subst Tells (sym is) stay_tells
+    exchange_tells begun message o (comes.ExchangeComes.other plain a b is) = subst Tells (sym is) stay_tells
+    exchange_tells begun message o (comes.ExchangeComes.failed plain error is) = subst Tells (sym is) (end_tells (result.Unverified (code_of message)) tt)
+    exchange_tells begun message o (comes.finished plain a b finish) = subst Tells (sym finish.is) (finish_tells finish.came)
+
+    ask_tells : (context : ClientContext) (ask : OpenAsk) (message : Message) (o : Outcome) → Spells came message → AskComes is_sealing context ask message o → Tells o
+    ask_tells context ask message o spelled (comes.AskComes.failed plain error is) = subst Tells (sym is) (end_tells (result.Unverified (code_of message)) tt)
+    ask_tells context ask message o spelled (comes.AskComes.other plain error is) = subst Tells (sym is) stay_tells
+    ask_tells context ask message o spelled (comes.malformed plain none is) = subst Tells (sym is) stay_tells
+    ask_tells context ask message o spelled (comes.not_genuine response plain says none is) = subst Tells (sym is) stay_tells
+    ask_tells context ask message o spelled (comes.no_response response text plain says sealed none is) =
+        let note = response_note context.name ask.number response.own text in
+        let opened : IsOpenOf is_sealing note came = record { message = message; spelled = spelled; sealed = response.sealed; payload = says.payload; is_sealed = sealed } in
+        subst Tells (sym is) (record {
+          seals = refl;
+          opens = λ other e. (came, refl, subst (λ n. IsOpenOf is_sealing n came) (same_Some note other e) opened);
+          answers = λ reply e. absurd (cc);
+        })
+    ask_tells context ask message o spelled (comes.answered response text reply plain says sealed reads is) =
+        let note = response_note context.name ask.number response.own text in
+        let opened : IsOpenOf is_sealing note came = record { message = message; spelled = spelled; sealed = response.sealed; payload = says.payload; is_sealed = sealed } in
+        subst Tells (sym is) (record {
+          seals = refl;
+          opens = λ other e. (came, refl, subst (λ n. IsOpenOf is_sealing n came) (same_Some note other e) opened);
+          answers = λ other e. (note, refl, let same : reply ≡ other = cc in subst (IsReplyIn text) same reads);
+        })
+
+    comes_tells : (context : Option ClientContext) (what : Awaited) (message : Message) (o : Outcome) → Spells came message → Comes is_sealing old.desk context what message o → Tells o
+    comes_tells context (Exchange begun) message o spelled it = exchange_tells begun message o it
+    comes_tells (Some context) (Ask ask) message o spelled it = ask_tells context ask message o spelled it
+    comes_tells None (Ask ask) message o spelled it = absurd it
+
+    counts_told : (message : Message) (step : Step) (new : State) → Spells came message → Counts is_sealing old now from message step new → AreTold is_sealing old now (Some came) step
+    counts_told message step new spelled it =
+        let tells = comes_tells old.context it.waiting.what message it.outcome spelled it.comes in
+        let out = acknowledged_out old now from message.id (is_confirmable message.kind) in
+        as_sent (Some came) step _ it.told (record {
+          out = λ k d i. needs_none (out k d i);
+          seals = λ note e. absurd (cc (tells.seals, e));
+          opens = tells.opens;
+          answers = tells.answers;
+        })
+
+    quietly : (step it : Step) → step ≡ it → SealsNothing old now it → AreTold is_sealing old now (Some came) step
+    quietly step it e told = told_of (Some came) step (as_silent old now step it e told)
+
+    table_told : (it : Case) (step : Step) (new : State) → ((message : Message) → it ≡ case.Counted message → Spells came message)
+        → Answers is_sealing old now from it step new → AreTold is_sealing old now (Some came) step
+    table_told case.Ignored step new spelled a = quietly step _ a.0 (silent old now [] (none_plain old now))
+    table_told (case.Reset id) step new spelled a = quietly step _ a.0 (silent_message old now from (reset id) refl)
+    table_told (case.Repeated id) step new spelled a = quietly step _ a.0 (again_silent old now from id (noted_reply old.endpoint.seen now from id) refl)
+    table_told (case.Empty kind id) step new spelled a =
+        told_of (Some came) step (settled_silent old now from (is_ended old.next_hop from kind id old.waiting) kind id step new a)
+    table_told (case.Refused message) step new spelled a = quietly step _ a.0 (silent_message old now from (refusal message) refl)
+    table_told (case.Rejected message) step new spelled a = quietly step _ a.0 (silent_message old now from (reset message.id) refl)
+    table_told (case.Dropped message) step new spelled a = quietly step _ a.0 (silent old now [] (none_plain old now))
+    table_told (case.Counted message) step new spelled a = counts_told message step new (spelled message refl) a
+
+    pub datagram_told : (it : Received) (step : Step) (new : State) → Receives came it
+        → Answers is_sealing old now from (case_of old.next_hop from old.waiting (heard old.endpoint.seen now from it)) step new → AreTold is_sealing old now (Some came) step
+    datagram_told it step new receives answers =
+        table_told (case_of old.next_hop from old.waiting (heard old.endpoint.seen now from it)) step new
+        (λ message e. (subst (Receives came) (counted_came old.next_hop from old.waiting old.endpoint.seen now it message e) receives).1) answers
