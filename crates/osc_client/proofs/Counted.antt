@@ -1,5 +1,5 @@
 -- What counts is the message that came.
-use Rattle.std.proofs.Common.{◌≡◌, ℕ, Bool, true, false, ◌&&◌, if◌then◌else◌, ◌==◌, List, Option, Some, None, refl, ap, ◌∙◌}
+use Rattle.std.proofs.Common.{◌≡◌, ℕ, Bool, true, false, ◌&&◌, if◌then◌else◌, ◌==◌, List, Option, Some, None, ap}
 use Rattle.osc_model.specs.declared.node.Moment.{Moment}
 use Rattle.osc_model.specs.declared.node.Peer.{Peer}
 use Rattle.osc_coap.specs.Code.{is_request_code}
@@ -17,8 +17,7 @@ use Rattle.osc_message.specs.declared.received.Received.{Received}
 use Rattle.osc_message.specs.declared.received.Received.TheVariants as received
 use Rattle.osc_options.specs.Recognised.{unrecognised_critical}
 use Rattle.std.specs.Prelude.{is_some}
-use Rattle.osc_client.specs.Case.{case_of, counts, message_case, unused}
-use Rattle.osc_client.specs.declared.case.Case.{Case}
+use Rattle.osc_client.specs.Case.{case_of, counts, unused}
 use Rattle.osc_client.specs.declared.case.Case.TheVariants as case
 use Rattle.osc_client.specs.declared.waiting.Waiting.{Waiting}
 

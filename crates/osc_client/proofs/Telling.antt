@@ -1,5 +1,5 @@
 -- The notes of a step tell of its datagrams.
-use Rattle.std.proofs.Common.{◌≡◌, ◌∙◌, ℕ, Bool, true, false, ◌++◌, if◌then◌else◌, List, [], ◌∷◌, Option, Some, None, Result, Ok, Err, refl, sym, subst, ap}
+use Rattle.std.proofs.Common.{◌≡◌, ℕ, Bool, true, false, ◌++◌, if◌then◌else◌, List, [], ◌∷◌, Option, Some, None, Result, Ok, Err, refl, sym, subst, ap}
 use Rattle.std.specs.List.{All, Contains, filter_map}
 use Rattle.std.proofs.lemmas.List.Elements.{All-nil, All-cons, All-head, All-contains_itself, Contains-append_right}
 use Rattle.std.proofs.lemmas.Option.{same_Some}
@@ -25,16 +25,14 @@ use Rattle.osc_protect.specs.Protection.{IsRequestOf, plain_bytes}
 use Rattle.osc_authz.specs.Begun.{Begun, Made as ClientContext}
 use Rattle.osc_authz.specs.declared.error.FinishError.{FinishError}
 use Rattle.osc_authz.specs.declared.error.FinishError.TheVariants.{Fields, EqualIds, Memory}
-use Rattle.osc_authz.specs.declared.granted.ClientDesk.{ClientDesk}
 use Rattle.osc_message.specs.Confirmables.{Open}
 use Rattle.osc_message.specs.Heard.{heard, noted_reply}
 use Rattle.osc_message.specs.Received.{Receives}
-use Rattle.osc_message.specs.Sending.{acknowledgement, empty_acknowledgement, is_confirmable, reset}
+use Rattle.osc_message.specs.Sending.{empty_acknowledgement, is_confirmable, reset}
 use Rattle.osc_message.specs.Ticks.{datagram_of, due_of, dues, tick_sends}
 use Rattle.osc_message.specs.declared.due.Due.{Due}
 use Rattle.osc_message.specs.declared.due.Due.TheVariants.{Keep, Send, GiveUp}
 use Rattle.osc_message.specs.declared.received.Received.{Received}
-use Rattle.osc_message.specs.declared.received.Received.TheVariants as received
 use Rattle.osc_run.specs.ClientKinds.{IsEnding, request_note, response_note}
 use Rattle.osc_run.specs.Texts.{IsReplyIn}
 use Rattle.osc_client.specs.Answering.{AskComes, Comes, ExchangeComes, code_of, ended_by, notes_of}
