@@ -115,6 +115,13 @@ impl Client {
         }
     }
 
+    /// How many messages of its own are open: outstanding, or waiting.
+    pub fn open_messages(&self) -> usize
+        ensures { result ≡ length self.now.endpoint.sending }
+    {
+        self.endpoint.open_messages()
+    }
+
     /// Begins an exchange: posts the token, a drawn nonce and the recipient ID that it offers to authz-info. Refused, with nothing
     /// changed, by 17 where something is open and by 14 where the post is longer than a datagram may be.
     pub fn exchange(&mut self, alloc: Global, now: Moment, draw: &Draw) -> Result<Step, AllocError>
