@@ -1,0 +1,4 @@
+pub mod Going
+pub mod Enrolling
+pub mod Sending
+pub mod Taking

@@ -1,0 +1,14 @@
+use Rattle.std.proofs.Common.{ap, ◌∙◌}
+use Rattle.osc_authz.specs.Desk.{DeskState}
+use Rattle.osc_server.specs.State.{State as Server}
+use Rattle.osc_world.specs.Nodes.{NodeStates}
+use Rattle.osc_world.proofs.Enrolling.{is_start}
+use Rattle.osc_world.proofs.start.Start.begin.Goals as goal
+
+pub begun-requires : goal.begun-requires
+begun-requires c =
+    is_start c.self.inside.minted.items c.self.inside.first c.self.inside.clients.items c.new-2.result c.self.invariant
+    (ap (λ (n : NodeStates). n.clients) c.new-2.ensures)
+    (ap (λ (n : NodeStates). n.server.tree) c.new-2.ensures ∙ ap (λ (s : Server). s.tree) c.in_ok-server.ensures ∙ c.in_ok-copy.ensures)
+    (ap (λ (n : NodeStates). n.server.desk.table) c.new-2.ensures ∙ ap (λ (s : Server). s.desk.table) c.in_ok-server.ensures
+    ∙ ap (λ (d : DeskState). d.table) c.new-desk.ensures)

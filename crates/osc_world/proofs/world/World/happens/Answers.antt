@@ -1,0 +1,22 @@
+use Rattle.std.proofs.Common.{ap, ◌∙◌, subst}
+use Rattle.osc_world.specs.Nodes.{whose_step}
+use Rattle.osc_world.specs.Steps.{Takes}
+use Rattle.osc_world.proofs.Going.{reached_after, happened}
+use Rattle.osc_world.proofs.world.World.happens.Goals as goal
+
+pub invariant_of-self-2 : goal.invariant_of-self-2
+invariant_of-self-2 g c =
+    let w = c.self.inside in
+    reached_after w.minted.items w.first w.nodes c.take.new.self w.log.steps c.reserve.new.self.steps c.keep.new.self.steps c.args.event.now.moment c.in_ok-taken.taken
+    c.in_ok-taken.ensures.step c.reserve.ensures.steps c.keep.ensures.steps c.self.invariant
+
+pub returns-clause-happens : goal.returns-clause-happens
+returns-clause-happens g c =
+    let w = c.self.inside in
+    let event = c.args.event.now in
+    let sent = ap (λ s. whose_step w.nodes s event.what) c.sent.ensures in
+    let takes = subst (λ s. Takes g.A.Aead.is_sealing g.A.Aead.TAG w.nodes c.whose-whose.result s event c.in_ok-taken.taken c.take.new.self) c.sent-2.ensures c.in_ok-taken.ensures.takes in
+    happened g.A.Aead.is_sealing g.A.Aead.TAG c.args.self.now w.minted.items w.first w.nodes c.take.new.self w.log c.reserve.new.self c.keep.new.self event c.in_ok-taken.taken
+    c.self.view_is c.reserve.ensures.sent c.reserve.ensures.steps c.reserve.ensures.records
+    (subst (λ s. Takes g.A.Aead.is_sealing g.A.Aead.TAG w.nodes s c.reserve.new.self.sent event c.in_ok-taken.taken c.take.new.self) (c.whose-whose.ensures ∙ sent) takes)
+    c.keep.ensures

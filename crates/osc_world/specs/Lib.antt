@@ -1,0 +1,6 @@
+pub mod Nodes
+pub mod Log
+pub mod Steps
+pub mod Worlds
+pub mod Claims
+pub mod Starts

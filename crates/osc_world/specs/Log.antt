@@ -1,0 +1,66 @@
+-- What is kept of a world's events.
+use Rattle.std.specs.Prelude.{◌≡◌, ℕ, ◌≤◌, true, false, List, [], ◌∷◌, ◌++◌, length, map, Option, Some, None, slice_get, slice_set}
+use Rattle.osc_model.specs.declared.node.Peer.{Peer}
+use Rattle.osc_model.specs.declared.step.Datagram.{Datagram}
+use Rattle.osc_run.specs.Notes.{Noted}
+use Rattle.osc_world.specs.declared.event.What.{What}
+use Rattle.osc_world.specs.declared.event.What.TheVariants.{Deliver}
+use Rattle.osc_world.specs.declared.log.Record.{Record}
+use Rattle.osc_world.specs.declared.log.Sent.{Sent}
+use Rattle.osc_world.specs.declared.nodes.Taken.{Taken}
+
+-- each datagram ever sent; what the steps noted, the newest first; what came of each event; and the room that was taken for more
+pub record LogState : Type 0 where
+  pub sent : List Sent
+  pub steps : List Noted
+  pub records : List Record
+  pub room_for_sent : ℕ
+  pub room_for_steps : ℕ
+  pub room_for_records : ℕ
+
+-- there is room for one event more, whose step sends so many datagrams
+pub record HasRoom (log : LogState) (datagrams : ℕ) : Type 0 where
+  pub sent : datagrams ≤ log.room_for_sent
+  pub step : 1 ≤ log.room_for_steps
+  pub event : 1 ≤ log.room_for_records
+
+-- ---- what an event adds
+
+-- the datagram of this number waits no more, if it was sent
+abbrev pub settled_at : ℕ → Option Sent → List Sent → List Sent
+settled_at number None sent = sent
+settled_at number (Some datagram) sent = slice_set sent number (record datagram { waits = false })
+
+abbrev pub settled : ℕ → List Sent → List Sent
+settled number sent = settled_at number (slice_get sent number) sent
+
+-- a datagram that is delivered waits no more
+abbrev pub delivered : What → List Sent → List Sent
+delivered (Deliver datagram) sent = settled datagram sent
+delivered what sent = sent
+
+abbrev pub sent_from : Peer → Datagram → Sent
+sent_from at datagram = record { from = at; to = datagram.to; bytes = datagram.bytes; waits = true }
+
+-- what the step sent, if one was taken
+abbrev pub sent_by : Option Taken → List Sent
+sent_by None = []
+sent_by (Some taken) = map (sent_from taken.at) taken.out
+
+abbrev pub steps_with : Option Taken → List Noted → List Noted
+steps_with None steps = steps
+steps_with (Some taken) steps = taken.noted ∷ steps
+
+-- the number of the step
+abbrev pub number_of : Option Taken → List Noted → Option ℕ
+number_of None steps = None
+number_of (Some taken) steps = Some (length steps)
+
+abbrev pub recorded : List Sent → List Noted → Option Taken → Record
+recorded sent steps taken = record { step = number_of taken steps; first = length sent; end = length (sent ++ sent_by taken) }
+
+-- what is kept then
+pub record IsKept (old : LogState) (what : What) (taken : Option Taken) (new : LogState) : Type 0 where
+  pub sent : new.sent ≡ delivered what old.sent ++ sent_by taken
+  pub steps : new.steps ≡ steps_with taken old.steps
+  pub records : new.records ≡ old.records ++ recorded old.sent old.steps taken ∷ []

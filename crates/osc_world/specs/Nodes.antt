@@ -1,0 +1,63 @@
+-- The nodes of a world, and whose step an event is.
+use Rattle.std.specs.Prelude.{ℕ, ◌==◌, nat_le, if◌then◌else◌, List, Option, Some, None, position, slice_get, slice_set}
+use Rattle.osc_model.specs.declared.node.Peer.{Peer}
+use Rattle.osc_context.specs.Nonce.{greatest_number}
+use Rattle.osc_message.specs.Confirmables.{same_peer}
+use Rattle.osc_run.specs.declared.noted.Actor.{Actor}
+use Rattle.osc_run.specs.declared.noted.Actor.TheVariants as actor
+use Rattle.osc_client.specs.State.{skipped_to}
+use Rattle.osc_server.specs.State.{State as Server}
+use Rattle.osc_world.specs.declared.event.What.{What}
+use Rattle.osc_world.specs.declared.event.What.TheVariants.{Exchange, Ask, Lie, Tick, Restart, Deliver, Inject}
+use Rattle.osc_world.specs.declared.log.Sent.{Sent}
+use Rattle.osc_world.specs.declared.nodes.Placed.{Placed}
+use Rattle.osc_world.specs.declared.nodes.Whose.{Whose}
+use Rattle.osc_world.specs.declared.nodes.Whose.TheVariants as whose
+
+-- the server, where it stands, and the clients, each with where it stands
+pub record NodeStates : Type 0 where
+  pub server_at : Peer
+  pub server : Server
+  pub clients : List Placed
+
+-- ---- whose step an event is
+
+-- the client of this number, if one was found
+abbrev pub found : Option ℕ → Whose
+found None = whose.Nobody
+found (Some number) = whose.Client number
+
+-- who stands there: the server, or the first client that does
+abbrev pub node_at : NodeStates → Peer → Whose
+node_at nodes at = if same_peer nodes.server_at at then whose.Server else found (position (λ placed. same_peer placed.at at) nodes.clients)
+
+-- the node of this name; a world has no proxies
+abbrev pub node_of : Actor → Whose
+node_of actor.Server = whose.Server
+node_of (actor.Client number) = whose.Client number
+node_of (actor.Proxy number) = whose.Nobody
+
+-- a datagram is heard by whom it was sent to
+abbrev pub hearer : NodeStates → Option Sent → Whose
+hearer nodes None = whose.Nobody
+hearer nodes (Some datagram) = node_at nodes datagram.to
+
+abbrev pub whose_step : NodeStates → List Sent → What → Whose
+whose_step nodes sent (Exchange client) = whose.Client client
+whose_step nodes sent (Ask client request) = if request.code.0 == 0 then whose.Nobody else whose.Client client
+whose_step nodes sent (Lie client number text) = if nat_le number greatest_number then whose.Client client else whose.Nobody
+whose_step nodes sent (Tick node) = node_of node
+whose_step nodes sent (Restart node) = node_of node
+whose_step nodes sent (Deliver datagram) = hearer nodes (slice_get sent datagram)
+whose_step nodes sent (Inject from to bytes) = node_at nodes to
+
+-- ---- between events
+
+-- the next number of this client is raised, if it is there
+abbrev pub skipped_at : ℕ → ℕ → NodeStates → Option Placed → NodeStates
+skipped_at client number nodes None = nodes
+skipped_at client number nodes (Some placed) =
+    record nodes { clients = slice_set nodes.clients client (record placed { client = skipped_to number placed.client }) }
+
+abbrev pub skipped : ℕ → ℕ → NodeStates → NodeStates
+skipped client number nodes = skipped_at client number nodes (slice_get nodes.clients client)

@@ -1,0 +1,106 @@
+-- Where a world begins.
+use Rattle.std.specs.Prelude.{◌≡◌, ℕ, List, [], ◌∷◌, ◌++◌, length, Some, None, slice_get}
+use Rattle.osc_model.specs.Scope.{Scope}
+use Rattle.osc_model.specs.Tree.{Tree}
+use Rattle.osc_model.specs.declared.node.Peer.{Peer}
+use Rattle.osc_cbor.specs.Spelling.{spelling}
+use Rattle.osc_cose.specs.Encrypt0.{enc_structure, object_item}
+use Rattle.osc_scope.specs.Entries.{Entry, IsScope, scope_of}
+use Rattle.osc_token.specs.Token.{algorithm_header, claims_item, token_object}
+use Rattle.osc_token.specs.declared.claims.Claims.{Claims}
+use Rattle.osc_token.specs.declared.claims.InputMaterial.{InputMaterial}
+use Rattle.osc_authz.specs.Members.{In}
+use Rattle.osc_authz.specs.declared.granted.ClientDesk.{ClientDesk}
+use Rattle.osc_message.specs.Endpoint.{fresh}
+use Rattle.osc_run.specs.Runs.{IsNewClient, IsTextOf}
+use Rattle.osc_run.specs.States.{Minted}
+use Rattle.osc_client.specs.State.{core}
+use Rattle.osc_world.specs.Nodes.{NodeStates}
+use Rattle.osc_world.specs.Worlds.{State}
+use Rattle.osc_world.specs.declared.nodes.Placed.{Placed}
+use Rattle.osc_world.specs.declared.start.Holder.{Holder}
+
+-- the resources; what needs no protection; the key of tokens, and for whom they are; where the server stands; the grants with the
+-- texts of their tokens; and the clients, each with where it stands
+pub record Beginning : Type 0 where
+  pub first : Tree
+  pub open_scope : Scope
+  pub key : List ℕ
+  pub audience : List ℕ
+  pub server_at : Peer
+  pub minted : List Minted
+  pub clients : List Placed
+
+-- each text is that of its grant, and each client holds one and did nothing yet
+pub record AreEnrolled (minted : List Minted) (clients : List Placed) : Type 0 where
+  pub texts : (m : Minted) → In m minted → IsTextOf m.grant m.text
+  pub holders : (number : ℕ) (placed : Placed) → slice_get clients number ≡ Some placed → IsNewClient minted number (core placed.client)
+
+-- ---- a client is enrolled
+
+-- the grant of these claims, whose scope has these entries, to the client of this number, and their text
+abbrev pub minted_of : ℕ → Claims → List Entry → Minted
+minted_of number claims entries = record {
+  grant = record {
+    id = claims.material.id;
+    secret = claims.material.secret;
+    salt = claims.material.salt;
+    id_context = claims.material.id_context;
+    scope = scope_of entries;
+    not_before = claims.not_before;
+    expires = claims.expires;
+    holder = number;
+  };
+  text = spelling (claims_item claims);
+}
+
+-- what the holder of a token with this input material is granted
+pub record IsDeskOf (material : InputMaterial) (token : List ℕ) (desk : ClientDesk) : Type 0 where
+  pub token_is : desk.token ≡ token
+  pub secret : desk.secret ≡ material.secret
+  pub salt : desk.salt ≡ material.salt
+  pub id_context : desk.id_context ≡ material.id_context
+
+-- a client that stands there, with this token, with no context, waiting for nothing, and having heard nothing
+pub record IsPlaced (holder : Holder) (token : List ℕ) (placed : Placed) : Type 0 where
+  pub at : placed.at ≡ holder.at
+  pub next_hop : placed.client.next_hop ≡ holder.next_hop
+  pub desk : IsDeskOf holder.claims.material token placed.client.desk
+  pub context : placed.client.context ≡ None
+  pub waiting : placed.client.waiting ≡ None
+  pub endpoint : placed.client.endpoint ≡ fresh
+
+-- `is_sealing key nonce aad text sealed` is the cipher's relation
+module _ (is_sealing : List ℕ → List ℕ → List ℕ → List ℕ → List ℕ → Type 0) where
+  -- The scope of the claims has these entries; the token is the object of the claims' text, sealed under the key (RFC 8392 section 7).
+  pub record IsEnrolled (key : List ℕ) (number : ℕ) (holder : Holder) (minted : Minted) (placed : Placed) : Type 0 where
+    pub entries : List Entry
+    pub scope : IsScope holder.claims.scope entries
+    pub ciphertext : List ℕ
+    pub sealed : is_sealing key holder.iv (enc_structure algorithm_header []) (spelling (claims_item holder.claims)) ciphertext
+    pub granted : minted ≡ minted_of number holder.claims entries
+    pub client : IsPlaced holder (spelling (object_item (token_object holder.iv ciphertext))) placed
+
+  pub record Enrols (old : Beginning) (holder : Holder) (new : Beginning) : Type 0 where
+    pub minted : Minted
+    pub placed : Placed
+    pub enrolled : IsEnrolled old.key (length old.clients) holder minted placed
+    pub is : new ≡ record old { minted = old.minted ++ minted ∷ []; clients = old.clients ++ placed ∷ [] }
+
+-- ---- the world that begins so
+
+-- the server heard nothing and holds no context
+abbrev pub first_nodes : Beginning → NodeStates
+first_nodes start = record {
+  server_at = start.server_at;
+  server = record {
+    tree = start.first;
+    desk = record { key = start.key; audience = start.audience; table = [] };
+    open_scope = start.open_scope;
+    endpoint = fresh;
+  };
+  clients = start.clients;
+}
+
+abbrev pub begun : Beginning → State
+begun start = record { minted = start.minted; first = start.first; nodes = first_nodes start; sent = []; steps = []; records = [] }

@@ -1,0 +1,181 @@
+-- The step that a node takes at an event.
+use Rattle.std.specs.Prelude.{◌≡◌, ℕ, ◌≤◌, ◌<◌, Bool, true, false, ◌==◌, if◌then◌else◌, List, [], length, Option, Some, None, slice_get, slice_set}
+use Rattle.osc_model.specs.Step.{sends}
+use Rattle.osc_model.specs.declared.node.Draw.{Draw}
+use Rattle.osc_model.specs.declared.node.Moment.{Moment}
+use Rattle.osc_model.specs.declared.node.Peer.{Peer}
+use Rattle.osc_model.specs.declared.request.Request.{Request}
+use Rattle.osc_model.specs.declared.step.Step.{Step}
+use Rattle.osc_context.specs.Nonce.{greatest_number}
+use Rattle.osc_message.specs.Endpoint.{after_tick, fresh}
+use Rattle.osc_message.specs.Heard.{heard}
+use Rattle.osc_message.specs.Received.{Receives}
+use Rattle.osc_message.specs.declared.received.Received.{Received}
+use Rattle.osc_run.specs.ClientKinds.{ClientStep, IsSkipped}
+use Rattle.osc_run.specs.Notes.{by_server, by_client}
+use Rattle.osc_run.specs.ServerKinds.{ServerStep}
+use Rattle.osc_server.specs.Case.{case_of as server_case}
+use Rattle.osc_server.specs.State.{State as Server, core as core_of_server}
+use Rattle.osc_server.specs.Table.{Answers as ServerAnswers}
+use Rattle.osc_client.specs.Case.{case_of as client_case}
+use Rattle.osc_client.specs.Lying.{Lies}
+use Rattle.osc_client.specs.Sending.{Asks, Exchanges, Ticks as ClientTicks, restarted}
+use Rattle.osc_client.specs.State.{State as Client, core as core_of_client}
+use Rattle.osc_client.specs.Table.{Answers as ClientAnswers}
+use Rattle.osc_world.specs.Nodes.{NodeStates}
+use Rattle.osc_world.specs.declared.event.Event.{Event}
+use Rattle.osc_world.specs.declared.event.What.{What}
+use Rattle.osc_world.specs.declared.event.What.TheVariants.{Exchange, Ask, Lie, Tick, Restart, Deliver, Inject}
+use Rattle.osc_world.specs.declared.log.Sent.{Sent}
+use Rattle.osc_world.specs.declared.nodes.Placed.{Placed}
+use Rattle.osc_world.specs.declared.nodes.Taken.{Taken}
+use Rattle.osc_world.specs.declared.nodes.Whose.{Whose}
+use Rattle.osc_world.specs.declared.nodes.Whose.TheVariants as whose
+
+-- ---- how many datagrams a step sends at most
+
+-- one, or at a client's tick one for each message that is open
+abbrev pub one_or : ℕ → ℕ
+one_or open_messages = if open_messages == 0 then 1 else open_messages
+
+abbrev pub most_of : Option Placed → ℕ
+most_of None = 0
+most_of (Some placed) = one_or (length placed.client.endpoint.sending)
+
+abbrev pub most_sent : NodeStates → Whose → ℕ
+most_sent nodes whose.Server = 1
+most_sent nodes (whose.Client number) = most_of (slice_get nodes.clients number)
+most_sent nodes whose.Nobody = 0
+
+-- ---- what a node does
+
+-- the holder of a client's context seals what it likes
+abbrev pub is_lie : What → Bool
+is_lie (Lie client number text) = true
+is_lie what = false
+
+-- nothing
+pub record Idles {S : Type 0} (old : S) (step : Step) (new : S) : Type 0 where
+  pub told : step ≡ sends []
+  pub kept : new ≡ old
+
+-- the node starts again, as this
+pub record StartsAgain {S : Type 0} (fresh_node : S) (step : Step) (new : S) : Type 0 where
+  pub told : step ≡ sends []
+  pub kept : new ≡ fresh_node
+
+-- the time has come for what is due at the server: nothing of what it sends is ever due again
+pub record ServerTicks (old : Server) (now : Moment) (step : Step) (new : Server) : Type 0 where
+  pub told : step ≡ sends []
+  pub kept : new ≡ record old { endpoint = after_tick now old.endpoint }
+
+-- the server forgets its contexts and what it heard
+abbrev pub server_again : Server → Server
+server_again old = record old { desk = record old.desk { table = [] }; endpoint = fresh }
+
+-- `is_sealing key nonce aad text sealed` is the cipher's relation, and `tag` how long its tag is
+module _ (is_sealing : List ℕ → List ℕ → List ℕ → List ℕ → List ℕ → Type 0) (tag : ℕ) where
+  -- these bytes come to the server from this address
+  pub record ServerHears (old : Server) (now : Moment) (draw : Draw) (from : Peer) (bytes : List ℕ) (step : Step) (new : Server) : Type 0 where
+    pub received : Received
+    pub receives : Receives bytes received
+    pub answers : ServerAnswers is_sealing old now from draw (server_case old.open_scope (heard old.endpoint.seen now from received)) step new
+
+  -- and to a client
+  pub record ClientHears (old : Client) (now : Moment) (from : Peer) (bytes : List ℕ) (step : Step) (new : Client) : Type 0 where
+    pub received : Received
+    pub receives : Receives bytes received
+    pub answers : ClientAnswers is_sealing old now from (client_case old.next_hop from old.waiting (heard old.endpoint.seen now from received)) step new
+
+  -- a datagram that was sent comes to the server; what was never sent doesn't come
+  abbrev pub ServerGets : Server → Moment → Draw → Option Sent → Step → Server → Type 0
+  ServerGets old now draw None step new = Idles old step new
+  ServerGets old now draw (Some datagram) step new = ServerHears old now draw datagram.from datagram.bytes step new
+
+  abbrev pub ClientGets : Client → Moment → Option Sent → Step → Client → Type 0
+  ClientGets old now None step new = Idles old step new
+  ClientGets old now (Some datagram) step new = ClientHears old now datagram.from datagram.bytes step new
+
+  -- what the server does, where the event is its own
+  abbrev pub ServerDoes : Server → Moment → Draw → List Sent → What → Step → Server → Type 0
+  ServerDoes old now draw sent (Exchange client) step new = Idles old step new
+  ServerDoes old now draw sent (Ask client request) step new = Idles old step new
+  ServerDoes old now draw sent (Lie client number text) step new = Idles old step new
+  ServerDoes old now draw sent (Tick node) step new = ServerTicks old now step new
+  ServerDoes old now draw sent (Restart node) step new = StartsAgain (server_again old) step new
+  ServerDoes old now draw sent (Deliver datagram) step new = ServerGets old now draw (slice_get sent datagram) step new
+  ServerDoes old now draw sent (Inject from to bytes) step new = ServerHears old now draw from bytes step new
+
+  -- a request is asked; one with the code 0.00 is none
+  pub data AsksFor (old : Client) (now : Moment) (draw : Draw) (request : Request) (step : Step) (new : Client) : Type 0 where
+    is_none : request.code.0 ≡ 0 → Idles old step new → AsksFor old now draw request step new
+    is_asked : 0 < request.code.0 → Asks is_sealing tag old now request draw step new → AsksFor old now draw request step new
+
+  -- a text is sealed at a number of the holder's choice, and the client stays as it is; a number that none may have is none
+  pub data LiesAt (old : Client) (number : ℕ) (text : List ℕ) (draw : Draw) (step : Step) (new : Client) : Type 0 where
+    is_no_lie : greatest_number < number → Idles old step new → LiesAt old number text draw step new
+    is_lied : number ≤ greatest_number → Lies is_sealing tag old number text draw step → new ≡ old → LiesAt old number text draw step new
+
+  -- what a client does, where the event is its own
+  abbrev pub ClientDoes : Client → Moment → Draw → List Sent → What → Step → Client → Type 0
+  ClientDoes old now draw sent (Exchange client) step new = Exchanges old now draw step new
+  ClientDoes old now draw sent (Ask client request) step new = AsksFor old now draw request step new
+  ClientDoes old now draw sent (Lie client number text) step new = LiesAt old number text draw step new
+  ClientDoes old now draw sent (Tick node) step new = ClientTicks old now step new
+  ClientDoes old now draw sent (Restart node) step new = StartsAgain (restarted old) step new
+  ClientDoes old now draw sent (Deliver datagram) step new = ClientGets old now (slice_get sent datagram) step new
+  ClientDoes old now draw sent (Inject from to bytes) step new = ClientHears old now from bytes step new
+
+  -- ---- one node takes a step, or none does
+
+  -- the server takes a step
+  pub record ServerTakes (old : NodeStates) (sent : List Sent) (event : Event) (taken : Option Taken) (new : NodeStates) : Type 0 where
+    pub step : Step
+    pub server : Server
+    pub does : ServerDoes old.server event.moment event.draw sent event.what step server
+    pub taken_is : taken ≡ Some (record { at = old.server_at; noted = by_server step.notes; out = step.out })
+    pub is : new ≡ record old { server = server }
+
+  -- this client, of this number, takes a step
+  pub record ClientTakes (old : NodeStates) (number : ℕ) (placed : Placed) (sent : List Sent) (event : Event) (taken : Option Taken) (new : NodeStates) : Type 0 where
+    pub step : Step
+    pub client : Client
+    pub does : ClientDoes placed.client event.moment event.draw sent event.what step client
+    pub taken_is : taken ≡ Some (record { at = placed.at; noted = by_client number (is_lie event.what) step.notes; out = step.out })
+    pub is : new ≡ record old { clients = slice_set old.clients number (record placed { client = client }) }
+
+  -- nobody does
+  pub record NobodyTakes (old : NodeStates) (taken : Option Taken) (new : NodeStates) : Type 0 where
+    pub taken_is : taken ≡ None
+    pub is : new ≡ old
+
+  abbrev pub TakesOf : NodeStates → ℕ → Option Placed → List Sent → Event → Option Taken → NodeStates → Type 0
+  TakesOf old number None sent event taken new = NobodyTakes old taken new
+  TakesOf old number (Some placed) sent event taken new = ClientTakes old number placed sent event taken new
+
+  abbrev pub Takes : NodeStates → Whose → List Sent → Event → Option Taken → NodeStates → Type 0
+  Takes old whose.Server sent event taken new = ServerTakes old sent event taken new
+  Takes old (whose.Client number) sent event taken new = TakesOf old number (slice_get old.clients number) sent event taken new
+  Takes old whose.Nobody sent event taken new = NobodyTakes old taken new
+
+-- ---- of which kind the step is
+
+-- A step of a run: the server's, a client's, or none.
+pub data IsStep (now : Moment) (old : NodeStates) (taken : Option Taken) (new : NodeStates) : Type 0 where
+  OfNobody : taken ≡ None → new ≡ old → IsStep now old taken new
+  OfServer : (step : Step) (server : Server) → ServerStep (core_of_server old.server) now step.notes (core_of_server server)
+      → taken ≡ Some (record { at = old.server_at; noted = by_server step.notes; out = step.out })
+      → new ≡ record old { server = server }
+      → IsStep now old taken new
+  OfClient : (number : ℕ) (lied : Bool) (before after : Placed) (step : Step) → slice_get old.clients number ≡ Some before
+      → ClientStep lied (core_of_client before.client) step.notes (core_of_client after.client)
+      → taken ≡ Some (record { at = before.at; noted = by_client number lied step.notes; out = step.out })
+      → new ≡ record old { clients = slice_set old.clients number after }
+      → IsStep now old taken new
+
+-- Between events nothing changes, or the next number of one client is raised.
+pub data IsSkip (number : ℕ) (old new : NodeStates) : Type 0 where
+  Stays : new ≡ old → IsSkip number old new
+  Skips : (before after : Placed) → slice_get old.clients number ≡ Some before → IsSkipped (core_of_client before.client) (core_of_client after.client)
+      → new ≡ record old { clients = slice_set old.clients number after }
+      → IsSkip number old new

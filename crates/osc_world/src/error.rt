@@ -1,0 +1,60 @@
+//! Why a client can't be enrolled.
+
+use osc_authz::GrantError;
+use osc_scope::ScopeError;
+use osc_token::MintError;
+use std::alloc::{AllocError, AllocFailed};
+use thiserror::Error;
+
+/// Why a client can't be enrolled: the first of these that stands.
+#[derive(Clone, Copy, Debug, PartialEq, Eq, Error)]
+pub enum EnrollError {
+    /// The scope of the claims is none.
+    #[error("the scope can't be read")]
+    BadScope,
+    /// The claims have more than 65535 bytes.
+    #[error("the claims are too long for a token")]
+    TooLong,
+    /// The input material has a length that no token may have.
+    #[error("{0}")]
+    Grant(GrantError),
+    /// There was no memory.
+    #[error("out of memory")]
+    Memory,
+}
+
+impl From<ScopeError> for EnrollError {
+    fn from(error: ScopeError) -> EnrollError {
+        match error {
+            ScopeError::BadScope => EnrollError::BadScope,
+            ScopeError::Memory => EnrollError::Memory,
+        }
+    }
+}
+
+impl From<MintError> for EnrollError {
+    fn from(error: MintError) -> EnrollError {
+        match error {
+            MintError::TooLong => EnrollError::TooLong,
+            MintError::Memory => EnrollError::Memory,
+        }
+    }
+}
+
+impl From<GrantError> for EnrollError {
+    fn from(error: GrantError) -> EnrollError {
+        EnrollError::Grant(error)
+    }
+}
+
+impl From<AllocError> for EnrollError {
+    fn from(_error: AllocError) -> EnrollError {
+        EnrollError::Memory
+    }
+}
+
+impl<T: Drop> From<AllocFailed<T>> for EnrollError {
+    fn from(_error: AllocFailed<T>) -> EnrollError {
+        EnrollError::Memory
+    }
+}

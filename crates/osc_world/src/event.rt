@@ -1,0 +1,70 @@
+//! What may happen.
+
+ghost use Rattle.std.specs.Prelude.{◌≡◌};
+ghost use Rattle.osc_world.specs.Steps.{is_lie};
+
+use osc_model::{Bytes, Draw, Moment, Peer, Request};
+use osc_run::Actor;
+
+/// What happens. Clients are named by their numbers, from 0, in the order in which they were enrolled; datagrams by theirs, from 0, in
+/// the order in which they were sent.
+#[derive(Drop)]
+pub enum What {
+    /// The client begins an exchange.
+    Exchange {
+        client: usize,
+    },
+    /// The client is to send this request, protected. One with the code 0.00 is none, and nothing comes of it.
+    Ask {
+        client: usize,
+        request: Request,
+    },
+    /// The client's holder seals any text as a request with this number, and sends it. One with a number that none may have, above
+    /// 1099511627775, is none, and nothing comes of it.
+    Lie {
+        client: usize,
+        number: u64,
+        text: Bytes,
+    },
+    /// The time has come for what is due at the node.
+    Tick {
+        node: Actor,
+    },
+    /// The node starts again.
+    Restart {
+        node: Actor,
+    },
+    /// A datagram that was sent comes to whom it was sent, whether or not it came before.
+    Deliver {
+        datagram: usize,
+    },
+    /// Bytes come from one address to another, as one datagram that nobody sent.
+    Inject {
+        from: Peer,
+        to: Peer,
+        bytes: Bytes,
+    },
+}
+
+impl What {
+    /// Whether a client's holder seals what it likes.
+    pub(crate) fn is_lie(&self) -> bool
+        ensures { result ≡ is_lie self.now }
+    {
+        match self {
+            What::Lie { .. } => true,
+            _ => false,
+        }
+    }
+}
+
+/// An event: what happens, when, and with which random bytes.
+#[derive(Drop)]
+pub struct Event {
+    /// When it happens.
+    pub moment: Moment,
+    /// Its random bytes.
+    pub draw: Draw,
+    /// What happens.
+    pub what: What,
+}

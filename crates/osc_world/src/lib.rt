@@ -1,0 +1,16 @@
+//! A world: a server, its clients, and a network that delivers any datagram ever sent, to whom it was sent, again and in any order,
+//! and forges others. What it keeps of its steps is a run, so what holds of every run holds of every world.
+#![tactic(auto)]
+
+mod error;
+mod event;
+mod log;
+mod nodes;
+mod start;
+mod world;
+
+pub use error::EnrollError;
+pub use event::{Event, What};
+pub use log::{Record, Sent};
+pub use start::{Holder, Start};
+pub use world::World;

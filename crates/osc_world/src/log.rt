@@ -1,0 +1,171 @@
+//! What is kept of a world's events.
+ghost use Rattle.std.specs.Prelude.{◌≡◌, ◌≤◌, ◌-◌, ◌++◌, [], OnOk, length, map, vec_capacity, vec_len};
+ghost use Rattle.osc_world.specs.Log.{HasRoom, IsKept, delivered, number_of, sent_by, sent_from, settled, steps_with};
+
+use crate::event::What;
+use crate::nodes::Taken;
+use osc_model::{Bytes, Datagram, Peer};
+use osc_run::Notes;
+use std::alloc::{AllocError, Global};
+use std::marker::Model;
+
+/// A datagram that was sent.
+#[derive(Drop)]
+pub struct Sent {
+    /// From where.
+    pub from: Peer,
+    /// To whom.
+    pub to: Peer,
+    /// The payload of the UDP datagram.
+    pub bytes: Bytes,
+    /// Whether it was neither delivered nor dropped.
+    pub waits: bool,
+}
+
+/// What came of an event: the number of the step that a node took, from 0, where one did; and the numbers of the datagrams that it
+/// sent, from the first to that behind the last.
+#[derive(Clone, Copy, Debug, PartialEq, Eq)]
+pub struct Record {
+    /// Which step was taken.
+    pub step: Option<usize>,
+    /// How many datagrams were sent before.
+    pub first: usize,
+    /// How many were sent then.
+    pub end: usize,
+}
+
+/// What is kept of the events: each datagram ever sent, what each step noted, and what came of each event.
+#[derive(Drop)]
+pub(crate) struct Log {
+    sent: Vec<Sent>,
+    notes: Notes,
+    records: Vec<Record>,
+}
+
+impl Model for Log {
+    ghost use Rattle.std.specs.Prelude.{◌-◌, vec_len, vec_capacity};
+    ghost use Rattle.osc_world.specs.Log.{LogState};
+
+    ghost Value = { LogState };
+
+    ghost view = { λ l. record {
+      sent = l.sent.items;
+      steps = l.notes.steps;
+      records = l.records.items;
+      room_for_sent = vec_capacity l.sent - vec_len l.sent;
+      room_for_steps = l.notes.room;
+      room_for_records = vec_capacity l.records - vec_len l.records;
+    } };
+}
+
+impl Log {
+    /// Nothing was sent, and nothing happened yet; takes no memory.
+    pub fn new(alloc: Global) -> Log
+        ensures sent { result.sent ≡ [] }
+        ensures steps { result.steps ≡ [] }
+        ensures records { result.records ≡ [] }
+    {
+        Log {
+            sent: Vec::new(alloc),
+            notes: Notes::new(alloc),
+            records: Vec::new(alloc),
+        }
+    }
+
+    /// Each datagram that was sent.
+    pub fn sent(&self) -> &[Sent]
+        ensures { result.now ≡ self.now.sent }
+    {
+        &self.sent
+    }
+
+    /// What the steps noted.
+    pub fn notes(&self) -> &Notes
+        ensures { result.now.steps ≡ self.now.steps }
+    {
+        &self.notes
+    }
+
+    /// What came of each event.
+    pub fn records(&self) -> &[Record]
+        ensures { result.now ≡ self.now.records }
+    {
+        &self.records
+    }
+
+    /// Takes room for one event more, whose step sends so many datagrams at most.
+    pub fn reserve(&mut self, datagrams: usize) -> Result<(), AllocError>
+        ensures sent { self.new.sent ≡ self.old.sent }
+        ensures steps { self.new.steps ≡ self.old.steps }
+        ensures records { self.new.records ≡ self.old.records }
+        ensures room { OnOk result (HasRoom self.new datagrams) }
+    {
+        self.sent.reserve(datagrams)?;
+        self.notes.reserve()?;
+        self.records.reserve(1)
+    }
+
+    /// Keeps what came of an event, for which there is room; takes no memory.
+    pub fn keep(&mut self, what: &What, taken: Option<Taken>)
+        requires { HasRoom self.old (length (sent_by taken)) }
+        ensures { IsKept self.old what.now taken self.new }
+    {
+        self.deliver(what);
+        let first = self.sent.len();
+        let step = self.add(taken);
+        self.records.push_reserved(Record {
+            step,
+            first,
+            end: self.sent.len(),
+        });
+    }
+
+    /// What is delivered waits no more.
+    fn deliver(&mut self, what: &What)
+        ensures { self.new ≡ record self.old { sent = delivered what.now self.old.sent } }
+    {
+        if let What::Deliver { datagram } = what {
+            self.settle(*datagram);
+        }
+    }
+
+    /// The datagram of this number waits no more, if it was sent.
+    pub fn settle(&mut self, number: usize)
+        ensures { self.new ≡ record self.old { sent = settled number self.old.sent } }
+    {
+        if let Some(datagram) = self.sent.get_mut(number) {
+            datagram.waits = false;
+        }
+    }
+
+    /// Adds a step, if one was taken, and what it sent; answers its number.
+    fn add(&mut self, taken: Option<Taken>) -> Option<usize>
+        requires { HasRoom self.old (length (sent_by taken)) }
+        ensures number { result ≡ number_of taken self.old.steps }
+        ensures sent { self.new.sent ≡ self.old.sent ++ sent_by taken }
+        ensures steps { self.new.steps ≡ steps_with taken self.old.steps }
+        ensures records { self.new.records ≡ self.old.records }
+        ensures room { self.new.room_for_records ≡ self.old.room_for_records }
+    {
+        let Taken { at, noted, out } = taken?;
+        let number = self.notes.steps().len();
+        self.notes.add(noted);
+        send(&mut self.sent, at, out.into_vec());
+        Some(number)
+    }
+}
+
+/// Adds what was sent from there, for which there is room; takes no memory.
+fn send(sent: &mut Vec<Sent>, at: Peer, out: Vec<Datagram>)
+    requires { length out.items ≤ vec_capacity sent.old - vec_len sent.old }
+    ensures { sent.new.items ≡ sent.old.items ++ map (sent_from at) out.items }
+{
+    for Datagram { to, bytes } in out {
+        sent.push_reserved(Sent {
+            from: at,
+            to,
+            bytes,
+            waits: true,
+        });
+    }
+}

@@ -1,0 +1,460 @@
+//! The nodes of a world, and the step that one of them takes at an event.
+ghost use Rattle.std.specs.Prelude.{◌≡◌, ◌≤◌, [], IfOk, OnErr, false, true, length, option_map, position, slice_get};
+ghost use Rattle.osc_model.specs.Step.{sends};
+ghost use Rattle.osc_message.specs.Confirmables.{same_peer};
+ghost use Rattle.osc_client.specs.Sending.{Ticks as ClientTicks};
+ghost use Rattle.osc_client.specs.State.{core as core_of_client};
+ghost use Rattle.osc_run.specs.ClientKinds.{ClientStep};
+ghost use Rattle.osc_run.specs.ServerKinds.{ServerStep};
+ghost use Rattle.osc_server.specs.State.{core as core_of_server};
+ghost use Rattle.osc_world.specs.Log.{sent_by};
+ghost use Rattle.osc_world.specs.Nodes.{found, node_at, node_of, skipped, whose_step};
+ghost use Rattle.osc_world.specs.Steps.{AsksFor, ClientDoes, ClientGets, ClientHears, IsStep, ServerDoes, ServerGets, ServerHears, ServerTakes, Takes, TakesOf, IsSkip, LiesAt, is_lie, most_of, most_sent, one_or};
+
+use crate::event::{Event, What};
+use crate::log::Sent;
+use osc_ccm::Aead;
+use osc_client::Client;
+use osc_context::NUMBER_LIMIT;
+use osc_message::laws::ticks_send_few;
+use osc_model::{Datagrams, Draw, Moment, Peer, Request, Step};
+use osc_run::{Actor, Noted};
+use osc_server::Server;
+use std::alloc::{AllocError, Global};
+use std::marker::Model;
+
+/// A client, and where it stands.
+#[derive(Drop)]
+pub(crate) struct Placed {
+    /// Its address.
+    pub at: Peer,
+    /// The client.
+    pub client: Client,
+}
+
+/// Whose step an event is.
+#[derive(Clone, Copy, Debug, PartialEq, Eq)]
+pub(crate) enum Whose {
+    /// The server's.
+    Server,
+    /// That of the client of this number, if there is one.
+    Client(usize),
+    /// Nobody's.
+    Nobody,
+}
+
+/// A step that a node took: where the node stands, what is noted of the step, and the datagrams that it sends.
+#[derive(Drop)]
+pub(crate) struct Taken {
+    /// From where its datagrams come.
+    pub at: Peer,
+    /// Whose it was, and what it did beside sending.
+    pub noted: Noted,
+    /// What it sends.
+    pub out: Datagrams,
+}
+
+/// The server, where it stands, and the clients.
+#[derive(Drop)]
+pub(crate) struct Nodes {
+    server_at: Peer,
+    server: Server,
+    clients: Vec<Placed>,
+}
+
+impl Model for Nodes {
+    ghost use Rattle.osc_world.specs.Nodes.{NodeStates};
+    ghost use Rattle.std.specs.Coded.{codes};
+    ghost use Rattle.osc_model.specs.Scope.{coded_scope};
+    ghost use Rattle.osc_model.specs.Tree.{coded_tree};
+
+    ghost Value = { NodeStates };
+
+    ghost coded = { Prim.hlevel (codes, coded_scope, coded_tree) };
+
+    ghost view = { λ n. record { server_at = n.server_at; server = n.server; clients = n.clients.items } };
+}
+
+/// A step that does nothing; takes no memory.
+fn idle(alloc: Global) -> Step
+    ensures { result ≡ sends [] }
+{
+    Step::sending(Datagrams::new(alloc))
+}
+
+/// The number of the first client that stands there.
+fn first_at(clients: &[Placed], at: Peer) -> Option<usize>
+    ensures { result ≡ position (λ placed. same_peer placed.at at) clients.now }
+{
+    clients.iter().position(|placed| placed.at == at)
+}
+
+/// The client of this number, if one was found.
+fn found(number: Option<usize>) -> Whose
+    ensures { result ≡ found number }
+{
+    match number {
+        Some(number) => Whose::Client(number),
+        None => Whose::Nobody,
+    }
+}
+
+/// The node of this name.
+fn node_of(node: Actor) -> Whose
+    ensures { result ≡ node_of node }
+{
+    match node {
+        Actor::Server => Whose::Server,
+        Actor::Client(number) => Whose::Client(number),
+        Actor::Proxy(_) => Whose::Nobody,
+    }
+}
+
+/// What the server does at an event that is its own.
+fn server_does<A: Aead>(
+    alloc: Global,
+    server: &mut Server,
+    event: &Event,
+    sent: &[Sent],
+) -> Result<Step, AllocError>
+    ensures does { IfOk result (λ step. ServerDoes A.is_sealing A.TAG server.old event.now.moment event.now.draw sent.now event.now.what step server.new) }
+    ensures kind { IfOk result (λ step. ServerStep (core_of_server server.old) event.now.moment step.notes (core_of_server server.new)) }
+    ensures few { IfOk result (λ step. length step.out ≤ 1) }
+    ensures err { OnErr result (server.new ≡ server.old) }
+{
+    match &event.what {
+        What::Exchange { .. } => Ok(idle(alloc)),
+        What::Ask { .. } => Ok(idle(alloc)),
+        What::Lie { .. } => Ok(idle(alloc)),
+        What::Tick { .. } => server.on_tick(alloc, event.moment),
+        What::Restart { .. } => {
+            server.restart();
+            Ok(idle(alloc))
+        }
+        What::Deliver { datagram } => {
+            server_gets::<A>(
+                alloc,
+                server,
+                event.moment,
+                &event.draw,
+                sent.get(*datagram),
+            )
+        }
+        What::Inject { from, bytes, .. } => {
+            server_hears::<A>(
+                alloc,
+                server,
+                event.moment,
+                &event.draw,
+                *from,
+                bytes.as_slice(),
+            )
+        }
+    }
+}
+
+/// A datagram that was sent comes to the server.
+fn server_gets<A: Aead>(
+    alloc: Global,
+    server: &mut Server,
+    now: Moment,
+    draw: &Draw,
+    datagram: Option<&Sent>,
+) -> Result<Step, AllocError>
+    ensures gets { IfOk result (λ step. ServerGets A.is_sealing A.TAG server.old now draw.now (option_map (λ d. d.now) datagram.entry) step server.new) }
+    ensures kind { IfOk result (λ step. ServerStep (core_of_server server.old) now step.notes (core_of_server server.new)) }
+    ensures few { IfOk result (λ step. length step.out ≤ 1) }
+    ensures err { OnErr result (server.new ≡ server.old) }
+{
+    match datagram {
+        Some(sent) => {
+            server_hears::<A>(alloc, server, now, draw, sent.from, sent.bytes.as_slice())
+        }
+        None => Ok(idle(alloc)),
+    }
+}
+
+/// These bytes come to the server from this address.
+fn server_hears<A: Aead>(
+    alloc: Global,
+    server: &mut Server,
+    now: Moment,
+    draw: &Draw,
+    from: Peer,
+    bytes: &[u8],
+) -> Result<Step, AllocError>
+    ensures hears { IfOk result (λ step. ServerHears A.is_sealing A.TAG server.old now draw.now from bytes.now step server.new) }
+    ensures kind { IfOk result (λ step. ServerStep (core_of_server server.old) now step.notes (core_of_server server.new)) }
+    ensures few { IfOk result (λ step. length step.out ≤ 1) }
+    ensures err { OnErr result (server.new ≡ server.old) }
+{
+    server.on_datagram::<A>(alloc, now, from, bytes, draw)
+}
+
+/// What a client does at an event that is its own.
+fn client_does<A: Aead>(
+    alloc: Global,
+    client: &mut Client,
+    event: &Event,
+    sent: &[Sent],
+) -> Result<Step, AllocError>
+    ensures does { IfOk result (λ step. ClientDoes A.is_sealing A.TAG client.old event.now.moment event.now.draw sent.now event.now.what step client.new) }
+    ensures kind { IfOk result (λ step. ClientStep (is_lie event.now.what) (core_of_client client.old) step.notes (core_of_client client.new)) }
+    ensures few { IfOk result (λ step. length step.out ≤ one_or (length client.old.endpoint.sending)) }
+    ensures err { OnErr result (client.new ≡ client.old) }
+{
+    match &event.what {
+        What::Exchange { .. } => client.exchange(alloc, event.moment, &event.draw),
+        What::Ask { request, .. } => client_asks::<A>(alloc, client, event, request),
+        What::Lie { number, text, .. } => {
+            client_lies::<A>(alloc, client, *number, text.as_slice(), &event.draw)
+        }
+        What::Tick { .. } => client_ticks(alloc, client, event.moment),
+        What::Restart { .. } => {
+            client.restart();
+            Ok(idle(alloc))
+        }
+        What::Deliver { datagram } => {
+            client_gets::<A>(alloc, client, event.moment, sent.get(*datagram))
+        }
+        What::Inject { from, bytes, .. } => {
+            client_hears::<A>(alloc, client, event.moment, *from, bytes.as_slice())
+        }
+    }
+}
+
+impl Nodes {
+    /// These nodes.
+    pub fn new(server_at: Peer, server: Server, clients: Vec<Placed>) -> Nodes
+        ensures { result ≡ record { server_at = server_at; server = server; clients = clients.items } }
+    {
+        Nodes {
+            server_at,
+            server,
+            clients,
+        }
+    }
+
+    /// The server.
+    pub fn server(&self) -> &Server
+        ensures { result.now ≡ self.now.server }
+    {
+        &self.server
+    }
+
+    /// Who stands there.
+    fn at(&self, at: Peer) -> Whose
+        ensures { result ≡ node_at self.now at }
+    {
+        if self.server_at == at {
+            return Whose::Server;
+        }
+        found(first_at(&self.clients, at))
+    }
+
+    /// Whose step an event is.
+    pub fn whose(&self, sent: &[Sent], what: &What) -> Whose
+        ensures { result ≡ whose_step self.now sent.now what.now }
+    {
+        match what {
+            What::Exchange { client } => Whose::Client(*client),
+            What::Ask { client, request } if request.code.0 > 0 => Whose::Client(*client),
+            What::Ask { .. } => Whose::Nobody,
+            What::Lie { client, number, .. } if *number <= NUMBER_LIMIT => Whose::Client(*client),
+            What::Lie { .. } => Whose::Nobody,
+            What::Tick { node } => node_of(*node),
+            What::Restart { node } => node_of(*node),
+            What::Deliver { datagram } => match sent.get(*datagram) {
+                Some(sent) => self.at(sent.to),
+                None => Whose::Nobody,
+            },
+            What::Inject { to, .. } => self.at(*to),
+        }
+    }
+
+    /// How many datagrams a step of this node sends at most.
+    pub fn most_sent(&self, whose: Whose) -> usize
+        ensures { result ≡ most_sent self.now whose }
+    {
+        match whose {
+            Whose::Server => 1,
+            Whose::Client(number) => most_of(self.clients.get(number)),
+            Whose::Nobody => 0,
+        }
+    }
+
+    /// The step of the node whose step it is. Without memory an `AllocError`; then nothing has changed.
+    pub fn take<A: Aead>(
+        &mut self,
+        alloc: Global,
+        whose: Whose,
+        event: &Event,
+        sent: &[Sent],
+    ) -> Result<Option<Taken>, AllocError>
+        ensures takes { IfOk result (λ taken. Takes A.is_sealing A.TAG self.old whose sent.now event.now taken self.new) }
+        ensures step { IfOk result (λ taken. IsStep event.now.moment self.old taken self.new) }
+        ensures few { IfOk result (λ taken. length (sent_by taken) ≤ most_sent self.old whose) }
+        ensures err { OnErr result (self.new ≡ self.old) }
+    {
+        match whose {
+            Whose::Server => self.server_takes::<A>(alloc, event, sent),
+            Whose::Client(number) => self.client_takes::<A>(alloc, number, event, sent),
+            Whose::Nobody => Ok(None),
+        }
+    }
+
+    /// Raises the number that a client takes next; a lower one changes nothing, and so does a client that isn't there or has no
+    /// context. Takes no memory.
+    pub fn skip(&mut self, client: usize, number: u64)
+        ensures skipped { self.new ≡ skipped client number self.old }
+        ensures kind { IsSkip client self.old self.new }
+    {
+        let Some(placed) = self.clients.get_mut(client) else {
+            return;
+        };
+        placed.client.skip_to(number);
+    }
+
+    /// The server's step.
+    fn server_takes<A: Aead>(
+        &mut self,
+        alloc: Global,
+        event: &Event,
+        sent: &[Sent],
+    ) -> Result<Option<Taken>, AllocError>
+        ensures takes { IfOk result (λ taken. ServerTakes A.is_sealing A.TAG self.old sent.now event.now taken self.new) }
+        ensures step { IfOk result (λ taken. IsStep event.now.moment self.old taken self.new) }
+        ensures few { IfOk result (λ taken. length (sent_by taken) ≤ 1) }
+        ensures err { OnErr result (self.new ≡ self.old) }
+    {
+        let step = server_does::<A>(alloc, &mut self.server, event, sent)?;
+        Ok(Some(Taken {
+            at: self.server_at,
+            noted: Noted::by_server(step.notes),
+            out: step.out,
+        }))
+    }
+
+    /// The step of the client of this number, if there is one.
+    fn client_takes<A: Aead>(
+        &mut self,
+        alloc: Global,
+        number: usize,
+        event: &Event,
+        sent: &[Sent],
+    ) -> Result<Option<Taken>, AllocError>
+        ensures takes { IfOk result (λ taken. TakesOf A.is_sealing A.TAG self.old number (slice_get self.old.clients number) sent.now event.now taken self.new) }
+        ensures step { IfOk result (λ taken. IsStep event.now.moment self.old taken self.new) }
+        ensures few { IfOk result (λ taken. length (sent_by taken) ≤ most_of (slice_get self.old.clients number)) }
+        ensures err { OnErr result (self.new ≡ self.old) }
+    {
+        let Some(placed) = self.clients.get_mut(number) else {
+            return Ok(None);
+        };
+        let step = client_does::<A>(alloc, &mut placed.client, event, sent)?;
+        Ok(Some(Taken {
+            at: placed.at,
+            noted: Noted::by_client(number, event.what.is_lie(), step.notes),
+            out: step.out,
+        }))
+    }
+}
+
+/// How many datagrams a step of this client sends at most.
+fn most_of(placed: Option<&Placed>) -> usize
+    ensures { result ≡ most_of (option_map (λ p. p.now) placed.entry) }
+{
+    match placed {
+        Some(placed) => one_or(placed.client.open_messages()),
+        None => 0,
+    }
+}
+
+/// One, or one for each message that is open.
+fn one_or(open_messages: usize) -> usize
+    ensures { result ≡ one_or open_messages }
+{
+    if open_messages == 0 { 1 } else { open_messages }
+}
+
+/// The client is to send this request; one with the code 0.00 is none.
+fn client_asks<A: Aead>(
+    alloc: Global,
+    client: &mut Client,
+    event: &Event,
+    request: &Request,
+) -> Result<Step, AllocError>
+    ensures asks { IfOk result (λ step. AsksFor A.is_sealing A.TAG client.old event.now.moment event.now.draw request.now step client.new) }
+    ensures kind { IfOk result (λ step. ClientStep false (core_of_client client.old) step.notes (core_of_client client.new)) }
+    ensures few { IfOk result (λ step. length step.out ≤ 1) }
+    ensures err { OnErr result (client.new ≡ client.old) }
+{
+    if request.code.0 == 0 {
+        return Ok(idle(alloc));
+    }
+    client.ask::<A>(alloc, event.moment, request, &event.draw)
+}
+
+/// The time has come for what is due at the client.
+fn client_ticks(alloc: Global, client: &mut Client, now: Moment) -> Result<Step, AllocError>
+    ensures ticks { IfOk result (λ step. ClientTicks client.old now step client.new) }
+    ensures kind { IfOk result (λ step. ClientStep false (core_of_client client.old) step.notes (core_of_client client.new)) }
+    ensures few { IfOk result (λ step. length step.out ≤ length client.old.endpoint.sending) }
+    ensures err { OnErr result (client.new ≡ client.old) }
+{
+    ticks_send_few();
+    client.on_tick(alloc, now)
+}
+
+/// A datagram that was sent comes to the client.
+fn client_gets<A: Aead>(
+    alloc: Global,
+    client: &mut Client,
+    now: Moment,
+    datagram: Option<&Sent>,
+) -> Result<Step, AllocError>
+    ensures gets { IfOk result (λ step. ClientGets A.is_sealing A.TAG client.old now (option_map (λ d. d.now) datagram.entry) step client.new) }
+    ensures kind { IfOk result (λ step. ClientStep false (core_of_client client.old) step.notes (core_of_client client.new)) }
+    ensures few { IfOk result (λ step. length step.out ≤ 1) }
+    ensures err { OnErr result (client.new ≡ client.old) }
+{
+    match datagram {
+        Some(sent) => { client_hears::<A>(alloc, client, now, sent.from, sent.bytes.as_slice()) }
+        None => Ok(idle(alloc)),
+    }
+}
+
+/// These bytes come to the client from this address.
+fn client_hears<A: Aead>(
+    alloc: Global,
+    client: &mut Client,
+    now: Moment,
+    from: Peer,
+    bytes: &[u8],
+) -> Result<Step, AllocError>
+    ensures hears { IfOk result (λ step. ClientHears A.is_sealing A.TAG client.old now from bytes.now step client.new) }
+    ensures kind { IfOk result (λ step. ClientStep false (core_of_client client.old) step.notes (core_of_client client.new)) }
+    ensures few { IfOk result (λ step. length step.out ≤ 1) }
+    ensures err { OnErr result (client.new ≡ client.old) }
+{
+    client.on_datagram::<A>(alloc, now, from, bytes)
+}
+
+/// The client's holder seals this text at this number; one that none may have is none.
+fn client_lies<A: Aead>(
+    alloc: Global,
+    client: &mut Client,
+    number: u64,
+    text: &[u8],
+    draw: &Draw,
+) -> Result<Step, AllocError>
+    ensures lies { IfOk result (λ step. LiesAt A.is_sealing A.TAG client.old number text.now draw.now step client.new) }
+    ensures kind { IfOk result (λ step. ClientStep true (core_of_client client.old) step.notes (core_of_client client.new)) }
+    ensures few { IfOk result (λ step. length step.out ≤ 1) }
+    ensures same { client.new ≡ client.old }
+{
+    if number > NUMBER_LIMIT {
+        return Ok(idle(alloc));
+    }
+    client.lie::<A>(alloc, number, text, draw)
+}

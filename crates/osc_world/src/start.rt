@@ -1,0 +1,218 @@
+//! Where a world begins.
+ghost use Rattle.std.specs.Prelude.{◌≡◌, ◌<◌, ◌^◌, [], IfOk, OnErr, OnOk, length};
+ghost use Rattle.std.specs.Option.{ForSome};
+ghost use Rattle.osc_run.specs.Runs.{IsTextOf};
+ghost use Rattle.osc_token.specs.Minted.{FitTheirTypes};
+ghost use Rattle.osc_world.specs.Starts.{Enrols, IsDeskOf, IsEnrolled, begun};
+
+use crate::error::EnrollError;
+use crate::nodes::{Nodes, Placed};
+use crate::world::World;
+use osc_authz::{ClientDesk, ServerDesk};
+use osc_ccm::Aead;
+use osc_client::Client;
+use osc_model::{Bytes, Peer};
+use osc_run::{Grant, Minted, kinds};
+use osc_scope::Scope;
+use osc_server::Server;
+use osc_token::{Audience, Claims, InputMaterial, claims_text, mint};
+use osc_tree::Tree;
+use std::alloc::{AllocError, Global};
+use std::marker::Model;
+
+/// A client that is to be enrolled: where it stands, to whom it sends, what its token claims, and the IV under which the token is
+/// sealed.
+#[derive(Drop)]
+pub struct Holder {
+    /// Its address.
+    pub at: Peer,
+    /// To whom it sends.
+    pub next_hop: Peer,
+    /// What its token claims.
+    pub claims: Claims,
+    /// The IV under which its token is sealed; one IV is used for one token alone.
+    pub iv: [u8; 13],
+}
+
+/// A world before its first event: the resources, what needs no protection, the key that the issuer of tokens and the server share, for
+/// whom tokens are, where the server stands, and the clients that were enrolled.
+#[derive(Drop)]
+pub struct Start {
+    first: Tree,
+    open_scope: Scope,
+    key: [u8; 16],
+    audience: Audience,
+    server_at: Peer,
+    minted: Vec<Minted>,
+    clients: Vec<Placed>,
+}
+
+impl Model for Start {
+    ghost use Rattle.std.specs.Coded.{codes};
+    ghost use Rattle.osc_model.specs.Scope.{coded_scope};
+    ghost use Rattle.osc_model.specs.Tree.{coded_tree};
+    ghost use Rattle.osc_run.specs.Runs.{IsTextOf};
+    ghost use Rattle.osc_token.specs.Minted.{FitTheirTypes};
+    ghost use Rattle.osc_world.specs.Starts.{AreEnrolled, Beginning};
+
+    ghost Value = { Beginning };
+
+    ghost coded = { Prim.hlevel (codes, coded_scope, coded_tree) };
+
+    ghost view = { λ s. record {
+      first = s.first;
+      open_scope = s.open_scope;
+      key = s.key;
+      audience = s.audience;
+      server_at = s.server_at;
+      minted = s.minted.items;
+      clients = s.clients.items;
+    } };
+
+    ghost invariant = { λ s. AreEnrolled s.minted.items s.clients.items };
+}
+
+impl Start {
+    /// A world with these resources, and with no client yet; takes no memory.
+    pub fn new(
+        alloc: Global,
+        first: Tree,
+        open_scope: Scope,
+        key: [u8; 16],
+        audience: Audience,
+        server_at: Peer,
+    ) -> Start
+        ensures { result ≡ record { first = first; open_scope = open_scope; key = key; audience = audience; server_at = server_at; minted = []; clients = [] } }
+    {
+        Start {
+            first,
+            open_scope,
+            key,
+            audience,
+            server_at,
+            minted: Vec::new(alloc),
+            clients: Vec::new(alloc),
+        }
+    }
+
+    /// Enrolls a client: its claims are a grant, of which it gets the token. Its number is that of the clients before it.
+    ///
+    /// # Errors
+    ///
+    /// The first that stands; then nothing has changed.
+    pub fn enroll<A: Aead>(&mut self, alloc: Global, holder: Holder) -> Result<(), EnrollError>
+        ensures enrolled { OnOk result (Enrols A.is_sealing self.old holder self.new) }
+        ensures err { OnErr result (self.new ≡ self.old) }
+    {
+        self.minted.reserve(1)?;
+        self.clients.reserve(1)?;
+        let number = self.clients.len();
+        let (minted, placed) = enrolled::<A>(alloc, &self.key, number, holder)?;
+        self.minted.push_reserved(minted);
+        self.clients.push_reserved(placed);
+        Ok(())
+    }
+
+    /// The world that begins so. Nothing was sent, and nothing happened yet.
+    pub fn begin(self, alloc: Global) -> Result<World, AllocError>
+        ensures { IfOk result (λ world. world ≡ begun self) }
+    {
+        let Start {
+            first,
+            open_scope,
+            key,
+            audience,
+            server_at,
+            minted,
+            clients,
+        } = self;
+        let desk = ServerDesk::new(alloc, key, audience);
+        let server = Server::new(alloc, first.copy(alloc)?, desk, open_scope)?;
+        Ok(World::begun(alloc, minted, first, Nodes::new(server_at, server, clients)))
+    }
+}
+
+/// The grant of the claims, and the client that holds it.
+fn enrolled<A: Aead>(
+    alloc: Global,
+    key: &[u8; 16],
+    number: usize,
+    holder: Holder,
+) -> Result<(Minted, Placed), EnrollError>
+    ensures enrolled { IfOk result (λ made. IsEnrolled A.is_sealing key.now number holder made.0 made.1) }
+    ensures text { IfOk result (λ made. IsTextOf made.0.grant made.0.text) }
+{
+    kinds::minted_texts();
+    fits(&holder.claims);
+    let Holder {
+        at,
+        next_hop,
+        claims,
+        iv,
+    } = holder;
+    let scope = Scope::from_cbor(alloc, claims.scope.as_slice())?;
+    let mut token = Vec::new(alloc);
+    mint::<A>(alloc, &claims, key, &iv, &mut token)?;
+    let text = Bytes::from_vec(claims_text(alloc, &claims)?);
+    let desk = desk_of(&claims.material, Bytes::from_vec(token))?;
+    let client = Client::new(alloc, desk, next_hop)?;
+    let Claims {
+        not_before,
+        expires,
+        material,
+        ..
+    } = claims;
+    let grant = Grant {
+        material,
+        scope,
+        not_before,
+        expires,
+        holder: number,
+    };
+    Ok((Minted { grant, text }, Placed { at, client }))
+}
+
+/// What the holder of the token is granted.
+fn desk_of(material: &InputMaterial, token: Bytes) -> Result<ClientDesk, EnrollError>
+    ensures { IfOk result (λ desk. IsDeskOf material.now token desk) }
+{
+    let secret = material.secret.clone()?;
+    let salt = material.salt.clone()?;
+    let id_context = material.id_context.clone()?;
+    Ok(ClientDesk::new(token, secret, salt, id_context)?)
+}
+
+/// For proofs: the parts of claims are as long as their types allow. Does nothing.
+fn fits(claims: &Claims)
+    ensures { FitTheirTypes claims.now }
+{
+    let _ = claims.audience.as_str();
+    let _ = claims.scope.len();
+    seconds_fit(claims.not_before);
+    seconds_fit(claims.expires);
+    material_fits(&claims.material);
+}
+
+/// The same of input material.
+fn material_fits(material: &InputMaterial)
+    ensures id { length material.now.id < 2 ^ 64 }
+    ensures secret { length material.now.secret < 2 ^ 64 }
+    ensures salt { length material.now.salt < 2 ^ 64 }
+    ensures id_context { ForSome material.now.id_context (λ bytes. length bytes < 2 ^ 64) }
+{
+    let _ = material.id.len();
+    let _ = material.secret.len();
+    let _ = material.salt.len();
+    if let Some(id_context) = &material.id_context {
+        let _ = id_context.len();
+    }
+}
+
+/// The same of a number of seconds.
+fn seconds_fit(seconds: Option<u64>)
+    ensures { ForSome seconds (λ s. s < 2 ^ 64) }
+{
+    if let Some(seconds) = seconds {
+        let _ = seconds;
+    }
+}

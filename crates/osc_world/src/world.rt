@@ -1,0 +1,234 @@
+//! The world.
+ghost use Rattle.std.specs.Prelude.{◌≡◌, ◌↔◌, ◌++◌, [], IfOk, IsTrue, List, OnErr, OnOk, map, position, reverse};
+ghost use Rattle.osc_run.specs.History.{acceptances, history as history_of, questions};
+ghost use Rattle.osc_run.specs.Premise.{Premise};
+ghost use Rattle.osc_world.specs.Claims.{HasOneHistory, KeepsItsNonces};
+ghost use Rattle.osc_world.specs.Log.{settled};
+ghost use Rattle.osc_world.specs.Nodes.{skipped};
+ghost use Rattle.osc_run.specs.Runs.{IsStart};
+ghost use Rattle.osc_world.specs.Worlds.{Happen, Happens, run_with};
+ghost use Rattle.osc_world.specs.declared.event.Event.{Event as AnyEvent};
+
+use crate::event::Event;
+use crate::log::{Log, Record, Sent};
+use crate::nodes::Nodes;
+use osc_ccm::Aead;
+use osc_model::Entry;
+use osc_run::laws::{one_history, own_nonces};
+use osc_run::{Acceptance, Minted, Noted, Question};
+use osc_tree::Tree;
+use std::alloc::{AllocError, Global};
+use std::marker::Model;
+
+/// A server, its clients, each datagram that was ever sent, and what is noted of each step.
+///
+/// Whatever happens in it, there is one history, where what is assumed holds: that whatever opened was sealed before by the other end
+/// of its context, or minted; that no drawn nonce came twice; and that no two grants share a secret. See [`World::premise_holds`].
+#[derive(Drop)]
+pub struct World {
+    minted: Vec<Minted>,
+    first: Tree,
+    nodes: Nodes,
+    log: Log,
+}
+
+impl Model for World {
+    ghost use Rattle.osc_run.specs.Runs.{IsReached};
+    ghost use Rattle.osc_world.specs.Worlds.{State, run_of, world_of};
+    ghost use Rattle.std.specs.Coded.{codes};
+    ghost use Rattle.osc_model.specs.Scope.{coded_scope};
+    ghost use Rattle.osc_model.specs.Tree.{coded_tree};
+
+    ghost Value = { State };
+
+    ghost coded = { Prim.hlevel (codes, coded_scope, coded_tree) };
+
+    ghost view = { λ w. world_of w.minted.items w.first w.nodes w.log };
+
+    ghost invariant = { λ w. IsReached (run_of (world_of w.minted.items w.first w.nodes w.log)) };
+}
+
+impl World {
+    /// A world of these nodes, in which nothing happened yet; takes no memory.
+    pub(crate) fn begun(alloc: Global, minted: Vec<Minted>, first: Tree, nodes: Nodes) -> World
+        requires { IsStart (run_with minted.items first nodes []) }
+        ensures { result ≡ record { minted = minted.items; first = first; nodes = nodes; sent = []; steps = []; records = [] } }
+    {
+        World {
+            minted,
+            first,
+            nodes,
+            log: Log::new(alloc),
+        }
+    }
+
+    /// One event. Without memory an `AllocError`; then nothing has changed.
+    pub fn step<A: Aead>(&mut self, alloc: Global, event: &Event) -> Result<(), AllocError>
+        ensures happens { OnOk result (Happens A.is_sealing A.TAG self.old event.now self.new) }
+        ensures one_history { HasOneHistory self.new }
+        ensures own_nonces { KeepsItsNonces self.new }
+        ensures err { OnErr result (self.new ≡ self.old) }
+    {
+        one_history();
+        own_nonces();
+        let done = self.happens::<A>(alloc, event);
+        let _ = &self.minted;
+        done
+    }
+
+    /// The event's step, and what is kept of it.
+    fn happens<A: Aead>(&mut self, alloc: Global, event: &Event) -> Result<(), AllocError>
+        ensures happens { OnOk result (Happens A.is_sealing A.TAG self.old event.now self.new) }
+        ensures err { OnErr result (self.new ≡ self.old) }
+    {
+        let whose = self.nodes.whose(self.log.sent(), &event.what);
+        self.log.reserve(self.nodes.most_sent(whose))?;
+        let taken = self.nodes.take::<A>(alloc, whose, event, self.log.sent())?;
+        self.log.keep(&event.what, taken);
+        Ok(())
+    }
+
+    /// Events in order, up to the first for which memory is wanting; those before it stand.
+    ///
+    /// Where what is assumed holds ([`World::premise_holds`]), there is one history after them: no two entries share context and
+    /// number, each was asked by its client and is answered by its token's scope and the tree, their effects give the server's tree,
+    /// and each reply that a client accepted is that of its request.
+    pub fn run<A: Aead>(&mut self, alloc: Global, events: &[Event]) -> Result<(), AllocError>
+        ensures happen { (done rest : List AnyEvent) × (events.now ≡ done ++ rest) × Happen A.is_sealing A.TAG self.old done self.new
+            × OnOk result (rest ≡ []) }
+        ensures one_history { HasOneHistory self.new }
+        ensures own_nonces { KeepsItsNonces self.new }
+    {
+        one_history();
+        own_nonces();
+        let done = self.happen::<A>(alloc, events);
+        let _ = &self.minted;
+        done
+    }
+
+    fn happen<A: Aead>(&mut self, alloc: Global, events: &[Event]) -> Result<(), AllocError>
+        ensures { (done rest : List AnyEvent) × (events.now ≡ done ++ rest) × Happen A.is_sealing A.TAG self.old done self.new
+            × OnOk result (rest ≡ []) }
+    {
+        for event in events {
+            self.happens::<A>(alloc, event)?;
+        }
+        Ok(())
+    }
+
+    /// The requests that were served, the oldest first. Without memory there is no list.
+    pub fn history(&self, alloc: Global) -> Result<Vec<&Entry>, AllocError>
+        ensures history { IfOk result (λ all. map (λ entry. entry.now) all.items ≡ history_of self.now.steps) }
+        ensures one_history { HasOneHistory self.now }
+    {
+        one_history();
+        self.log.notes().history(alloc)
+    }
+
+    /// The requests that clients sealed, or their holders in a lie, the oldest first. Without memory there is no list.
+    pub fn asked(&self, alloc: Global) -> Result<Vec<Question<'_>>, AllocError>
+        ensures asked { IfOk result (λ all. all.items ≡ questions self.now.steps) }
+        ensures one_history { HasOneHistory self.now }
+    {
+        one_history();
+        self.log.notes().asked(alloc)
+    }
+
+    /// The replies that clients accepted, the oldest first. Without memory there is no list.
+    pub fn accepted(&self, alloc: Global) -> Result<Vec<Acceptance<'_>>, AllocError>
+        ensures accepted { IfOk result (λ all. all.items ≡ acceptances self.now.steps) }
+        ensures one_history { HasOneHistory self.now }
+    {
+        one_history();
+        self.log.notes().accepted(alloc)
+    }
+
+    /// Whether what is assumed holds of all that happened: whatever opened was sealed before by the other end of its context, or
+    /// minted; no drawn nonce came twice; and no two grants share a secret. Takes no memory; its time grows with the square of the
+    /// steps.
+    pub fn premise_holds(&self) -> bool
+        ensures { IsTrue result ↔ Premise self.now.minted self.now.steps }
+    {
+        self.log.notes().premise_holds(&self.minted)
+    }
+
+    /// The server's resources.
+    pub fn tree(&self) -> &Tree
+        ensures tree { result.now ≡ self.now.nodes.server.tree }
+        ensures one_history { HasOneHistory self.now }
+    {
+        one_history();
+        let _ = &self.minted;
+        self.nodes.server().tree()
+    }
+
+    /// The resources that the world began with.
+    pub fn first_tree(&self) -> &Tree
+        ensures tree { result.now ≡ self.now.first }
+        ensures one_history { HasOneHistory self.now }
+    {
+        one_history();
+        &self.first
+    }
+
+    /// Each datagram that was ever sent, the first of them first.
+    pub fn sent(&self) -> &[Sent]
+        ensures { result.now ≡ self.now.sent }
+    {
+        self.log.sent()
+    }
+
+    /// What each step noted, the oldest first.
+    pub fn steps(&self) -> &[Noted]
+        ensures { reverse result.now ≡ self.now.steps }
+    {
+        self.log.notes().steps()
+    }
+
+    /// What came of each event, the oldest first.
+    pub fn records(&self) -> &[Record]
+        ensures { result.now ≡ self.now.records }
+    {
+        self.log.records()
+    }
+
+    /// The first datagram that was neither delivered nor dropped, by its number. The work grows with the number of datagrams.
+    pub fn next_waiting(&self) -> Option<usize>
+        ensures { result ≡ position (λ datagram. datagram.waits) self.now.sent }
+    {
+        first_waiting(self.log.sent())
+    }
+
+    /// The datagram of this number waits no more: a quiet round leaves it out. One that was never sent changes nothing.
+    pub fn drop_datagram(&mut self, number: usize)
+        ensures { self.new ≡ record self.old { sent = settled number self.old.sent } }
+    {
+        self.log.settle(number);
+    }
+
+    /// Raises the sender sequence number that a client takes next; a lower one changes nothing, and so does a client that isn't there
+    /// or has no context.
+    pub fn skip(&mut self, client: usize, number: u64)
+        ensures skipped { self.new ≡ record self.old { nodes = skipped client number self.old.nodes } }
+        ensures one_history { HasOneHistory self.new }
+        ensures own_nonces { KeepsItsNonces self.new }
+    {
+        one_history();
+        own_nonces();
+        self.skips(client, number);
+        let _ = &self.minted;
+    }
+
+    fn skips(&mut self, client: usize, number: u64)
+        ensures { self.new ≡ record self.old { nodes = skipped client number self.old.nodes } }
+    {
+        self.nodes.skip(client, number);
+    }
+}
+
+/// The first that waits.
+fn first_waiting(sent: &[Sent]) -> Option<usize>
+    ensures { result ≡ position (λ datagram. datagram.waits) sent.now }
+{
+    sent.iter().position(|datagram| datagram.waits)
+}
