@@ -1,0 +1,325 @@
+//! A client and a server in a world, and the history that explains what they did.
+
+use osc_ccm::Ccm;
+use osc_model::{Bytes, Code, Draw, ETags, Moment, Path, Peer, Request};
+use osc_run::Actor;
+use osc_scope::Scope;
+use osc_token::{Audience, Claims, InputMaterial};
+use osc_tree::Tree;
+use osc_world::{Event, Holder, Start, What, World};
+use std::alloc::{AllocError, Global};
+use std::process::Abort;
+use std::test::*;
+
+const SERVER: Peer = Peer {
+    address: [127, 0, 0, 1],
+    port: 5683,
+};
+
+const CLIENT: Peer = Peer {
+    address: [127, 0, 0, 1],
+    port: 7001,
+};
+
+const STRANGER: Peer = Peer {
+    address: [127, 0, 0, 1],
+    port: 9000,
+};
+
+/// The key that the server shares with the issuer of tokens.
+const KEY: [u8; 16] = *b"@ABCDEFGHIJKLMNO";
+
+const GET: u8 = 1;
+
+const POST: u8 = 2;
+
+fn material(alloc: Global) -> Result<InputMaterial, AllocError> {
+    Ok(InputMaterial {
+        id: Bytes::from_slice(alloc, &[1])?,
+        secret: Bytes::from_slice(alloc, &[1; 16])?,
+        salt: Bytes::new(alloc),
+        id_context: None,
+    })
+}
+
+/// GET and POST on `/log`.
+fn claims(alloc: Global) -> Result<Claims, AllocError> {
+    let audience = Audience::new(alloc, "s")?;
+    let material = material(alloc)?;
+    Ok(Claims {
+        audience,
+        not_before: None,
+        expires: None,
+        material,
+        scope: Bytes::from_slice(alloc, b"\x81\x82\x64/log\x03")?,
+    })
+}
+
+fn holder(alloc: Global) -> Result<Holder, AllocError> {
+    Ok(Holder {
+        at: CLIENT,
+        next_hop: SERVER,
+        claims: claims(alloc)?,
+        iv: [1; 13],
+    })
+}
+
+/// A world without resources, with one client.
+fn world(alloc: Global) -> Result<World, Fail> {
+    let audience = Audience::new(alloc, "s")?;
+    let mut start = Start::new(
+        alloc,
+        Tree::new(alloc),
+        Scope::new(alloc),
+        KEY,
+        audience,
+        SERVER,
+    );
+    let holder = holder(alloc)?;
+    let enrolled = start.enroll::<Ccm<8>>(alloc, holder);
+    let world = start.begin(alloc);
+    enrolled.ok().ok_or("not enrolled")?;
+    Ok(world?)
+}
+
+/// A request of this code on `/log`.
+fn request(alloc: Global, code: u8, payload: &[u8]) -> Result<Request, AllocError> {
+    Ok(Request {
+        code: Code(code),
+        path: Path::from_text(alloc, b"/log")?,
+        format: None,
+        accept: None,
+        if_match: ETags::new(alloc),
+        if_none_match: false,
+        payload: Bytes::from_slice(alloc, payload)?,
+    })
+}
+
+/// The event of this number, which gives its draw.
+fn event(number: u8, what: What) -> Event {
+    Event {
+        moment: Moment::START,
+        draw: Draw([number; 32]),
+        what,
+    }
+}
+
+/// Whether there was memory for what happens.
+fn happens(alloc: Global, world: &mut World, number: u8, what: What) -> bool {
+    let event = event(number, what);
+    let done = world.step::<Ccm<8>>(alloc, &event).is_ok();
+    drop(event);
+    done
+}
+
+fn exchanges(alloc: Global, world: &mut World, number: u8) -> bool {
+    happens(alloc, world, number, What::Exchange { client: 0 })
+}
+
+fn asks(alloc: Global, world: &mut World, number: u8, code: u8, payload: &[u8]) -> bool {
+    match request(alloc, code, payload) {
+        Ok(request) => happens(alloc, world, number, What::Ask { client: 0, request }),
+        Err(_) => false,
+    }
+}
+
+fn lies(alloc: Global, world: &mut World, event: u8, number: u64, text: &[u8]) -> bool {
+    match Bytes::from_slice(alloc, text) {
+        Ok(text) => happens(
+            alloc,
+            world,
+            event,
+            What::Lie {
+                client: 0,
+                number,
+                text,
+            },
+        ),
+        Err(_) => false,
+    }
+}
+
+fn delivers(alloc: Global, world: &mut World, number: u8, datagram: usize) -> bool {
+    happens(alloc, world, number, What::Deliver { datagram })
+}
+
+fn injects(alloc: Global, world: &mut World, number: u8, from: Peer, bytes: &[u8]) -> bool {
+    match Bytes::from_slice(alloc, bytes) {
+        Ok(bytes) => happens(
+            alloc,
+            world,
+            number,
+            What::Inject {
+                from,
+                to: SERVER,
+                bytes,
+            },
+        ),
+        Err(_) => false,
+    }
+}
+
+/// How many requests were served, asked and answered.
+fn counts(alloc: Global, world: &World) -> (usize, usize, usize) {
+    (
+        history(alloc, world),
+        asked(alloc, world),
+        accepted(alloc, world),
+    )
+}
+
+fn history(alloc: Global, world: &World) -> usize {
+    match world.history(alloc) {
+        Ok(all) => all.len(),
+        Err(_) => 1000,
+    }
+}
+
+fn asked(alloc: Global, world: &World) -> usize {
+    match world.asked(alloc) {
+        Ok(all) => all.len(),
+        Err(_) => 1000,
+    }
+}
+
+fn accepted(alloc: Global, world: &World) -> usize {
+    match world.accepted(alloc) {
+        Ok(all) => all.len(),
+        Err(_) => 1000,
+    }
+}
+
+/// Whether `/log` has these bytes.
+fn has(alloc: Global, world: &World, bytes: &[u8]) -> bool {
+    match Path::from_text(alloc, b"/log") {
+        Ok(Some(path)) => match world.tree().get(&path) {
+            Some(resource) => resource.payload.as_slice() == bytes,
+            None => false,
+        },
+        _ => false,
+    }
+}
+
+/// An exchange, a POST and a GET, with their deliveries.
+fn events(alloc: Global) -> Result<Vec<Event>, AllocError> {
+    let mut events = Vec::new(alloc);
+    events.push(event(1, What::Exchange { client: 0 }))?;
+    events.push(event(2, What::Deliver { datagram: 0 }))?;
+    events.push(event(3, What::Deliver { datagram: 1 }))?;
+    let request = request(alloc, POST, b"a")?;
+    events.push(event(4, What::Ask { client: 0, request }))?;
+    events.push(event(5, What::Deliver { datagram: 2 }))?;
+    events.push(event(6, What::Deliver { datagram: 3 }))?;
+    Ok(events)
+}
+
+fn runs(rt: &impl Abort, alloc: Global, world: &mut World, events: &[Event]) {
+    assert!(rt; world.run::<Ccm<8>>(alloc, events).is_ok());
+    assert!(rt; world.sent().len() == 4);
+    assert!(rt; world.records().len() == 6);
+    assert!(rt; counts(alloc, world) == (1, 1, 1));
+    assert!(rt; has(alloc, world, b"a"));
+    assert!(rt; world.first_tree().len() == 0);
+    assert!(rt; world.premise_holds());
+    assert!(rt; world.next_waiting() == None);
+    assert!(rt; asks(alloc, world, 7, GET, b""));
+    assert!(rt; world.next_waiting() == Some(4));
+    assert!(rt; delivers(alloc, world, 8, 4));
+    assert!(rt; delivers(alloc, world, 9, 5));
+    assert!(rt; counts(alloc, world) == (2, 2, 2));
+}
+
+#[test]
+fn an_exchange_and_two_requests(rt: HostRuntime) -> Result<(), Fail> {
+    let mut world = world(rt.alloc())?;
+    let events = events(rt.alloc()).expect(&rt, "memory");
+    runs(&rt, rt.alloc(), &mut world, &events);
+    drop(events);
+    drop(world);
+    Ok(())
+}
+
+/// The first four datagrams: a context, and a request that isn't delivered yet.
+fn begins(rt: &impl Abort, alloc: Global, world: &mut World) {
+    assert!(rt; exchanges(alloc, world, 1));
+    assert!(rt; delivers(alloc, world, 2, 0));
+    assert!(rt; delivers(alloc, world, 3, 1));
+    assert!(rt; asks(alloc, world, 4, POST, b"a"));
+    assert!(rt; world.sent().len() == 3);
+}
+
+fn repeats(rt: &impl Abort, alloc: Global, world: &mut World) {
+    begins(rt, alloc, world);
+    assert!(rt; delivers(alloc, world, 5, 2));
+    assert!(rt; delivers(alloc, world, 6, 2));
+    assert!(rt; counts(alloc, world) == (1, 1, 0));
+    assert!(rt; delivers(alloc, world, 7, 3));
+    assert!(rt; delivers(alloc, world, 8, 3));
+    assert!(rt; delivers(alloc, world, 9, 100));
+    assert!(rt; injects(alloc, world, 10, STRANGER, b"\x40\x01\0\x01\xb3log"));
+    assert!(rt; world.records().len() == 10);
+    assert!(rt; counts(alloc, world) == (1, 1, 1));
+    assert!(rt; has(alloc, world, b"a"));
+    assert!(rt; world.premise_holds());
+}
+
+#[test]
+fn datagrams_that_come_again(rt: HostRuntime) -> Result<(), Fail> {
+    let mut world = world(rt.alloc())?;
+    repeats(&rt, rt.alloc(), &mut world);
+    drop(world);
+    Ok(())
+}
+
+/// A request that was sealed before the server started again finds no context; a lie at a number that the client took is served where
+/// it comes first, and the client's own request is then a replay.
+fn lies_first(rt: &impl Abort, alloc: Global, world: &mut World) {
+    begins(rt, alloc, world);
+    assert!(rt; lies(alloc, world, 5, 0, b"\x02\xb3log\xffb"));
+    assert!(rt; delivers(alloc, world, 6, 3));
+    assert!(rt; delivers(alloc, world, 7, 2));
+    assert!(rt; counts(alloc, world) == (1, 2, 0));
+    assert!(rt; has(alloc, world, b"b"));
+    assert!(rt;
+        happens(
+            alloc,
+            world,
+            8,
+            What::Restart {
+                node: Actor::Server
+            }
+        )
+    );
+    world.skip(0, 7);
+    assert!(rt; delivers(alloc, world, 9, 5));
+    assert!(rt; asks(alloc, world, 10, POST, b"c"));
+    assert!(rt; delivers(alloc, world, 11, 6));
+    assert!(rt; counts(alloc, world) == (1, 3, 0));
+    assert!(rt; has(alloc, world, b"b"));
+    assert!(rt; world.premise_holds());
+}
+
+#[test]
+fn a_lie_and_a_restart(rt: HostRuntime) -> Result<(), Fail> {
+    let mut world = world(rt.alloc())?;
+    lies_first(&rt, rt.alloc(), &mut world);
+    drop(world);
+    Ok(())
+}
+
+fn draws_twice(rt: &impl Abort, alloc: Global, world: &mut World) {
+    assert!(rt; exchanges(alloc, world, 1));
+    assert!(rt; world.premise_holds());
+    assert!(rt; delivers(alloc, world, 1, 0));
+    assert!(rt; world.sent().len() == 2);
+    assert!(rt; !world.premise_holds());
+    assert!(rt; counts(alloc, world) == (0, 0, 0));
+}
+
+#[test]
+fn a_draw_that_comes_twice(rt: HostRuntime) -> Result<(), Fail> {
+    let mut world = world(rt.alloc())?;
+    draws_twice(&rt, rt.alloc(), &mut world);
+    drop(world);
+    Ok(())
+}
