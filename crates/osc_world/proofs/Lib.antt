@@ -1,3 +1,4 @@
+pub mod Rounds
 pub mod Going
 pub mod Enrolling
 pub mod Sending

@@ -4,3 +4,4 @@ pub mod Steps
 pub mod Worlds
 pub mod Claims
 pub mod Starts
+pub mod Quiet

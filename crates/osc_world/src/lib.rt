@@ -2,6 +2,7 @@
 //! and forges others. What it keeps of its steps is a run, so what holds of every run holds of every world.
 #![tactic(auto)]
 
+mod draws;
 mod error;
 mod event;
 mod log;
@@ -9,6 +10,7 @@ mod nodes;
 mod start;
 mod world;
 
+pub use draws::Draws;
 pub use error::EnrollError;
 pub use event::{Event, What};
 pub use log::{Record, Sent};

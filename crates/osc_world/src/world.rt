@@ -6,14 +6,16 @@ ghost use Rattle.osc_world.specs.Claims.{HasOneHistory, KeepsItsNonces};
 ghost use Rattle.osc_world.specs.Log.{settled};
 ghost use Rattle.osc_world.specs.Nodes.{skipped};
 ghost use Rattle.osc_run.specs.Runs.{IsStart};
+ghost use Rattle.osc_world.specs.Quiet.{Rounds, delivery};
 ghost use Rattle.osc_world.specs.Worlds.{Happen, Happens, run_with};
 ghost use Rattle.osc_world.specs.declared.event.Event.{Event as AnyEvent};
 
-use crate::event::Event;
+use crate::draws::Draws;
+use crate::event::{Event, What};
 use crate::log::{Log, Record, Sent};
 use crate::nodes::Nodes;
 use osc_ccm::Aead;
-use osc_model::Entry;
+use osc_model::{Draw, Entry, Moment};
 use osc_run::laws::{one_history, own_nonces};
 use osc_run::{Acceptance, Minted, Noted, Question};
 use osc_tree::Tree;
@@ -34,6 +36,7 @@ pub struct World {
 
 impl Model for World {
     ghost use Rattle.osc_run.specs.Runs.{IsReached};
+    ghost use Rattle.osc_world.specs.Quiet.{Rounds, delivery};
     ghost use Rattle.osc_world.specs.Worlds.{State, run_of, world_of};
     ghost use Rattle.std.specs.Coded.{codes};
     ghost use Rattle.osc_model.specs.Scope.{coded_scope};
@@ -114,6 +117,64 @@ impl World {
             self.happens::<A>(alloc, event)?;
         }
         Ok(())
+    }
+
+    /// A quiet round: each datagram that was neither delivered nor dropped is delivered, in order of sending, until none is left, or so
+    /// many were. Whether none is left; for want of memory an `AllocError`, and the deliveries before it stand.
+    pub fn quiet<A: Aead, D: Draws>(
+        &mut self,
+        alloc: Global,
+        now: Moment,
+        draws: &D,
+        limit: usize,
+    ) -> Result<bool, AllocError>
+        ensures rounds { IfOk result (λ quiet. Rounds A.is_sealing A.TAG (D.drawn draws.now) now limit self.old quiet self.new) }
+        ensures one_history { HasOneHistory self.new }
+        ensures own_nonces { KeepsItsNonces self.new }
+    {
+        one_history();
+        own_nonces();
+        let done = self.rounds::<A, D>(alloc, now, draws, limit);
+        let _ = &self.minted;
+        done
+    }
+
+    fn rounds<A: Aead, D: Draws>(
+        &mut self,
+        alloc: Global,
+        now: Moment,
+        draws: &D,
+        limit: usize,
+    ) -> Result<bool, AllocError>
+        ensures { IfOk result (λ quiet. Rounds A.is_sealing A.TAG (D.drawn draws.now) now limit self.old quiet self.new) }
+    {
+        for _ in 0..limit {
+            let Some(datagram) = self.next_waiting() else {
+                return Ok(true);
+            };
+            let draw = draws.draw(self.log.records().len());
+            self.delivers::<A>(alloc, now, draw, datagram)?;
+        }
+        Ok(self.next_waiting().is_none())
+    }
+
+    /// The datagram of this number is delivered.
+    fn delivers<A: Aead>(
+        &mut self,
+        alloc: Global,
+        now: Moment,
+        draw: Draw,
+        datagram: usize,
+    ) -> Result<(), AllocError>
+        ensures happens { OnOk result (Happens A.is_sealing A.TAG self.old (delivery now draw datagram) self.new) }
+        ensures err { OnErr result (self.new ≡ self.old) }
+    {
+        let event = Event {
+            moment: now,
+            draw,
+            what: What::Deliver { datagram },
+        };
+        self.happens::<A>(alloc, &event)
     }
 
     /// The requests that were served, the oldest first. Without memory there is no list.
