@@ -1,5 +1,5 @@
 -- What was found, or wasn't.
-use Rattle.std.proofs.Common.{◌≡◌, Bool, true, false, cond, Option, Some, None, refl}
+use Rattle.std.proofs.Common.{◌≡◌, Bool, true, false, cond, Option, Some, None, refl, inl, inr, ◌⊎◌}
 use Rattle.osc_script.specs.Reading.{◌>>=◌}
 
 -- the value of a step that found one
@@ -16,3 +16,8 @@ test_held false o y e = absurd cc
 pub none_unless : {A : Type 0} (o : Option A) → ((x : A) → o ≡ Some x → ⊥) → o ≡ None
 none_unless None h = refl
 none_unless (Some x) h = absurd (h x refl)
+
+-- which way a test went
+pub chosen : {A : Type 0} (b : Bool) (x y z : Option A) → cond b x y ≡ z → ((b ≡ true) × (x ≡ z)) ⊎ ((b ≡ false) × (y ≡ z))
+chosen true x y z e = inl (refl, e)
+chosen false x y z e = inr (refl, e)

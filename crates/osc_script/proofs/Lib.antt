@@ -1,6 +1,13 @@
 pub mod Found
 pub mod Numbers
 pub mod Payloads
+pub mod Nodes
+pub mod Requests
+pub mod ChangeWords
+pub mod ScopeTexts
+pub mod GrantWords
 pub mod Lines
+pub mod Said
 pub mod Places
+pub mod Lets
 pub mod Scripts

@@ -1,40 +1,26 @@
 -- What is read from the words of a line, they say, and what they say is read.
-use Rattle.std.proofs.Common.{◌≡◌, ℕ, ◌<◌, ◌≤◌, ◌^◌, Bool, true, false, cond, List, [], ◌∷◌, length, get_or, map, Option, Some, None, codes, nat_lt, nat_le, Bor, ◌⊎◌, inl, inr, refl, sym, ap, subst, ◌∙◌, arith, bytes_eq, ltb-true, lt-ltb, leb-true, le-leb, IsUtf8}
+use Rattle.std.proofs.Common.{◌≡◌, ℕ, ◌<◌, ◌^◌, Bool, true, false, cond, List, [], ◌∷◌, length, Option, Some, None, codes, nat_lt, nat_le, inl, inr, refl, sym, ap, subst, ◌∙◌, ltb-true, lt-ltb, leb-true}
 use Rattle.std.specs.Prelude.{IfSome, IsSome, ◌↔◌}
 use Rattle.std.proofs.Props.{props}
 use Rattle.std.proofs.lemmas.Bool.{cases_Bool}
-use Rattle.std.proofs.lemmas.Slice.Eq.{bytes_eq-Decides}
 use Rattle.osc_model.specs.Path.{IsPath}
 use Rattle.osc_model.specs.Tree.{longest_payload}
-use Rattle.osc_script.specs.declared.line.Line.{Line}
-use Rattle.osc_script.specs.declared.line.Line.TheVariants.{Skipped, Put, Open, At, Inject}
 use Rattle.osc_model.specs.declared.node.Moment.{Moment}
-use Rattle.osc_script.specs.declared.node.Node.{Node}
-use Rattle.osc_script.specs.declared.node.Node.TheVariants.{Server, Stranger}
+use Rattle.osc_script.specs.declared.line.Line.{Line}
+use Rattle.osc_script.specs.declared.line.Line.TheVariants.{Put, Open, At, Draw, Drop, Skip, Exchange, Ask, Tick, Restart, Deliver, Graft, Inject, Lie}
 use Rattle.osc_script.specs.Node.{name_of}
-use Rattle.osc_script.specs.Words.{words_of, SpellsNumber}
-use Rattle.osc_script.specs.Line.{IsSkipped, Say, Says}
-use Rattle.osc_script.specs.Reading.{◌>>=◌, Reads, number_in, format_in, node_in, bytes_in, moment_if, moment_in, with_one, with_three, put_in, at_in, inject_in, line_in, HasPath, Gives}
+use Rattle.osc_script.specs.Words.{SpellsNumber}
+use Rattle.osc_script.specs.Line.{Say}
+use Rattle.osc_script.specs.Reading.{◌>>=◌, number_in, request_number_in, format_in, client_in, node_in, worker_in, bytes_in, nonce_in, changes_in, some_changes, request_in, moment_if, moment_in, put_in, at_in, draw_in, exchange_in, skip_in, ask_in, lie_in, deliver_in, drop_in, alter_in, graft_in, tick_in, restart_in, inject_in, HasPath}
 use Rattle.osc_script.proofs.Found.{step_found, test_held}
-use Rattle.osc_script.proofs.Numbers.{number_found, number_again, format_found, format_again}
-use Rattle.osc_script.proofs.Payloads.{bytes_found, bytes_again}
+use Rattle.osc_script.proofs.Numbers.{number_found, format_found, request_number_found}
+use Rattle.osc_script.proofs.Payloads.{bytes_found, nonce_found}
+use Rattle.osc_script.proofs.Nodes.{client_found, node_found, worker_found}
+use Rattle.osc_script.proofs.Requests.{request_found}
+use Rattle.osc_script.proofs.ChangeWords.{changes_found, some_found}
 
-line_is : (x y : Line) → Some x ≡ Some y → x ≡ y
+pub line_is : (x y : Line) → Some x ≡ Some y → x ≡ y
 line_is x y e = cc
-
--- ---- arguments
-
-one_found : (f : List ℕ → Option Line) (args : List (List ℕ)) (line : Line) → with_one f args ≡ Some line → (a : List ℕ) × (args ≡ a ∷ []) × (f a ≡ Some line)
-one_found f [] line e = absurd cc
-one_found f (a ∷ []) line e = (a, refl, e)
-one_found f (a ∷ b ∷ args) line e = absurd cc
-
-three_found : (f : List ℕ → List ℕ → List ℕ → Option Line) (args : List (List ℕ)) (line : Line) → with_three f args ≡ Some line → (a b c : List ℕ) × (args ≡ a ∷ b ∷ c ∷ []) × (f a b c ≡ Some line)
-three_found f [] line e = absurd cc
-three_found f (a ∷ []) line e = absurd cc
-three_found f (a ∷ b ∷ []) line e = absurd cc
-three_found f (a ∷ b ∷ c ∷ []) line e = (a, b, c, refl, e)
-three_found f (a ∷ b ∷ c ∷ d ∷ args) line e = absurd cc
 
 -- ---- a moment
 
@@ -53,7 +39,7 @@ moment_one : (moment : Moment) (few : Bool) (e : nat_lt moment.ms (2 ^ 63) ≡ f
 moment_one moment true e = ap (λ (early : moment.ms < 2 ^ 63). Some (record { ms = moment.ms; early = early })) (bound_prop moment.ms (ltb-true moment.ms (2 ^ 63) e) moment.early)
 moment_one moment false e = let yes_ : nat_lt moment.ms (2 ^ 63) ≡ true = lt-ltb moment.ms (2 ^ 63) moment.early in absurd cc
 
-moment_again : (moment : Moment) → moment_in moment.ms ≡ Some moment
+pub moment_again : (moment : Moment) → moment_in moment.ms ≡ Some moment
 moment_again moment = moment_one moment (nat_lt moment.ms (2 ^ 63)) refl
 
 -- what is found of some milliseconds is their moment, and nothing is where there are too many
@@ -69,31 +55,9 @@ moment_read ms None value some =
     none_found ms true e f = absurd cc
     none_found ms false e f = refl
 
--- ---- a node
-
-node_is : (x y : Node) → Some x ≡ Some y → x ≡ y
-node_is x y e = cc
-
-node_found : (word : List ℕ) (node : Node) → node_in word ≡ Some node → word ≡ name_of node
-unfolding node_in
-node_found word node e =
-    elim (cases_Bool (bytes_eq word (name_of Server))) [
-      | inl same ↦
-          let found : Some Server ≡ Some node = sym (rw same refl) ∙ e in
-          (bytes_eq-Decides word (name_of Server)).0 same ∙ ap name_of (node_is Server node found)
-      | inr other ↦
-          let t = test_held (bytes_eq word (name_of Stranger)) (Some Stranger) node (sym (rw other refl) ∙ e) in
-          (bytes_eq-Decides word (name_of Stranger)).0 t.0 ∙ ap name_of (node_is Stranger node t.1)
-    ]
-
-node_again : (node : Node) → node_in (name_of node) ≡ Some node
-unfolding node_in
-node_again Server = refl
-node_again Stranger = refl
-
 -- ---- each kind of line
 
-put_found : (path format bytes : List ℕ) (line : Line) → put_in path format bytes ≡ Some line → HasPath line → Say (codes "put" ∷ path ∷ format ∷ bytes ∷ []) line
+pub put_found : (path format bytes : List ℕ) (line : Line) → put_in path format bytes ≡ Some line → HasPath line → Say (codes "put" ∷ path ∷ format ∷ bytes ∷ []) line
 unfolding put_in
 put_found path format bytes line e has =
     let a = step_found (format_in format) (λ f. bytes_in bytes >>= λ p. cond (nat_le (length p) longest_payload) (Some (Put path (record { format = f; payload = p }))) None) line e in
@@ -103,13 +67,13 @@ put_found path format bytes line e has =
     let is_path : IsPath path = subst HasPath (sym is_put) has in
     subst (Say (codes "put" ∷ path ∷ format ∷ bytes ∷ [])) is_put (format, bytes, refl, is_path, format_found format a.0 a.1, bytes_found bytes b.0 b.1, leb-true (length b.0) longest_payload c.0)
 
-open_found : (path : List ℕ) (line : Line) → Some (Open path) ≡ Some line → HasPath line → Say (codes "open" ∷ path ∷ []) line
+pub open_found : (path : List ℕ) (line : Line) → Some (Open path) ≡ Some line → HasPath line → Say (codes "open" ∷ path ∷ []) line
 open_found path line e has =
     let is_open : Open path ≡ line = line_is (Open path) line e in
     let is_path : IsPath path = subst HasPath (sym is_open) has in
     subst (Say (codes "open" ∷ path ∷ [])) is_open (refl, is_path)
 
-at_found : (number : List ℕ) (line : Line) → at_in number ≡ Some line → Say (codes "at" ∷ number ∷ []) line
+pub at_found : (number : List ℕ) (line : Line) → at_in number ≡ Some line → Say (codes "at" ∷ number ∷ []) line
 unfolding at_in
 at_found number line e =
     let a = step_found (number_in number) (λ ms. moment_in ms >>= λ moment. Some (At moment)) line e in
@@ -117,7 +81,88 @@ at_found number line e =
     let is_ms : a.0 ≡ m.0.ms = moment_found a.0 m.0 m.1 in
     subst (Say (codes "at" ∷ number ∷ [])) (line_is (At m.0) line m.2) (number, refl, subst (SpellsNumber number) is_ms (number_found number a.0 a.1))
 
-inject_found : (from to spelled : List ℕ) (line : Line) → inject_in from to spelled ≡ Some line → Say (codes "inject" ∷ from ∷ to ∷ spelled ∷ []) line
+pub draw_found : (digits : List ℕ) (line : Line) → draw_in digits ≡ Some line → Say (codes "draw" ∷ digits ∷ []) line
+unfolding draw_in
+draw_found digits line e =
+    let a = step_found (nonce_in digits) (λ nonce. Some (Draw nonce)) line e in
+    let n = nonce_found digits a.0 a.1 in
+    subst (Say (codes "draw" ∷ digits ∷ [])) (line_is (Draw a.0) line a.2) (digits, refl, n.0, n.1)
+
+pub exchange_found : (client : List ℕ) (line : Line) → exchange_in client ≡ Some line → Say (codes "exchange" ∷ client ∷ []) line
+unfolding exchange_in
+exchange_found client line e =
+    let a = step_found (client_in client) (λ c. Some (Exchange c)) line e in
+    subst (Say (codes "exchange" ∷ client ∷ [])) (line_is (Exchange a.0) line a.2) (ap (λ (w : List ℕ). codes "exchange" ∷ w ∷ []) (client_found client a.0 a.1))
+
+pub skip_found : (client number : List ℕ) (line : Line) → skip_in client number ≡ Some line → Say (codes "skip" ∷ client ∷ number ∷ []) line
+unfolding skip_in
+skip_found client number line e =
+    let a = step_found (client_in client) (λ c. request_number_in number >>= λ n. Some (Skip c n)) line e in
+    let b = step_found (request_number_in number) (λ n. Some (Skip a.0 n)) line a.2 in
+    let n = request_number_found number b.0 b.1 in
+    subst (Say (codes "skip" ∷ client ∷ number ∷ [])) (line_is (Skip a.0 b.0) line b.2) (number, ap (λ (w : List ℕ). codes "skip" ∷ w ∷ number ∷ []) (client_found client a.0 a.1), n.0, n.1)
+
+pub ask_found : (client : List ℕ) (words : List (List ℕ)) (line : Line) → ask_in client words ≡ Some line → HasPath line → Say (codes "ask" ∷ client ∷ words) line
+unfolding ask_in
+ask_found client words line e has =
+    let a = step_found (client_in client) (λ c. request_in words >>= λ r. Some (Ask c r)) line e in
+    let b = step_found (request_in words) (λ r. Some (Ask a.0 r)) line a.2 in
+    let is : Ask a.0 b.0 ≡ line = line_is (Ask a.0 b.0) line b.2 in
+    subst (Say (codes "ask" ∷ client ∷ words)) is (words, ap (λ (w : List ℕ). codes "ask" ∷ w ∷ words) (client_found client a.0 a.1), request_found words b.0 b.1 (subst HasPath (sym is) has))
+
+pub lie_found : (client number : List ℕ) (words : List (List ℕ)) (line : Line) → lie_in client number words ≡ Some line → HasPath line → Say (codes "lie" ∷ client ∷ number ∷ words) line
+unfolding lie_in
+lie_found client number words line e has =
+    let a = step_found (client_in client) (λ c. request_number_in number >>= λ n. request_in words >>= λ r. Some (Lie c n r)) line e in
+    let b = step_found (request_number_in number) (λ n. request_in words >>= λ r. Some (Lie a.0 n r)) line a.2 in
+    let c = step_found (request_in words) (λ r. Some (Lie a.0 b.0 r)) line b.2 in
+    let n = request_number_found number b.0 b.1 in
+    let is : Lie a.0 b.0 c.0 ≡ line = line_is (Lie a.0 b.0 c.0) line c.2 in
+    subst (Say (codes "lie" ∷ client ∷ number ∷ words)) is
+    (number, words, ap (λ (w : List ℕ). codes "lie" ∷ w ∷ number ∷ words) (client_found client a.0 a.1), n.0, n.1, request_found words c.0 c.1 (subst HasPath (sym is) has))
+
+pub deliver_found : (number : List ℕ) (line : Line) → deliver_in number ≡ Some line → Say (codes "deliver" ∷ number ∷ []) line
+unfolding deliver_in
+deliver_found number line e =
+    let a = step_found (number_in number) (λ n. Some (Deliver n)) line e in
+    subst (Say (codes "deliver" ∷ number ∷ [])) (line_is (Deliver a.0) line a.2) (number, refl, number_found number a.0 a.1)
+
+pub drop_found : (number : List ℕ) (line : Line) → drop_in number ≡ Some line → Say (codes "drop" ∷ number ∷ []) line
+unfolding drop_in
+drop_found number line e =
+    let a = step_found (number_in number) (λ n. Some (Drop n)) line e in
+    subst (Say (codes "drop" ∷ number ∷ [])) (line_is (Drop a.0) line a.2) (number, refl, number_found number a.0 a.1)
+
+pub alter_found : (number : List ℕ) (words : List (List ℕ)) (line : Line) → alter_in number words ≡ Some line → Say (codes "alter" ∷ number ∷ words) line
+unfolding alter_in
+alter_found number words line e =
+    let a = step_found (number_in number) (λ n. changes_in words >>= some_changes n) line e in
+    let b = step_found (changes_in words) (some_changes a.0) line a.2 in
+    let c = some_found a.0 b.0 line b.2 in
+    subst (Say (codes "alter" ∷ number ∷ words)) (sym c.0) (number, words, refl, number_found number a.0 a.1, changes_found words b.0 b.1, c.1)
+
+pub graft_found : (first second : List ℕ) (line : Line) → graft_in first second ≡ Some line → Say (codes "graft" ∷ first ∷ second ∷ []) line
+unfolding graft_in
+graft_found first second line e =
+    let a = step_found (number_in first) (λ j. number_in second >>= λ k. Some (Graft j k)) line e in
+    let b = step_found (number_in second) (λ k. Some (Graft a.0 k)) line a.2 in
+    subst (Say (codes "graft" ∷ first ∷ second ∷ [])) (line_is (Graft a.0 b.0) line b.2) (first, second, refl, number_found first a.0 a.1, number_found second b.0 b.1)
+
+pub tick_found : (word : List ℕ) (line : Line) → tick_in word ≡ Some line → Say (codes "tick" ∷ word ∷ []) line
+unfolding tick_in
+tick_found word line e =
+    let a = step_found (worker_in word) (λ node. Some (Tick node)) line e in
+    let w = worker_found word a.0 a.1 in
+    subst (Say (codes "tick" ∷ word ∷ [])) (line_is (Tick a.0) line a.2) (ap (λ (w : List ℕ). codes "tick" ∷ w ∷ []) w.0, w.1)
+
+pub restart_found : (word : List ℕ) (line : Line) → restart_in word ≡ Some line → Say (codes "restart" ∷ word ∷ []) line
+unfolding restart_in
+restart_found word line e =
+    let a = step_found (worker_in word) (λ node. Some (Restart node)) line e in
+    let w = worker_found word a.0 a.1 in
+    subst (Say (codes "restart" ∷ word ∷ [])) (line_is (Restart a.0) line a.2) (ap (λ (w : List ℕ). codes "restart" ∷ w ∷ []) w.0, w.1)
+
+pub inject_found : (from to spelled : List ℕ) (line : Line) → inject_in from to spelled ≡ Some line → Say (codes "inject" ∷ from ∷ to ∷ spelled ∷ []) line
 unfolding inject_in
 inject_found from to spelled line e =
     let f = step_found (node_in from) (λ f. node_in to >>= λ t. bytes_in spelled >>= λ bytes. Some (Inject f t bytes)) line e in
@@ -128,89 +173,3 @@ inject_found from to spelled line e =
     let words : codes "inject" ∷ from ∷ to ∷ spelled ∷ [] ≡ codes "inject" ∷ name_of f.0 ∷ name_of t.0 ∷ spelled ∷ [] =
     ap (λ (w : List ℕ). codes "inject" ∷ w ∷ to ∷ spelled ∷ []) from_is ∙ ap (λ (w : List ℕ). codes "inject" ∷ name_of f.0 ∷ w ∷ spelled ∷ []) to_is in
     subst (Say (codes "inject" ∷ from ∷ to ∷ spelled ∷ [])) (line_is (Inject f.0 t.0 a.0) line a.2) (spelled, words, bytes_found spelled a.0 a.1)
-
--- ---- a line
-
-same_verb : (verb word : List ℕ) → bytes_eq verb word ≡ true → verb ≡ word
-same_verb verb word e = (bytes_eq-Decides verb word).0 e
-
-other_verb : (verb word : List ℕ) → (verb ≡ word → ⊥) → bytes_eq verb word ≡ false
-other_verb verb word h =
-    elim (cases_Bool (bytes_eq verb word)) [
-      | inl same ↦ absurd (h (same_verb verb word same))
-      | inr other ↦ other
-    ]
-
--- which way a test went
-chosen : (b : Bool) (x y z : Option Line) → cond b x y ≡ z → ((b ≡ true) × (x ≡ z)) ⊎ ((b ≡ false) × (y ≡ z))
-chosen true x y z e = inl (refl, e)
-chosen false x y z e = inr (refl, e)
-
-pub say_found : (words : List (List ℕ)) (line : Line) → line_in words ≡ Some line → HasPath line → Say words line
-unfolding line_in
-say_found [] line e has = absurd cc
-say_found (verb ∷ args) line e has =
-    elim (chosen (bytes_eq verb (codes "put")) _ _ _ e) [
-      | inl put ↦
-          let a = three_found put_in args line put.1 in
-          rw (same_verb verb (codes "put") put.0, a.3) (put_found a.0 a.1 a.2 line a.4 has)
-      | inr other ↦ elim (chosen (bytes_eq verb (codes "open")) _ _ _ other.1) [
-        | inl open_ ↦
-            let a = one_found (λ path. Some (Open path)) args line open_.1 in
-            rw (same_verb verb (codes "open") open_.0, a.1) (open_found a.0 line a.2 has)
-        | inr other ↦ elim (chosen (bytes_eq verb (codes "at")) _ _ _ other.1) [
-          | inl at ↦
-              let a = one_found at_in args line at.1 in
-              rw (same_verb verb (codes "at") at.0, a.1) (at_found a.0 line a.2)
-          | inr other ↦
-              let t = test_held (bytes_eq verb (codes "inject")) (with_three inject_in args) line other.1 in
-              let a = three_found inject_in args line t.1 in
-              rw (same_verb verb (codes "inject") t.0, a.3) (inject_found a.0 a.1 a.2 line a.4)
-        ]
-      ]
-    ]
-
-pub say_again : (words : List (List ℕ)) (line : Line) → Say words line → (line_in words ≡ Some line) × HasPath line
-unfolding line_in put_in at_in inject_in
-say_again words Skipped s = absurd s
-say_again words (Put path resource) s =
-    let short : nat_le (length resource.payload) longest_payload ≡ true = le-leb (length resource.payload) longest_payload s.6 in
-    (ap line_in s.2 ∙ rw (format_again s.0 resource.format s.4, bytes_again s.1 resource.payload s.5, short) refl, s.3)
-say_again words (Open path) s = (ap line_in s.0, s.1)
-say_again words (At moment) s = (ap line_in s.1 ∙ rw (number_again s.0 moment.ms s.2, moment_again moment) refl, tt)
-say_again words (Inject from to bytes) s = (ap line_in s.1 ∙ rw (node_again from, node_again to, bytes_again s.0 bytes s.2) refl, tt)
-
--- words that begin no line
-pub no_verb : (words : List (Bor (List ℕ))) (d : Bor (List ℕ)) (line : Line) → 1 ≤ length words
-    → ((get_or words 0 d).now ≡ codes "put" → ⊥) → ((get_or words 0 d).now ≡ codes "open" → ⊥) → ((get_or words 0 d).now ≡ codes "at" → ⊥) → ((get_or words 0 d).now ≡ codes "inject" → ⊥)
-    → line_in (map (λ word. word.now) words) ≡ Some line → ⊥
-unfolding line_in
-no_verb [] d line le p o a i e = absurd (omega arith)
-no_verb (w ∷ ws) d line le p o a i e =
-    let none : line_in (map (λ word. word.now) (w ∷ ws)) ≡ None = rw (other_verb w.now (codes "put") p, other_verb w.now (codes "open") o, other_verb w.now (codes "at") a, other_verb w.now (codes "inject") i) refl in
-    absurd cc
-
--- ---- the text of a line
-
--- what was found in the words is what the text says
-pub gives_says : (text : List ℕ) (words : List (List ℕ)) (found : Option Line) → IsUtf8 text → ¬ IsSkipped text → words ≡ words_of text → Gives (line_in words) found → Reads (Says text) found
-gives_says text words (Some line) u n w g = (u, inr (n, subst (λ (ws : List (List ℕ)). Say ws line) w (say_found words line g.0 g.1)))
-gives_says text words None u n w g = λ line s.
-    elim s.1 [
-      | inl a ↦ n a.0
-      | inr b ↦ let read = say_again words line (subst (λ (ws : List (List ℕ)). Say ws line) (sym w) b.1) in g line read.0 read.1
-    ]
-
--- a text says one thing
-pub one_line : (text : List ℕ) (line other : Line) → Says text line → Says text other → line ≡ other
-one_line text line other s t =
-    elim s.1 [
-      | inl a ↦ elim t.1 [
-        | inl b ↦ a.1 ∙ sym b.1
-        | inr b ↦ absurd (b.0 a.0)
-      ]
-      | inr a ↦ elim t.1 [
-        | inl b ↦ absurd (a.0 b.0)
-        | inr b ↦ line_is line other (sym (say_again (words_of text) line a.1).0 ∙ (say_again (words_of text) other b.1).0)
-      ]
-    ]

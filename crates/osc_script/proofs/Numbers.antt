@@ -1,5 +1,5 @@
 -- A word spells a number exactly where one is read, and it is that one.
-use Rattle.std.proofs.Common.{◌≡◌, ℕ, ◌^◌, ◌<◌, ◌≢◌, ◌&&◌, true, cond, List, length, get_or, Option, Some, None, Result, Ok, Err, codes, nat_lt, refl, sym, ap, ◌∙◌, subst, inl, inr, MatchResult, Bor, arith, bytes_eq, ltb-true, lt-ltb, IsUtf8}
+use Rattle.std.proofs.Common.{◌≡◌, ℕ, ◌^◌, ◌<◌, ◌≢◌, ◌&&◌, true, cond, List, length, get_or, Option, Some, None, Result, Ok, Err, codes, nat_lt, refl, sym, ap, ◌∙◌, subst, inl, inr, MatchResult, Bor, arith, bytes_eq, ltb-true, lt-ltb, nat_le, leb-true, le-leb, ◌≤◌, IsUtf8}
 use Rattle.std.specs.Str.{all_ascii_digits}
 use Rattle.std.specs.Str.Parse.{digits_value, ParsesUnsigned}
 use Rattle.std.specs.Result.{result_ok}
@@ -9,8 +9,9 @@ use Rattle.std.proofs.lemmas.Str.{IsUtf8-from_ascii}
 use Rattle.std.proofs.lemmas.Str.Ascii.{IsAscii-from_reads}
 use Rattle.std.proofs.lemmas.Str.Parse.{IsNumeralModel, numerals_by_value, tells_all_ascii_digits, digit_at, parse_plain}
 use Rattle.std.proofs.lemmas.Slice.Eq.{bytes_eq-Decides}
+use Rattle.osc_script.specs.Line.{last_number}
 use Rattle.osc_script.specs.Words.{SpellsNumber, SpellsFormat}
-use Rattle.osc_script.specs.Reading.{number_in, short_number_in, format_in}
+use Rattle.osc_script.specs.Reading.{number_in, short_number_in, request_number_in, format_in}
 use Rattle.osc_script.proofs.Found.{step_found, none_unless}
 
 digits_model : IsNumeralModel (λ ds. all_ascii_digits ds ≡ true) (digits_value 10)
@@ -67,6 +68,17 @@ short_number_found word n e =
 pub short_number_again : (word : List ℕ) (n : ℕ) → SpellsNumber word n → n < 2 ^ 16 → short_number_in word ≡ Some n
 unfolding short_number_in
 short_number_again word n s lt = rw (number_again word n s, lt-ltb n (2 ^ 16) lt) refl
+
+pub request_number_found : (word : List ℕ) (n : ℕ) → request_number_in word ≡ Some n → SpellsNumber word n × (n ≤ last_number)
+unfolding request_number_in
+request_number_found word n e =
+    let a = step_found (number_in word) (λ n. cond (nat_le n last_number) (Some n) None) n e in
+    let c = cond_some (nat_le a.0 last_number) a.0 n a.2 in
+    (number_found word n (a.1 ∙ ap Some c.1), rw (← c.1) (leb-true a.0 last_number c.0))
+
+pub request_number_again : (word : List ℕ) (n : ℕ) → SpellsNumber word n → n ≤ last_number → request_number_in word ≡ Some n
+unfolding request_number_in
+request_number_again word n s le = rw (number_again word n s, le-leb n last_number le) refl
 
 pub format_found : (word : List ℕ) (f : Option ℕ) → format_in word ≡ Some f → SpellsFormat word f
 unfolding format_in

@@ -1,6 +1,6 @@
 -- A word spells bytes exactly where they are read, and they are those.
 use Rattle.std.proofs.Common.{◌≡◌, ℕ, ◌+◌, ◌*◌, ◌<◌, ◌==◌, Bool, true, false, List, [], ◌∷◌, ◌++◌, length, get_or, replicate, Option, Some, None, Result, Ok, Err, codes, nat_lt, refl, sym, ap, subst, ◌∙◌, arith, inl, inr, ◌⊎◌, Bor, map, drop, add-one, drop-cons, drop_of_length-le, ◌≤◌, append_assoc, append-nil, eqb-true, bytes_eq, ltb-true, lt-ltb}
-use Rattle.std.specs.Prelude.{slice_index}
+use Rattle.std.specs.Prelude.{slice_index, IfSome, IsNone, ◌≢◌}
 use Rattle.std.specs.List.{slice_split}
 use Rattle.std.proofs.lemmas.Bool.{cases_Bool}
 use Rattle.std.proofs.lemmas.List.Elements.{All-head, All-tail}
@@ -9,7 +9,7 @@ use Rattle.hex.specs.Hex.{decode_of, is_hex_digit}
 use Rattle.hex.specs.declared.error.FromHexError.{FromHexError}
 use Rattle.hex.proofs.HexLemmas.{decode_of-ok}
 use Rattle.osc_script.specs.Words.{SpellsNumber, SpellsHex, SpellsRepeated, SpellParts, SpellsBytes}
-use Rattle.osc_script.specs.Reading.{◌>>=◌, number_in, decoded, hex_in, repeated_in, part_in, parts_in, bytes_in}
+use Rattle.osc_script.specs.Reading.{◌>>=◌, number_in, decoded, hex_in, nonce_in, repeated_in, part_in, parts_in, bytes_in}
 use Rattle.osc_script.proofs.Found.{step_found, test_held}
 use Rattle.osc_script.proofs.Numbers.{number_found, number_again}
 
@@ -160,6 +160,22 @@ not_empty part bytes e =
 pub repeated_read : (pair digits read bytes : List ℕ) (count byte : ℕ) → Some read ≡ hex_in pair → Some count ≡ number_in digits → byte ≡ get_or read 0 0 → bytes ≡ replicate count byte → Some bytes ≡ repeated_in pair digits
 unfolding repeated_in
 repeated_read pair digits read bytes count byte h n b e = rw (← h, ← n, e, b) refl
+
+pub nonce_found : (word bytes : List ℕ) → nonce_in word ≡ Some bytes → (length word ≡ 16) × SpellsHex word bytes
+unfolding nonce_in
+nonce_found word bytes e =
+    let t = test_held (length word == 16) (hex_in word) bytes e in
+    (eqb-true (length word) 16 t.0, hex_found word bytes t.1)
+
+pub nonce_again : (word bytes : List ℕ) → length word ≡ 16 → SpellsHex word bytes → nonce_in word ≡ Some bytes
+unfolding nonce_in
+nonce_again word bytes e s = rw e (hex_again word bytes s)
+
+-- 16 digits spell eight bytes, however these are kept
+pub nonce_read : (word bytes : List ℕ) (found : Option (List ℕ)) → length word ≡ 16 → Some bytes ≡ hex_in word
+    → IfSome found (λ eight. eight ≡ bytes) → (IsNone found → length bytes ≢ 8) → found ≡ nonce_in word
+nonce_read word bytes (Some eight) e read some none = ap Some some ∙ sym (nonce_again word bytes e (hex_found word bytes (sym read)))
+nonce_read word bytes None e read some none = absurd (none refl (let s = hex_found word bytes (sym read) in omega (arith, twice word bytes s.digits)))
 
 -- the parts before, and those that are still to come
 abbrev pub with_front : List ℕ → Option (List ℕ) → Option (List ℕ)

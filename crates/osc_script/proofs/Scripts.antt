@@ -6,7 +6,7 @@ use Rattle.osc_script.specs.declared.read.ScriptError.{ScriptError}
 use Rattle.osc_script.specs.declared.read.ScriptError.TheVariants.{BadLine}
 use Rattle.osc_script.specs.Line.{StandsFor}
 use Rattle.osc_script.specs.Script.{without_empty_last, lines_of, StandFor, IsScript, IsFirstBadIn}
-use Rattle.osc_script.proofs.Lines.{one_line}
+use Rattle.osc_script.proofs.Said.{one_line}
 
 -- a part that another follows isn't the last
 first_stays : (part next : List ℕ) (parts : List (List ℕ)) → without_empty_last (part ∷ next ∷ parts) ≡ part ∷ without_empty_last (next ∷ parts)

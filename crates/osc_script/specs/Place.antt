@@ -1,8 +1,9 @@
 -- What is kept of the lines above while a script is read. No public contract rests on this file.
-use Rattle.std.specs.Prelude.{◌≡◌, List, count_by}
+use Rattle.std.specs.Prelude.{◌≡◌, false, List, slice_index_or, count_by}
 use Rattle.std.specs.List.{list_any}
-use Rattle.osc_script.specs.Line.{is_event, is_put, moment_after}
+use Rattle.osc_script.specs.Line.{grants, is_event, is_put, moment_after}
 use Rattle.osc_script.specs.declared.line.Line.{Line}
+use Rattle.osc_script.specs.declared.client_name.ClientName.{ClientName}
 use Rattle.osc_script.specs.declared.place.Place.{Place}
 
 -- what is kept is so of the lines above
@@ -10,3 +11,4 @@ pub record IsPlace (above : List Line) (place : Place) : Type 0 where
   pub event : place.has_event ≡ list_any is_event above
   pub moment : place.moment.ms ≡ moment_after 0 above
   pub puts : place.puts ≡ count_by is_put above
+  pub granted : (client : ClientName) → slice_index_or place.granted client.digit false ≡ list_any (grants client) above

@@ -1,17 +1,25 @@
 -- Reading a line from left to right. No public contract rests on this file.
-use Rattle.std.specs.Prelude.{◌≡◌, ℕ, ◌^◌, ◌==◌, ◌&&◌, nat_lt, nat_le, Bool, true, false, refl, if◌then◌else◌, List, [], ◌∷◌, ◌++◌, length, slice_index, replicate, codes, Option, Some, None, Result, Ok, Err}
+use Rattle.std.specs.Prelude.{◌≡◌, ℕ, ◌-◌, ◌^◌, ◌==◌, ◌&&◌, nat_lt, nat_le, Bool, true, false, refl, if◌then◌else◌, List, [], ◌∷◌, ◌++◌, length, take, drop, slice_index, replicate, codes, Option, Some, None, Result, Ok, Err}
 use Rattle.std.specs.List.{slice_split}
+use Rattle.std.specs.Option.{ForSome}
 use Rattle.std.specs.Str.{bytes_eq, all_ascii_digits}
 use Rattle.std.specs.Str.Parse.{digits_value}
-use Rattle.std.proofs.lemmas.Bool.{ltb-true}
+use Rattle.std.proofs.lemmas.Bool.{ltb-true, leb-true, and_parts}
 use Rattle.osc_model.specs.Path.{IsPath}
 use Rattle.osc_model.specs.Tree.{longest_payload}
+use Rattle.osc_model.specs.declared.code.Method.{Method}
+use Rattle.osc_model.specs.declared.code.Method.TheVariants as method
 use Rattle.osc_model.specs.declared.node.Moment.{Moment}
+use Rattle.osc_model.specs.declared.request.Request.{Request}
+use Rattle.osc_script.specs.Line.{plain_request, last_number}
 use Rattle.osc_script.specs.Node.{name_of}
+use Rattle.osc_script.specs.Words.{method_name}
+use Rattle.osc_script.specs.declared.line.Change.{Change}
 use Rattle.osc_script.specs.declared.line.Line.{Line}
-use Rattle.osc_script.specs.declared.line.Line.TheVariants.{Put, Open, At, Inject}
+use Rattle.osc_script.specs.declared.line.Line.TheVariants.{Put, Open, At, Draw, Drop, Skip, Exchange, Ask, Tick, Restart, Deliver, Alter, Graft, Inject, Lie, Quiet}
+use Rattle.osc_script.specs.declared.client_name.ClientName.{ClientName}
 use Rattle.osc_script.specs.declared.node.Node.{Node}
-use Rattle.osc_script.specs.declared.node.Node.TheVariants.{Server, Stranger}
+use Rattle.osc_script.specs.declared.node.Node.TheVariants.{Server, Client, Stranger}
 use Rattle.hex.specs.Hex.{decode_of}
 use Rattle.hex.specs.declared.error.FromHexError.{FromHexError}
 
@@ -36,6 +44,12 @@ unfoldable pub short_number_in : List ℕ → Option ℕ
 short_number_in word = do
   n ← number_in word
   if nat_lt n (2 ^ 16) then Some n else None
+
+-- the number of a request
+unfoldable pub request_number_in : List ℕ → Option ℕ
+request_number_in word = do
+  n ← number_in word
+  if nat_le n last_number then Some n else None
 
 unfoldable pub format_in : List ℕ → Option (Option ℕ)
 format_in word = if bytes_eq word (codes "none") then Some None else (do
@@ -69,18 +83,112 @@ parts_in (part ∷ parts) = do
 unfoldable pub bytes_in : List ℕ → Option (List ℕ)
 bytes_in word = if bytes_eq word (codes "-") then Some [] else parts_in (slice_split (λ b. b == 43) word)
 
+-- eight bytes in hexadecimal digits
+unfoldable pub nonce_in : List ℕ → Option (List ℕ)
+nonce_in word = if length word == 16 then hex_in word else None
+
+unfoldable pub method_in : List ℕ → Option Method
+method_in word =
+    if bytes_eq word (method_name method.Get) then Some method.Get
+    else if bytes_eq word (method_name method.Post) then Some method.Post
+    else if bytes_eq word (method_name method.Put) then Some method.Put
+    else if bytes_eq word (method_name method.Delete) then Some method.Delete
+    else None
+
+-- the client of a digit, by the test that there is one
+abbrev pub client_if : (digit : ℕ) (is : Bool) → (nat_le 1 digit && nat_le digit 9) ≡ is → Option ClientName
+client_if digit true e = let p = and_parts (nat_le 1 digit) (nat_le digit 9) e in Some (record { digit = digit; bound = (leb-true 1 digit p.0, leb-true digit 9 p.1) })
+client_if digit false e = None
+
+abbrev pub client_with : ℕ → Option ClientName
+client_with digit = client_if digit (nat_le 1 digit && nat_le digit 9) refl
+
+unfoldable pub client_in : List ℕ → Option ClientName
+client_in (letter ∷ digit ∷ []) = if letter == 99 then client_with (digit - 48) else None
+client_in word = None
+
 unfoldable pub node_in : List ℕ → Option Node
-node_in word = if bytes_eq word (name_of Server) then Some Server else if bytes_eq word (name_of Stranger) then Some Stranger else None
+node_in word = if bytes_eq word (name_of Server) then Some Server else if bytes_eq word (name_of Stranger) then Some Stranger else (do
+  client ← client_in word
+  Some (Client client))
+
+-- a node that does something
+abbrev pub unless_stranger : Node → Option Node
+unless_stranger Server = Some Server
+unless_stranger (Client client) = Some (Client client)
+unless_stranger Stranger = None
+
+unfoldable pub worker_in : List ℕ → Option Node
+worker_in word = do
+  node ← node_in word
+  unless_stranger node
+
+unfoldable pub change_in : List ℕ → List ℕ → Option Change
+change_in offset hex = do
+  offset ← number_in offset
+  bytes ← hex_in hex
+  if length bytes == 1 then Some (record { offset = offset; mask = slice_index bytes 0 }) else None
+
+unfoldable pub changes_in : List (List ℕ) → Option (List Change)
+changes_in [] = Some []
+changes_in (offset ∷ []) = None
+changes_in (offset ∷ hex ∷ words) = do
+  change ← change_in offset hex
+  changes ← changes_in words
+  Some (change ∷ changes)
+
+-- NAME= and a number
+unfoldable pub date_in : List ℕ → List ℕ → Option ℕ
+date_in name word = if bytes_eq (take (length name) word) name then number_in (drop (length name) word) else None
+
+-- the one that was found, or else the other
+abbrev pub one_date : Option ℕ → Option ℕ → Option (Option ℕ × Option ℕ)
+one_date (Some begins) ends = Some (Some begins, None)
+one_date None ends = ends >>= λ n. Some (None, Some n)
+
+unfoldable pub dates_in : List (List ℕ) → Option (Option ℕ × Option ℕ)
+dates_in [] = Some (None, None)
+dates_in (word ∷ []) = one_date (date_in (codes "nbf=") word) (date_in (codes "exp=") word)
+dates_in (first ∷ second ∷ []) = do
+  begins ← date_in (codes "nbf=") first
+  ends ← date_in (codes "exp=") second
+  Some (Some begins, Some ends)
+dates_in words = None
+
+-- METHOD PATH BYTES, whatever stands for the path
+unfoldable pub request_in : List (List ℕ) → Option Request
+request_in (method ∷ path ∷ bytes ∷ []) = do
+  method ← method_in method
+  payload ← bytes_in bytes
+  Some (plain_request method path payload)
+request_in words = None
 
 -- ---- lines
+
+abbrev pub with_none : Line → List (List ℕ) → Option Line
+with_none line [] = Some line
+with_none line args = None
 
 abbrev pub with_one : (List ℕ → Option Line) → List (List ℕ) → Option Line
 with_one f (a ∷ []) = f a
 with_one f args = None
 
+abbrev pub with_two : (List ℕ → List ℕ → Option Line) → List (List ℕ) → Option Line
+with_two f (a ∷ b ∷ []) = f a b
+with_two f args = None
+
 abbrev pub with_three : (List ℕ → List ℕ → List ℕ → Option Line) → List (List ℕ) → Option Line
 with_three f (a ∷ b ∷ c ∷ []) = f a b c
 with_three f args = None
+
+-- one argument, and those behind it
+abbrev pub with_more : (List ℕ → List (List ℕ) → Option Line) → List (List ℕ) → Option Line
+with_more f (a ∷ args) = f a args
+with_more f args = None
+
+abbrev pub with_two_more : (List ℕ → List ℕ → List (List ℕ) → Option Line) → List (List ℕ) → Option Line
+with_two_more f (a ∷ b ∷ args) = f a b args
+with_two_more f args = None
 
 -- whatever stands for the path
 unfoldable pub put_in : List ℕ → List ℕ → List ℕ → Option Line
@@ -103,6 +211,71 @@ at_in number = do
   moment ← moment_in ms
   Some (At moment)
 
+unfoldable pub draw_in : List ℕ → Option Line
+draw_in digits = do
+  nonce ← nonce_in digits
+  Some (Draw nonce)
+
+unfoldable pub exchange_in : List ℕ → Option Line
+exchange_in client = do
+  client ← client_in client
+  Some (Exchange client)
+
+unfoldable pub skip_in : List ℕ → List ℕ → Option Line
+skip_in client number = do
+  client ← client_in client
+  number ← request_number_in number
+  Some (Skip client number)
+
+unfoldable pub ask_in : List ℕ → List (List ℕ) → Option Line
+ask_in client words = do
+  client ← client_in client
+  request ← request_in words
+  Some (Ask client request)
+
+unfoldable pub lie_in : List ℕ → List ℕ → List (List ℕ) → Option Line
+lie_in client number words = do
+  client ← client_in client
+  number ← request_number_in number
+  request ← request_in words
+  Some (Lie client number request)
+
+unfoldable pub deliver_in : List ℕ → Option Line
+deliver_in number = do
+  datagram ← number_in number
+  Some (Deliver datagram)
+
+unfoldable pub drop_in : List ℕ → Option Line
+drop_in number = do
+  datagram ← number_in number
+  Some (Drop datagram)
+
+abbrev pub some_changes : ℕ → List Change → Option Line
+some_changes datagram [] = None
+some_changes datagram (change ∷ changes) = Some (Alter datagram (change ∷ changes))
+
+unfoldable pub alter_in : List ℕ → List (List ℕ) → Option Line
+alter_in number words = do
+  datagram ← number_in number
+  changes ← changes_in words
+  some_changes datagram changes
+
+unfoldable pub graft_in : List ℕ → List ℕ → Option Line
+graft_in first second = do
+  header ← number_in first
+  body ← number_in second
+  Some (Graft header body)
+
+unfoldable pub tick_in : List ℕ → Option Line
+tick_in node = do
+  node ← worker_in node
+  Some (Tick node)
+
+unfoldable pub restart_in : List ℕ → Option Line
+restart_in node = do
+  node ← worker_in node
+  Some (Restart node)
+
 unfoldable pub inject_in : List ℕ → List ℕ → List ℕ → Option Line
 inject_in from to spelled = do
   from ← node_in from
@@ -110,22 +283,56 @@ inject_in from to spelled = do
   bytes ← bytes_in spelled
   Some (Inject from to bytes)
 
-unfoldable pub line_in : List (List ℕ) → Option Line
-line_in [] = None
-line_in (verb ∷ args) =
+-- the lines of nodes
+unfoldable pub node_line_in : List ℕ → List (List ℕ) → Option Line
+node_line_in verb args =
+    if bytes_eq verb (codes "tick") then with_one tick_in args
+    else if bytes_eq verb (codes "restart") then with_one restart_in args
+    else if bytes_eq verb (codes "inject") then with_three inject_in args
+    else if bytes_eq verb (codes "quiet") then with_none Quiet args
+    else None
+
+-- those of datagrams, and the others
+unfoldable pub datagram_line_in : List ℕ → List (List ℕ) → Option Line
+datagram_line_in verb args =
+    if bytes_eq verb (codes "deliver") then with_one deliver_in args
+    else if bytes_eq verb (codes "drop") then with_one drop_in args
+    else if bytes_eq verb (codes "alter") then with_more alter_in args
+    else if bytes_eq verb (codes "graft") then with_two graft_in args
+    else node_line_in verb args
+
+-- those of clients, and the others
+unfoldable pub client_line_in : List ℕ → List (List ℕ) → Option Line
+client_line_in verb args =
+    if bytes_eq verb (codes "exchange") then with_one exchange_in args
+    else if bytes_eq verb (codes "ask") then with_more ask_in args
+    else if bytes_eq verb (codes "skip") then with_two skip_in args
+    else if bytes_eq verb (codes "lie") then with_two_more lie_in args
+    else datagram_line_in verb args
+
+-- all lines but grants
+unfoldable pub line_in : List ℕ → List (List ℕ) → Option Line
+line_in verb args =
     if bytes_eq verb (codes "put") then with_three put_in args
     else if bytes_eq verb (codes "open") then with_one (λ path. Some (Open path)) args
     else if bytes_eq verb (codes "at") then with_one at_in args
-    else if bytes_eq verb (codes "inject") then with_three inject_in args
-    else None
+    else if bytes_eq verb (codes "draw") then with_one draw_in args
+    else client_line_in verb args
 
 -- the paths of a line are paths
 abbrev pub HasPath : Line → Type 0
 HasPath (Put path resource) = IsPath path
 HasPath (Open path) = IsPath path
+HasPath (Ask client request) = ForSome request.path IsPath
+HasPath (Lie client number request) = ForSome request.path IsPath
 HasPath line = Unit {0}
 
 -- What was found is what was read, with its paths. Nothing is, where nothing with paths was read.
 abbrev pub Gives : Option Line → Option Line → Type 0
 Gives read (Some line) = (read ≡ Some line) × HasPath line
 Gives read None = (line : Line) → read ≡ Some line → ¬ HasPath line
+
+-- the same of a request
+abbrev pub GivesRequest : Option Request → Option Request → Type 0
+GivesRequest read (Some request) = (read ≡ Some request) × ForSome request.path IsPath
+GivesRequest read None = (request : Request) → read ≡ Some request → ¬ ForSome request.path IsPath

@@ -1,16 +1,24 @@
 //! Scripts of the simulation: what each line says, and where it may stand.
 #![tactic(auto)]
 
+mod asking;
+mod client_name;
+mod datagrams;
+mod grants;
 pub mod laws;
 mod line;
 mod node;
 mod place;
 mod read;
+mod running;
 mod say;
+mod set_up;
 mod split;
 mod text;
 mod words;
 
-pub use line::{Line, Script};
+pub use client_name::ClientName;
+pub use grants::{TOKEN_KEY, grant_claims, token_iv};
+pub use line::{Change, Changes, Line, Script};
 pub use node::Node;
 pub use read::{ScriptError, read_script};

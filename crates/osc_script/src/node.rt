@@ -1,25 +1,78 @@
 //! The nodes that a script names.
-ghost use Rattle.std.specs.Prelude.{◌≡◌, IfSome, IfNone};
+ghost use Rattle.std.specs.Prelude.{◌≡◌, ◌+◌, IfSome, IfNone};
 ghost use Rattle.osc_script.specs.Node as spec;
+ghost use Rattle.osc_script.specs.declared.client_name.ClientName.{ClientName as AnyClient};
 
+use crate::client_name::ClientName;
 use osc_model::Peer;
+
+impl ClientName {
+    /// Its name in a script and in a trace.
+    pub fn name(self) -> &'static str
+        ensures { result.now ≡ spec.client_name self }
+    {
+        match self.digit {
+            1 => "c1",
+            2 => "c2",
+            3 => "c3",
+            4 => "c4",
+            5 => "c5",
+            6 => "c6",
+            7 => "c7",
+            8 => "c8",
+            9 => "c9",
+            _ => unreachable!(),
+        }
+    }
+
+    /// Where its datagrams come from and go to.
+    pub fn address(self) -> Peer
+        ensures { result ≡ spec.local (7000 + self.digit) }
+    {
+        Peer {
+            address: LOCAL,
+            port: FIRST_PORT + self.digit as u16,
+        }
+    }
+
+    // The client of an address.
+    fn at(peer: Peer) -> Option<ClientName>
+        ensures some { IfSome result (λ client. peer ≡ spec.local (7000 + client.digit)) }
+        ensures none { IfNone result ((client : AnyClient) → ¬ (peer ≡ spec.local (7000 + client.digit))) }
+    {
+        if peer.address != LOCAL || peer.port <= FIRST_PORT || peer.port > FIRST_PORT + 9 {
+            return None;
+        }
+        Some(ClientName {
+            digit: (peer.port - FIRST_PORT) as u8,
+        })
+    }
+}
 
 /// A node, with its name and its address in a simulation.
 #[derive(Clone, Copy, Debug, PartialEq, Eq)]
 pub enum Node {
     /// `s`, 127.0.0.1:5683.
     Server,
+    /// `c1` to `c9`, 127.0.0.1:7001 to 127.0.0.1:7009.
+    Client(ClientName),
     /// `x`, 127.0.0.1:9000: it takes datagrams and does nothing.
     Stranger,
 }
 
+// The address of all nodes, which their ports tell apart.
+const LOCAL: [u8; 4] = [127, 0, 0, 1];
+
+// The clients' ports are this and their digit.
+const FIRST_PORT: u16 = 7000;
+
 const SERVER: Peer = Peer {
-    address: [127, 0, 0, 1],
+    address: LOCAL,
     port: 5683,
 };
 
 const STRANGER: Peer = Peer {
-    address: [127, 0, 0, 1],
+    address: LOCAL,
     port: 9000,
 };
 
@@ -30,6 +83,7 @@ impl Node {
     {
         match self {
             Node::Server => "s",
+            Node::Client(client) => client.name(),
             Node::Stranger => "x",
         }
     }
@@ -40,6 +94,7 @@ impl Node {
     {
         match self {
             Node::Server => SERVER,
+            Node::Client(client) => client.address(),
             Node::Stranger => STRANGER,
         }
     }
@@ -54,7 +109,7 @@ impl Node {
         } else if peer == STRANGER {
             Some(Node::Stranger)
         } else {
-            None
+            Some(Node::Client(ClientName::at(peer)?))
         }
     }
 }

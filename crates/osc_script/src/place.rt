@@ -1,12 +1,15 @@
 //! Where a line may stand.
 
-ghost use Rattle.std.specs.Prelude.{◌≡◌, ◌<◌, ◌↔◌, ◌++◌, ◌∷◌, [], false, IsTrue, IfSome, IfNone, count_by};
+ghost use Rattle.std.specs.Prelude.{◌≡◌, ◌<◌, ◌+◌, ◌||◌, ◌&&◌, ◌↔◌, ◌++◌, ◌∷◌, [], cond, false, IsTrue, IfSome, IfNone, slice_index_or, count_by};
 ghost use Rattle.std.specs.List.{list_any};
 ghost use Rattle.osc_model.specs.Tree.{most_resources};
-ghost use Rattle.osc_script.specs.Line.{is_event, is_put, puts, MayFollow};
+ghost use Rattle.osc_script.specs.Line.{grants, is_event, is_put, moment_behind, puts, IsKnown, IsGranted, MayFollow};
 ghost use Rattle.osc_script.specs.Place.{IsPlace};
+ghost use Rattle.osc_script.specs.declared.client_name.ClientName.{ClientName as AnyClient};
 
+use crate::client_name::ClientName;
 use crate::line::Line;
+use crate::node::Node;
 use osc_model::{Moment, Path};
 
 // The most resources that a tree has.
@@ -20,6 +23,8 @@ pub(crate) struct Place {
     moment: Moment,
     /// How many lines put a resource.
     puts: usize,
+    /// The clients that were granted, by their digits.
+    granted: [bool; 10],
 }
 
 impl Place {
@@ -28,6 +33,7 @@ impl Place {
         has_event: false,
         moment: Moment::START,
         puts: 0,
+        granted: [false; 10],
     };
 
     /// The place behind this line, if it may stand here, behind the lines above it. A line that puts, of which a script has
@@ -37,45 +43,126 @@ impl Place {
         ensures some { IfSome result (λ next. MayFollow above.now line.now × IsPlace (above.now ++ line.now ∷ []) next) }
         ensures none { IfNone result (¬ MayFollow above.now line.now) }
     {
+        if !self.lets(above, line) {
+            return None;
+        }
+        Some(self.with(above, line))
+    }
+
+    // Whether the line may stand here.
+    fn lets(self, above: &[Line], line: &Line) -> bool
+        requires { IsPlace above.now self }
+        ensures { IsTrue result ↔ MayFollow above.now line.now }
+    {
         match line {
-            Line::Skipped => Some(self),
-            Line::Put { path, .. } => {
-                if !self.may_put(above, path) {
-                    return None;
-                }
-                Some(Place {
-                    puts: self.puts + 1,
-                    ..self
-                })
-            }
-            Line::Open { .. } => {
-                if self.has_event {
-                    return None;
-                }
-                Some(self)
-            }
-            Line::At { moment } => {
-                if moment.ms < self.moment.ms {
-                    return None;
-                }
-                Some(Place {
-                    moment: *moment,
-                    ..self
-                })
-            }
-            Line::Inject { .. } => Some(Place {
-                has_event: true,
-                ..self
-            }),
+            Line::Put { path, .. } => self.may_put(above, path),
+            Line::Open { .. } => !self.has_event,
+            Line::Grant { client, .. } => !self.has_event && !self.has_granted(above, *client),
+            Line::At { moment } => self.moment.ms <= moment.ms,
+            Line::Skip { client, .. } => self.has_granted(above, *client),
+            Line::Exchange { client } => self.has_granted(above, *client),
+            Line::Ask { client, .. } => self.has_granted(above, *client),
+            Line::Lie { client, .. } => self.has_granted(above, *client),
+            Line::Tick { node } => self.knows(above, *node),
+            Line::Restart { node } => self.knows(above, *node),
+            Line::Inject { from, to, .. } => self.knows(above, *from) && self.knows(above, *to),
+            Line::Skipped => true,
+            Line::Draw { .. } => true,
+            Line::Drop { .. } => true,
+            Line::Deliver { .. } => true,
+            Line::Alter { .. } => true,
+            Line::Graft { .. } => true,
+            Line::Quiet => true,
         }
     }
 
     fn may_put(self, above: &[Line], path: &Path) -> bool
         requires { IsPlace above.now self }
-        ensures may { IsTrue result ↔ (list_any is_event above.now ≡ false) × (list_any (puts path.now) above.now ≡ false) × (count_by is_put above.now < most_resources) }
-        ensures few { IsTrue result → self.puts < most_resources }
+        ensures { IsTrue result ↔ (list_any is_event above.now ≡ false) × (list_any (puts path.now) above.now ≡ false) × (count_by is_put above.now < most_resources) }
     {
         !self.has_event && self.puts < MOST_RESOURCES && !has_put(above, path)
+    }
+
+    // Whether a line above grants to the client.
+    fn has_granted(self, above: &[Line], client: ClientName) -> bool
+        requires { IsPlace above.now self }
+        ensures { result ≡ list_any (grants client) above.now }
+    {
+        self.granted[client.digit as usize]
+    }
+
+    // Whether the node is no client, or one to whom a line above grants.
+    fn knows(self, above: &[Line], node: Node) -> bool
+        requires { IsPlace above.now self }
+        ensures { IsTrue result ↔ IsKnown above.now node }
+    {
+        match node {
+            Node::Server => true,
+            Node::Client(client) => self.has_granted(above, client),
+            Node::Stranger => true,
+        }
+    }
+
+    // The place behind a line that may stand here.
+    fn with(self, above: &[Line], line: &Line) -> Place
+        requires is { IsPlace above.now self }
+        requires may { MayFollow above.now line.now }
+        ensures { IsPlace (above.now ++ line.now ∷ []) result }
+    {
+        Place {
+            has_event: self.has_event || is_event(line),
+            moment: moment_behind(self.moment, line),
+            puts: self.puts_with(above, line),
+            granted: granted_with(self.granted, line),
+        }
+    }
+
+    // How many lines put a resource, with this one.
+    fn puts_with(self, above: &[Line], line: &Line) -> usize
+        requires is { IsPlace above.now self }
+        requires may { MayFollow above.now line.now }
+        ensures { result ≡ self.puts + cond (is_put line.now) 1 0 }
+    {
+        match line {
+            Line::Put { .. } => self.puts + 1,
+            _ => self.puts,
+        }
+    }
+}
+
+// The clients that were granted, with those to whom the line grants.
+fn granted_with(mut granted: [bool; 10], line: &Line) -> [bool; 10]
+    ensures { (client : AnyClient) → slice_index_or result client.digit false ≡ (slice_index_or granted client.digit false || grants client line.now) }
+{
+    if let Line::Grant { client, .. } = line {
+        granted[client.digit as usize] = true;
+    }
+    granted
+}
+
+fn is_event(line: &Line) -> bool
+    ensures { result ≡ is_event line.now }
+{
+    match line {
+        Line::Skipped
+        | Line::Put { .. }
+        | Line::Open { .. }
+        | Line::Grant { .. }
+        | Line::At { .. }
+        | Line::Draw { .. }
+        | Line::Drop { .. }
+        | Line::Skip { .. } => false,
+        _ => true,
+    }
+}
+
+// The moment behind the line.
+fn moment_behind(moment: Moment, line: &Line) -> Moment
+    ensures { result.ms ≡ moment_behind moment.ms line.now }
+{
+    match line {
+        Line::At { moment: later } => *later,
+        _ => moment,
     }
 }
 

@@ -1,14 +1,20 @@
 //! Single words of a script.
 
-ghost use Rattle.std.specs.Prelude.{◌≡◌, ◌≢◌, ◌==◌, slice_index, IfOk, ◌∷◌, [], map, option_map};
-ghost use Rattle.osc_script.specs.Reading.{number_in, short_number_in, format_in, node_in, hex_in, repeated_in, part_in, parts_in, bytes_in};
+ghost use Rattle.std.specs.Prelude.{◌≡◌, ◌≢◌, ◌==◌, length, slice_index, IfOk, IfSome, IsNone, ◌∷◌, [], map, option_map};
+ghost use Rattle.osc_script.specs.Reading.{number_in, short_number_in, request_number_in, format_in, client_in, client_with, node_in, worker_in, method_in, hex_in, nonce_in, repeated_in, part_in, parts_in, bytes_in, date_in, dates_in, one_date, Reads};
+ghost use Rattle.osc_script.specs.Words.{SpellsScope};
 
+use crate::client_name::ClientName;
 use crate::node::Node;
 use crate::split::parts;
 use hex::FromHexError;
-use osc_model::Bytes;
+use osc_model::{Bytes, Method};
+use osc_scope::{ScopeError, text_to_cbor};
 use std::alloc::{AllocError, Global};
 use std::str;
+
+// The greatest number that a request has.
+const LAST_NUMBER: u64 = 1099511627775;
 
 /// A number of 64 bits, in decimal digits without a sign.
 #[tactic(auto, unfolding(crate::specs::Reading::number_in))]
@@ -35,6 +41,19 @@ fn short_number(word: &[u8]) -> Option<u16>
     u16::try_from(number(word)?).ok()
 }
 
+/// The number of a request.
+#[tactic(auto, unfolding(crate::specs::Reading::request_number_in))]
+pub(crate) fn request_number(word: &[u8]) -> Option<u64>
+    ensures { result ≡ request_number_in word.now }
+{
+    let number = number(word)?;
+    if number <= LAST_NUMBER {
+        Some(number)
+    } else {
+        None
+    }
+}
+
 /// A number of 16 bits, or `none`.
 #[tactic(auto, unfolding(crate::specs::Reading::format_in))]
 pub(crate) fn format(word: &[u8]) -> Option<Option<u16>>
@@ -44,6 +63,24 @@ pub(crate) fn format(word: &[u8]) -> Option<Option<u16>>
         return Some(None);
     }
     Some(Some(short_number(word)?))
+}
+
+/// A client's name.
+#[tactic(auto, unfolding(crate::specs::Reading::client_in))]
+pub(crate) fn client(word: &[u8]) -> Option<ClientName>
+    ensures { result ≡ client_in word.now }
+{
+    match word {
+        [b'c', digit] => client_of(digit.saturating_sub(b'0')),
+        _ => None,
+    }
+}
+
+// The client of a digit.
+fn client_of(digit: u8) -> Option<ClientName>
+    ensures { result ≡ client_with digit }
+{
+    ClientName::new(digit)
 }
 
 /// A node's name.
@@ -56,7 +93,86 @@ pub(crate) fn node(word: &str) -> Option<Node>
     } else if word == Node::Stranger.name() {
         Some(Node::Stranger)
     } else {
-        None
+        Some(Node::Client(client(word.as_bytes())?))
+    }
+}
+
+/// The name of a node that does something.
+#[tactic(auto, unfolding(crate::specs::Reading::worker_in))]
+pub(crate) fn worker(word: &str) -> Option<Node>
+    ensures { result ≡ worker_in word.now }
+{
+    match node(word)? {
+        Node::Stranger => None,
+        Node::Client(client) => Some(Node::Client(client)),
+        Node::Server => Some(Node::Server),
+    }
+}
+
+/// The name of a method.
+#[tactic(auto, unfolding(crate::specs::Reading::method_in))]
+pub(crate) fn method(word: &str) -> Option<Method>
+    ensures { result ≡ method_in word.now }
+{
+    match word {
+        "GET" => Some(Method::Get),
+        "POST" => Some(Method::Post),
+        "PUT" => Some(Method::Put),
+        "DELETE" => Some(Method::Delete),
+        _ => None,
+    }
+}
+
+/// `[nbf=N] [exp=N]`: from when on, and until when.
+#[tactic(auto, unfolding(crate::specs::Reading::dates_in))]
+pub(crate) fn dates(words: &[&str]) -> Option<(Option<u64>, Option<u64>)>
+    ensures { result ≡ dates_in (map (λ word. word.now) words.now) }
+{
+    match words {
+        [] => Some((None, None)),
+        [word] => one_date(
+            date(b"nbf=", word.as_bytes()),
+            date(b"exp=", word.as_bytes()),
+        ),
+        [first, second] => {
+            let begins = date(b"nbf=", first.as_bytes())?;
+            let ends = date(b"exp=", second.as_bytes())?;
+            Some((Some(begins), Some(ends)))
+        }
+        _ => None,
+    }
+}
+
+// The one that was found, or else the other.
+fn one_date(begins: Option<u64>, ends: Option<u64>) -> Option<(Option<u64>, Option<u64>)>
+    ensures { result ≡ one_date begins ends }
+{
+    match begins {
+        Some(begins) => Some((Some(begins), None)),
+        None => match ends {
+            Some(ends) => Some((None, Some(ends))),
+            None => None,
+        },
+    }
+}
+
+// The number behind this name.
+#[tactic(auto, unfolding(crate::specs::Reading::date_in))]
+fn date(name: &[u8], word: &[u8]) -> Option<u64>
+    ensures { result ≡ date_in name.now word.now }
+{
+    number(word.strip_prefix(name)?)
+}
+
+/// The bytes of the scope of this text.
+pub(crate) fn scope(alloc: Global, text: &[u8]) -> Result<Option<Bytes>, AllocError>
+    ensures { IfOk result (λ found. Reads (SpellsScope text.now) found) }
+{
+    let mut bytes = Vec::new(alloc);
+    match text_to_cbor(alloc, text, &mut bytes) {
+        Ok(()) => Ok(Some(Bytes::from_vec(bytes))),
+        Err(ScopeError::BadScope) => Ok(None),
+        Err(ScopeError::Memory) => Err(AllocError),
     }
 }
 
@@ -114,9 +230,23 @@ fn repeated(alloc: Global, pair: &[u8], digits: &[u8]) -> Result<Option<Vec<u8>>
     Ok(Some(vec![in alloc; byte[0]; count as usize]?))
 }
 
-// Pairs of hexadecimal digits in either case, at least one.
+/// Eight bytes, in 16 hexadecimal digits.
+#[tactic(auto, unfolding(crate::specs::Reading::nonce_in))]
+pub(crate) fn nonce(alloc: Global, word: &[u8]) -> Result<Option<[u8; 8]>, AllocError>
+    ensures { IfOk result (λ found. found ≡ nonce_in word.now) }
+{
+    if word.len() != 16 {
+        return Ok(None);
+    }
+    match pairs(alloc, word)? {
+        Some(bytes) => Ok(eight(&bytes)),
+        None => Ok(None),
+    }
+}
+
+/// Pairs of hexadecimal digits in either case, at least one.
 #[tactic(auto, unfolding(crate::specs::Reading::hex_in))]
-fn pairs(alloc: Global, part: &[u8]) -> Result<Option<Vec<u8>>, AllocError>
+pub(crate) fn pairs(alloc: Global, part: &[u8]) -> Result<Option<Vec<u8>>, AllocError>
     ensures { IfOk result (λ found. option_map (λ items. items.items) found ≡ hex_in part.now) }
 {
     if part.is_empty() {
@@ -126,5 +256,16 @@ fn pairs(alloc: Global, part: &[u8]) -> Result<Option<Vec<u8>>, AllocError>
         Ok(items) => Ok(Some(items)),
         Err(FromHexError::OutOfMemory) => Err(AllocError),
         Err(_) => Ok(None),
+    }
+}
+
+// The bytes, if there are eight.
+fn eight(bytes: &[u8]) -> Option<[u8; 8]>
+    ensures some { IfSome result (λ eight. eight ≡ bytes.now) }
+    ensures none { IsNone result → length bytes.now ≢ 8 }
+{
+    match bytes {
+        [a, b, c, d, e, f, g, h] => Some([*a, *b, *c, *d, *e, *f, *g, *h]),
+        _ => None,
     }
 }

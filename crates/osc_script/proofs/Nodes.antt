@@ -1,0 +1,159 @@
+-- A word names a client, a node or a method exactly where one is read, and it is that one.
+use Rattle.std.proofs.Common.{◌≡◌, ◌≢◌, ℕ, ◌+◌, ◌-◌, ◌<◌, ◌≤◌, ◌==◌, ◌&&◌, Bool, true, false, List, [], ◌∷◌, length, get_or, Option, Some, None, nat_le, refl, sym, ap, ◌∙◌, arith, inl, inr, bytes_eq, eqb-true, leb-true, le-leb}
+use Rattle.std.specs.Prelude.{IfSome, IsSome, ◌↔◌}
+use Rattle.std.proofs.Props.{props}
+use Rattle.std.proofs.lemmas.Bool.{and_parts}
+use Rattle.std.proofs.lemmas.Slice.Eq.{bytes_eq-Decides}
+use Rattle.osc_model.specs.declared.code.Method.{Method}
+use Rattle.osc_model.specs.declared.code.Method.TheVariants as method
+use Rattle.osc_script.specs.declared.client_name.ClientName.{ClientName}
+use Rattle.osc_script.specs.declared.node.Node.{Node}
+use Rattle.osc_script.specs.declared.node.Node.TheVariants.{Server, Client, Stranger}
+use Rattle.osc_model.specs.declared.node.Peer.{Peer}
+use Rattle.osc_script.specs.Node.{client_name, name_of, local, address_of}
+use Rattle.osc_script.specs.Words.{method_name}
+use Rattle.osc_script.specs.Reading.{client_if, client_with, client_in, node_in, unless_stranger, worker_in, method_in}
+use Rattle.osc_script.proofs.Found.{step_found, test_held, chosen}
+
+-- ---- clients
+
+client_tested : (digit : ℕ) (is : Bool) (e : (nat_le 1 digit && nat_le digit 9) ≡ is) (client : ClientName) → client_if digit is e ≡ Some client → digit ≡ client.digit
+client_tested digit true e client found =
+    let p = and_parts (nat_le 1 digit) (nat_le digit 9) e in
+    let is : record { digit = digit; bound = (leb-true 1 digit p.0, leb-true digit 9 p.1) } ≡ client = cc in
+    ap (λ (c : ClientName). c.digit) is
+client_tested digit false e client found = absurd cc
+
+-- a bound has one proof
+bound_prop : (digit : ℕ) → IsProp ((1 ≤ digit) × (digit ≤ 9))
+bound_prop digit = Prim.hlevel props
+
+client_one : (client : ClientName) (is : Bool) (e : (nat_le 1 client.digit && nat_le client.digit 9) ≡ is) → client_if client.digit is e ≡ Some client
+client_one client true e =
+    let p = and_parts (nat_le 1 client.digit) (nat_le client.digit 9) e in
+    ap (λ (bound : (1 ≤ client.digit) × (client.digit ≤ 9)). Some (record { digit = client.digit; bound = bound })) (bound_prop client.digit (leb-true 1 client.digit p.0, leb-true client.digit 9 p.1) client.bound)
+client_one client false e =
+    let least : nat_le 1 client.digit ≡ true = le-leb 1 client.digit client.bound.0 in
+    let most : nat_le client.digit 9 ≡ true = le-leb client.digit 9 client.bound.1 in
+    let yes_ : (nat_le 1 client.digit && nat_le client.digit 9) ≡ true = rw (least, most) refl in
+    absurd cc
+
+with_again : (client : ClientName) → client_with client.digit ≡ Some client
+with_again client = client_one client (nat_le 1 client.digit && nat_le client.digit 9) refl
+
+-- what is found of a digit is its client, and nothing is where it has none
+pub client_read : (digit : ℕ) (found : Option ClientName) → IfSome found (λ client. client.digit ≡ digit) → (IsSome found ↔ (1 ≤ digit) × (digit ≤ 9)) → found ≡ client_with digit
+client_read digit (Some client) value some = sym (with_again client) ∙ ap client_with value
+client_read digit None value some = none_found digit (nat_le 1 digit && nat_le digit 9) refl (λ bound. let no : false ≡ true = some.1 bound in absurd cc)
+  where
+    none_found : (digit : ℕ) (is : Bool) (e : (nat_le 1 digit && nat_le digit 9) ≡ is) → ((1 ≤ digit) × (digit ≤ 9) → ⊥) → None ≡ client_if digit is e
+    none_found digit true e h = let p = and_parts (nat_le 1 digit) (nat_le digit 9) e in absurd (h (leb-true 1 digit p.0, leb-true digit 9 p.1))
+    none_found digit false e h = refl
+
+pub client_found : (word : List ℕ) (client : ClientName) → client_in word ≡ Some client → word ≡ client_name client
+unfolding client_in
+client_found [] client e = absurd cc
+client_found (letter ∷ []) client e = absurd cc
+client_found (letter ∷ digit ∷ []) client e =
+    let t = test_held (letter == 99) (client_with (digit - 48)) client e in
+    let value = client_tested (digit - 48) (nat_le 1 (digit - 48) && nat_le (digit - 48) 9) refl client t.1 in
+    let is_letter : letter ≡ 99 = eqb-true letter 99 t.0 in
+    let is_digit : digit ≡ 48 + client.digit = omega (arith, client.bound.0) in
+    cc
+client_found (letter ∷ digit ∷ more ∷ word) client e = absurd cc
+
+pub client_again : (client : ClientName) → client_in (client_name client) ≡ Some client
+unfolding client_in
+client_again client =
+    let digit : 48 + client.digit - 48 ≡ client.digit = omega arith in
+    ap client_with digit ∙ with_again client
+
+-- ---- nodes
+
+node_is : (x y : Node) → Some x ≡ Some y → x ≡ y
+node_is x y e = cc
+
+pub node_found : (word : List ℕ) (node : Node) → node_in word ≡ Some node → word ≡ name_of node
+unfolding node_in
+node_found word node e =
+    elim (chosen (bytes_eq word (name_of Server)) _ _ _ e) [
+      | inl server ↦ (bytes_eq-Decides word (name_of Server)).0 server.0 ∙ ap name_of (node_is Server node server.1)
+      | inr other ↦ elim (chosen (bytes_eq word (name_of Stranger)) _ _ _ other.1) [
+        | inl stranger ↦ (bytes_eq-Decides word (name_of Stranger)).0 stranger.0 ∙ ap name_of (node_is Stranger node stranger.1)
+        | inr other ↦
+            let a = step_found (client_in word) (λ client. Some (Client client)) node other.1 in
+            client_found word a.0 a.1 ∙ ap name_of (node_is (Client a.0) node a.2)
+      ]
+    ]
+
+pub node_again : (node : Node) → node_in (name_of node) ≡ Some node
+unfolding node_in
+node_again Server = refl
+node_again (Client client) = rw (client_again client) refl
+node_again Stranger = refl
+
+worker_is : (node found : Node) → unless_stranger node ≡ Some found → (node ≡ found) × (found ≢ Stranger)
+worker_is Server found e = let is : Server ≡ found = node_is Server found e in (is, λ s. let no : Server ≡ Stranger = is ∙ s in absurd cc)
+worker_is (Client client) found e = let is : Client client ≡ found = node_is (Client client) found e in (is, λ s. let no : Client client ≡ Stranger = is ∙ s in absurd cc)
+worker_is Stranger found e = absurd cc
+
+pub worker_found : (word : List ℕ) (node : Node) → worker_in word ≡ Some node → (word ≡ name_of node) × (node ≢ Stranger)
+unfolding worker_in
+worker_found word node e =
+    let a = step_found (node_in word) unless_stranger node e in
+    let b = worker_is a.0 node a.2 in
+    (node_found word a.0 a.1 ∙ ap name_of b.0, b.1)
+
+is_worker : (node : Node) → node ≢ Stranger → unless_stranger node ≡ Some node
+is_worker Server h = refl
+is_worker (Client client) h = refl
+is_worker Stranger h = absurd (h refl)
+
+pub worker_again : (node : Node) → node ≢ Stranger → worker_in (name_of node) ≡ Some node
+unfolding worker_in
+worker_again node h = rw (node_again node) (is_worker node h)
+
+-- ---- methods
+
+method_is : (x y : Method) → Some x ≡ Some y → x ≡ y
+method_is x y e = cc
+
+named : (word : List ℕ) (m found : Method) → bytes_eq word (method_name m) ≡ true → Some m ≡ Some found → word ≡ method_name found
+named word m found t e = (bytes_eq-Decides word (method_name m)).0 t ∙ ap method_name (method_is m found e)
+
+pub method_found : (word : List ℕ) (m : Method) → method_in word ≡ Some m → word ≡ method_name m
+unfolding method_in
+method_found word m e =
+    elim (chosen (bytes_eq word (method_name method.Get)) _ _ _ e) [
+      | inl get ↦ named word method.Get m get.0 get.1
+      | inr other ↦ elim (chosen (bytes_eq word (method_name method.Post)) _ _ _ other.1) [
+        | inl post ↦ named word method.Post m post.0 post.1
+        | inr other ↦ elim (chosen (bytes_eq word (method_name method.Put)) _ _ _ other.1) [
+          | inl put ↦ named word method.Put m put.0 put.1
+          | inr other ↦
+              let t = test_held (bytes_eq word (method_name method.Delete)) (Some method.Delete) m other.1 in
+              named word method.Delete m t.0 t.1
+        ]
+      ]
+    ]
+
+pub method_again : (m : Method) → method_in (method_name m) ≡ Some m
+unfolding method_in
+method_again method.Get = refl
+method_again method.Post = refl
+method_again method.Put = refl
+method_again method.Delete = refl
+
+-- two letters, the first of which is `c`
+pub client_word : (word : List ℕ) (found : Option ClientName) → 2 ≤ length word → length word < 3 → get_or word 0 0 ≡ 99 → found ≡ client_with (get_or word 1 0 - 48) → found ≡ client_in word
+unfolding client_in
+client_word [] found least most letter e = absurd (omega arith)
+client_word (a ∷ []) found least most letter e = absurd (omega arith)
+client_word (a ∷ b ∷ []) found least most letter e = rw letter e
+client_word (a ∷ b ∷ c ∷ word) found least most letter e = absurd (omega arith)
+
+-- an address that is none of them
+pub no_node : (peer : Peer) → (peer ≡ address_of Server → ⊥) → (peer ≡ address_of Stranger → ⊥) → ((client : ClientName) → peer ≡ local (7000 + client.digit) → ⊥) → (node : Node) → peer ≡ address_of node → ⊥
+no_node peer server stranger client Server e = server e
+no_node peer server stranger client (Client name) e = client name e
+no_node peer server stranger client Stranger e = stranger e

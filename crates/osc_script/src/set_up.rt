@@ -1,0 +1,113 @@
+//! Lines that stand before the first event.
+
+ghost use Rattle.std.specs.Prelude.{◌≡◌, ◌≤◌, ◌↔◌, ◌∷◌, codes, length, IfOk, IsTrue, map, Some};
+ghost use Rattle.osc_cbor.specs.Spelling.{spelling};
+ghost use Rattle.osc_token.specs.Minted.{most_claims};
+ghost use Rattle.osc_token.specs.Token.{claims_item};
+ghost use Rattle.osc_script.specs.Grants.{claims_of};
+ghost use Rattle.osc_script.specs.Line.{Say};
+ghost use Rattle.osc_script.specs.declared.line.Line.TheVariants.{Open};
+ghost use Rattle.osc_script.specs.Reading.{with_one, with_three, put_in, Gives, Reads};
+
+use crate::grants::grant_claims;
+use crate::line::Line;
+use crate::words::{bytes, client, dates, format, scope};
+use osc_model::{Bytes, Path, Resource};
+use osc_token::claims_text;
+use std::alloc::{AllocError, Global};
+
+// The most bytes that a resource has.
+const LONGEST_PAYLOAD: usize = 512;
+
+// The most bytes of claims that the cipher takes.
+const CLAIMS_LIMIT: usize = 65535;
+
+// PATH FORMAT BYTES
+#[tactic(auto, unfolding(crate::specs::Reading::put_in))]
+pub(crate) fn put(alloc: Global, args: &[&str]) -> Result<Option<Line>, AllocError>
+    ensures { IfOk result (λ found. Gives (with_three put_in (map (λ arg. arg.now) args.now)) found) }
+{
+    let [path, form, payload] = args else {
+        return Ok(None);
+    };
+    let Some(path) = Path::from_text(alloc, path.as_bytes())? else {
+        return Ok(None);
+    };
+    let Some(format) = format(form.as_bytes()) else {
+        return Ok(None);
+    };
+    let Some(payload) = bytes(alloc, payload.as_bytes())? else {
+        return Ok(None);
+    };
+    if payload.len() > LONGEST_PAYLOAD {
+        return Ok(None);
+    }
+    let resource = Resource { format, payload };
+    Ok(Some(Line::Put { path, resource }))
+}
+
+// PATH
+pub(crate) fn open(alloc: Global, args: &[&str]) -> Result<Option<Line>, AllocError>
+    ensures { IfOk result (λ found. Gives (with_one (λ path. Some (Open path)) (map (λ arg. arg.now) args.now)) found) }
+{
+    let [path] = args else {
+        return Ok(None);
+    };
+    let Some(path) = Path::from_text(alloc, path.as_bytes())? else {
+        return Ok(None);
+    };
+    Ok(Some(Line::Open { path }))
+}
+
+// CLIENT SCOPE [nbf=N] [exp=N]
+pub(crate) fn grant(alloc: Global, args: &[&str]) -> Result<Option<Line>, AllocError>
+    ensures { IfOk result (λ found. Reads (Say (codes "grant" ∷ map (λ arg. arg.now) args.now)) found) }
+{
+    let [client, scope, dates @ ..] = args else {
+        return Ok(None);
+    };
+    grant_of(alloc, client, scope, dates)
+}
+
+// The same of the words of each.
+fn grant_of(
+    alloc: Global,
+    client_name: &str,
+    scope_text: &str,
+    date_words: &[&str],
+) -> Result<Option<Line>, AllocError>
+    ensures { IfOk result (λ found. Reads (Say (codes "grant" ∷ client_name.now ∷ scope_text.now ∷ map (λ word. word.now) date_words.now)) found) }
+{
+    let Some(client) = client(client_name.as_bytes()) else {
+        return Ok(None);
+    };
+    let Some((not_before, expires)) = dates(date_words) else {
+        return Ok(None);
+    };
+    let Some(scope) = scope(alloc, scope_text.as_bytes())? else {
+        return Ok(None);
+    };
+    if !can_be_sealed(alloc, &scope, not_before, expires)? {
+        return Ok(None);
+    }
+    Ok(Some(Line::Grant {
+        client,
+        scope,
+        not_before,
+        expires,
+    }))
+}
+
+// Whether the claims of a grant are short enough for the cipher; the grant's number doesn't change their length.
+fn can_be_sealed(
+    alloc: Global,
+    scope: &Bytes,
+    not_before: Option<u64>,
+    expires: Option<u64>,
+) -> Result<bool, AllocError>
+    ensures { IfOk result (λ short. IsTrue short ↔ (length (spelling (claims_item (claims_of 1 scope.now not_before expires))) ≤ most_claims)) }
+{
+    let claims = grant_claims(alloc, 1, scope, not_before, expires)?;
+    let text = claims_text(alloc, &claims)?;
+    Ok(text.len() <= CLAIMS_LIMIT)
+}
