@@ -1,5 +1,7 @@
 //! Lines of scripts, and what each says.
-use osc_script::{Line, Node, ScriptError, read_script};
+use osc_model::{Bytes, Code, Peer, Request};
+use osc_script::{Line, Node, ScriptError, TOKEN_KEY, grant_claims, read_script, token_iv};
+use std::alloc::{AllocError, Global};
 use std::test::Fail;
 
 const SCRIPT: &[u8] =
@@ -74,7 +76,7 @@ fn bad_line(rt: &HostRuntime, text: &[u8]) -> Option<u64> {
 }
 
 /// Scripts, and the first bad line of each.
-const SCRIPTS: [(&[u8], Option<u64>); 43] = [
+const SCRIPTS: [(&[u8], Option<u64>); 112] = [
     (b"", None),
     (b"\n\n#", None),
     (b"#\x80", Some(1)),
@@ -118,6 +120,78 @@ const SCRIPTS: [(&[u8], Option<u64>); 43] = [
     (b"inject x s 00*", Some(1)),
     (b"inject x s 0000*2", Some(1)),
     (b"inject x s 61*18446744073709551615", Some(0)),
+    (b"proxy p1", Some(1)),
+    (b"via c1 p1", Some(1)),
+    (b"inject x s -\ngrant c1 /a:GET", Some(2)),
+    (b"quiet\nput /a none -", Some(2)),
+    (b"deliver 1\nopen /a", Some(2)),
+    (b"at 1\ndrop 1\ndraw 0011223344556677\nput /a none -", None),
+    (
+        b"grant c1 /a:GET\nskip c1 1\nopen /a\nexchange c1\nopen /a",
+        Some(5),
+    ),
+    (b"grant c1 /a:GET\ngrant c1 /a:GET", Some(2)),
+    (b"grant c0 /a:GET", Some(1)),
+    (b"grant c10 /a:GET", Some(1)),
+    (b"grant s /a:GET", Some(1)),
+    (b"grant c1", Some(1)),
+    (b"grant c1 /a", Some(1)),
+    (b"grant c1 /a:GET+GET", Some(1)),
+    (b"grant c1 /a:FETCH", Some(1)),
+    (b"grant c1 /a:GET exp=2 nbf=1", Some(1)),
+    (b"grant c1 /a:GET nbf=1 nbf=1", Some(1)),
+    (b"grant c1 /a:GET nbf=", Some(1)),
+    (b"grant c1 /a:GET nbf=-1", Some(1)),
+    (b"grant c1 /a:GET nbf=+1", Some(1)),
+    (b"grant c1 /a:GET alg=1", Some(1)),
+    (b"grant c1 /a:GET exp=18446744073709551615", None),
+    (b"grant c1 /a:GET exp=18446744073709551616", Some(1)),
+    (b"exchange c1", Some(1)),
+    (b"exchange c1\ngrant c1 /a:GET", Some(1)),
+    (b"skip c1 1", Some(1)),
+    (b"ask c1 GET /a -", Some(1)),
+    (b"lie c1 1 GET /a -", Some(1)),
+    (b"tick c1", Some(1)),
+    (b"restart c1", Some(1)),
+    (b"inject c1 s -", Some(1)),
+    (b"inject s c1 -", Some(1)),
+    (b"grant c1 /a:GET\nexchange c2", Some(2)),
+    (b"grant c1 /a:GET\nexchange", Some(2)),
+    (b"grant c1 /a:GET\nexchange s", Some(2)),
+    (b"grant c1 /a:GET\nskip c1 1099511627776", Some(2)),
+    (b"grant c1 /a:GET\nskip c1 00001099511627775", None),
+    (b"grant c1 /a:GET\nlie c1 1099511627776 GET /a -", Some(2)),
+    (b"grant c1 /a:GET\nlie c1 +1 GET /a -", Some(2)),
+    (b"grant c1 /a:GET\nask c1 get /a -", Some(2)),
+    (b"grant c1 /a:GET\nask c1 FETCH /a -", Some(2)),
+    (b"grant c1 /a:GET\nask c1 GET a -", Some(2)),
+    (b"grant c1 /a:GET\nask c1 GET /a", Some(2)),
+    (b"grant c1 /a:GET\nask c1 GET /a - -", Some(2)),
+    (b"grant c1 /a:GET\nask c1 PUT /a 00*513", None),
+    (b"tick s\nrestart s", None),
+    (b"tick x", Some(1)),
+    (b"restart x", Some(1)),
+    (b"tick", Some(1)),
+    (b"deliver", Some(1)),
+    (b"deliver +1", Some(1)),
+    (b"deliver 18446744073709551616", Some(1)),
+    (b"drop", Some(1)),
+    (b"drop -1", Some(1)),
+    (b"alter 1", Some(1)),
+    (b"alter 1 0", Some(1)),
+    (b"alter 1 0 f", Some(1)),
+    (b"alter 1 0 fff", Some(1)),
+    (b"alter 1 0 ffff", Some(1)),
+    (b"alter 1 0 ff 1", Some(1)),
+    (b"alter 1 0 00 0 00", None),
+    (b"graft 1", Some(1)),
+    (b"graft 1 2 3", Some(1)),
+    (b"graft 1 x", Some(1)),
+    (b"draw 00112233445566", Some(1)),
+    (b"draw 001122334455667788", Some(1)),
+    (b"draw 001122334455667g", Some(1)),
+    (b"quiet 1", Some(1)),
+    (b"quiet\nat 0", None),
 ];
 
 #[test]
@@ -125,4 +199,211 @@ fn bad_lines(rt: HostRuntime) {
     for (text, want) in SCRIPTS {
         assert_eq!(rt; bad_line(&rt, text), want, "at {text:?}");
     }
+}
+
+/// A script of each kind of line that comes behind a grant.
+const EVENTS: &[u8] =
+    b"grant c1 /a:GET+PUT,/b:GET nbf=007 exp=9\ngrant c9 /a:POST\ndraw 00010203040506fF\ndrop 3\nskip c1 1099511627775\n\
+exchange c1\nask c9 POST /a 6869\ntick c1\nrestart s\ndeliver 0\nalter 2 0 ff 7 01\ngraft 1 2\ninject x c1 -\n\
+lie c1 5 DELETE /a -\nquiet\n";
+
+fn is_grant(line: &Line, digit: u8, not_before: Option<u64>, expires: Option<u64>) -> bool {
+    match line {
+        Line::Grant {
+            client,
+            not_before: begins,
+            expires: ends,
+            ..
+        } => client.digit == digit && *begins == not_before && *ends == expires,
+        _ => false,
+    }
+}
+
+/// Whether the scope of a grant has these bytes.
+fn has_scope(line: &Line, bytes: &[u8]) -> bool {
+    match line {
+        Line::Grant { scope, .. } => scope.as_slice() == bytes,
+        _ => false,
+    }
+}
+
+/// Whether this is a request of that code on `/a`, without an option more.
+fn is_plain(request: &Request, code: u8, payload: &[u8]) -> bool {
+    request.code == Code(code)
+        && match &request.path {
+            Some(path) => path.text() == b"/a".as_slice(),
+            None => false,
+        }
+        && request.format == None
+        && request.accept == None
+        && request.if_match.as_slice().is_empty()
+        && !request.if_none_match
+        && request.payload.as_slice() == payload
+}
+
+fn asks(line: &Line, digit: u8, code: u8, payload: &[u8]) -> bool {
+    match line {
+        Line::Ask { client, request } => {
+            client.digit == digit && is_plain(request, code, payload)
+        }
+        _ => false,
+    }
+}
+
+fn lies(line: &Line, digit: u8, at: u64, code: u8, payload: &[u8]) -> bool {
+    match line {
+        Line::Lie {
+            client,
+            number,
+            request,
+        } => client.digit == digit && *number == at && is_plain(request, code, payload),
+        _ => false,
+    }
+}
+
+/// Whether the line alters byte 0 of datagram 2 by ff and byte 7 by 1.
+fn alters(line: &Line) -> bool {
+    match line {
+        Line::Alter { datagram, changes } => match changes.as_slice() {
+            [first, second] => {
+                *datagram == 2
+                    && first.offset == 0
+                    && first.mask == 255
+                    && second.offset == 7
+                    && second.mask == 1
+            }
+            _ => false,
+        },
+        _ => false,
+    }
+}
+
+/// Whether the lines are of the kinds that say what comes next.
+fn prepare(lines: &[Line]) -> bool {
+    match lines {
+        [
+            Line::Draw { nonce },
+            Line::Drop { datagram },
+            Line::Skip { client, number },
+        ] => {
+            *nonce == [0, 1, 2, 3, 4, 5, 6, 255]
+                && *datagram == 3
+                && client.digit == 1
+                && *number == 1099511627775
+        }
+        _ => false,
+    }
+}
+
+/// Whether the lines are those of nodes.
+fn are_of_nodes(lines: &[Line]) -> bool {
+    match lines {
+        [Line::Tick { node }, Line::Restart { node: other }] => {
+            node.name() == "c1" && *other == Node::Server
+        }
+        _ => false,
+    }
+}
+
+/// Whether the lines are these of datagrams.
+fn are_of_datagrams(lines: &[Line]) -> bool {
+    match lines {
+        [
+            Line::Deliver { datagram },
+            alter,
+            Line::Graft { header, body },
+            Line::Inject { from, to, .. },
+        ] => {
+            *datagram == 0
+                && alters(alter)
+                && *header == 1
+                && *body == 2
+                && *from == Node::Stranger
+                && to.name() == "c1"
+        }
+        _ => false,
+    }
+}
+
+#[test]
+fn each_kind_of_event(rt: HostRuntime) {
+    let script = read_script(rt.alloc(), EVENTS).expect(&rt, "a script");
+    let lines = script.lines();
+    assert!(rt; lines.len() == 15);
+    assert!(rt; is_grant(&lines[0], 1, Some(7), Some(9)));
+    assert!(rt; has_scope(&lines[0], b"\x82\x82\x62/a\x05\x82\x62/b\x01"));
+    assert!(rt; is_grant(&lines[1], 9, None, None));
+    assert!(rt; prepare(&lines[2..5]));
+    assert!(rt; asks(&lines[6], 9, 2, b"hi"));
+    assert!(rt; are_of_nodes(&lines[7..9]));
+    assert!(rt; are_of_datagrams(&lines[9..13]));
+    assert!(rt; lies(&lines[13], 1, 5, 4, b""));
+    drop(script);
+}
+
+#[test]
+fn addresses(rt: HostRuntime) {
+    for (port, name) in [(5683, "s"), (7001, "c1"), (7009, "c9"), (9000, "x")] {
+        let peer = Peer {
+            address: [127, 0, 0, 1],
+            port,
+        };
+        let node = Node::at(peer).expect(&rt, "a node");
+        assert!(rt; node.name() == name);
+        assert!(rt; node.address() == peer);
+    }
+    for port in [7000, 7010, 6001] {
+        let peer = Peer {
+            address: [127, 0, 0, 1],
+            port,
+        };
+        assert!(rt; Node::at(peer).is_none());
+    }
+}
+
+#[test]
+fn tokens_of_grants(rt: HostRuntime) {
+    let alloc = rt.alloc();
+    let scope = Bytes::from_slice(alloc, b"\x81\x82\x62/a\x01").expect(&rt, "memory");
+    let claims = grant_claims(alloc, 3, &scope, Some(1), None).expect(&rt, "memory");
+    assert!(rt; claims.audience.as_str() == "s");
+    assert!(rt; claims.not_before == Some(1) && claims.expires == None);
+    assert!(rt; claims.material.id.as_slice() == b"\x03".as_slice());
+    assert!(rt;
+        claims.material.secret.as_slice() == b"\0\0\0\0\0\0\0\0\0\0\0\0\0\0\0\x03".as_slice()
+    );
+    assert!(rt; claims.scope == scope);
+    assert!(rt; token_iv(3) == *b"\0\0\0\0\0\0\0\0\0\0\0\0\x03");
+    assert!(rt; TOKEN_KEY[0] == 0x40 && TOKEN_KEY[15] == 0x4f);
+    drop(claims);
+    drop(scope);
+}
+
+/// Appends a path of so many bytes, and what stands behind it.
+fn push_entry(text: &mut Vec<u8>, len: usize, rest: &[u8]) -> Result<(), AllocError> {
+    for i in 0..len {
+        text.push(if i % 33 == 0 { b'/' } else { b'a' })?;
+    }
+    Ok(text.extend_from_slice(rest)?)
+}
+
+/// A grant on 252 paths of 255 bytes, and one more of so many.
+fn long_grant(alloc: Global, last: usize) -> Result<Vec<u8>, AllocError> {
+    let mut text = Vec::from_slice(alloc, b"grant c1 ")?;
+    for _ in 0..252 {
+        push_entry(&mut text, 255, b":GET,")?;
+    }
+    push_entry(&mut text, last, b":GET")?;
+    Ok(text)
+}
+
+// An entry has 4 bytes and those of its path, their array 2, and the claims 33 beside the scope.
+#[test]
+fn claims_have_65535_bytes_at_most(rt: HostRuntime) {
+    let fits = long_grant(rt.alloc(), 228).expect(&rt, "memory");
+    assert!(rt; bad_line(&rt, &fits) == None);
+    drop(fits);
+    let too_long = long_grant(rt.alloc(), 229).expect(&rt, "memory");
+    assert!(rt; bad_line(&rt, &too_long) == Some(1));
+    drop(too_long);
 }
