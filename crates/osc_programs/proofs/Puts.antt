@@ -9,7 +9,7 @@ use Rattle.osc_model.specs.declared.resource.Resource.{Resource}
 use Rattle.osc_script.specs.Line.{Says, is_put}
 use Rattle.osc_script.specs.Script.{StandFor}
 use Rattle.osc_script.specs.declared.line.Line.{Line}
-use Rattle.osc_script.specs.declared.line.Line.TheVariants.{Skipped, Put, Open, At, Inject}
+use Rattle.osc_script.specs.declared.line.Line.TheVariants.{Skipped, Put}
 use Rattle.osc_programs.specs.SetUp.{CanPutAll}
 
 count_put : (above : List Line) (line : Line) → count_by is_put (above ++ line ∷ []) ≡ count_by is_put above + cond (is_put line) 1 0
@@ -31,20 +31,11 @@ put_short text path resource says = elim says.1 [
 pub puts_fit : (above : List Line) (texts : List (List ℕ)) (lines : List Line) (tree : Tree) → map.len tree ≤ count_by is_put above → StandFor above texts lines → CanPutAll tree lines
 puts_fit above texts [] tree h s = tt
 puts_fit above [] (line ∷ lines) tree h s = absurd s
-puts_fit above (t ∷ ts) (Skipped ∷ lines) tree h s =
-    let count = count_put above Skipped in
-    (tt, puts_fit (above ++ Skipped ∷ []) ts lines tree (omega arith) s.1)
 puts_fit above (t ∷ ts) (Put path resource ∷ lines) tree h s =
     let count = count_put above (Put path resource) in
     let grown = put_len tree path resource in
     let few = s.0.1.2 in
     ((put_short t path resource s.0.0, omega arith), puts_fit (above ++ Put path resource ∷ []) ts lines (map.insert tree path resource) (omega arith) s.1)
-puts_fit above (t ∷ ts) (Open path ∷ lines) tree h s =
-    let count = count_put above (Open path) in
-    (tt, puts_fit (above ++ Open path ∷ []) ts lines tree (omega arith) s.1)
-puts_fit above (t ∷ ts) (At moment ∷ lines) tree h s =
-    let count = count_put above (At moment) in
-    (tt, puts_fit (above ++ At moment ∷ []) ts lines tree (omega arith) s.1)
-puts_fit above (t ∷ ts) (Inject from to bytes ∷ lines) tree h s =
-    let count = count_put above (Inject from to bytes) in
-    (tt, puts_fit (above ++ Inject from to bytes ∷ []) ts lines tree (omega arith) s.1)
+puts_fit above (t ∷ ts) (line ∷ lines) tree h s =
+    let count = count_put above line in
+    (tt, puts_fit (above ++ line ∷ []) ts lines tree (omega arith) s.1)

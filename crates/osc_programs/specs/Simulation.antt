@@ -1,17 +1,18 @@
 -- From the lines of a script to the lines of its trace.
-use Rattle.std.specs.Prelude.{◌≡◌, ◌↔◌, ℕ, ◌+◌, Bool, IsTrue, List, [], ◌∷◌, ◌++◌, length, codes}
+use Rattle.std.specs.Prelude.{◌≡◌, ◌↔◌, ◌⊎◌, ℕ, ◌+◌, ◌&&◌, Bool, true, false, not, IsTrue, List, [], ◌∷◌, ◌++◌, Option, Some, None, option_map, length, codes}
+use Rattle.std.specs.List.{position}
 use Rattle.std.specs.FinMap as map
 use Rattle.std.specs.FinSet as set
 use Rattle.osc_model.specs.Tree.{Tree}
 use Rattle.osc_model.specs.Scope.{Scope}
 use Rattle.osc_model.specs.declared.code.Method.TheVariants.{Get}
 use Rattle.osc_model.specs.declared.step.Step.{Step}
-use Rattle.osc_script.specs.Script.{IsScript}
+use Rattle.osc_script.specs.Script.{IsScript, IsFirstBad}
 use Rattle.osc_script.specs.Node.{address_of}
 use Rattle.osc_script.specs.declared.node.Node.{Node}
-use Rattle.osc_script.specs.declared.node.Node.TheVariants.{Server, Stranger}
+use Rattle.osc_script.specs.declared.node.Node.TheVariants.{Server, Client}
 use Rattle.osc_script.specs.declared.line.Line.{Line}
-use Rattle.osc_script.specs.declared.line.Line.TheVariants.{Put, Open, At, Inject}
+use Rattle.osc_script.specs.declared.line.Line.TheVariants.{Skipped, Put, Open, At, Inject}
 use Rattle.osc_ccm.specs.Ccm.{IsSealing}
 use Rattle.osc_message.specs.Endpoint.{fresh}
 use Rattle.osc_message.specs.Received.{Receives}
@@ -27,6 +28,33 @@ use Rattle.osc_server.specs.declared.case.Case.{Case}
 use Rattle.osc_programs.specs.Draw.{draw_of}
 use Rattle.osc_programs.specs.Trace.{PrintsStep, or_nothing, end_text}
 use Rattle.osc_programs.specs.declared.simulate.Progress.{Progress}
+
+-- ---- the lines that are performed
+
+-- there are a server and a stranger, and no clients
+abbrev pub is_simulated : Node → Bool
+is_simulated (Client client) = false
+is_simulated node = true
+
+-- resources, open paths and moments are set, and datagrams go between these nodes
+abbrev pub is_performed : Line → Bool
+is_performed Skipped = true
+is_performed (Put path resource) = true
+is_performed (Open path) = true
+is_performed (At moment) = true
+is_performed (Inject from to bytes) = is_simulated from && is_simulated to
+is_performed line = false
+
+-- the number of the first line that isn't, counted from 1
+abbrev pub first_unperformed : List Line → Option ℕ
+first_unperformed lines = option_map (λ index. index + 1) (position (λ line. not (is_performed line)) lines)
+
+-- Line n of the script is bad: the first that stands for nothing, or, of a script whose lines all stand for something, the
+-- first that isn't performed.
+abbrev pub IsBadLine : List ℕ → ℕ → Type 0
+IsBadLine script n = IsFirstBad script n ⊎ ((lines : List Line) × IsScript script lines × (first_unperformed lines ≡ Some n))
+
+-- ---- what they do
 
 -- the resources that the set-up lines put
 abbrev pub tree_after : Tree → Line → Tree
@@ -81,10 +109,10 @@ Serves with_bytes old from bytes text new =
     × PrintsStep with_bytes old.sent Server step text
     × (new ≡ record old { server = server; notes = record { steps = by_server step.notes ∷ old.notes.steps; room = room }; sent = old.sent + length step.out })
 
--- A datagram comes to a node from a node: an event. The stranger does nothing with it.
+-- A datagram comes to a node from a node: an event. Nodes other than the server do nothing with it.
 abbrev pub Happens : Bool → Progress → Node → Node → List ℕ → List ℕ → Progress → Type 0
 Happens with_bytes old from Server bytes text new = Serves with_bytes (record old { events = old.events + 1 }) from bytes text new
-Happens with_bytes old from Stranger bytes text new = (text ≡ or_nothing []) × (new ≡ record old { events = old.events + 1 })
+Happens with_bytes old from to bytes text new = (text ≡ or_nothing []) × (new ≡ record old { events = old.events + 1 })
 
 -- a moment is set, an event prints its step, and any other line changes and prints nothing
 abbrev pub PrintsLine : Bool → Progress → Line → List ℕ → Progress → Type 0
@@ -110,6 +138,6 @@ IsTrace with_bytes lines text =
     (events end : List ℕ) × (first last : Progress) × Begins (first_server lines) first × Prints with_bytes first lines events last
     × IsEnd last.server.tree last.notes.steps end × (text ≡ events ++ end)
 
--- what a script's text prints
+-- what a script's text prints, each of whose lines is performed
 abbrev pub Simulates : Bool → List ℕ → List ℕ → Type 0
-Simulates with_bytes script text = (lines : List Line) × IsScript script lines × IsTrace with_bytes lines text
+Simulates with_bytes script text = (lines : List Line) × IsScript script lines × (first_unperformed lines ≡ None) × IsTrace with_bytes lines text

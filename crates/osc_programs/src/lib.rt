@@ -5,6 +5,7 @@ mod command;
 mod draw;
 mod ended;
 mod issue;
+mod performed;
 mod set_up;
 mod simulate;
 mod token_option;

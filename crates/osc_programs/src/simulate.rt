@@ -3,18 +3,18 @@ ghost use Rattle.std.specs.Prelude.{◌≡◌, ◌≢◌, ◌⊎◌, ◌≤◌, 
 ghost use Rattle.std.specs.FinMap as map;
 ghost use Rattle.std.specs.List.{All};
 ghost use Rattle.std.specs.Io.KnownBytes.{Appends};
-ghost use Rattle.osc_script.specs.Script.{IsFirstBad};
 ghost use Rattle.osc_run.specs.History.{history};
 ghost use Rattle.osc_run.specs.Notes.{by_server};
 ghost use Rattle.osc_programs.specs.SetUp.{CanPutAll};
 ghost use Rattle.osc_programs.specs.Simulation as spec;
-ghost use Rattle.osc_programs.specs.Simulation.{Simulates};
+ghost use Rattle.osc_programs.specs.Simulation.{IsBadLine, Simulates};
 ghost use Rattle.osc_programs.specs.Trace.{CanPrint, PrintsStep, bad_line_text};
 ghost use Rattle.osc_programs.specs.declared.simulate.Progress.{Progress as AnyProgress};
 
 use crate::draw::draw_of;
 use crate::ended::{Ended, ended_by_io};
 use crate::issue::written;
+use crate::performed::first_unperformed;
 use crate::set_up::first_server;
 use crate::trace::{bad_line_text, end_text, step_text};
 use osc_ccm::Ccm;
@@ -28,7 +28,8 @@ use std::io::{Read, Write};
 
 /// Runs the script that the reader gives, and writes its trace: each event's lines, with the bytes of its datagrams
 /// where `with_bytes` says so, and then the end lines. A script with a bad line does nothing: the line's number is all
-/// that is written. For want of memory the lines so far are written, and `out of memory` last.
+/// that is written. Bad is the first line that stands for nothing; if each stands for something, the first that isn't
+/// performed, since there are no clients. For want of memory the lines so far are written, and `out of memory` last.
 pub fn sim<R: Read, W: Write>(
     alloc: Global,
     reader: &mut R,
@@ -37,7 +38,7 @@ pub fn sim<R: Read, W: Write>(
 ) -> Ended
     ensures done { result ≡ Ended.Done → IfSome (R.remaining reader.old) (λ script. (text : List ℕ) × Simulates with_bytes script text
         × Appends (W.contents writer.old) (W.contents writer.new) text) }
-    ensures bad { (n : ℕ) → result ≡ Ended.BadLine n → IfSome (R.remaining reader.old) (λ script. IsFirstBad script n
+    ensures bad { (n : ℕ) → result ≡ Ended.BadLine n → IfSome (R.remaining reader.old) (λ script. IsBadLine script n
         × Appends (W.contents writer.old) (W.contents writer.new) (bad_line_text n)) }
     ensures words { result ≢ Ended.BadCommandLine }
 {
@@ -71,7 +72,7 @@ fn ended_when_written<W: Write>(writer: &mut W, text: &[u8], ended: Ended) -> En
 // How the run of the reader's script ends, and its trace, or as much of it as there was memory for.
 fn run<R: Read>(alloc: Global, reader: &mut R, with_bytes: bool) -> (Ended, Vec<u8>)
     ensures done { result.0 ≡ Ended.Done → IfSome (R.remaining reader.old) (λ script. Simulates with_bytes script result.1.items) }
-    ensures bad { (n : ℕ) → result.0 ≡ Ended.BadLine n → IfSome (R.remaining reader.old) (λ script. IsFirstBad script n × (result.1.items ≡ bad_line_text n)) }
+    ensures bad { (n : ℕ) → result.0 ≡ Ended.BadLine n → IfSome (R.remaining reader.old) (λ script. IsBadLine script n × (result.1.items ≡ bad_line_text n)) }
     ensures words { result.0 ≢ Ended.BadCommandLine }
 {
     let mut script = Vec::new(alloc);
@@ -83,7 +84,7 @@ fn run<R: Read>(alloc: Global, reader: &mut R, with_bytes: bool) -> (Ended, Vec<
 
 fn run_alone(alloc: Global, script: &[u8], with_bytes: bool) -> (Ended, Vec<u8>)
     ensures done { result.0 ≡ Ended.Done → Simulates with_bytes script.now result.1.items }
-    ensures bad { (n : ℕ) → result.0 ≡ Ended.BadLine n → IsFirstBad script.now n × (result.1.items ≡ bad_line_text n) }
+    ensures bad { (n : ℕ) → result.0 ≡ Ended.BadLine n → IsBadLine script.now n × (result.1.items ≡ bad_line_text n) }
     ensures words { result.0 ≢ Ended.BadCommandLine }
 {
     let mut text = Vec::new(alloc);
@@ -92,11 +93,11 @@ fn run_alone(alloc: Global, script: &[u8], with_bytes: bool) -> (Ended, Vec<u8>)
 }
 
 /// Runs the script of these bytes, and puts its trace behind what `text` has: each event's lines, with the bytes of its
-/// datagrams where `with_bytes` says so, and then the end lines; of a script with a bad line that line's number alone. For
-/// want of memory the lines so far stand there.
+/// datagrams where `with_bytes` says so, and then the end lines; of a script with a bad line that line's number alone, which
+/// is chosen as in [`sim`]. For want of memory the lines so far stand there.
 pub fn run_script(alloc: Global, script: &[u8], with_bytes: bool, text: &mut Vec<u8>) -> Ended
     ensures done { result ≡ Ended.Done → (printed : List ℕ) × Simulates with_bytes script.now printed × (text.new.items ≡ text.old.items ++ printed) }
-    ensures bad { (n : ℕ) → result ≡ Ended.BadLine n → IsFirstBad script.now n × (text.new.items ≡ text.old.items ++ bad_line_text n) }
+    ensures bad { (n : ℕ) → result ≡ Ended.BadLine n → IsBadLine script.now n × (text.new.items ≡ text.old.items ++ bad_line_text n) }
     ensures words { result ≢ Ended.BadCommandLine }
     ensures streams { result ≢ Ended.Failed }
 {
@@ -127,10 +128,13 @@ fn trace_script(
     text: &mut Vec<u8>,
 ) -> Result<(), ScriptError>
     ensures done { OnOk result ((printed : List ℕ) × Simulates with_bytes script.now printed × (text.new.items ≡ text.old.items ++ printed)) }
-    ensures bad { (n : ℕ) → result ≡ Err (ScriptError.BadLine n) → IsFirstBad script.now n × (text.new.items ≡ text.old.items) }
+    ensures bad { (n : ℕ) → result ≡ Err (ScriptError.BadLine n) → IsBadLine script.now n × (text.new.items ≡ text.old.items) }
 {
     let script = read_script(alloc, script)?;
-    trace_said(alloc, script.lines(), with_bytes, text)
+    match first_unperformed(script.lines()) {
+        Some(number) => Err(ScriptError::BadLine(number)),
+        None => trace_said(alloc, script.lines(), with_bytes, text),
+    }
 }
 
 // The trace of these lines.
@@ -291,7 +295,7 @@ fn inject(
     progress.events += 1;
     match to {
         Node::Server => serve(alloc, progress, from, bytes, with_bytes),
-        Node::Stranger => Vec::from_slice(alloc, b"nothing\n"),
+        Node::Client(_) | Node::Stranger => Vec::from_slice(alloc, b"nothing\n"),
     }
 }
 

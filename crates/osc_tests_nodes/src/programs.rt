@@ -110,6 +110,30 @@ fn a_bad_line_is_all_that_is_written(rt: HostRuntime) -> Result<(), Fail> {
     Ok(())
 }
 
+// Lines that stand for something, and that the simulation doesn't perform, since it has no clients.
+#[test]
+fn a_line_that_is_not_performed_is_bad(rt: HostRuntime) -> Result<(), Fail> {
+    for (script, number, text) in [
+        ("grant c1 /t:GET", 1, "line 1: bad\n"),
+        ("grant c1 /t:GET\ninject c1 s -", 1, "line 1: bad\n"),
+        ("draw 0011223344556677", 1, "line 1: bad\n"),
+        ("\ndrop 1", 2, "line 2: bad\n"),
+        ("tick s", 1, "line 1: bad\n"),
+        ("restart s", 1, "line 1: bad\n"),
+        ("inject x s -\ndeliver 1", 2, "line 2: bad\n"),
+        ("alter 1 0 ff", 1, "line 1: bad\n"),
+        ("graft 1 1", 1, "line 1: bad\n"),
+        ("at 1\nopen /e\nquiet\ntick s", 3, "line 3: bad\n"),
+        ("quiet\nat 2\nat 1", 3, "line 3: bad\n"),
+    ] {
+        assert!(rt;
+            writes(rt.alloc(), script, true, Ended::BadLine(number), text),
+            "{script}"
+        );
+    }
+    Ok(())
+}
+
 // Whether these bytes are a front of the trace of the first run, and the line that says why no more of it follows.
 fn is_a_front(written: &[u8]) -> bool {
     match written.strip_suffix(b"out of memory\n") {
