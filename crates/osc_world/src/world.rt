@@ -232,6 +232,13 @@ impl World {
         &self.first
     }
 
+    /// The grants, each with the text of its token, in the order in which their holders were enrolled.
+    pub fn minted(&self) -> &[Minted]
+        ensures { result.now ≡ self.now.minted }
+    {
+        &self.minted
+    }
+
     /// Each datagram that was ever sent, the first of them first.
     pub fn sent(&self) -> &[Sent]
         ensures { result.now ≡ self.now.sent }
