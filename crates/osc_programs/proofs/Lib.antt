@@ -4,3 +4,5 @@ pub mod Puts
 pub mod Entered
 pub mod Hexadecimal
 pub mod Parts
+pub mod Printing
+pub mod Segments

@@ -2,42 +2,27 @@
 use Rattle.std.proofs.Common.{◌≡◌, ◌∙◌, ap, sym, subst, refl, ℕ, ◌+◌, List, [], ◌∷◌, ◌++◌, ◌<◌, drop, get_or, suc, add-one, length, append_assoc, append-nil, Bool, Option, Some, None}
 use Rattle.std.proofs.Math.Seq.{drop-cons}
 use Rattle.std.specs.Io.KnownBytes.{Appends, Keeps}
-use Rattle.osc_model.specs.declared.step.Datagram.{Datagram}
+use Rattle.osc_script.specs.declared.client_name.ClientName.{ClientName}
 use Rattle.osc_script.specs.declared.line.Line.{Line}
 use Rattle.osc_programs.specs.Simulation.{Prints, PrintsLine}
-use Rattle.osc_programs.specs.Trace.{PrintsSent, PrintAllSent}
-use Rattle.osc_script.specs.declared.node.Node.{Node}
-use Rattle.osc_programs.specs.declared.simulate.Progress.{Progress}
+use Rattle.osc_programs.specs.declared.stage.Stage.{Stage}
 
 -- what is left at an item, and behind it
 pub drop_item : {A : Type 0} (xs : List A) (i : ℕ) (x : A) → i < length xs → x ≡ get_or xs i x → drop i xs ≡ x ∷ drop (i + 1) xs
 drop_item xs i x lt e = rw (add-one, drop-cons xs i x lt) (ap (λ y. y ∷ drop (suc i) xs) (sym e))
 
-pub sent_more : (with_bytes : Bool) (number : ℕ) (from : Node) (left left-after : List Datagram) (d : Datagram) (text line : List ℕ) (P : List ℕ → Type 0)
-    → left ≡ d ∷ left-after → PrintsSent with_bytes number from d line
-    → ((rest : List ℕ) → PrintAllSent with_bytes number from left rest → P (text ++ rest))
-    → (rest : List ℕ) → PrintAllSent with_bytes (number + 1) from left-after rest → P ((text ++ line) ++ rest)
-sent_more with_bytes number from left left-after d text line P e printed h rest more =
-    subst P (sym (append_assoc text line rest))
-    (h (line ++ rest) (subst (λ ds. PrintAllSent with_bytes number from ds (line ++ rest)) (sym e) (line, rest, printed, more, refl)))
-
-pub sent_end : (with_bytes : Bool) (number : ℕ) (from : Node) (left : List Datagram) (text : List ℕ) (P : List ℕ → Type 0)
-    → left ≡ [] → ((rest : List ℕ) → PrintAllSent with_bytes number from left rest → P (text ++ rest)) → P text
-sent_end with_bytes number from left text P e h =
-    subst P (append-nil text) (h [] (subst (λ ds. PrintAllSent with_bytes number from ds []) (sym e) refl))
-
-pub lines_more : (with_bytes : Bool) (before after : Progress) (left left-after : List Line) (l : Line) (text printed : List ℕ) (P : List ℕ → Progress → Type 0)
-    → left ≡ l ∷ left-after → PrintsLine with_bytes before l printed after
-    → ((rest : List ℕ) (last : Progress) → Prints with_bytes before left rest last → P (text ++ rest) last)
-    → (rest : List ℕ) (last : Progress) → Prints with_bytes after left-after rest last → P ((text ++ printed) ++ rest) last
-lines_more with_bytes before after left left-after l text printed P e prints h rest last more =
+pub lines_more : (with_bytes : Bool) (clients : List ClientName) (before after : Stage) (left left-after : List Line) (l : Line) (text printed : List ℕ) (P : List ℕ → Stage → Type 0)
+    → left ≡ l ∷ left-after → PrintsLine with_bytes clients before l printed after
+    → ((rest : List ℕ) (last : Stage) → Prints with_bytes clients before left rest last → P (text ++ rest) last)
+    → (rest : List ℕ) (last : Stage) → Prints with_bytes clients after left-after rest last → P ((text ++ printed) ++ rest) last
+lines_more with_bytes clients before after left left-after l text printed P e prints h rest last more =
     subst (λ whole. P whole last) (sym (append_assoc text printed rest))
-    (h (printed ++ rest) last (subst (λ ls. Prints with_bytes before ls (printed ++ rest) last) (sym e) (printed, rest, after, prints, more, refl)))
+    (h (printed ++ rest) last (subst (λ ls. Prints with_bytes clients before ls (printed ++ rest) last) (sym e) (printed, rest, after, prints, more, refl)))
 
-pub lines_end : (with_bytes : Bool) (before : Progress) (left : List Line) (text : List ℕ) (P : List ℕ → Progress → Type 0)
-    → left ≡ [] → ((rest : List ℕ) (last : Progress) → Prints with_bytes before left rest last → P (text ++ rest) last) → P text before
-lines_end with_bytes before left text P e h =
-    subst (λ whole. P whole before) (append-nil text) (h [] before (subst (λ ls. Prints with_bytes before ls [] before) (sym e) (refl, refl)))
+pub lines_end : (with_bytes : Bool) (clients : List ClientName) (before : Stage) (left : List Line) (text : List ℕ) (P : List ℕ → Stage → Type 0)
+    → left ≡ [] → ((rest : List ℕ) (last : Stage) → Prints with_bytes clients before left rest last → P (text ++ rest) last) → P text before
+lines_end with_bytes clients before left text P e h =
+    subst (λ whole. P whole before) (append-nil text) (h [] before (subst (λ ls. Prints with_bytes clients before ls [] before) (sym e) (refl, refl)))
 
 -- what a writer got in two parts, and in none
 pub appends_more : (a b c : Option (List ℕ)) (xs ys : List ℕ) → Appends a b xs → Appends b c ys → Appends a c (xs ++ ys)

@@ -2,6 +2,10 @@ pub mod Draw
 pub mod Ended
 pub mod Text
 pub mod Trace
+pub mod Names
+pub mod Copies
+pub mod Events
+pub mod Records
 pub mod Simulation
 pub mod SetUp
 pub mod Options

@@ -1,60 +1,36 @@
 -- From the lines of a script to the lines of its trace.
-use Rattle.std.specs.Prelude.{◌≡◌, ◌↔◌, ◌⊎◌, ℕ, ◌+◌, ◌&&◌, Bool, true, false, not, IsTrue, List, [], ◌∷◌, ◌++◌, Option, Some, None, option_map, length, codes}
-use Rattle.std.specs.List.{position}
+use Rattle.std.specs.Prelude.{◌≡◌, ◌↔◌, ℕ, ◌+◌, Bool, true, false, IsTrue, List, [], ◌∷◌, ◌++◌, drop, length, Option, Some, None, codes}
 use Rattle.std.specs.FinMap as map
 use Rattle.std.specs.FinSet as set
 use Rattle.osc_model.specs.Tree.{Tree}
 use Rattle.osc_model.specs.Scope.{Scope}
 use Rattle.osc_model.specs.declared.code.Method.TheVariants.{Get}
-use Rattle.osc_model.specs.declared.step.Step.{Step}
-use Rattle.osc_script.specs.Script.{IsScript, IsFirstBad}
-use Rattle.osc_script.specs.Node.{address_of}
-use Rattle.osc_script.specs.declared.node.Node.{Node}
-use Rattle.osc_script.specs.declared.node.Node.TheVariants.{Server, Client}
-use Rattle.osc_script.specs.declared.line.Line.{Line}
-use Rattle.osc_script.specs.declared.line.Line.TheVariants.{Skipped, Put, Open, At, Inject}
 use Rattle.osc_ccm.specs.Ccm.{IsSealing}
-use Rattle.osc_message.specs.Endpoint.{fresh}
-use Rattle.osc_message.specs.Received.{Receives}
-use Rattle.osc_message.specs.Heard.{heard}
-use Rattle.osc_message.specs.declared.received.Received.{Received}
 use Rattle.osc_run.specs.History.{history}
-use Rattle.osc_run.specs.Notes.{Noted, by_server}
 use Rattle.osc_run.specs.Premise.{Premise}
-use Rattle.osc_server.specs.State.{State}
-use Rattle.osc_server.specs.Case.{case_of}
-use Rattle.osc_server.specs.Table.{Answers}
-use Rattle.osc_server.specs.declared.case.Case.{Case}
-use Rattle.osc_programs.specs.Draw.{draw_of}
-use Rattle.osc_programs.specs.Trace.{PrintsStep, or_nothing, end_text}
-use Rattle.osc_programs.specs.declared.simulate.Progress.{Progress}
+use Rattle.osc_world.specs.Log.{settled}
+use Rattle.osc_world.specs.Nodes.{skipped}
+use Rattle.osc_world.specs.Quiet.{Rounds}
+use Rattle.osc_world.specs.Starts.{Beginning, Enrols, begun}
+use Rattle.osc_world.specs.Worlds.{State, Happens}
+use Rattle.osc_world.specs.declared.event.What.{What}
+use Rattle.osc_world.specs.declared.start.Holder.{Holder}
+use Rattle.osc_script.specs.Grants.{claims_of, iv_of, token_key}
+use Rattle.osc_script.specs.Node.{address_of}
+use Rattle.osc_script.specs.Script.{IsScript}
+use Rattle.osc_script.specs.declared.client_name.ClientName.{ClientName}
+use Rattle.osc_script.specs.declared.line.Line.{Line}
+use Rattle.osc_script.specs.declared.line.Line.TheVariants.{Put, Open, Grant, At, Draw, Drop, Skip, Quiet}
+use Rattle.osc_script.specs.declared.node.Node.TheVariants.{Server, Client}
+use Rattle.osc_programs.specs.Draw.{drawn}
+use Rattle.osc_programs.specs.Events.{datagram_number, what_of}
+use Rattle.osc_programs.specs.Names.{granted, number_of}
+use Rattle.osc_programs.specs.Records.{PrintAllRecords}
+use Rattle.osc_programs.specs.Text.{line as line_text}
+use Rattle.osc_programs.specs.Trace.{end_text}
+use Rattle.osc_programs.specs.declared.stage.Stage.{Stage}
 
--- ---- the lines that are performed
-
--- there are a server and a stranger, and no clients
-abbrev pub is_simulated : Node → Bool
-is_simulated (Client client) = false
-is_simulated node = true
-
--- resources, open paths and moments are set, and datagrams go between these nodes
-abbrev pub is_performed : Line → Bool
-is_performed Skipped = true
-is_performed (Put path resource) = true
-is_performed (Open path) = true
-is_performed (At moment) = true
-is_performed (Inject from to bytes) = is_simulated from && is_simulated to
-is_performed line = false
-
--- the number of the first line that isn't, counted from 1
-abbrev pub first_unperformed : List Line → Option ℕ
-first_unperformed lines = option_map (λ index. index + 1) (position (λ line. not (is_performed line)) lines)
-
--- Line n of the script is bad: the first that stands for nothing, or, of a script whose lines all stand for something, the
--- first that isn't performed.
-abbrev pub IsBadLine : List ℕ → ℕ → Type 0
-IsBadLine script n = IsFirstBad script n ⊎ ((lines : List Line) × IsScript script lines × (first_unperformed lines ≡ Some n))
-
--- ---- what they do
+-- ---- the world before the first event
 
 -- the resources that the set-up lines put
 abbrev pub tree_after : Tree → Line → Tree
@@ -74,70 +50,119 @@ abbrev pub scope_from : Scope → List Line → Scope
 scope_from scope [] = scope
 scope_from scope (line ∷ lines) = scope_from (scope_after scope line) lines
 
--- The server before the first event: it heard nothing and sent nothing yet, and has no contexts. Tokens for it are sealed under
--- the key 40 to 4f, for the audience `s`.
-abbrev pub first_server : List Line → State
-first_server lines = record {
-  tree = tree_from map.empty lines;
-  desk = record { key = codes "@ABCDEFGHIJKLMNO"; audience = codes "s"; table = [] };
-  open_scope = scope_from set.empty lines;
-  endpoint = fresh;
-}
-
--- a run begins so: at moment 0, with no event, nothing noted, and nothing sent
-pub record Begins (beginning : State) (at : Progress) : Type 0 where
-  pub server : at.server ≡ beginning
-  pub notes : at.notes.steps ≡ []
-  pub moment : at.now.ms ≡ 0
-  pub events : at.events ≡ 0
-  pub sent : at.sent ≡ 0
-
 -- it seals and opens by AES-CCM with tags of 8 bytes
 abbrev pub is_sealing : List ℕ → List ℕ → List ℕ → List ℕ → List ℕ → Type 0
 is_sealing key nonce aad text sealed = IsSealing key 8 nonce aad text sealed
 
--- which case a datagram from this node is to the server, as far as the run has come
-abbrev pub case_at : Progress → Node → Received → Case
-case_at at from received = case_of at.server.open_scope (heard at.server.endpoint.seen at.now (address_of from) received)
+-- a client that a line grants to, as the grant of this number, from 1: it stands at its address, and sends to the server
+abbrev pub holder_of : ℕ → ClientName → List ℕ → Option ℕ → Option ℕ → Holder
+holder_of number client scope not_before expires = record {
+  at = address_of (Client client);
+  next_hop = address_of Server;
+  claims = claims_of number scope not_before expires;
+  iv = iv_of number;
+}
 
--- A datagram comes to the server from this node, with the draw of the event that was counted last. The server's step
--- prints as this text and is noted, and this is how far the run has come then.
-abbrev pub Serves : Bool → Progress → Node → List ℕ → List ℕ → Progress → Type 0
-Serves with_bytes old from bytes text new =
-    (step : Step) × (received : Received) × (server : State) × (room : ℕ) × Receives bytes received
-    × Answers is_sealing old.server old.now (address_of from) (draw_of old.events) (case_at old from received) step server
-    × PrintsStep with_bytes old.sent Server step text
-    × (new ≡ record old { server = server; notes = record { steps = by_server step.notes ∷ old.notes.steps; room = room }; sent = old.sent + length step.out })
+-- a line that grants enrolls its client
+abbrev pub Enrolled : Beginning → Line → Beginning → Type 0
+Enrolled old (Grant client scope not_before expires) new = Enrols is_sealing old (holder_of (length old.clients + 1) client scope not_before expires) new
+Enrolled old line new = new ≡ old
 
--- A datagram comes to a node from a node: an event. Nodes other than the server do nothing with it.
-abbrev pub Happens : Bool → Progress → Node → Node → List ℕ → List ℕ → Progress → Type 0
-Happens with_bytes old from Server bytes text new = Serves with_bytes (record old { events = old.events + 1 }) from bytes text new
-Happens with_bytes old from to bytes text new = (text ≡ or_nothing []) × (new ≡ record old { events = old.events + 1 })
+abbrev pub AllEnrolled : Beginning → List Line → Beginning → Type 0
+AllEnrolled old [] new = new ≡ old
+AllEnrolled old (line ∷ lines) new = (next : Beginning) × Enrolled old line next × AllEnrolled next lines new
 
--- a moment is set, an event prints its step, and any other line changes and prints nothing
-abbrev pub PrintsLine : Bool → Progress → Line → List ℕ → Progress → Type 0
-PrintsLine with_bytes old (At moment) text new = (text ≡ []) × (new ≡ record old { now = moment })
-PrintsLine with_bytes old (Inject from to bytes) text new = Happens with_bytes old from to bytes text new
-PrintsLine with_bytes old line text new = (text ≡ []) × (new ≡ old)
+-- Nobody is enrolled yet. Tokens are sealed under the key 40 to 4f, for the audience `s`.
+abbrev pub first_start : List Line → Beginning
+first_start lines = record {
+  first = tree_from map.empty lines;
+  open_scope = scope_from set.empty lines;
+  key = token_key;
+  audience = codes "s";
+  server_at = address_of Server;
+  minted = [];
+  clients = [];
+}
+
+-- the world before the first event
+abbrev pub Begins : List Line → State → Type 0
+Begins lines world = (start : Beginning) × AllEnrolled (first_start lines) lines start × (world ≡ begun start)
+
+-- ---- the lines, one after another
+
+-- How far a script has come is a `Stage`: its world, the moment, and what the last `draw` line gave. At first the moment is 0, and no
+-- line gave a draw.
+pub record IsFirst (stage : Stage) : Type 0 where
+  pub moment : stage.moment.ms ≡ 0
+  pub draws : stage.draws ≡ None
+
+-- the most deliveries of a quiet round
+abbrev pub quiet_limit : ℕ
+quiet_limit = 1000
+
+-- this happens, at the moment and with the draw of the event
+abbrev pub Comes : Stage → What → Stage → Type 0
+Comes old what new =
+    (world : State) × Happens is_sealing 8 old.world (record { moment = old.moment; draw = drawn old.draws (length old.world.records); what = what }) world
+    × (new ≡ record old { world = world })
+
+-- nothing happens by a line that is no event
+abbrev pub ComesOf : Stage → Option What → Stage → Type 0
+ComesOf old None new = new ≡ old
+ComesOf old (Some what) new = Comes old what new
+
+-- what waits is delivered, and whether nothing waits then
+abbrev pub Quiets : Stage → Bool → Stage → Type 0
+Quiets old quiet new =
+    (world : State) × Rounds is_sealing 8 (drawn old.draws) old.moment quiet_limit old.world quiet world × (new ≡ record old { world = world })
+
+-- what a line does, and whether a quiet round left nothing that waits
+abbrev pub Does : List ClientName → Stage → Line → Bool → Stage → Type 0
+-- at MS: this is the moment from here on
+Does clients old (At moment) quiet new = (quiet ≡ true) × (new ≡ record old { moment = moment })
+-- draw HEX16: the next event is given these first bytes
+Does clients old (Draw first) quiet new = (quiet ≡ true) × (new ≡ record old { draws = Some (record { event = length old.world.records; first = first }) })
+-- drop K: the datagram waits no more
+Does clients old (Drop datagram) quiet new =
+    (quiet ≡ true) × (new ≡ record old { world = record old.world { sent = settled (datagram_number old.world.sent datagram) old.world.sent } })
+-- skip CLIENT N: the client's next number is raised
+Does clients old (Skip client number) quiet new =
+    (quiet ≡ true) × (new ≡ record old { world = record old.world { nodes = skipped (number_of clients client) number old.world.nodes } })
+-- quiet: what waits is delivered
+Does clients old Quiet quiet new = Quiets old quiet new
+-- and the others are one event, or none
+Does clients old line quiet new = (quiet ≡ true) × ComesOf old (what_of clients old.world.sent line) new
+
+-- not quiet
+abbrev pub quiet_text : Bool → List ℕ
+quiet_text true = []
+quiet_text false = line_text (codes "not quiet")
+
+-- a line prints the events that it brought, and that a quiet round was stopped
+abbrev pub PrintsLine : Bool → List ClientName → Stage → Line → List ℕ → Stage → Type 0
+PrintsLine with_bytes clients old line text new =
+    (quiet : Bool) × (events : List ℕ) × Does clients old line quiet new
+    × PrintAllRecords with_bytes clients new.world (drop (length old.world.records) new.world.records) events × (text ≡ events ++ quiet_text quiet)
 
 -- the lines one after another
-abbrev pub Prints : Bool → Progress → List Line → List ℕ → Progress → Type 0
-Prints with_bytes old [] text last = (text ≡ []) × (last ≡ old)
-Prints with_bytes old (line ∷ lines) text last =
-    (first rest : List ℕ) × (next : Progress) × PrintsLine with_bytes old line first next × Prints with_bytes next lines rest last × (text ≡ first ++ rest)
+abbrev pub Prints : Bool → List ClientName → Stage → List Line → List ℕ → Stage → Type 0
+Prints with_bytes clients old [] text last = (text ≡ []) × (last ≡ old)
+Prints with_bytes clients old (line ∷ lines) text last =
+    (first rest : List ℕ) × (next : Stage) × PrintsLine with_bytes clients old line first next × Prints with_bytes clients next lines rest last
+    × (text ≡ first ++ rest)
 
--- the end lines of a run that left these resources and took these steps: nothing was minted
-pub record IsEnd (tree : Tree) (steps : List Noted) (text : List ℕ) : Type 0 where
+-- the end lines of a world
+pub record IsEnd (world : State) (text : List ℕ) : Type 0 where
   pub held : Bool
-  pub tells : IsTrue held ↔ Premise [] steps
-  pub whole : text ≡ end_text tree (length (history steps)) held
+  pub tells : IsTrue held ↔ Premise world.minted world.steps
+  pub whole : text ≡ end_text world.nodes.server.tree (length (history world.steps)) held
 
 -- the trace of a script: what its events print, and the end lines
 abbrev pub IsTrace : Bool → List Line → List ℕ → Type 0
 IsTrace with_bytes lines text =
-    (events end : List ℕ) × (first last : Progress) × Begins (first_server lines) first × Prints with_bytes first lines events last
-    × IsEnd last.server.tree last.notes.steps end × (text ≡ events ++ end)
+    (events end : List ℕ) × (first last : Stage) × Begins lines first.world × IsFirst first × Prints with_bytes (granted lines) first lines events last
+    × IsEnd last.world end × (text ≡ events ++ end)
 
--- what a script's text prints, each of whose lines is performed
+-- what a script's text prints
 abbrev pub Simulates : Bool → List ℕ → List ℕ → Type 0
-Simulates with_bytes script text = (lines : List Line) × IsScript script lines × (first_unperformed lines ≡ None) × IsTrace with_bytes lines text
+Simulates with_bytes script text = (lines : List Line) × IsScript script lines × IsTrace with_bytes lines text

@@ -2,12 +2,17 @@
 #![tactic(auto)]
 
 mod command;
+mod copies;
 mod draw;
 mod ended;
+mod happening;
 mod issue;
-mod performed;
+mod lying;
+mod names;
+mod record;
 mod set_up;
 mod simulate;
+mod stage;
 mod token_option;
 mod token_words;
 mod trace;

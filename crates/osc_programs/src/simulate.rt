@@ -1,35 +1,32 @@
 //! A script in, its trace out.
-ghost use Rattle.std.specs.Prelude.{◌≡◌, ◌≢◌, ◌⊎◌, ◌≤◌, ◌<◌, ◌+◌, ◌-◌, ◌∷◌, ◌++◌, ◌^◌, ℕ, List, IfOk, IfSome, OnOk, Err, length};
+ghost use Rattle.std.specs.Prelude.{◌≡◌, ◌≢◌, ◌⊎◌, ◌++◌, ℕ, List, IfOk, IfSome, OnOk, Err, drop, length};
 ghost use Rattle.std.specs.FinMap as map;
-ghost use Rattle.std.specs.List.{All};
 ghost use Rattle.std.specs.Io.KnownBytes.{Appends};
 ghost use Rattle.osc_run.specs.History.{history};
-ghost use Rattle.osc_run.specs.Notes.{by_server};
+ghost use Rattle.osc_script.specs.Script.{IsFirstBad};
 ghost use Rattle.osc_programs.specs.SetUp.{CanPutAll};
+ghost use Rattle.osc_programs.specs.Records.{PrintAllRecords};
 ghost use Rattle.osc_programs.specs.Simulation as spec;
-ghost use Rattle.osc_programs.specs.Simulation.{IsBadLine, Simulates};
-ghost use Rattle.osc_programs.specs.Trace.{CanPrint, PrintsStep, bad_line_text};
-ghost use Rattle.osc_programs.specs.declared.simulate.Progress.{Progress as AnyProgress};
+ghost use Rattle.osc_programs.specs.Simulation.{Simulates};
+ghost use Rattle.osc_programs.specs.Trace.{bad_line_text};
+ghost use Rattle.osc_programs.specs.declared.stage.Stage.{Stage as AnyStage};
 
-use crate::draw::draw_of;
 use crate::ended::{Ended, ended_by_io};
 use crate::issue::written;
-use crate::performed::first_unperformed;
-use crate::set_up::first_server;
-use crate::trace::{bad_line_text, end_text, step_text};
-use osc_ccm::Ccm;
-use osc_model::{Moment, Step};
-use osc_run::{Noted, Notes};
-use osc_script::{Line, Node, ScriptError, read_script};
-use osc_server::Server;
-use osc_tree::Tree;
+use crate::names::granted;
+use crate::record::records_text;
+use crate::set_up::first_world;
+use crate::stage::Stage;
+use crate::trace::{bad_line_text, end_text};
+use osc_script::{ClientName, Line, ScriptError, read_script};
+use osc_world::{Record, World};
 use std::alloc::{AllocError, Global};
+use std::cmp::min;
 use std::io::{Read, Write};
 
 /// Runs the script that the reader gives, and writes its trace: each event's lines, with the bytes of its datagrams
-/// where `with_bytes` says so, and then the end lines. A script with a bad line does nothing: the line's number is all
-/// that is written. Bad is the first line that stands for nothing; if each stands for something, the first that isn't
-/// performed, since there are no clients. For want of memory the lines so far are written, and `out of memory` last.
+/// where `with_bytes` says so, and then the end lines. A script with a line that stands for nothing does nothing: the number of
+/// the first such line is all that is written. For want of memory the lines so far are written, and `out of memory` last.
 pub fn sim<R: Read, W: Write>(
     alloc: Global,
     reader: &mut R,
@@ -38,7 +35,7 @@ pub fn sim<R: Read, W: Write>(
 ) -> Ended
     ensures done { result ≡ Ended.Done → IfSome (R.remaining reader.old) (λ script. (text : List ℕ) × Simulates with_bytes script text
         × Appends (W.contents writer.old) (W.contents writer.new) text) }
-    ensures bad { (n : ℕ) → result ≡ Ended.BadLine n → IfSome (R.remaining reader.old) (λ script. IsBadLine script n
+    ensures bad { (n : ℕ) → result ≡ Ended.BadLine n → IfSome (R.remaining reader.old) (λ script. IsFirstBad script n
         × Appends (W.contents writer.old) (W.contents writer.new) (bad_line_text n)) }
     ensures words { result ≢ Ended.BadCommandLine }
 {
@@ -72,7 +69,7 @@ fn ended_when_written<W: Write>(writer: &mut W, text: &[u8], ended: Ended) -> En
 // How the run of the reader's script ends, and its trace, or as much of it as there was memory for.
 fn run<R: Read>(alloc: Global, reader: &mut R, with_bytes: bool) -> (Ended, Vec<u8>)
     ensures done { result.0 ≡ Ended.Done → IfSome (R.remaining reader.old) (λ script. Simulates with_bytes script result.1.items) }
-    ensures bad { (n : ℕ) → result.0 ≡ Ended.BadLine n → IfSome (R.remaining reader.old) (λ script. IsBadLine script n × (result.1.items ≡ bad_line_text n)) }
+    ensures bad { (n : ℕ) → result.0 ≡ Ended.BadLine n → IfSome (R.remaining reader.old) (λ script. IsFirstBad script n × (result.1.items ≡ bad_line_text n)) }
     ensures words { result.0 ≢ Ended.BadCommandLine }
 {
     let mut script = Vec::new(alloc);
@@ -84,7 +81,7 @@ fn run<R: Read>(alloc: Global, reader: &mut R, with_bytes: bool) -> (Ended, Vec<
 
 fn run_alone(alloc: Global, script: &[u8], with_bytes: bool) -> (Ended, Vec<u8>)
     ensures done { result.0 ≡ Ended.Done → Simulates with_bytes script.now result.1.items }
-    ensures bad { (n : ℕ) → result.0 ≡ Ended.BadLine n → IsBadLine script.now n × (result.1.items ≡ bad_line_text n) }
+    ensures bad { (n : ℕ) → result.0 ≡ Ended.BadLine n → IsFirstBad script.now n × (result.1.items ≡ bad_line_text n) }
     ensures words { result.0 ≢ Ended.BadCommandLine }
 {
     let mut text = Vec::new(alloc);
@@ -93,11 +90,11 @@ fn run_alone(alloc: Global, script: &[u8], with_bytes: bool) -> (Ended, Vec<u8>)
 }
 
 /// Runs the script of these bytes, and puts its trace behind what `text` has: each event's lines, with the bytes of its
-/// datagrams where `with_bytes` says so, and then the end lines; of a script with a bad line that line's number alone, which
-/// is chosen as in [`sim`]. For want of memory the lines so far stand there.
+/// datagrams where `with_bytes` says so, and then the end lines; of a script with a line that stands for nothing the number of the
+/// first such line alone. For want of memory the lines so far stand there.
 pub fn run_script(alloc: Global, script: &[u8], with_bytes: bool, text: &mut Vec<u8>) -> Ended
     ensures done { result ≡ Ended.Done → (printed : List ℕ) × Simulates with_bytes script.now printed × (text.new.items ≡ text.old.items ++ printed) }
-    ensures bad { (n : ℕ) → result ≡ Ended.BadLine n → IsBadLine script.now n × (text.new.items ≡ text.old.items ++ bad_line_text n) }
+    ensures bad { (n : ℕ) → result ≡ Ended.BadLine n → IsFirstBad script.now n × (text.new.items ≡ text.old.items ++ bad_line_text n) }
     ensures words { result ≢ Ended.BadCommandLine }
     ensures streams { result ≢ Ended.Failed }
 {
@@ -128,13 +125,10 @@ fn trace_script(
     text: &mut Vec<u8>,
 ) -> Result<(), ScriptError>
     ensures done { OnOk result ((printed : List ℕ) × Simulates with_bytes script.now printed × (text.new.items ≡ text.old.items ++ printed)) }
-    ensures bad { (n : ℕ) → result ≡ Err (ScriptError.BadLine n) → IsBadLine script.now n × (text.new.items ≡ text.old.items) }
+    ensures bad { (n : ℕ) → result ≡ Err (ScriptError.BadLine n) → IsFirstBad script.now n × (text.new.items ≡ text.old.items) }
 {
     let script = read_script(alloc, script)?;
-    match first_unperformed(script.lines()) {
-        Some(number) => Err(ScriptError::BadLine(number)),
-        None => trace_said(alloc, script.lines(), with_bytes, text),
-    }
+    trace_said(alloc, script.lines(), with_bytes, text)
 }
 
 // The trace of these lines.
@@ -160,197 +154,122 @@ fn trace_lines(
     requires { CanPutAll map.empty lines.now }
     ensures { OnOk result ((printed : List ℕ) × spec.IsTrace with_bytes lines.now printed × (text.new.items ≡ text.old.items ++ printed)) }
 {
-    let server = first_server(alloc, lines)?;
-    let mut progress = Progress::beginning(alloc, server);
-    let traced = trace_from(alloc, &mut progress, lines, with_bytes, text);
-    drop(progress);
+    let clients = granted(alloc, lines)?;
+    let world = first_world(alloc, lines)?;
+    let mut stage = Stage::first(world);
+    let traced = trace_from(alloc, &mut stage, &clients, lines, with_bytes, text);
+    drop(stage);
     traced
-}
-
-// How far a run has come.
-#[derive(Drop)]
-pub(crate) struct Progress {
-    server: Server,
-    /// What the server's steps did.
-    notes: Notes,
-    now: Moment,
-    /// How many events there were.
-    events: u64,
-    /// How many datagrams were sent.
-    sent: u64,
-}
-
-impl Progress {
-    fn beginning(alloc: Global, server: Server) -> Progress
-        ensures { spec.Begins server result }
-    {
-        Progress {
-            server,
-            notes: Notes::new(alloc),
-            now: Moment::START,
-            events: 0,
-            sent: 0,
-        }
-    }
 }
 
 // The events of a run that begins, and its end lines.
 fn trace_from(
     alloc: Global,
-    progress: &mut Progress,
+    stage: &mut Stage,
+    clients: &[ClientName],
     lines: &[Line],
     with_bytes: bool,
     text: &mut Vec<u8>,
 ) -> Result<(), AllocError>
-    requires events { progress.old.events ≡ 0 }
-    requires sent { progress.old.sent ≡ 0 }
-    ensures { OnOk result ((printed end : List ℕ) × (last : AnyProgress) × spec.Prints with_bytes progress.old lines.now printed last
-        × spec.IsEnd last.server.tree last.notes.steps end × (text.new.items ≡ text.old.items ++ (printed ++ end))) }
+    ensures { OnOk result ((printed end : List ℕ) × spec.Prints with_bytes clients.now stage.old lines.now printed stage.new
+        × spec.IsEnd stage.new.world end × (text.new.items ≡ text.old.items ++ (printed ++ end))) }
 {
-    trace_events(alloc, progress, lines, with_bytes, text)?;
-    trace_end(alloc, progress.server.tree(), &progress.notes, text)?;
-    Ok(())
+    trace_events(alloc, stage, clients, lines, with_bytes, text)?;
+    trace_end(alloc, stage.world(), text)
 }
 
 // Does what the lines say.
 fn trace_events(
     alloc: Global,
-    progress: &mut Progress,
+    stage: &mut Stage,
+    clients: &[ClientName],
     lines: &[Line],
     with_bytes: bool,
     text: &mut Vec<u8>,
 ) -> Result<(), AllocError>
-    requires events { progress.old.events ≡ 0 }
-    requires sent { progress.old.sent ≡ 0 }
-    ensures { OnOk result ((printed : List ℕ) × spec.Prints with_bytes progress.old lines.now printed progress.new × (text.new.items ≡ text.old.items ++ printed)) }
+    ensures { OnOk result ((printed : List ℕ) × spec.Prints with_bytes clients.now stage.old lines.now printed stage.new × (text.new.items ≡ text.old.items ++ printed)) }
 {
     for line in lines {
-        let more = line_text(alloc, progress, line, with_bytes)?;
+        let more = line_text(alloc, stage, clients, line, with_bytes)?;
         text.extend_from_slice(&more)?;
     }
     Ok(())
 }
 
-fn trace_end(
+// Does what the line says: the text that it prints.
+fn line_text(
     alloc: Global,
-    tree: &Tree,
-    notes: &Notes,
-    text: &mut Vec<u8>,
-) -> Result<(), AllocError>
-    ensures { OnOk result ((end : List ℕ) × spec.IsEnd tree.now notes.now.steps end × (text.new.items ≡ text.old.items ++ end)) }
+    stage: &mut Stage,
+    clients: &[ClientName],
+    line: &Line,
+    with_bytes: bool,
+) -> Result<Vec<u8>, AllocError>
+    ensures { IfOk result (λ text. spec.PrintsLine with_bytes clients.now stage.old line.now text.items stage.new) }
 {
-    let entries = count_entries(alloc, notes)?;
-    let held = notes.premise_holds(&[]);
-    let lines = end_text(alloc, tree, entries, held)?;
+    let before = count_events(stage);
+    let quiet = stage.does(alloc, clients, line)?;
+    let mut text = text_behind(alloc, with_bytes, clients, stage, before)?;
+    add_quiet(&mut text, quiet)?;
+    Ok(text)
+}
+
+// How many events there were.
+fn count_events(stage: &Stage) -> usize
+    ensures { result ≡ length stage.now.world.records }
+{
+    stage.world().records().len()
+}
+
+// What the events print that came behind so many.
+fn text_behind(
+    alloc: Global,
+    with_bytes: bool,
+    clients: &[ClientName],
+    stage: &Stage,
+    before: usize,
+) -> Result<Vec<u8>, AllocError>
+    ensures { IfOk result (λ text. PrintAllRecords with_bytes clients.now stage.now.world (drop before stage.now.world.records) text.items) }
+{
+    let world = stage.world();
+    records_text(
+        alloc,
+        with_bytes,
+        clients,
+        world,
+        behind(world.records(), before),
+    )
+}
+
+// The records behind so many.
+fn behind(records: &[Record], before: usize) -> &[Record]
+    ensures { result.now ≡ drop before records.now }
+{
+    &records[min(before, records.len())..]
+}
+
+// `not quiet` behind a quiet round that was stopped.
+fn add_quiet(text: &mut Vec<u8>, quiet: bool) -> Result<(), AllocError>
+    ensures { OnOk result (text.new.items ≡ text.old.items ++ spec.quiet_text quiet) }
+{
+    if quiet {
+        return Ok(());
+    }
+    Ok(text.extend_from_slice(b"not quiet\n")?)
+}
+
+// The end lines of a world.
+fn trace_end(alloc: Global, world: &World, text: &mut Vec<u8>) -> Result<(), AllocError>
+    ensures { OnOk result ((end : List ℕ) × spec.IsEnd world.now end × (text.new.items ≡ text.old.items ++ end)) }
+{
+    let entries = count_entries(alloc, world)?;
+    let held = world.premise_holds();
+    let lines = end_text(alloc, world.tree(), entries, held)?;
     Ok(text.extend_from_slice(&lines)?)
 }
 
 // How many requests are in the history.
-fn count_entries(alloc: Global, notes: &Notes) -> Result<usize, AllocError>
-    ensures { IfOk result (λ count. count ≡ length (history notes.now.steps)) }
+fn count_entries(alloc: Global, world: &World) -> Result<usize, AllocError>
+    ensures { IfOk result (λ count. count ≡ length (history world.now.steps)) }
 {
-    Ok(notes.history(alloc)?.len())
-}
-
-// Does what the line says: the text that it prints.
-fn line_text(
-    alloc: Global,
-    progress: &mut Progress,
-    line: &Line,
-    with_bytes: bool,
-) -> Result<Vec<u8>, AllocError>
-    requires events { progress.old.events + 1 < 2 ^ 64 }
-    requires sent { progress.old.sent + 1 < 2 ^ 64 }
-    ensures prints { IfOk result (λ text. spec.PrintsLine with_bytes progress.old line.now text.items progress.new) }
-    ensures events { progress.new.events ≤ progress.old.events + 1 }
-    ensures sent { progress.new.sent ≤ progress.old.sent + 1 }
-{
-    match line {
-        Line::At { moment } => {
-            progress.now = *moment;
-            Ok(Vec::new(alloc))
-        }
-        Line::Inject { from, to, bytes } => {
-            inject(alloc, progress, *from, *to, bytes.as_slice(), with_bytes)
-        }
-        _ => Ok(Vec::new(alloc)),
-    }
-}
-
-// A datagram comes to a node from a node.
-fn inject(
-    alloc: Global,
-    progress: &mut Progress,
-    from: Node,
-    to: Node,
-    bytes: &[u8],
-    with_bytes: bool,
-) -> Result<Vec<u8>, AllocError>
-    requires events { progress.old.events + 1 < 2 ^ 64 }
-    requires sent { progress.old.sent + 1 < 2 ^ 64 }
-    ensures happens { IfOk result (λ text. spec.Happens with_bytes progress.old from to bytes.now text.items progress.new) }
-    ensures events { progress.new.events ≡ progress.old.events + 1 }
-    ensures sent { progress.new.sent ≤ progress.old.sent + 1 }
-{
-    progress.events += 1;
-    match to {
-        Node::Server => serve(alloc, progress, from, bytes, with_bytes),
-        Node::Client(_) | Node::Stranger => Vec::from_slice(alloc, b"nothing\n"),
-    }
-}
-
-// A datagram comes to the server from this node, in the event that was counted last.
-fn serve(
-    alloc: Global,
-    progress: &mut Progress,
-    from: Node,
-    bytes: &[u8],
-    with_bytes: bool,
-) -> Result<Vec<u8>, AllocError>
-    requires { progress.old.sent + 1 < 2 ^ 64 }
-    ensures serves { IfOk result (λ text. spec.Serves with_bytes progress.old from bytes.now text.items progress.new) }
-    ensures events { progress.new.events ≡ progress.old.events }
-    ensures sent { progress.new.sent ≤ progress.old.sent + 1 }
-{
-    let draw = draw_of(progress.events);
-    progress.notes.reserve()?;
-    let step = progress
-        .server
-        .on_datagram::<Ccm<8>>(alloc, progress.now, from.address(), bytes, &draw)?;
-    match counted_text(alloc, &mut progress.sent, &step, with_bytes) {
-        Ok(text) => {
-            note(&mut progress.notes, step);
-            Ok(text)
-        }
-        Err(error) => {
-            drop(step);
-            Err(error)
-        }
-    }
-}
-
-// Notes a step of the server, for which there is room.
-fn note(notes: &mut Notes, step: Step)
-    requires { 0 < notes.old.room }
-    ensures { notes.new ≡ record { steps = by_server step.notes ∷ notes.old.steps; room = notes.old.room - 1 } }
-{
-    let Step { notes: noted, .. } = step;
-    notes.add(Noted::by_server(noted));
-}
-
-// What the server's step prints, behind so many datagrams; its own are counted too.
-fn counted_text(
-    alloc: Global,
-    sent: &mut u64,
-    step: &Step,
-    with_bytes: bool,
-) -> Result<Vec<u8>, AllocError>
-    requires printable { All CanPrint step.now.out }
-    requires few { sent.old + length step.now.out < 2 ^ 64 }
-    ensures prints { IfOk result (λ text. PrintsStep with_bytes sent.old Node.Server step.now text.items) }
-    ensures sent { sent.new ≡ sent.old + length step.now.out }
-{
-    let before = *sent;
-    *sent += step.out.as_slice().len() as u64;
-    step_text(alloc, with_bytes, before, Node::Server, step)
+    Ok(world.history(alloc)?.len())
 }

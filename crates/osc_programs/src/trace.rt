@@ -14,88 +14,8 @@ use osc_tree::Tree;
 use std::alloc::{AllocError, Global};
 use std::fmt;
 
-/// What the step of a node prints, behind `sent` datagrams of earlier steps.
-pub(crate) fn step_text(
-    alloc: Global,
-    with_bytes: bool,
-    sent: u64,
-    node: Node,
-    step: &Step,
-) -> Result<Vec<u8>, AllocError>
-    requires printable { All spec.CanPrint step.now.out }
-    requires few { sent + length step.now.out < 2 ^ 64 }
-    ensures { IfOk result (λ text. spec.PrintsStep with_bytes sent node step.now text.items) }
-{
-    let mut text = sent_lines(alloc, with_bytes, sent, node, step.out.as_slice())?;
-    if text.is_empty() {
-        text.extend_from_slice(b"nothing\n")?;
-    }
-    Ok(text)
-}
-
-fn sent_lines(
-    alloc: Global,
-    with_bytes: bool,
-    sent: u64,
-    from: Node,
-    datagrams: &[Datagram],
-) -> Result<Vec<u8>, AllocError>
-    requires printable { All spec.CanPrint datagrams.now }
-    requires few { sent + length datagrams.now < 2 ^ 64 }
-    ensures { IfOk result (λ lines. spec.PrintAllSent with_bytes (sent + 1) from datagrams.now lines.items) }
-{
-    let mut lines = Vec::new(alloc);
-    let mut number = sent;
-    for datagram in datagrams {
-        number += 1;
-        let line = datagram_line(alloc, with_bytes, number, from, datagram)?;
-        lines.extend_from_slice(line.as_bytes())?;
-    }
-    Ok(lines)
-}
-
-fn datagram_line(
-    alloc: Global,
-    with_bytes: bool,
-    number: u64,
-    from: Node,
-    datagram: &Datagram,
-) -> Result<String, AllocError>
-    requires { spec.CanPrint datagram.now }
-    ensures { IfOk result (λ line. spec.PrintsSent with_bytes number from datagram.now (string_bytes line)) }
-{
-    let to = Node::at(datagram.to).unwrap();
-    let bytes = datagram.bytes.as_slice();
-    let message = MessageRef::parse(bytes).unwrap();
-    sent_line(alloc, with_bytes, number, from, to, &message, bytes)
-}
-
-// `sent K FROM>TO TYPE CODE`, with the bytes where they are wanted.
-fn sent_line(
-    alloc: Global,
-    with_bytes: bool,
-    number: u64,
-    from: Node,
-    to: Node,
-    message: &MessageRef<'_>,
-    bytes: &[u8],
-) -> Result<String, AllocError>
-    ensures { IfOk result (λ line. string_bytes line ≡ spec.sent_text with_bytes number from to message.now bytes.now) }
-{
-    let way = way_text(alloc, from, to)?;
-    let message = message_text(alloc, message)?;
-    let bytes = wanted_bytes_text(alloc, with_bytes, bytes)?;
-    format!(in alloc; "sent {number} {way} {message}{bytes}\n")
-}
-
-fn way_text(alloc: Global, from: Node, to: Node) -> Result<String, AllocError>
-    ensures { IfOk result (λ part. string_bytes part ≡ spec.way_text from to) }
-{
-    format!(in alloc; "{}>{}", from.name(), to.name())
-}
-
-// The message's type and code, marked where it has an OSCORE option.
-fn message_text(alloc: Global, message: &MessageRef<'_>) -> Result<String, AllocError>
+/// The message's type and code, marked where it has an OSCORE option.
+pub(crate) fn message_text(alloc: Global, message: &MessageRef<'_>) -> Result<String, AllocError>
     ensures { IfOk result (λ part. string_bytes part ≡ spec.message_text message.now) }
 {
     let kind = message.kind();
@@ -108,7 +28,12 @@ fn message_text(alloc: Global, message: &MessageRef<'_>) -> Result<String, Alloc
     format!(in alloc; "{kind} {code}{mark}")
 }
 
-fn wanted_bytes_text(alloc: Global, with_bytes: bool, bytes: &[u8]) -> Result<String, AllocError>
+/// The bytes of a datagram behind a space, where they are wanted.
+pub(crate) fn wanted_bytes_text(
+    alloc: Global,
+    with_bytes: bool,
+    bytes: &[u8],
+) -> Result<String, AllocError>
     ensures { IfOk result (λ part. string_bytes part ≡ spec.wanted_bytes_text with_bytes bytes.now) }
 {
     if !with_bytes {
@@ -118,9 +43,9 @@ fn wanted_bytes_text(alloc: Global, with_bytes: bool, bytes: &[u8]) -> Result<St
     format!(in alloc; " {digits}")
 }
 
-// A code as the standard writes it, as `2.05`.
+/// A code as the standard writes it, as `2.05`.
 #[derive(Clone, Copy)]
-struct CodeText(u8);
+pub(crate) struct CodeText(pub u8);
 
 impl fmt::Display for CodeText {
     ghost output = { λ code. Some (text.code_text code.0) };
@@ -195,7 +120,8 @@ fn value_text(alloc: Global, resource: &Resource) -> Result<String, AllocError>
     format!(in alloc; "{format} {payload}")
 }
 
-fn format_text(alloc: Global, format: Option<u16>) -> Result<String, AllocError>
+/// A Content-Format, or `none`.
+pub(crate) fn format_text(alloc: Global, format: Option<u16>) -> Result<String, AllocError>
     ensures { IfOk result (λ part. string_bytes part ≡ text.format_text format) }
 {
     match format {
@@ -204,7 +130,8 @@ fn format_text(alloc: Global, format: Option<u16>) -> Result<String, AllocError>
     }
 }
 
-fn short_text(alloc: Global, bytes: &[u8]) -> Result<String, AllocError>
+/// Bytes in hexadecimal, `-` for none, or only how many there are where they are more than 32.
+pub(crate) fn short_text(alloc: Global, bytes: &[u8]) -> Result<String, AllocError>
     ensures { IfOk result (λ part. string_bytes part ≡ text.short_text bytes.now) }
 {
     if bytes.len() > 32 {

@@ -110,28 +110,38 @@ fn a_bad_line_is_all_that_is_written(rt: HostRuntime) -> Result<(), Fail> {
     Ok(())
 }
 
-// Lines that stand for something, and that the simulation doesn't perform, since it has no clients.
+// Lines whose event is nobody's, or that are no events: what isn't there neither comes nor changes anything.
 #[test]
-fn a_line_that_is_not_performed_is_bad(rt: HostRuntime) -> Result<(), Fail> {
-    for (script, number, text) in [
-        ("grant c1 /t:GET", 1, "line 1: bad\n"),
-        ("grant c1 /t:GET\ninject c1 s -", 1, "line 1: bad\n"),
-        ("draw 0011223344556677", 1, "line 1: bad\n"),
-        ("\ndrop 1", 2, "line 2: bad\n"),
-        ("tick s", 1, "line 1: bad\n"),
-        ("restart s", 1, "line 1: bad\n"),
-        ("inject x s -\ndeliver 1", 2, "line 2: bad\n"),
-        ("alter 1 0 ff", 1, "line 1: bad\n"),
-        ("graft 1 1", 1, "line 1: bad\n"),
-        ("at 1\nopen /e\nquiet\ntick s", 3, "line 3: bad\n"),
-        ("quiet\nat 2\nat 1", 3, "line 3: bad\n"),
+fn what_is_not_there_does_nothing(rt: HostRuntime) -> Result<(), Fail> {
+    for (script, trace) in [
+        (
+            "grant c1 /t:GET\ndraw 0011223344556677\ndrop 1\nskip c1 5\nquiet\n",
+            "",
+        ),
+        ("deliver 0\ndeliver 1", "nothing\nnothing\n"),
+        (
+            "alter 1 0 ff\ngraft 1 1\ninject s x -",
+            "nothing\nnothing\nnothing\n",
+        ),
+        ("tick s\nrestart s\n", "nothing\nnothing\n"),
+        (
+            "grant c1 /t:GET\nask c1 GET /t -\nlie c1 0 GET /t -",
+            "c1 refused 22\nc1 refused 22\n",
+        ),
     ] {
-        assert!(rt;
-            writes(rt.alloc(), script, true, Ended::BadLine(number), text),
-            "{script}"
-        );
+        assert!(rt; prints(rt.alloc(), script, trace), "{script}");
     }
     Ok(())
+}
+
+// Whether the events print this, of a run that leaves nothing.
+fn prints(alloc: Global, script: &str, trace: &str) -> bool {
+    let (ended, written) = run(alloc, script, false);
+    ended == Ended::Done
+        && written
+            .as_slice()
+            .strip_suffix(b"history 0\npremise: held\n")
+            == Some(trace.as_bytes())
 }
 
 // Whether these bytes are a front of the trace of the first run, and the line that says why no more of it follows.

@@ -1,9 +1,14 @@
-use Rattle.std.proofs.Common.{IfOk, sym, subst}
-use Rattle.osc_programs.specs.Simulation.{Happens, PrintsLine}
+use Rattle.std.proofs.Common.{subst, drop}
+use Rattle.osc_programs.specs.Records.{PrintAllRecords}
 use Rattle.osc_programs.proofs.simulate.line_text.Goals as goal
 
-pub returns-in-Inject-clause-prints : goal.returns-in-Inject-clause-prints
-returns-in-Inject-clause-prints c =
-    let happens = subst (λ bytes. IfOk c.inject.result (λ text. Happens c.args.with_bytes c.args.progress.now c.in-Inject.from c.in-Inject.to bytes text.items c.inject.new.progress))
-    c.as_slice.ensures c.inject.ensures.happens in
-    subst (λ line. IfOk c.inject.result (λ text. PrintsLine c.args.with_bytes c.args.progress.now line text.items c.inject.new.progress)) (sym c.in-Inject.is) happens
+pub returns : goal.returns
+returns c =
+    let world = c.does.new.self.world in
+    let events = c.in_ok-text.text.items in (
+      c.in_ok-quiet.quiet,
+      events,
+      c.in_ok-quiet.ensures,
+      subst (λ before. PrintAllRecords c.args.with_bytes c.args.clients.now world (drop before world.records) events) c.count_events-before.ensures c.in_ok-text.ensures,
+      c.in_ok-add_quiet.ensures,
+    )

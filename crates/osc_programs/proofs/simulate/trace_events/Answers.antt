@@ -1,4 +1,4 @@
-use Rattle.std.proofs.Common.{◌≡◌, ◌∙◌, [], ◌+◌, ◌++◌, ap, sym, drop, arith, append_assoc, append-nil}
+use Rattle.std.proofs.Common.{◌≡◌, ◌∙◌, [], ◌+◌, ◌++◌, ap, sym, drop, append_assoc, append-nil}
 use Rattle.std.proofs.Math.ListN.{drop_of_length-le}
 use Rattle.osc_programs.specs.Simulation.{Prints}
 use Rattle.osc_programs.proofs.Runs.{drop_item, lines_more, lines_end}
@@ -9,8 +9,6 @@ loop-line-init c = record {
   printed = [];
   written = sym (append-nil c.args.text.now.items);
   prints = λ rest last prints. prints;
-  events = omega (arith, c.requires.events);
-  sent = omega (arith, c.requires.sent);
 }
 
 pub loop-line-preserved : goal.loop-line-preserved
@@ -25,17 +23,15 @@ loop-line-preserved c =
     record {
       printed = before.printed ++ more;
       written = grown ∙ (ap (λ bytes. bytes ++ more) before.written ∙ append_assoc c.args.text.now.items before.printed more);
-      prints = lines_more c.args.with_bytes here.progress c.line_text.new.progress (drop here.line-index all) (drop (here.line-index + 1) all) c.line-item.result before.printed more
-          (Prints c.args.with_bytes c.args.progress.now all) left c.in_ok-more.ensures.prints before.prints;
-      events = omega (arith, c.line_text.ensures.events, before.events);
-      sent = omega (arith, c.line_text.ensures.sent, before.sent);
+      prints = lines_more c.args.with_bytes c.args.clients.now here.stage c.line_text.new.stage (drop here.line-index all) (drop (here.line-index + 1) all) c.line-item.result
+          before.printed more (Prints c.args.with_bytes c.args.clients.now c.args.stage.now all) left c.in_ok-more.ensures before.prints;
     }
 
 pub returns : goal.returns
 returns c =
     let here = c.loop-line in (
       here.invariant.printed,
-      lines_end c.args.with_bytes here.progress (drop here.line-index c.args.lines.now) here.invariant.printed (Prints c.args.with_bytes c.args.progress.now c.args.lines.now)
-          (drop_of_length-le c.args.lines.now c.loop-line-test.false) here.invariant.prints,
+      lines_end c.args.with_bytes c.args.clients.now here.stage (drop here.line-index c.args.lines.now) here.invariant.printed
+          (Prints c.args.with_bytes c.args.clients.now c.args.stage.now c.args.lines.now) (drop_of_length-le c.args.lines.now c.loop-line-test.false) here.invariant.prints,
       here.invariant.written,
     )

@@ -1,6 +1,6 @@
-use Rattle.std.proofs.Common.{◌≡◌, ◌≤◌, ◌++◌, List, ℕ, drop}
+use Rattle.std.proofs.Common.{◌≡◌, ◌++◌, List, ℕ, drop}
 use Rattle.osc_programs.specs.Simulation.{Prints}
-use Rattle.osc_programs.specs.declared.simulate.Progress.{Progress}
+use Rattle.osc_programs.specs.declared.stage.Stage.{Stage}
 use Rattle.osc_programs.proofs.simulate.trace_events.Given as goal
 
 -- what the lines that are left print goes behind what stands there
@@ -8,8 +8,6 @@ abbrev pub invariant-loop-line : goal.invariant-loop-line
 invariant-loop-line l = record {
   printed : List ℕ;
   written : l.text.items ≡ l.initial.text.items ++ printed;
-  prints : (rest : List ℕ) (last : Progress) → Prints l.with_bytes l.progress (drop l.line-index l.lines) rest last
-      → Prints l.with_bytes l.initial.progress l.lines (printed ++ rest) last;
-  events : l.progress.events ≤ l.line-index;
-  sent : l.progress.sent ≤ l.line-index;
+  prints : (rest : List ℕ) (last : Stage) → Prints l.with_bytes l.clients l.stage (drop l.line-index l.lines) rest last
+      → Prints l.with_bytes l.clients l.initial.stage l.lines (printed ++ rest) last;
 }
