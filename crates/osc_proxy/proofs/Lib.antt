@@ -1,0 +1,4 @@
+mod RecognisedLaws
+mod AddLaws
+mod UriLaws
+mod OptionLaws

@@ -1,0 +1,10 @@
+use Rattle.std.proofs.Common.{◌≡◌, ◌+◌, drop}
+use Rattle.std.specs.List.{prefix_len}
+use Rattle.osc_proxy.specs.ProxyUri.{is_digit}
+use Rattle.osc_proxy.proofs.proxy_uri.digits_length.Given as goal
+
+abbrev pub invariant-loop-byte : goal.invariant-loop-byte
+invariant-loop-byte l = record {
+  value : l.count + prefix_len is_digit (drop l.byte-index l.bytes) ≡ prefix_len is_digit l.bytes;
+  count : l.count ≡ l.byte-index;
+}

@@ -1,0 +1,32 @@
+-- What a proxy forwards, and what it sends back (RFC 7252 sections 5.7.1 and 5.7.2).
+use Rattle.std.specs.Prelude.{ℕ, Bool, ◌&&◌, ◌||◌, not, ◌==◌, List, ◌∷◌, drop, filter}
+use Rattle.std.specs.List.{list_any}
+use Rattle.osc_model.specs.Draw.{token_drawn}
+use Rattle.osc_model.specs.declared.node.Draw.{Draw}
+use Rattle.osc_coap.specs.Message.{NumberAndValue, Message}
+use Rattle.osc_coap.specs.declared.kind.Kind.{Kind}
+
+-- The options that are for the proxy are taken out: Uri-Port (7), Proxy-Uri (35), Proxy-Scheme (39), and beside a Proxy-Uri, which
+-- names the whole URI, Uri-Host (3), Uri-Path (11) and Uri-Query (15) too.
+abbrev pub is_taken_out : Bool → ℕ → Bool
+is_taken_out by_uri number =
+    (number == 7) || ((number == 35) || ((number == 39) || (by_uri && ((number == 3) || ((number == 11) || (number == 15))))))
+
+abbrev pub has_proxy_uri : List NumberAndValue → Bool
+has_proxy_uri options = list_any (λ option. option.0 == 35) options
+
+-- all others stay, in their order
+abbrev pub forwarded_options : List NumberAndValue → List NumberAndValue
+forwarded_options options = filter (λ option. not (is_taken_out (has_proxy_uri options) option.0)) options
+
+-- the same message under a message ID and a token of the proxy's own, without the options that are for the proxy
+abbrev pub forwarded : ℕ → List ℕ → Message → Message
+forwarded id token message = record message { id = id; token = token; options = forwarded_options message.options }
+
+-- the token of a forwarded message: the key of its exchange, and all but the first of the token bytes that were drawn
+abbrev pub forwarded_token : ℕ → Draw → List ℕ
+forwarded_token key draw = key ∷ drop 1 (token_drawn draw)
+
+-- the same response in a message of this kind and message ID, with the client's token
+abbrev pub answer : Kind → ℕ → List ℕ → Message → Message
+answer kind id token response = record response { kind = kind; id = id; token = token }

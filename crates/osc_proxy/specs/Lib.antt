@@ -1,0 +1,9 @@
+-- Definitions that the contracts cite.
+pub mod ProxyUri
+pub mod Reading
+pub mod Targets
+pub mod UnsafeOptions
+pub mod Route
+pub mod Forwarding
+pub mod Rewriting
+pub mod Exchanges

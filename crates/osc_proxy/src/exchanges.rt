@@ -1,0 +1,195 @@
+//! The exchanges that a proxy has open (RFC 7252 section 5.7.2).
+ghost use Rattle.std.specs.Prelude.{◌≡◌, ◌+◌, None, Some, IfOk, OnSome, IfNone, IsSome, option_map, option_copied};
+ghost use Rattle.osc_message.specs.Confirmables.{same_peer as same_peer_of};
+ghost use Rattle.osc_proxy.specs.Exchanges as spec;
+
+use crate::token::Token;
+use osc_model::{Moment, Peer};
+use slab::Slab;
+use std::alloc::{AllocError, Global};
+use std::marker::Model;
+
+/// How many exchanges are open at most.
+const MOST: usize = 64;
+
+/// EXCHANGE_LIFETIME (RFC 7252 section 4.8.2), in ms.
+const LIFETIME: u64 = 247_000;
+
+/// A request that was forwarded, and whose answer hasn't gone back yet.
+#[derive(Debug, Drop)]
+pub struct Exchange {
+    /// Who sent the request, and gets the answer.
+    pub client: Peer,
+    /// The client's token, which the answer carries.
+    pub client_token: Token,
+    /// Whether the request is confirmable; so is its answer then.
+    pub confirmable: bool,
+    /// To whom the request was forwarded.
+    pub target: Peer,
+    /// The message ID of the forwarded message.
+    pub id: u16,
+    /// The token of the forwarded message.
+    pub token: [u8; 8],
+    /// When the forwarded message went out for the first time; none while it waits for its turn.
+    pub sent: Option<Moment>,
+}
+
+/// The open exchanges, each under a key; contracts see what stands under each key, and the next key. All the room that they need
+/// is taken when the table is made.
+#[derive(Drop)]
+pub struct Exchanges {
+    open: Slab<Exchange>,
+}
+
+impl Model for Exchanges {
+    ghost use Rattle.std.specs.Prelude.{◌≤◌};
+    ghost use Rattle.osc_proxy.specs.Exchanges.{Table};
+
+    ghost Value = { Table };
+
+    ghost view = { λ e. record { slots = e.open.slots; next = e.open.vacant_key } };
+
+    ghost invariant = { λ e. 64 ≤ e.open.capacity };
+}
+
+/// Whether two peers have the same address and port.
+fn same_peer(a: Peer, b: Peer) -> bool
+    ensures { result ≡ same_peer_of a b }
+{
+    a.address == b.address && a.port == b.port
+}
+
+/// Whether a response of this peer with this token is for the exchange.
+fn is_for(from: Peer, token: &[u8], exchange: &Exchange) -> bool
+    ensures { result ≡ spec.is_for from token.now exchange.now }
+{
+    same_peer(exchange.target, from) && exchange.token.as_slice() == token
+}
+
+/// Whether this peer and this message ID name the forwarded message of the exchange.
+fn is_named(from: Peer, id: u16, exchange: &Exchange) -> bool
+    ensures { result ≡ spec.is_named from id exchange.now }
+{
+    same_peer(exchange.target, from) && exchange.id == id
+}
+
+/// Whether no answer came for so long that none is awaited any more.
+fn is_overdue(now: Moment, exchange: &Exchange) -> bool
+    ensures { result ≡ spec.is_overdue now exchange.now }
+{
+    match exchange.sent {
+        Some(sent) => sent.ms + LIFETIME <= now.ms,
+        None => false,
+    }
+}
+
+impl Exchanges {
+    /// None is open. Refused only for want of memory.
+    pub fn new(alloc: Global) -> Result<Exchanges, AllocError>
+        ensures { IfOk result (λ exchanges. exchanges ≡ spec.none_open) }
+    {
+        Ok(Exchanges {
+            open: Slab::with_capacity(alloc, MOST)?,
+        })
+    }
+
+    /// Forgets all, as if it were new; takes no memory.
+    pub fn clear(&mut self)
+        ensures { self.new ≡ spec.none_open }
+    {
+        self.open.clear();
+    }
+
+    /// How many are open.
+    pub fn count(&self) -> usize
+        ensures { result ≡ spec.count self.now }
+    {
+        self.open.len()
+    }
+
+    /// The key of the next exchange; none where 64 are open.
+    pub fn free_key(&self) -> Option<u8>
+        ensures { result ≡ spec.free_key self.now }
+    {
+        let key = self.open.vacant_key();
+        if MOST <= self.open.len() || 256 <= key {
+            return None;
+        }
+        Some(key as u8)
+    }
+
+    /// Opens an exchange under the free key; takes no memory.
+    pub fn open(&mut self, exchange: Exchange)
+        requires { IsSome (spec.free_key self.old) }
+        ensures was_free { spec.get self.old self.old.next ≡ None }
+        ensures opened { spec.Changes self.old self.new self.old.next (Some exchange) }
+        ensures count { spec.count self.new ≡ spec.count self.old + 1 }
+    {
+        let _key = self.open.insert_reserved(exchange);
+    }
+
+    /// The exchange of this key, if one is open.
+    pub fn get(&self, key: usize) -> Option<&Exchange>
+        ensures { option_copied result ≡ spec.get self.now key }
+    {
+        self.open.get(key)
+    }
+
+    /// The key of the exchange that a response of this peer with this token is for; of several the lowest.
+    pub fn find(&self, from: Peer, token: &[u8]) -> Option<usize>
+        ensures { result ≡ spec.first_key (spec.is_for from token.now) self.now }
+    {
+        for (key, exchange) in self.open.iter() {
+            if is_for(from, token, exchange) {
+                return Some(key);
+            }
+        }
+        None
+    }
+
+    /// The key of the exchange whose forwarded message an acknowledgement or a Reset of this peer with this message ID names; of
+    /// several the lowest.
+    pub fn find_named(&self, from: Peer, id: u16) -> Option<usize>
+        ensures { result ≡ spec.first_key (spec.is_named from id) self.now }
+    {
+        for (key, exchange) in self.open.iter() {
+            if is_named(from, id, exchange) {
+                return Some(key);
+            }
+        }
+        None
+    }
+
+    /// The lowest key of an exchange whose forwarded message went out 247 seconds ago or earlier.
+    pub fn find_overdue(&self, now: Moment) -> Option<usize>
+        ensures { result ≡ spec.first_key (spec.is_overdue now) self.now }
+    {
+        for (key, exchange) in self.open.iter() {
+            if is_overdue(now, exchange) {
+                return Some(key);
+            }
+        }
+        None
+    }
+
+    /// The forwarded message of the exchange of this key, if one is open, goes out at this moment.
+    pub fn mark_sent(&mut self, key: usize, now: Moment)
+        ensures marked { spec.Changes self.old self.new key (option_map (spec.gone_out now) (spec.get self.old key)) }
+        ensures count { spec.count self.new ≡ spec.count self.old }
+        ensures next { self.new.next ≡ self.old.next }
+    {
+        if let Some(exchange) = self.open.get_mut(key) {
+            exchange.sent = Some(now);
+        }
+    }
+
+    /// Closes the exchange of this key, which is handed back, if one is open; takes no memory.
+    pub fn close(&mut self, key: usize) -> Option<Exchange>
+        ensures value { result ≡ spec.get self.old key }
+        ensures closed { spec.Changes self.old self.new key None }
+        ensures count { OnSome result (spec.count self.new + 1 ≡ spec.count self.old) }
+        ensures absent { IfNone result (self.new ≡ self.old) }
+    {
+        self.open.try_remove(key)
+    }
+}

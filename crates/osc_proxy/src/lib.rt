@@ -1,0 +1,20 @@
+//! What a forward proxy does with a request and its answer (RFC 7252 section 5.7.2): where the request goes, the message that is
+//! forwarded, the message that the answer goes back in, and the exchanges that are open. Nothing is sealed or opened here, so
+//! nobody has to trust it.
+#![tactic(auto)]
+
+mod exchanges;
+mod forwarding;
+mod proxy_uri;
+mod route;
+mod targets;
+mod token;
+mod unsafe_options;
+
+pub use exchanges::{Exchange, Exchanges};
+pub use forwarding::{answer_message, forwarded_message, forwarded_token};
+pub use proxy_uri::{DEFAULT_PORT, Origin, read_proxy_uri};
+pub use route::{Route, named_by, route_of};
+pub use targets::{Target, Targets};
+pub use token::Token;
+pub use unsafe_options::has_unrecognised_unsafe;
