@@ -1,10 +1,17 @@
 -- The exchanges that a proxy has open: requests that were forwarded and whose answer hasn't gone back yet (RFC 7252 section 5.7.2).
-use Rattle.std.specs.Prelude.{◌≡◌, ◌≢◌, ℕ, ◌+◌, Bool, false, ◌&&◌, ◌||◌, ◌==◌, nat_le, bytes_eq, if◌then◌else◌, List, [], slice_index_or, find, count_by, Option, Some, None, is_some, option_map}
+use Rattle.std.specs.Prelude.{◌≡◌, ◌≢◌, ℕ, ◌+◌, Bool, true, false, ◌&&◌, ◌||◌, ◌==◌, nat_le, bytes_eq, if◌then◌else◌, List, [], slice_index_or, find, count_by, Option, Some, None, is_some, option_map}
 use Rattle.slab.specs.Slab.{entries_from}
 use Rattle.osc_model.specs.declared.node.Moment.{Moment}
 use Rattle.osc_model.specs.declared.node.Peer.{Peer}
+use Rattle.osc_coap.specs.Message.{Message as CoapMessage}
+use Rattle.osc_coap.specs.declared.kind.Kind.{Kind}
+use Rattle.osc_coap.specs.declared.kind.Kind.TheVariants.{Acknowledgement}
 use Rattle.osc_message.specs.Confirmables.{same_peer}
 use Rattle.osc_proxy.specs.declared.exchanges.Exchange.{Exchange}
+
+abbrev pub is_acknowledgement : Kind → Bool
+is_acknowledgement Acknowledgement = true
+is_acknowledgement kind = false
 
 -- what stands under each key, from 0 on, and the key of the next exchange that is opened
 pub record Table : Type 0 where
@@ -41,13 +48,18 @@ pub record Changes (old new : Table) (key : ℕ) (now : Option Exchange) : Type 
 abbrev pub first_key : (Exchange → Bool) → Table → Option ℕ
 first_key test table = option_map (λ entry. entry.0) (find (λ entry. test entry.1) (entries table))
 
--- a response is for an exchange by its sender and its token (section 5.3.2)
-abbrev pub is_for : Peer → List ℕ → Exchange → Bool
-is_for from token exchange = same_peer exchange.target from && bytes_eq exchange.token token
+-- a response answers the request of an exchange by its sender and its token, in an acknowledgement by the message ID as well
+-- (section 5.3.2)
+abbrev pub is_in_place : CoapMessage → Exchange → Bool
+is_in_place message exchange = if is_acknowledgement message.kind then exchange.id == message.id else true
 
--- an acknowledgement or a Reset names the forwarded message of one by its sender and its message ID (section 4.2)
+abbrev pub answers : Peer → CoapMessage → Exchange → Bool
+answers from message exchange =
+    same_peer exchange.target from && (bytes_eq exchange.token message.token && is_in_place message exchange)
+
+-- an empty acknowledgement or a Reset names a confirmable message by its sender and its message ID (section 4.2)
 abbrev pub is_named : Peer → ℕ → Exchange → Bool
-is_named from id exchange = same_peer exchange.target from && exchange.id == id
+is_named from id exchange = exchange.confirmable && (same_peer exchange.target from && exchange.id == id)
 
 -- ---- how long it stays open
 

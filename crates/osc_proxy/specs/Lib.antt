@@ -7,3 +7,5 @@ pub mod Route
 pub mod Forwarding
 pub mod Rewriting
 pub mod Exchanges
+pub mod Bounds
+pub mod Case

@@ -4,6 +4,7 @@ ghost use Rattle.osc_message.specs.Confirmables.{same_peer as same_peer_of};
 ghost use Rattle.osc_proxy.specs.Exchanges as spec;
 
 use crate::token::Token;
+use osc_coap::{Kind, MessageRef};
 use osc_model::{Moment, Peer};
 use slab::Slab;
 use std::alloc::{AllocError, Global};
@@ -59,18 +60,30 @@ fn same_peer(a: Peer, b: Peer) -> bool
     a.address == b.address && a.port == b.port
 }
 
-/// Whether a response of this peer with this token is for the exchange.
-fn is_for(from: Peer, token: &[u8], exchange: &Exchange) -> bool
-    ensures { result ≡ spec.is_for from token.now exchange.now }
+/// Whether the message is an acknowledgement.
+fn is_acknowledgement(kind: Kind) -> bool
+    ensures { result ≡ spec.is_acknowledgement kind }
 {
-    same_peer(exchange.target, from) && exchange.token.as_slice() == token
+    match kind {
+        Kind::Acknowledgement => true,
+        _ => false,
+    }
 }
 
-/// Whether this peer and this message ID name the forwarded message of the exchange.
+/// Whether the response, which came from this peer, answers the request of the exchange.
+fn answers(from: Peer, message: &MessageRef<'_>, exchange: &Exchange) -> bool
+    ensures { result ≡ spec.answers from message.now exchange.now }
+{
+    same_peer(exchange.target, from)
+        && exchange.token.as_slice() == message.token()
+        && (!is_acknowledgement(message.kind()) || exchange.id == message.id())
+}
+
+/// Whether this peer and this message ID name the forwarded message of the exchange, and it is confirmable.
 fn is_named(from: Peer, id: u16, exchange: &Exchange) -> bool
     ensures { result ≡ spec.is_named from id exchange.now }
 {
-    same_peer(exchange.target, from) && exchange.id == id
+    exchange.confirmable && same_peer(exchange.target, from) && exchange.id == id
 }
 
 /// Whether no answer came for so long that none is awaited any more.
@@ -135,20 +148,21 @@ impl Exchanges {
         self.open.get(key)
     }
 
-    /// The key of the exchange that a response of this peer with this token is for; of several the lowest.
-    pub fn find(&self, from: Peer, token: &[u8]) -> Option<usize>
-        ensures { result ≡ spec.first_key (spec.is_for from token.now) self.now }
+    /// The key of the exchange whose request this response answers, which came from this peer: it has the token of the forwarded
+    /// message, and in an acknowledgement its message ID too. Of several the lowest.
+    pub fn find(&self, from: Peer, message: &MessageRef<'_>) -> Option<usize>
+        ensures { result ≡ spec.first_key (spec.answers from message.now) self.now }
     {
         for (key, exchange) in self.open.iter() {
-            if is_for(from, token, exchange) {
+            if answers(from, message, exchange) {
                 return Some(key);
             }
         }
         None
     }
 
-    /// The key of the exchange whose forwarded message an acknowledgement or a Reset of this peer with this message ID names; of
-    /// several the lowest.
+    /// The key of the exchange whose forwarded message is confirmable and is named by an empty acknowledgement or a Reset of this
+    /// peer with this message ID. Of several the lowest.
     pub fn find_named(&self, from: Peer, id: u16) -> Option<usize>
         ensures { result ≡ spec.first_key (spec.is_named from id) self.now }
     {

@@ -1,8 +1,9 @@
-//! What a forward proxy does with a request and its answer (RFC 7252 section 5.7.2): where the request goes, the message that is
-//! forwarded, the message that the answer goes back in, and the exchanges that are open. Nothing is sealed or opened here, so
+//! What a forward proxy does with a request and its answer (RFC 7252 section 5.7.2): which case a datagram is, where a request goes,
+//! the message that is forwarded, the message that the answer goes back in, and the exchanges that are open. Nothing is sealed or opened here, so
 //! nobody has to trust it.
 #![tactic(auto)]
 
+mod case;
 mod exchanges;
 mod forwarding;
 mod proxy_uri;
@@ -11,6 +12,7 @@ mod targets;
 mod token;
 mod unsafe_options;
 
+pub use case::{Case, case_of};
 pub use exchanges::{Exchange, Exchanges};
 pub use forwarding::{answer_message, forwarded_message, forwarded_token};
 pub use proxy_uri::{DEFAULT_PORT, Origin, read_proxy_uri};
