@@ -3,3 +3,4 @@ pub mod Going
 pub mod Enrolling
 pub mod Sending
 pub mod Taking
+mod Waiting

@@ -1,5 +1,6 @@
 -- What is kept of a world's events.
-use Rattle.std.specs.Prelude.{◌≡◌, ℕ, ◌≤◌, true, false, List, [], ◌∷◌, ◌++◌, length, map, Option, Some, None, slice_get, slice_set}
+use Rattle.std.specs.Prelude.{◌≡◌, ℕ, ◌≤◌, true, false, List, [], ◌∷◌, ◌++◌, filter, length, map, Option, Some, None, slice_get, slice_set}
+use Rattle.std.specs.List.{enumerate_from, position_or_len}
 use Rattle.osc_model.specs.declared.node.Peer.{Peer}
 use Rattle.osc_model.specs.declared.step.Datagram.{Datagram}
 use Rattle.osc_run.specs.Notes.{Noted}
@@ -23,6 +24,16 @@ pub record HasRoom (log : LogState) (datagrams : ℕ) : Type 0 where
   pub sent : datagrams ≤ log.room_for_sent
   pub step : 1 ≤ log.room_for_steps
   pub event : 1 ≤ log.room_for_records
+
+-- ---- which datagrams wait
+
+-- the number of the first that waits; that of all that were sent, where none does
+abbrev pub first_waiting : List Sent → ℕ
+first_waiting sent = position_or_len (λ datagram. datagram.waits) sent
+
+-- the numbers of those that wait, in order
+abbrev pub waiting : List Sent → List ℕ
+waiting sent = map (λ numbered. numbered.0) (filter (λ numbered. numbered.1.waits) (enumerate_from 0 sent))
 
 -- ---- what an event adds
 

@@ -1,6 +1,6 @@
 //! What is kept of a world's events.
-ghost use Rattle.std.specs.Prelude.{◌≡◌, ◌≤◌, ◌-◌, ◌++◌, [], OnOk, length, map, vec_capacity, vec_len};
-ghost use Rattle.osc_world.specs.Log.{HasRoom, IsKept, delivered, number_of, sent_by, sent_from, settled, steps_with};
+ghost use Rattle.std.specs.Prelude.{◌≡◌, ◌≤◌, ◌-◌, ◌++◌, [], IfOk, OnOk, length, map, position, vec_capacity, vec_len};
+ghost use Rattle.osc_world.specs.Log.{HasRoom, IsKept, delivered, first_waiting, number_of, sent_by, sent_from, settled, steps_with, waiting};
 
 use crate::event::What;
 use crate::nodes::Taken;
@@ -38,13 +38,15 @@ pub struct Record {
 #[derive(Drop)]
 pub(crate) struct Log {
     sent: Vec<Sent>,
+    // The number of the first that waits; that of all that were sent, where none does.
+    next_waiting: usize,
     notes: Notes,
     records: Vec<Record>,
 }
 
 impl Model for Log {
-    ghost use Rattle.std.specs.Prelude.{◌-◌, vec_len, vec_capacity};
-    ghost use Rattle.osc_world.specs.Log.{LogState};
+    ghost use Rattle.std.specs.Prelude.{◌≡◌, ◌-◌, vec_len, vec_capacity};
+    ghost use Rattle.osc_world.specs.Log.{LogState, first_waiting};
 
     ghost Value = { LogState };
 
@@ -56,6 +58,8 @@ impl Model for Log {
       room_for_steps = l.notes.room;
       room_for_records = vec_capacity l.records - vec_len l.records;
     } };
+
+    ghost invariant = { λ l. l.next_waiting ≡ first_waiting l.sent.items };
 }
 
 impl Log {
@@ -67,6 +71,7 @@ impl Log {
     {
         Log {
             sent: Vec::new(alloc),
+            next_waiting: 0,
             notes: Notes::new(alloc),
             records: Vec::new(alloc),
         }
@@ -77,6 +82,29 @@ impl Log {
         ensures { result.now ≡ self.now.sent }
     {
         &self.sent
+    }
+
+    /// The number of the first datagram that waits, if one does. The work is the same however many were sent.
+    pub fn next_waiting(&self) -> Option<usize>
+        ensures { result ≡ position (λ datagram. datagram.waits) self.now.sent }
+    {
+        if self.next_waiting < self.sent.len() {
+            Some(self.next_waiting)
+        } else {
+            None
+        }
+    }
+
+    /// The numbers of the datagrams that wait, in order of sending.
+    pub fn waiting(&self, alloc: Global) -> Result<Vec<usize>, AllocError>
+        ensures { IfOk result (λ all. all.items ≡ waiting self.now.sent) }
+    {
+        self.sent
+            .iter()
+            .enumerate()
+            .filter(|(_, datagram)| datagram.waits)
+            .map(|(number, _)| number)
+            .collect(alloc)
     }
 
     /// What the steps noted.
@@ -133,9 +161,8 @@ impl Log {
     pub fn settle(&mut self, number: usize)
         ensures { self.new ≡ record self.old { sent = settled number self.old.sent } }
     {
-        if let Some(datagram) = self.sent.get_mut(number) {
-            datagram.waits = false;
-        }
+        settle(&mut self.sent, number);
+        self.next_waiting = first_from(&self.sent, self.next_waiting);
     }
 
     /// Adds a step, if one was taken, and what it sent; answers its number.
@@ -153,6 +180,29 @@ impl Log {
         send(&mut self.sent, at, out.into_vec());
         Some(number)
     }
+}
+
+/// The datagram of this number waits no more, if it was sent.
+fn settle(sent: &mut Vec<Sent>, number: usize)
+    ensures items { sent.new.items ≡ settled number sent.old.items }
+    ensures room { vec_capacity sent.new - vec_len sent.new ≡ vec_capacity sent.old - vec_len sent.old }
+{
+    if let Some(datagram) = sent.get_mut(number) {
+        datagram.waits = false;
+    }
+}
+
+/// The number of the first that waits, or of all where none does; none below this number does.
+fn first_from(sent: &[Sent], number: usize) -> usize
+    requires { number ≤ first_waiting sent.now }
+    ensures { result ≡ first_waiting sent.now }
+{
+    for next in number..sent.len() {
+        if sent[next].waits {
+            return next;
+        }
+    }
+    sent.len()
 }
 
 /// Adds what was sent from there, for which there is room; takes no memory.

@@ -3,7 +3,7 @@ ghost use Rattle.std.specs.Prelude.{◌≡◌, ◌↔◌, ◌++◌, [], IfOk, Is
 ghost use Rattle.osc_run.specs.History.{acceptances, history as history_of, questions};
 ghost use Rattle.osc_run.specs.Premise.{Premise};
 ghost use Rattle.osc_world.specs.Claims.{HasOneHistory, KeepsItsNonces};
-ghost use Rattle.osc_world.specs.Log.{settled};
+ghost use Rattle.osc_world.specs.Log.{settled, waiting};
 ghost use Rattle.osc_world.specs.Nodes.{skipped};
 ghost use Rattle.osc_run.specs.Runs.{IsStart};
 ghost use Rattle.osc_world.specs.Quiet.{Rounds, delivery};
@@ -260,11 +260,18 @@ impl World {
         self.log.records()
     }
 
-    /// The first datagram that was neither delivered nor dropped, by its number. The work grows with the number of datagrams.
+    /// The first datagram that was neither delivered nor dropped, by its number. The work is the same however many were sent.
     pub fn next_waiting(&self) -> Option<usize>
         ensures { result ≡ position (λ datagram. datagram.waits) self.now.sent }
     {
-        first_waiting(self.log.sent())
+        self.log.next_waiting()
+    }
+
+    /// The numbers of the datagrams that were neither delivered nor dropped, in order of sending. Without memory there is no list.
+    pub fn waiting(&self, alloc: Global) -> Result<Vec<usize>, AllocError>
+        ensures { IfOk result (λ all. all.items ≡ waiting self.now.sent) }
+    {
+        self.log.waiting(alloc)
     }
 
     /// The datagram of this number waits no more: a quiet round leaves it out. One that was never sent changes nothing.
@@ -292,11 +299,4 @@ impl World {
     {
         self.nodes.skip(client, number);
     }
-}
-
-/// The first that waits.
-fn first_waiting(sent: &[Sent]) -> Option<usize>
-    ensures { result ≡ position (λ datagram. datagram.waits) sent.now }
-{
-    sent.iter().position(|datagram| datagram.waits)
 }
