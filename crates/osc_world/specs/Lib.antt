@@ -5,3 +5,5 @@ pub mod Worlds
 pub mod Claims
 pub mod Starts
 pub mod Quiet
+pub mod Errors
+pub mod Refusals

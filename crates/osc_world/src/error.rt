@@ -1,12 +1,16 @@
 //! Why a client can't be enrolled.
 
+ghost use Rattle.std.specs.Prelude.{◌≡◌};
+ghost use Rattle.osc_world.specs.Errors.{of_mint, of_scope};
+ghost use Rattle.osc_world.specs.declared.error.EnrollError.TheVariants as enroll_variants;
+
 use osc_authz::GrantError;
 use osc_scope::ScopeError;
 use osc_token::MintError;
 use std::alloc::{AllocError, AllocFailed};
 use thiserror::Error;
 
-/// Why a client can't be enrolled: the first of these that stands.
+/// Why a client can't be enrolled: the first of these that stands, or want of memory.
 #[derive(Clone, Copy, Debug, PartialEq, Eq, Error)]
 pub enum EnrollError {
     /// The scope of the claims is none.
@@ -24,6 +28,8 @@ pub enum EnrollError {
 }
 
 impl From<ScopeError> for EnrollError {
+    ghost from_gives = { λ error e. e ≡ of_scope error };
+
     fn from(error: ScopeError) -> EnrollError {
         match error {
             ScopeError::BadScope => EnrollError::BadScope,
@@ -33,6 +39,8 @@ impl From<ScopeError> for EnrollError {
 }
 
 impl From<MintError> for EnrollError {
+    ghost from_gives = { λ error e. e ≡ of_mint error };
+
     fn from(error: MintError) -> EnrollError {
         match error {
             MintError::TooLong => EnrollError::TooLong,
@@ -42,18 +50,24 @@ impl From<MintError> for EnrollError {
 }
 
 impl From<GrantError> for EnrollError {
+    ghost from_gives = { λ error e. e ≡ enroll_variants.Grant error };
+
     fn from(error: GrantError) -> EnrollError {
         EnrollError::Grant(error)
     }
 }
 
 impl From<AllocError> for EnrollError {
+    ghost from_gives = { λ _ e. e ≡ enroll_variants.Memory };
+
     fn from(_error: AllocError) -> EnrollError {
         EnrollError::Memory
     }
 }
 
 impl<T: Drop> From<AllocFailed<T>> for EnrollError {
+    ghost from_gives = { λ _ e. e ≡ enroll_variants.Memory };
+
     fn from(_error: AllocFailed<T>) -> EnrollError {
         EnrollError::Memory
     }

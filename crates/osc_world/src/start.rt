@@ -1,8 +1,13 @@
 //! Where a world begins.
-ghost use Rattle.std.specs.Prelude.{◌≡◌, ◌<◌, ◌^◌, [], IfOk, OnErr, OnOk, length};
+ghost use Rattle.std.specs.Prelude.{◌≡◌, ◌<◌, ◌^◌, ℕ, List, [], IfErr, IfOk, OnErr, OnOk, length};
 ghost use Rattle.std.specs.Option.{ForSome};
+ghost use Rattle.osc_cbor.specs.Spelling.{spelling};
+ghost use Rattle.osc_cose.specs.Encrypt0.{enc_structure, object_item};
 ghost use Rattle.osc_run.specs.Runs.{IsTextOf};
+ghost use Rattle.osc_scope.specs.Entries.{Entry, IsScope, scope_of};
 ghost use Rattle.osc_token.specs.Minted.{FitTheirTypes};
+ghost use Rattle.osc_token.specs.Token.{algorithm_header, claims_item, token_object};
+ghost use Rattle.osc_world.specs.Refusals.{FitAToken, HasScope, IsLawful, IsRefusal};
 ghost use Rattle.osc_world.specs.Starts.{Enrols, IsDeskOf, IsEnrolled, begun};
 
 use crate::error::EnrollError;
@@ -99,9 +104,13 @@ impl Start {
     ///
     /// # Errors
     ///
-    /// The first that stands; then nothing has changed.
+    /// The first that stands: `BadScope` where the scope of its claims is none, `TooLong` where its claims have more than 65535 bytes,
+    /// `Grant` where its input material has a length that no token may have; or `Memory`, whatever its claims are. Then nothing has
+    /// changed.
     pub fn enroll<A: Aead>(&mut self, alloc: Global, holder: Holder) -> Result<(), EnrollError>
         ensures enrolled { OnOk result (Enrols A.is_sealing self.old holder self.new) }
+        ensures lawful { OnOk result (IsLawful holder.claims) }
+        ensures refused { IfErr result (λ error. IsRefusal holder.claims error) }
         ensures err { OnErr result (self.new ≡ self.old) }
     {
         self.minted.reserve(1)?;
@@ -141,6 +150,8 @@ fn enrolled<A: Aead>(
 ) -> Result<(Minted, Placed), EnrollError>
     ensures enrolled { IfOk result (λ made. IsEnrolled A.is_sealing key.now number holder made.0 made.1) }
     ensures text { IfOk result (λ made. IsTextOf made.0.grant made.0.text) }
+    ensures lawful { OnOk result (IsLawful holder.claims) }
+    ensures refused { IfErr result (λ error. IsRefusal holder.claims error) }
 {
     kinds::minted_texts();
     fits(&holder.claims);
@@ -150,11 +161,10 @@ fn enrolled<A: Aead>(
         claims,
         iv,
     } = holder;
-    let scope = Scope::from_cbor(alloc, claims.scope.as_slice())?;
-    let mut token = Vec::new(alloc);
-    mint::<A>(alloc, &claims, key, &iv, &mut token)?;
+    let scope = scope_in(alloc, &claims)?;
+    let token = token_of::<A>(alloc, &claims, key, &iv)?;
     let text = Bytes::from_vec(claims_text(alloc, &claims)?);
-    let desk = desk_of(&claims.material, Bytes::from_vec(token))?;
+    let desk = desk_of(&claims, token)?;
     let client = Client::new(alloc, desk, next_hop)?;
     let Claims {
         not_before,
@@ -172,10 +182,42 @@ fn enrolled<A: Aead>(
     Ok((Minted { grant, text }, Placed { at, client }))
 }
 
-/// What the holder of the token is granted.
-fn desk_of(material: &InputMaterial, token: Bytes) -> Result<ClientDesk, EnrollError>
-    ensures { IfOk result (λ desk. IsDeskOf material.now token desk) }
+/// The scope of claims.
+fn scope_in(alloc: Global, claims: &Claims) -> Result<Scope, EnrollError>
+    ensures found { IfOk result (λ scope. (entries : List Entry) × IsScope claims.now.scope entries × (scope ≡ scope_of entries)) }
+    ensures refused { IfErr result (λ error. IsRefusal claims.now error) }
 {
+    Ok(Scope::from_cbor(alloc, claims.scope.as_slice())?)
+}
+
+/// The token of claims that have a scope.
+fn token_of<A: Aead>(
+    alloc: Global,
+    claims: &Claims,
+    key: &[u8; 16],
+    iv: &[u8; 13],
+) -> Result<Bytes, EnrollError>
+    requires { HasScope claims.now }
+    ensures sealed { IfOk result (λ token. (ciphertext : List ℕ)
+        × A.is_sealing key.now iv.now (enc_structure algorithm_header []) (spelling (claims_item claims.now)) ciphertext
+        × (token ≡ spelling (object_item (token_object iv.now ciphertext)))) }
+    ensures fits { OnOk result (FitAToken claims.now) }
+    ensures refused { IfErr result (λ error. IsRefusal claims.now error) }
+{
+    let mut token = Vec::new(alloc);
+    mint::<A>(alloc, claims, key, iv, &mut token)?;
+    Ok(Bytes::from_vec(token))
+}
+
+/// What the holder of the token of these claims is granted.
+fn desk_of(claims: &Claims, token: Bytes) -> Result<ClientDesk, EnrollError>
+    requires scope { HasScope claims.now }
+    requires fits { FitAToken claims.now }
+    ensures desk { IfOk result (λ desk. IsDeskOf claims.now.material token desk) }
+    ensures lawful { OnOk result (IsLawful claims.now) }
+    ensures refused { IfErr result (λ error. IsRefusal claims.now error) }
+{
+    let material = &claims.material;
     let secret = material.secret.clone()?;
     let salt = material.salt.clone()?;
     let id_context = material.id_context.clone()?;

@@ -1,7 +1,7 @@
-use Rattle.std.proofs.Common.{refl, sym, ◌∙◌, subst}
+use Rattle.std.proofs.Common.{refl, ap, sym, ◌∙◌, subst}
+use Rattle.osc_client.specs.State.{State as Client}
 use Rattle.osc_model.specs.Grant.{Grant}
 use Rattle.osc_run.specs.Runs.{IsTextOf}
-use Rattle.osc_scope.specs.Entries.{IsScope}
 use Rattle.osc_world.proofs.start.enrolled.Goals as goal
 
 pub returns-clause-text : goal.returns-clause-text
@@ -20,4 +20,45 @@ returns-clause-text g c =
       holder = c.args.number;
     } in
     subst (λ text. IsTextOf grant text) (sym (c.from_vec-text.ensures ∙ c.in_ok-claims_text.ensures))
-    (c.minted_texts.ensures claims found.0 grant c.fits.ensures (subst (λ bytes. IsScope bytes found.0) c.as_slice.ensures found.1) refl found.2 refl refl)
+    (c.minted_texts.ensures claims found.0 grant c.fits.ensures found.1 refl found.2 refl refl)
+
+pub returns-clause-enrolled : goal.returns-clause-enrolled
+returns-clause-enrolled g c =
+    let claims = c.args.holder.claims in
+    let client = c.in_ok-client.ensures in
+    let desk = c.in_ok-desk.ensures.desk in
+    let text = c.from_vec-text.ensures ∙ c.in_ok-claims_text.ensures in
+    let found = c.in_ok-scope.ensures.found in
+    let sealed = c.in_ok-token.ensures.sealed in
+    record {
+      entries = found.0;
+      scope = found.1;
+      ciphertext = sealed.0;
+      sealed = sealed.1;
+      granted = λ j. record {
+        grant = record {
+          id = claims.material.id;
+          secret = claims.material.secret;
+          salt = claims.material.salt;
+          id_context = claims.material.id_context;
+          scope = found.2 j;
+          not_before = claims.not_before;
+          expires = claims.expires;
+          holder = c.args.number;
+        };
+        text = text j;
+      };
+      client = record {
+        at = refl;
+        next_hop = ap (λ (k : Client). k.next_hop) client;
+        desk = record {
+          token_is = ap (λ (k : Client). k.desk.token) client ∙ desk.token_is ∙ sealed.2;
+          secret = ap (λ (k : Client). k.desk.secret) client ∙ desk.secret;
+          salt = ap (λ (k : Client). k.desk.salt) client ∙ desk.salt;
+          id_context = ap (λ (k : Client). k.desk.id_context) client ∙ desk.id_context;
+        };
+        context = ap (λ (k : Client). k.context) client;
+        waiting = ap (λ (k : Client). k.waiting) client;
+        endpoint = ap (λ (k : Client). k.endpoint) client;
+      };
+    }

@@ -1,0 +1,43 @@
+-- Who can be enrolled, and why a client can't be.
+use Rattle.std.specs.Prelude.{◌≤◌, List, length, ⊤}
+use Rattle.std.specs.Option.{ForSome}
+use Rattle.osc_cbor.specs.Spelling.{spelling}
+use Rattle.osc_scope.specs.Entries.{Entry, IsScope}
+use Rattle.osc_token.specs.Minted.{most_claims}
+use Rattle.osc_token.specs.Token.{claims_item}
+use Rattle.osc_token.specs.declared.claims.Claims.{Claims}
+use Rattle.osc_token.specs.declared.claims.InputMaterial.{InputMaterial}
+use Rattle.osc_authz.specs.Granted.{IsSecret, IsShort}
+use Rattle.osc_authz.specs.declared.error.GrantError.{GrantError}
+use Rattle.osc_authz.specs.declared.error.GrantError.TheVariants as grant
+use Rattle.osc_world.specs.declared.error.EnrollError.{EnrollError}
+use Rattle.osc_world.specs.declared.error.EnrollError.TheVariants as enroll
+
+-- the bytes of the claims' scope are a scope
+abbrev pub HasScope : Claims → Type 0
+HasScope claims = (entries : List Entry) × IsScope claims.scope entries
+
+-- the claims' text is as short as the cipher asks (RFC 3610 section 2.2)
+abbrev pub FitAToken : Claims → Type 0
+FitAToken claims = length (spelling (claims_item claims)) ≤ most_claims
+
+-- the input material has a part of a length that no token may have (RFC 9203 section 3.2.1)
+abbrev pub IsUngranted : InputMaterial → GrantError → Type 0
+IsUngranted material grant.Secret = ¬ (IsSecret material.secret)
+IsUngranted material grant.Salt = ¬ (IsShort material.salt)
+IsUngranted material grant.IdContext = ¬ (ForSome material.id_context IsShort)
+
+-- a client with these claims can be enrolled
+pub record IsLawful (claims : Claims) : Type 0 where
+  pub scope : HasScope claims
+  pub fits : FitAToken claims
+  pub secret : IsSecret claims.material.secret
+  pub salt : IsShort claims.material.salt
+  pub id_context : ForSome claims.material.id_context IsShort
+
+-- Why it can't be: the scope, then the length, then the input material; memory may be wanting whatever the claims are.
+abbrev pub IsRefusal : Claims → EnrollError → Type 0
+IsRefusal claims enroll.BadScope = ¬ (HasScope claims)
+IsRefusal claims enroll.TooLong = HasScope claims × ¬ (FitAToken claims)
+IsRefusal claims (enroll.Grant error) = HasScope claims × FitAToken claims × IsUngranted claims.material error
+IsRefusal claims enroll.Memory = ⊤
