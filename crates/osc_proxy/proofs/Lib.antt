@@ -2,3 +2,7 @@ mod RecognisedLaws
 mod AddLaws
 mod UriLaws
 mod OptionLaws
+mod Keys
+mod Goes
+mod Ending
+mod Steps

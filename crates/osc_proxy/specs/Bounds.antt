@@ -1,9 +1,36 @@
--- The codes of the messages that a proxy writes anew: a message that is no more than its header is none of them.
-use Rattle.std.specs.Prelude.{◌<◌}
+-- What a case tells of what it names, for the step that answers it; no public contract rests on it.
+use Rattle.std.specs.Prelude.{◌≡◌, ◌<◌, ◌≤◌, ℕ, true, length, Some}
+use Rattle.osc_model.specs.declared.node.Peer.{Peer}
+use Rattle.osc_coap.specs.Length.{datagram_limit}
+use Rattle.osc_coap.specs.Message.{Message as CoapMessage, spelling}
+use Rattle.osc_message.specs.declared.heard.Heard.{Heard}
+use Rattle.osc_message.specs.declared.heard.Heard.TheVariants.{Message}
+use Rattle.osc_proxy.specs.Exchanges.{Table, answers, get}
 use Rattle.osc_proxy.specs.declared.case.Case.{Case}
-use Rattle.osc_proxy.specs.declared.case.Case.TheVariants.{Forwarded, Counted}
+use Rattle.osc_proxy.specs.declared.case.Case.TheVariants.{Ended, Refused, Forwarded, Counted}
+use Rattle.osc_proxy.specs.declared.exchanges.Exchange.{Exchange}
 
-abbrev pub HasCode : Case → Type 0
-HasCode (Forwarded message peer) = 0 < message.code
-HasCode (Counted message key) = 0 < message.code
-HasCode case = Unit {0}
+-- a message that was heard is as long as a datagram may be at most
+abbrev pub IsShort : Heard → Type 0
+IsShort (Message message) = length (spelling message) ≤ datagram_limit
+IsShort heard = Unit {0}
+
+-- there is an exchange of this key
+pub record IsOpen (exchanges : Table) (key : ℕ) : Type 0 where
+  pub exchange : Exchange
+  pub is : get exchanges key ≡ Some exchange
+
+-- the response answers the exchange of this key, and is a message with a code that fits a datagram
+pub record CanCount (exchanges : Table) (from : Peer) (message : CoapMessage) (key : ℕ) : Type 0 where
+  pub exchange : Exchange
+  pub is : get exchanges key ≡ Some exchange
+  pub answers_it : answers from message exchange ≡ true
+  pub coded : 0 < message.code
+  pub short : length (spelling message) ≤ datagram_limit
+
+abbrev pub AsksFor : Table → Peer → Case → Type 0
+AsksFor exchanges from (Ended id key) = IsOpen exchanges key
+AsksFor exchanges from (Refused message why) = 0 < why.0
+AsksFor exchanges from (Forwarded message to) = 0 < message.code
+AsksFor exchanges from (Counted message key) = CanCount exchanges from message key
+AsksFor exchanges from case = Unit {0}

@@ -9,3 +9,8 @@ pub mod Rewriting
 pub mod Exchanges
 pub mod Bounds
 pub mod Case
+pub mod State
+pub mod Own
+pub mod Going
+pub mod Table
+pub mod Ticks

@@ -1,8 +1,11 @@
 //! Which case a datagram is to a proxy.
-ghost use Rattle.std.specs.Prelude.{◌≡◌, ◌<◌, Option};
-ghost use Rattle.osc_proxy.specs.Bounds.{HasCode};
+ghost use Rattle.std.specs.Prelude.{◌≡◌, ◌<◌, ◌≤◌, Option, length};
+ghost use Rattle.osc_coap.specs.Length.{datagram_limit};
+ghost use Rattle.osc_coap.specs.Message.{spelling};
+ghost use Rattle.osc_model.specs.declared.node.Peer.{Peer as AnyPeer};
+ghost use Rattle.osc_proxy.specs.Bounds.{AsksFor, IsShort};
 ghost use Rattle.osc_proxy.specs.Case as spec;
-ghost use Rattle.osc_proxy.specs.Exchanges.{answers, first_key, is_named};
+ghost use Rattle.osc_proxy.specs.Exchanges.{Table, answers, first_key, is_named};
 ghost use Rattle.osc_proxy.specs.ProxyUri.{HostAndPort};
 ghost use Rattle.osc_proxy.specs.Route.{Names, route};
 
@@ -41,7 +44,7 @@ pub enum Case<'a> {
 /// A response that counts for no exchange.
 fn unused<'a>(message: MessageRef<'a>) -> Case<'a>
     ensures case { result ≡ spec.unused message.entry }
-    ensures code { HasCode result }
+    ensures asks { (exchanges : Table) (from : AnyPeer) → AsksFor exchanges from result }
 {
     if is_confirmable(message.kind()) {
         Case::Rejected(message)
@@ -54,7 +57,7 @@ fn unused<'a>(message: MessageRef<'a>) -> Case<'a>
 fn routed<'a>(message: MessageRef<'a>, route: Route) -> Case<'a>
     requires { 0 < message.code }
     ensures case { result ≡ spec.routed message.entry route }
-    ensures code { HasCode result }
+    ensures asks { (exchanges : Table) (from : AnyPeer) → AsksFor exchanges from result }
 {
     match route {
         Route::BadOption => Case::Refused(message, Code::BAD_OPTION),
@@ -66,9 +69,10 @@ fn routed<'a>(message: MessageRef<'a>, route: Route) -> Case<'a>
 
 /// A response.
 fn response_case<'a>(exchanges: &Exchanges, from: Peer, message: MessageRef<'a>) -> Case<'a>
-    requires { 0 < message.code }
+    requires code { 0 < message.code }
+    requires short { length (spelling message) ≤ datagram_limit }
     ensures case { result ≡ spec.counted message.entry (first_key (answers from message.entry) exchanges.now) }
-    ensures code { HasCode result }
+    ensures asks { AsksFor exchanges.now from result }
 {
     match exchanges.find(from, &message) {
         Some(key) => Case::Counted(message, key),
@@ -82,9 +86,10 @@ fn message_case<'a>(
     from: Peer,
     message: MessageRef<'a>,
 ) -> Case<'a>
+    requires { length (spelling message) ≤ datagram_limit }
     ensures case { (named : Option HostAndPort) × Names message.entry.options named
         × (result ≡ spec.message_case targets.now exchanges.now from named message.entry) }
-    ensures code { HasCode result }
+    ensures asks { AsksFor exchanges.now from result }
 {
     let route = route_of(targets, &message);
     if is_request_code(message.code()) {
@@ -99,7 +104,7 @@ fn message_case<'a>(
 /// An empty acknowledgement or Reset.
 fn empty_case<'a>(exchanges: &Exchanges, from: Peer, kind: Kind, id: u16) -> Case<'a>
     ensures case { result ≡ spec.ended kind id (first_key (is_named from id) exchanges.now) }
-    ensures code { HasCode result }
+    ensures asks { AsksFor exchanges.now from result }
 {
     match (kind, exchanges.find_named(from, id)) {
         (Kind::Reset, Some(key)) => Case::Ended(id, key),
@@ -108,15 +113,16 @@ fn empty_case<'a>(exchanges: &Exchanges, from: Peer, kind: Kind, id: u16) -> Cas
 }
 
 /// Which case it is, of what came from this peer; takes no memory.
-pub fn case_of<'a>(
+pub(crate) fn case_of<'a>(
     targets: &Targets,
     exchanges: &Exchanges,
     from: Peer,
     heard: Heard<'a>,
 ) -> Case<'a>
+    requires { IsShort heard }
     ensures case { (named : Option HostAndPort) × spec.NamesIn heard.entry named
         × (result ≡ spec.case_of targets.now exchanges.now from named heard.entry) }
-    ensures code { HasCode result }
+    ensures asks { AsksFor exchanges.now from result }
 {
     match heard {
         Heard::Ignored => Case::Ignored,

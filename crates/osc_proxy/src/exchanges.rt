@@ -1,17 +1,23 @@
 //! The exchanges that a proxy has open (RFC 7252 section 5.7.2).
-ghost use Rattle.std.specs.Prelude.{◌≡◌, ◌+◌, None, Some, IfOk, OnSome, IfNone, IsSome, option_map, option_copied};
+ghost use Rattle.std.specs.Prelude.{◌≡◌, ◌+◌, ◌≤◌, length, None, Some, IfOk, OnSome, IfNone, IsSome, option_map, option_copied};
 ghost use Rattle.osc_message.specs.Confirmables.{same_peer as same_peer_of};
 ghost use Rattle.osc_proxy.specs.Exchanges as spec;
+ghost use Rattle.osc_proxy.specs.Ticks.{is_given_up as is_given_up_of, is_over as is_over_by};
 
 use crate::token::Token;
 use osc_coap::{Kind, MessageRef};
-use osc_model::{Moment, Peer};
+use osc_message::{Buffer, MessageName};
+use osc_model::{Bytes, Moment, Peer};
 use slab::Slab;
 use std::alloc::{AllocError, Global};
+use std::fmt;
 use std::marker::Model;
 
 /// How many exchanges are open at most.
 const MOST: usize = 64;
+
+/// How long a message without options and payload is at most, in bytes: a header and a token.
+const LONGEST_FAILURE: usize = 12;
 
 /// EXCHANGE_LIFETIME (RFC 7252 section 4.8.2), in ms.
 const LIFETIME: u64 = 247_000;
@@ -33,6 +39,50 @@ pub struct Exchange {
     pub token: [u8; 8],
     /// When the forwarded message went out for the first time; none while it waits for its turn.
     pub sent: Option<Moment>,
+    /// Room for the answer that says that none came.
+    pub room: FailureRoom,
+}
+
+/// Room for an answer without options and payload, so that an exchange ends without memory.
+#[derive(Drop)]
+pub struct FailureRoom {
+    sent: Buffer,
+    kept: Buffer,
+}
+
+impl Model for FailureRoom {
+    ghost use Rattle.std.specs.Prelude.{◌≡◌};
+
+    ghost Value = { Unit {0} };
+
+    ghost view = { λ room. tt };
+
+    ghost invariant = { λ room. (room.sent ≡ 12) × (room.kept ≡ 12) };
+}
+
+impl fmt::Debug for FailureRoom {
+    fn fmt<W: fmt::Write>(&self, f: &mut fmt::Formatter<W>) -> fmt::Result {
+        f.write_str("FailureRoom")
+    }
+}
+
+impl FailureRoom {
+    /// Room for one answer. Refused only for want of memory.
+    pub fn new(alloc: Global) -> Result<FailureRoom, AllocError> {
+        Ok(FailureRoom {
+            sent: Buffer::new(alloc, LONGEST_FAILURE)?,
+            kept: Buffer::new(alloc, LONGEST_FAILURE)?,
+        })
+    }
+
+    /// The answer's bytes, to be sent and to be kept; takes no memory.
+    pub(crate) fn fill(self, bytes: &[u8]) -> (Bytes, Bytes)
+        requires { length bytes.now ≤ 12 }
+        ensures { result ≡ (bytes.now, bytes.now) }
+    {
+        let FailureRoom { sent, kept } = self;
+        (sent.fill(bytes), kept.fill(bytes))
+    }
 }
 
 /// The open exchanges, each under a key; contracts see what stands under each key, and the next key. All the room that they need
@@ -94,6 +144,22 @@ fn is_overdue(now: Moment, exchange: &Exchange) -> bool
         Some(sent) => sent.ms + LIFETIME <= now.ms,
         None => false,
     }
+}
+
+/// Whether the exchange's forwarded message is among those that were given up.
+fn is_given_up(given_up: &[MessageName], exchange: &Exchange) -> bool
+    ensures { result ≡ is_given_up_of given_up.now exchange.now }
+{
+    given_up
+        .iter()
+        .any(|name| is_named(name.peer, name.id, exchange))
+}
+
+/// Whether no answer is awaited any more.
+fn is_over(now: Moment, given_up: &[MessageName], exchange: &Exchange) -> bool
+    ensures { result ≡ is_over_by now given_up.now exchange.now }
+{
+    is_given_up(given_up, exchange) || is_overdue(now, exchange)
 }
 
 impl Exchanges {
@@ -174,12 +240,13 @@ impl Exchanges {
         None
     }
 
-    /// The lowest key of an exchange whose forwarded message went out 247 seconds ago or earlier.
-    pub fn find_overdue(&self, now: Moment) -> Option<usize>
-        ensures { result ≡ spec.first_key (spec.is_overdue now) self.now }
+    /// The lowest key of an exchange that is over: its forwarded message was given up, being among these, or went out 247 seconds ago
+    /// or earlier.
+    pub fn find_over(&self, now: Moment, given_up: &[MessageName]) -> Option<usize>
+        ensures { result ≡ spec.first_key (is_over_by now given_up.now) self.now }
     {
         for (key, exchange) in self.open.iter() {
-            if is_overdue(now, exchange) {
+            if is_over(now, given_up, exchange) {
                 return Some(key);
             }
         }

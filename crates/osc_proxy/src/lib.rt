@@ -3,18 +3,24 @@
 //! nobody has to trust it.
 #![tactic(auto)]
 
+mod answering;
 mod case;
 mod exchanges;
 mod forwarding;
+mod opening;
+mod proxy;
 mod proxy_uri;
 mod route;
+mod sending;
 mod targets;
+mod ticking;
 mod token;
 mod unsafe_options;
 
-pub use case::{Case, case_of};
-pub use exchanges::{Exchange, Exchanges};
+pub use case::Case;
+pub use exchanges::{Exchange, Exchanges, FailureRoom};
 pub use forwarding::{answer_message, forwarded_message, forwarded_token};
+pub use proxy::Proxy;
 pub use proxy_uri::{DEFAULT_PORT, Origin, read_proxy_uri};
 pub use route::{Route, named_by, route_of};
 pub use targets::{Target, Targets};

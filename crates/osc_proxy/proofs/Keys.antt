@@ -1,0 +1,84 @@
+-- The lowest key whose exchange passes a test: one is open there.
+use Rattle.std.proofs.Common.{◌≡◌, inl, inr, ℕ, zero, suc, ◌+◌, Bool, true, false, List, [], ◌∷◌, refl, ap, sym, ◌∙◌, arith, Option, Some, None, slice_index_or}
+use Rattle.std.specs.Prelude.{find, count_by, cond, is_some, option_map, if◌then◌else◌, nat_le, ◌||◌}
+use Rattle.std.specs.List.{sum_by}
+use Rattle.std.proofs.lemmas.Bool.{cases_Bool}
+use Rattle.std.proofs.lemmas.List.Sums.{sum_by-cons}
+use Rattle.std.proofs.lemmas.Option.{same_Some}
+use Rattle.slab.specs.Slab.{entries_from}
+use Rattle.osc_model.specs.declared.node.Peer.{Peer}
+use Rattle.osc_coap.specs.Message.{Message as CoapMessage}
+use Rattle.osc_message.specs.Sending.{is_confirmable}
+use Rattle.osc_proxy.specs.Exchanges.{Table, count, first_key, get}
+use Rattle.osc_proxy.specs.Own.{has_room}
+use Rattle.osc_proxy.specs.State.{State}
+use Rattle.osc_proxy.specs.Table.{key_for}
+use Rattle.osc_proxy.specs.declared.exchanges.Exchange.{Exchange}
+
+abbrev key_of : Option (ℕ × Exchange) → Option ℕ
+key_of found = option_map (λ entry. entry.0) found
+
+abbrev first_from : (Exchange → Bool) → ℕ → List (Option Exchange) → Option (ℕ × Exchange)
+first_from test base slots = find (λ entry. test entry.1) (entries_from base slots)
+
+record Found (test : Exchange → Bool) (slots : List (Option Exchange)) (base key : ℕ) : Type 0 where
+  place : ℕ
+  is : key ≡ base + place
+  exchange : Exchange
+  at : slice_index_or slots place None ≡ Some exchange
+  passes : test exchange ≡ true
+
+found : (test : Exchange → Bool) (slots : List (Option Exchange)) (base key : ℕ) → key_of (first_from test base slots) ≡ Some key → Found test slots base key
+found test [] base key e = absurd (cc)
+found test (None ∷ rest) base key e =
+    let f = found test rest (base + 1) key e in
+    record { place = suc f.place; is = omega (f.is, arith); exchange = f.exchange; at = f.at; passes = f.passes }
+found test (Some exchange ∷ rest) base key e =
+    let whole : key_of (cond (test exchange) (Some (base, exchange)) (first_from test (base + 1) rest)) ≡ Some key = e in
+    elim (cases_Bool (test exchange)) [
+      | inl passes ↦
+          let here : Some base ≡ Some key = rw passes at whole in
+          let same : base ≡ key = cc in
+          record { place = zero; is = omega (same, arith); exchange = exchange; at = refl; passes = passes }
+      | inr fails ↦
+          let f = found test rest (base + 1) key (rw fails at whole) in
+          record { place = suc f.place; is = omega (f.is, arith); exchange = f.exchange; at = f.at; passes = f.passes }
+    ]
+
+-- the exchange of that key, which passes
+pub record IsThere (test : Exchange → Bool) (table : Table) (key : ℕ) : Type 0 where
+  pub exchange : Exchange
+  pub is : get table key ≡ Some exchange
+  pub passes : test exchange ≡ true
+
+pub first_is_there : (test : Exchange → Bool) (table : Table) (key : ℕ) → first_key test table ≡ Some key → IsThere test table key
+first_is_there test table key e =
+    let f = found test table.slots 0 key e in
+    let same : key ≡ f.place = omega (f.is, arith) in
+    record { exchange = f.exchange; is = ap (get table) same ∙ f.at; passes = f.passes }
+
+abbrev present : Option Exchange → ℕ
+present slot = cond (is_some slot) 1 0
+
+none_from : (test : Exchange → Bool) (slots : List (Option Exchange)) (base : ℕ) → count_by is_some slots ≡ 0 → key_of (first_from test base slots) ≡ None
+none_from test [] base e = refl
+none_from test (None ∷ rest) base e =
+    let less : 0 + sum_by present rest ≡ sum_by present (None ∷ rest) = sym (sum_by-cons present None rest) in
+    none_from test rest (base + 1) (omega (arith, less, e))
+none_from test (Some exchange ∷ rest) base e =
+    let more : 1 + sum_by present rest ≡ sum_by present (Some exchange ∷ rest) = sym (sum_by-cons present (Some exchange) rest) in
+    absurd (omega (arith, more, e))
+
+-- where none is open there is none
+pub none_is_there : (test : Exchange → Bool) (table : Table) → count table ≡ 0 → first_key test table ≡ None
+none_is_there test table e = none_from test table.slots 0 e
+
+one_key : (room full : Bool) (next key : ℕ) → (if room then (if full then None else Some next) else None) ≡ Some key → next ≡ key
+one_key true true next key e = absurd (cc)
+one_key true false next key e = same_Some next key e
+one_key false full next key e = absurd (cc)
+
+-- the key of the exchange of a request is the next one
+pub next_is : (old : State) (message : CoapMessage) (to : Peer) (key : ℕ) → key_for old message to ≡ Some key → old.exchanges.next ≡ key
+next_is old message to key e =
+    one_key (has_room (is_confirmable message.kind) to old.endpoint) (nat_le 64 (count old.exchanges) || nat_le 256 old.exchanges.next) old.exchanges.next key e

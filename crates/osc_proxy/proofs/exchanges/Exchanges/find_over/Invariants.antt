@@ -1,0 +1,8 @@
+use Rattle.std.proofs.Common.{◌≡◌}
+use Rattle.std.specs.Prelude.{find}
+use Rattle.osc_proxy.specs.Exchanges.{entries}
+use Rattle.osc_proxy.specs.Ticks.{is_over}
+use Rattle.osc_proxy.proofs.exchanges.Exchanges.find_over.Given as goal
+
+abbrev pub invariant-loop-key : goal.invariant-loop-key
+invariant-loop-key l = find (λ entry. is_over l.now l.given_up entry.1) l.key-iterator ≡ find (λ entry. is_over l.now l.given_up entry.1) (entries l.self)

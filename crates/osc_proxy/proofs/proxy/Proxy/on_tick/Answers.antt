@@ -1,0 +1,19 @@
+use Rattle.std.proofs.Common.{◌≤◌, ◌+◌, length, ap, ◌∙◌, subst, arith}
+use Rattle.std.proofs.lemmas.List.{length-append}
+use Rattle.osc_model.specs.declared.step.Step.{Step}
+use Rattle.osc_proxy.specs.Exchanges.{count}
+use Rattle.osc_proxy.specs.State.{State}
+use Rattle.osc_proxy.proofs.Ending.{few_end, started_count}
+use Rattle.osc_proxy.proofs.proxy.Proxy.on_tick.Goals as goal
+
+pub returns-clause-few : goal.returns-clause-few
+returns-clause-few c =
+    let ticked = c.in_ok-ticked.ticked in
+    let done = c.finish.ensures in
+    let whole = ap (λ (s : Step). length s.out) done.2.2 ∙ length-append ticked.out done.2.0 in
+    let few = few_end c.args.now c.args.draw.now ticked.given_up done.0 c.finish.new.exchanges c.on_tick.new.self c.finish.new.endpoint done.2.0 done.2.1 in
+    let same = started_count c.args.now ticked.started c.self.inside.exchanges done.0 done.1 in
+    let repeats = ap length c.in_ok-ticked.ensures.sent in
+    let most = c.ticks_send_few.ensures c.args.now c.self.inside.endpoint.sending in
+    subst (λ (s : State). length c.finish.result.out ≤ length s.endpoint.sending + count s.exchanges) c.self.view_is
+    (omega (arith, whole, few, same, repeats, most))

@@ -1,0 +1,62 @@
+use Rattle.std.proofs.Common.{◌≡◌, ◌+◌, ◌++◌, sym, ap, ◌∙◌, subst, Some, false}
+use Rattle.osc_coap.specs.Message.{spelling}
+use Rattle.osc_message.specs.Endpoint.{EndpointState, settled}
+use Rattle.osc_message.specs.Sending.{acknowledgement, is_confirmable}
+use Rattle.osc_message.specs.declared.handling.Handling.TheVariants as handling
+use Rattle.osc_message.specs.declared.heard.Heard.TheVariants as heard
+use Rattle.osc_model.specs.Step.{sends}
+use Rattle.osc_proxy.specs.Exchanges.{Changes, count, get}
+use Rattle.osc_proxy.specs.Own.{goes_now, sends_own, with_own}
+use Rattle.osc_proxy.specs.State.{State}
+use Rattle.osc_proxy.specs.Table.{exchange_of, forwarded_by, next_own, sent_to, sent_when, taken_up}
+use Rattle.osc_proxy.specs.declared.exchanges.Exchange.{Exchange}
+use Rattle.osc_proxy.proofs.Goes.{made_is, sent_is}
+use Rattle.osc_proxy.proofs.Keys.{next_is}
+use Rattle.osc_proxy.proofs.proxy.Proxy.open.Goals as goal
+
+pub returns : goal.returns
+returns c =
+    let inside = c.self.inside in
+    let old = c.args.self.now in
+    let now = c.args.now in
+    let from = c.args.from in
+    let draw = c.args.draw.now in
+    let message = c.args.message in
+    let key = c.args.key in
+    let own = c.args.own in
+    let to = own.to in
+    let kind = is_confirmable message.kind in
+    let bytes = spelling (forwarded_by old draw key message) in
+    let went = c.send_own-goes.result in
+    let view = c.self.view_is in
+    let taken : c.settle.new.self ≡ taken_up old now from message =
+    c.settle.ensures
+    ∙ ap (λ r. settled inside.endpoint now from (heard.Message message) (handling.Answered r)) c.requires.reply
+    ∙ ap (λ (s : State). taken_up s now from message) view in
+    let goes : went ≡ goes_now kind to c.settle.new.self =
+    c.send_own-goes.ensures.goes ∙ ap (λ b. goes_now b to c.settle.new.self) c.requires.own.kind in
+    let next : inside.exchanges.next ≡ key = ap (λ (s : State). s.exchanges.next) view ∙ next_is old message to key c.requires.key in
+    let id : c.own_id-id.result ≡ next_own old draw = c.own_id-id.ensures ∙ ap (λ (s : State). next_own s draw) view in
+    let exchange : c.gone_out.result ≡ exchange_of key (next_own old draw) now from draw message to went =
+    c.gone_out.ensures
+    ∙ ap (λ (e : Exchange). record e { sent = sent_when went now })
+    (c.waiting-exchange.ensures ∙ ap (λ i. exchange_of key i now from draw message to false) id) in
+    record {
+      goes = went;
+      goes_is = goes ∙ ap (goes_now kind to) taken;
+      told = c.sending.ensures
+          ∙ ap sends
+          (c.into_datagrams.ensures
+          ∙ c.send_own-goes.ensures.sent
+          ∙ ap (λ xs. xs ++ sends_own (goes_now own.confirmable to c.settle.new.self) to own.sent) c.requires.sent
+          ∙ ap (λ xs. sent_to from (acknowledgement message) ++ xs)
+          (sent_is to kind bytes own c.settle.new.self c.requires.own ∙ ap (λ b. sends_own b to bytes) (sym goes)));
+      targets = ap (λ (s : State). s.targets) view;
+      endpoint = c.send_own-goes.ensures.made ∙ made_is to kind bytes own c.settle.new.self now draw c.requires.own
+          ∙ ap (λ (e : EndpointState). with_own kind e now draw to bytes) taken;
+      was_free = ap (λ (s : State). get s.exchanges key) (sym view) ∙ ap (get inside.exchanges) (sym next) ∙ c.open.ensures.was_free;
+      opened = subst (λ (s : State). Changes s.exchanges c.open.new.self key (Some (exchange_of key (next_own old draw) now from draw message to went))) view
+          (subst (λ k. Changes inside.exchanges c.open.new.self k (Some (exchange_of key (next_own old draw) now from draw message to went))) next
+          (subst (λ (e : Exchange). Changes inside.exchanges c.open.new.self inside.exchanges.next (Some e)) exchange c.open.ensures.opened));
+      more = c.open.ensures.count ∙ ap (λ (s : State). count s.exchanges + 1) view;
+    }

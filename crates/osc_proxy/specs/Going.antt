@@ -1,0 +1,36 @@
+-- Messages that a proxy makes, by their bytes: the way from the code to the definitions. No public contract rests on this.
+use Rattle.std.specs.Prelude.{◌≡◌, ℕ, Bool, true, List, [], if◌then◌else◌, Some}
+use Rattle.osc_model.specs.declared.node.Draw.{Draw}
+use Rattle.osc_model.specs.declared.node.Moment.{Moment}
+use Rattle.osc_model.specs.declared.node.Peer.{Peer}
+use Rattle.osc_model.specs.declared.step.Datagram.{Datagram}
+use Rattle.osc_coap.specs.Message.{Message, spelling}
+use Rattle.osc_message.specs.Endpoint.{EndpointState}
+use Rattle.osc_proxy.specs.Exchanges.{get}
+use Rattle.osc_proxy.specs.Own.{goes_now, has_room, sends_own, with_own}
+use Rattle.osc_proxy.specs.State.{State}
+use Rattle.osc_proxy.specs.Table.{answer_to, next_own}
+use Rattle.osc_proxy.specs.declared.exchanges.Exchange.{Exchange}
+use Rattle.osc_proxy.specs.declared.sending.Own.{Own}
+
+-- these bytes for this peer; a copy of them is kept where the message is confirmable
+pub record IsOwn (to : Peer) (confirmable : Bool) (bytes : List ℕ) (own : Own) : Type 0 where
+  pub to_is : own.to ≡ to
+  pub kind : own.confirmable ≡ confirmable
+  pub sent : own.sent ≡ bytes
+  pub kept : confirmable ≡ true → own.kept ≡ bytes
+
+-- the exchange of this key can be closed by this response: its forwarded message has this ID, and this is the answer that goes back
+pub record CanClose (old : State) (draw : Draw) (message : Message) (key id : ℕ) (own : Own) : Type 0 where
+  pub exchange : Exchange
+  pub is : get old.exchanges key ≡ Some exchange
+  pub named : id ≡ exchange.id
+  pub answer : IsOwn exchange.client exchange.confirmable (spelling (answer_to (next_own old draw) exchange message)) own
+
+abbrev pub back_sends_by : Bool → EndpointState → Peer → List ℕ → List Datagram
+back_sends_by confirmable endpoint to bytes =
+    if has_room confirmable to endpoint then sends_own (goes_now confirmable to endpoint) to bytes else []
+
+abbrev pub back_kept_by : Bool → EndpointState → Moment → Draw → Peer → List ℕ → EndpointState
+back_kept_by confirmable endpoint now draw to bytes =
+    if has_room confirmable to endpoint then with_own confirmable endpoint now draw to bytes else endpoint

@@ -1,0 +1,15 @@
+-- What a proxy keeps.
+use Rattle.std.specs.Prelude.{List}
+use Rattle.osc_message.specs.Endpoint.{EndpointState, fresh}
+use Rattle.osc_proxy.specs.Exchanges.{Table, none_open}
+use Rattle.osc_proxy.specs.declared.targets.Target.{Target}
+
+-- to whom it forwards; the exchanges that are open; and the message layer
+pub record State : Type 0 where
+  pub targets : List Target
+  pub exchanges : Table
+  pub endpoint : EndpointState
+
+-- it starts again: the targets stay alone
+abbrev pub restarted : State → State
+restarted old = record old { exchanges = none_open; endpoint = fresh }

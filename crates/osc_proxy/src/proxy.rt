@@ -1,0 +1,394 @@
+//! The proxy.
+ghost use Rattle.std.specs.Prelude.{◌≡◌, ◌≤◌, ◌<◌, ◌+◌, [], length, Some, IfOk, OnErr, Option, option_map};
+ghost use Rattle.osc_coap.specs.Message.{spelling};
+ghost use Rattle.osc_model.specs.Step.{sends};
+ghost use Rattle.osc_model.specs.StepNotes.{quiet};
+ghost use Rattle.osc_message.specs.Endpoint.{fresh, settled};
+ghost use Rattle.osc_message.specs.Heard.{heard as heard_as, noted_reply as noted_reply_of};
+ghost use Rattle.osc_message.specs.Received.{Receives};
+ghost use Rattle.osc_message.specs.Sending.{acknowledgement as acknowledgement_of, is_confirmable as is_confirmable_of};
+ghost use Rattle.osc_message.specs.declared.handling.Handling.TheVariants as handling;
+ghost use Rattle.osc_message.specs.declared.heard.Heard.TheVariants as heard;
+ghost use Rattle.osc_message.specs.declared.received.Received.{Received as AnyReceived};
+ghost use Rattle.osc_proxy.specs.Bounds.{AsksFor, CanCount, IsOpen};
+ghost use Rattle.osc_proxy.specs.Case.{NamesIn, case_of as case_in};
+ghost use Rattle.osc_proxy.specs.Exchanges.{count, none_open};
+ghost use Rattle.osc_proxy.specs.Going.{CanClose, IsOwn};
+ghost use Rattle.osc_proxy.specs.ProxyUri.{HostAndPort};
+ghost use Rattle.osc_proxy.specs.State.{restarted};
+ghost use Rattle.osc_proxy.specs.Table.{Answers, Counts, Ends, ForwardsBy, IsForwarded, IsRefused, again, forwarded_by, key_for as key_for_of, sent_to};
+ghost use Rattle.osc_proxy.specs.Ticks.{Ticks};
+
+use crate::answering::{answer_back, failing};
+use crate::case::{Case, case_of};
+use crate::exchanges::{Exchanges, FailureRoom};
+use crate::forwarding::{forwarded_message, forwarded_token};
+use crate::opening::{gone_out, waiting};
+use crate::sending::{
+    Own, acknowledged, has_room, noted, send_back, send_own, sending, sending_bytes,
+};
+use crate::targets::Targets;
+use crate::ticking::{finish, room_for};
+use osc_coap::{Kind, MessageBuilder, MessageRef};
+use osc_message::laws::ticks_send_few;
+use osc_message::{Endpoint, Handling, Heard, Outbox, is_confirmable, reset};
+use osc_model::{Bytes, Code, Datagrams, Draw, Moment, Peer, Step};
+use std::alloc::{AllocError, Global};
+use std::marker::Model;
+
+/// A forward proxy: its targets, the exchanges that are open, and its message layer. It seals and opens nothing.
+#[derive(Drop)]
+pub struct Proxy {
+    targets: Targets,
+    exchanges: Exchanges,
+    endpoint: Endpoint,
+}
+
+impl Model for Proxy {
+    ghost use Rattle.osc_proxy.specs.State.{State};
+
+    ghost Value = { State };
+
+    ghost view = { λ p. record { targets = p.targets; exchanges = p.exchanges; endpoint = p.endpoint } };
+}
+
+impl Proxy {
+    /// A proxy that forwards to these targets; it has heard nothing. Refused only for want of memory.
+    pub fn new(alloc: Global, targets: Targets) -> Result<Proxy, AllocError>
+        ensures { IfOk result (λ proxy. proxy ≡ record { targets = targets; exchanges = none_open; endpoint = fresh }) }
+    {
+        let exchanges = Exchanges::new(alloc)?;
+        let endpoint = Endpoint::new(alloc)?;
+        Ok(Proxy {
+            targets,
+            exchanges,
+            endpoint,
+        })
+    }
+
+    /// How many exchanges are open: at most 64.
+    pub fn open_exchanges(&self) -> usize
+        ensures { result ≡ count self.now.exchanges }
+    {
+        self.exchanges.count()
+    }
+
+    /// How many confirmable messages of its own are open: outstanding, or waiting.
+    pub fn open_messages(&self) -> usize
+        ensures { result ≡ length self.now.endpoint.sending }
+    {
+        self.endpoint.open_messages()
+    }
+
+    /// These bytes came from this peer at this moment as one datagram: the step that answers them, with these random bytes. What is
+    /// sent is at most two datagrams. Without memory an `AllocError`; then nothing has changed.
+    pub fn on_datagram(
+        &mut self,
+        alloc: Global,
+        now: Moment,
+        from: Peer,
+        bytes: &[u8],
+        draw: &Draw,
+    ) -> Result<Step, AllocError>
+        ensures answered { IfOk result (λ step. (received : AnyReceived) × Receives bytes.now received
+            × ((named : Option HostAndPort) × NamesIn (heard_as self.old.endpoint.seen now from received) named
+            × Answers self.old now from draw.now (case_in self.old.targets self.old.exchanges from named (heard_as self.old.endpoint.seen now from received)) step self.new)) }
+        ensures few { IfOk result (λ step. length step.out ≤ 2) }
+        ensures nothing_sealed { IfOk result (λ step. step.notes ≡ quiet) }
+        ensures err { OnErr result (self.new ≡ self.old) }
+    {
+        let heard = self.endpoint.on_datagram(now, from, bytes);
+        let case = case_of(&self.targets, &self.exchanges, from, heard);
+        self.answer(alloc, now, from, draw, case)
+    }
+
+    /// What is sent in this case, and what is kept after it.
+    fn answer(
+        &mut self,
+        alloc: Global,
+        now: Moment,
+        from: Peer,
+        draw: &Draw,
+        case: Case<'_>,
+    ) -> Result<Step, AllocError>
+        requires { AsksFor self.old.exchanges from case }
+        ensures answered { IfOk result (λ step. Answers self.old now from draw.now case.entry step self.new) }
+        ensures err { OnErr result (self.new ≡ self.old) }
+    {
+        match case {
+            Case::Ignored => Ok(Step::sending(Datagrams::new(alloc))),
+            Case::Reset(id) => sending(alloc, from, &reset(id)),
+            Case::Repeated(id) => self.repeat(alloc, now, from, id),
+            Case::Empty(kind, id) => Ok(self.settle_empty(alloc, now, from, kind, id)),
+            Case::Ended(id, key) => self.end(alloc, now, from, draw, id, key),
+            Case::Refused(message, why) => self.refuse(alloc, now, from, draw, message, why),
+            Case::Forwarded(message, to) => self.forward(alloc, now, from, draw, message, to),
+            Case::Counted(message, key) => self.count(alloc, now, from, draw, message, key),
+            Case::Rejected(message) => sending(alloc, from, &reset(message.id())),
+            Case::Dropped(message) => Ok(self.ignore(alloc, now, from, message)),
+        }
+    }
+
+    /// Sends again what answered the message of this ID, if anything did.
+    fn repeat(&self, alloc: Global, now: Moment, from: Peer, id: u16) -> Result<Step, AllocError>
+        ensures { IfOk result (λ step. step ≡ sends (again from (noted_reply_of self.now.endpoint.seen now from id))) }
+    {
+        match self.endpoint.noted_reply(now, from, id) {
+            Some(bytes) => sending_bytes(alloc, from, bytes.clone()?),
+            None => Ok(Step::sending(Datagrams::new(alloc))),
+        }
+    }
+
+    /// Settles what an empty acknowledgement or Reset names.
+    fn settle_empty(&mut self, alloc: Global, now: Moment, from: Peer, kind: Kind, id: u16) -> Step
+        ensures step { result ≡ sends [] }
+        ensures kept { self.new ≡ record self.old { endpoint = settled self.old.endpoint now from (heard.Empty kind id) handling.Dropped } }
+    {
+        self.endpoint
+            .settle(now, from, &Heard::Empty(kind, id), Handling::Dropped);
+        Step::sending(Datagrams::new(alloc))
+    }
+
+    /// Ignores a message; an acknowledgement acknowledges all the same.
+    fn ignore(&mut self, alloc: Global, now: Moment, from: Peer, message: MessageRef<'_>) -> Step
+        ensures step { result ≡ sends [] }
+        ensures kept { self.new ≡ record self.old { endpoint = settled self.old.endpoint now from (heard.Message message.entry) handling.Dropped } }
+    {
+        self.endpoint
+            .settle(now, from, &Heard::Message(message), Handling::Dropped);
+        Step::sending(Datagrams::new(alloc))
+    }
+
+    /// Answers a request that isn't forwarded by this code, and notes it for a repeat.
+    fn refuse(
+        &mut self,
+        alloc: Global,
+        now: Moment,
+        from: Peer,
+        draw: &Draw,
+        message: MessageRef<'_>,
+        why: Code,
+    ) -> Result<Step, AllocError>
+        requires { 0 < why.0 }
+        ensures refused { IfOk result (λ step. IsRefused why self.old now from draw.now message.entry step self.new) }
+        ensures err { OnErr result (self.new ≡ self.old) }
+    {
+        let reply = self.endpoint.reply_start(draw, &message, why.0);
+        let (out, bytes) = noted(alloc, from, &reply)?;
+        self.endpoint.take_reply_id(draw, &message);
+        self.endpoint.settle(
+            now,
+            from,
+            &Heard::Message(message),
+            Handling::Answered(Some(bytes)),
+        );
+        Ok(Step::sending(out))
+    }
+
+    /// The key of the exchange of such a request, where one is free and there is room for one more message to the target.
+    fn key_for(&self, message: &MessageRef<'_>, to: Peer) -> Option<u8>
+        ensures { result ≡ key_for_of self.now message.now to }
+    {
+        if has_room(&self.endpoint, is_confirmable(message.kind()), to) {
+            self.exchanges.free_key()
+        } else {
+            None
+        }
+    }
+
+    /// Forwards a request to this peer, or refuses it.
+    fn forward(
+        &mut self,
+        alloc: Global,
+        now: Moment,
+        from: Peer,
+        draw: &Draw,
+        message: MessageRef<'_>,
+        to: Peer,
+    ) -> Result<Step, AllocError>
+        requires { 0 < message.code }
+        ensures forwarded { IfOk result (λ step. ForwardsBy (key_for_of self.old message.entry to) self.old now from draw.now message.entry to step self.new) }
+        ensures err { OnErr result (self.new ≡ self.old) }
+    {
+        let Some(key) = self.key_for(&message, to) else {
+            return self.refuse(alloc, now, from, draw, message, Code::SERVICE_UNAVAILABLE);
+        };
+        let id = self.endpoint.own_id(draw);
+        match forwarded_message(&message, id, &forwarded_token(key, draw)) {
+            Ok(forwarded) => {
+                self.forward_as(alloc, now, from, draw, message, to, key, &forwarded)
+            }
+            Err(_) => {
+                self.refuse(
+                    alloc,
+                    now,
+                    from,
+                    draw,
+                    message,
+                    Code::REQUEST_ENTITY_TOO_LARGE,
+                )
+            }
+        }
+    }
+
+    /// Forwards a request by this message, in the exchange of this key.
+    fn forward_as(
+        &mut self,
+        alloc: Global,
+        now: Moment,
+        from: Peer,
+        draw: &Draw,
+        message: MessageRef<'_>,
+        to: Peer,
+        key: u8,
+        forwarded: &MessageBuilder,
+    ) -> Result<Step, AllocError>
+        requires key { key_for_of self.old message to ≡ Some key }
+        requires forwarded { forwarded.now ≡ forwarded_by self.old draw.now key message }
+        ensures forwarded { IfOk result (λ step. IsForwarded key self.old now from draw.now message.entry to step self.new) }
+        ensures err { OnErr result (self.new ≡ self.old) }
+    {
+        let room = FailureRoom::new(alloc)?;
+        let own = Own::new(alloc, to, is_confirmable(message.kind()), forwarded)?;
+        let (out, reply) = acknowledged(alloc, from, &message)?;
+        Ok(self.open(now, from, draw, message, key, own, out, reply, room))
+    }
+
+    /// Opens the exchange of this key, and sends the message that is forwarded; takes no memory.
+    fn open(
+        &mut self,
+        now: Moment,
+        from: Peer,
+        draw: &Draw,
+        message: MessageRef<'_>,
+        key: u8,
+        own: Own,
+        out: Outbox,
+        reply: Option<Bytes>,
+        room: FailureRoom,
+    ) -> Step
+        requires key { key_for_of self.old message own.to ≡ Some key }
+        requires own { IsOwn own.to (is_confirmable_of message.kind) (spelling (forwarded_by self.old draw.now key message)) own }
+        requires sent { out.sent ≡ sent_to from (acknowledgement_of message) }
+        requires place { 0 < out.places }
+        requires reply { reply ≡ option_map spelling (acknowledgement_of message) }
+        ensures { IsForwarded key self.old now from draw.now message.entry own.to result self.new }
+    {
+        let mut out = out;
+        let id = self.endpoint.own_id(draw);
+        let exchange = waiting(key, id, now, from, draw, &message, own.to, room);
+        self.endpoint.settle(
+            now,
+            from,
+            &Heard::Message(message),
+            Handling::Answered(reply),
+        );
+        let goes = send_own(&mut self.endpoint, &mut out, now, draw, own);
+        self.exchanges.open(gone_out(exchange, goes, now));
+        Step::sending(out.into_datagrams())
+    }
+
+    /// Sends a response that counts back to the client, and closes its exchange.
+    fn count(
+        &mut self,
+        alloc: Global,
+        now: Moment,
+        from: Peer,
+        draw: &Draw,
+        message: MessageRef<'_>,
+        key: usize,
+    ) -> Result<Step, AllocError>
+        requires { CanCount self.old.exchanges from message key }
+        ensures counted { IfOk result (λ step. Counts key self.old now from draw.now message.entry step self.new) }
+        ensures err { OnErr result (self.new ≡ self.old) }
+    {
+        let exchange = self.exchanges.get(key).unwrap();
+        let answer = answer_back(from, &message, exchange, self.endpoint.own_id(draw));
+        let own = Own::new(alloc, exchange.client, exchange.confirmable, &answer)?;
+        let named = exchange.id;
+        let (out, reply) = acknowledged(alloc, from, &message)?;
+        Ok(self.close(now, from, draw, message, key, named, own, out, reply))
+    }
+
+    /// Closes the exchange that a response counts for, and sends the answer back; takes no memory.
+    fn close(
+        &mut self,
+        now: Moment,
+        from: Peer,
+        draw: &Draw,
+        message: MessageRef<'_>,
+        key: usize,
+        named: u16,
+        own: Own,
+        out: Outbox,
+        reply: Option<Bytes>,
+    ) -> Step
+        requires exchange { CanClose self.old draw.now message key named own }
+        requires sent { out.sent ≡ sent_to from (acknowledgement_of message) }
+        requires place { 0 < out.places }
+        requires reply { reply ≡ option_map spelling (acknowledgement_of message) }
+        ensures { Counts key self.old now from draw.now message.entry result self.new }
+    {
+        let mut out = out;
+        self.endpoint.settle(
+            now,
+            from,
+            &Heard::Message(message),
+            Handling::Counted(named, reply),
+        );
+        let _closed = self.exchanges.close(key).unwrap();
+        send_back(&mut self.endpoint, &mut out, now, draw, own);
+        Step::sending(out.into_datagrams())
+    }
+
+    /// Ends an exchange whose forwarded message was rejected by a Reset.
+    fn end(
+        &mut self,
+        alloc: Global,
+        now: Moment,
+        from: Peer,
+        draw: &Draw,
+        id: u16,
+        key: usize,
+    ) -> Result<Step, AllocError>
+        requires { IsOpen self.old.exchanges key }
+        ensures ended { IfOk result (λ step. Ends key id self.old now from draw.now step self.new) }
+        ensures err { OnErr result (self.new ≡ self.old) }
+    {
+        let mut out = Outbox::new(alloc, 1)?;
+        self.endpoint.settle(now, from, &Heard::Empty(Kind::Reset, id), Handling::Dropped);
+        let exchange = self.exchanges.close(key).unwrap();
+        let own = failing(exchange, self.endpoint.own_id(draw), Code::BAD_GATEWAY);
+        send_back(&mut self.endpoint, &mut out, now, draw, own);
+        Ok(Step::sending(out.into_datagrams()))
+    }
+
+    /// Sends what is due at this moment, and answers by 5.04 those whose forwarded message was given up, or went out 247 seconds ago.
+    /// Without memory an `AllocError`; then nothing has changed.
+    pub fn on_tick(&mut self, alloc: Global, now: Moment, draw: &Draw) -> Result<Step, AllocError>
+        ensures ticked { IfOk result (λ step. Ticks self.old now draw.now step self.new) }
+        ensures few { IfOk result (λ step. length step.out ≤ length self.old.endpoint.sending + count self.old.exchanges) }
+        ensures nothing_sealed { IfOk result (λ step. step.notes ≡ quiet) }
+        ensures err { OnErr result (self.new ≡ self.old) }
+    {
+        ticks_send_few();
+        let out = room_for(alloc, self.open_messages(), self.open_exchanges())?;
+        let ticked = self.endpoint.on_tick(alloc, now)?;
+        Ok(finish(
+            &mut self.exchanges,
+            &mut self.endpoint,
+            now,
+            draw,
+            out,
+            ticked,
+        ))
+    }
+
+    /// Starts again: forgets the open exchanges and what was heard, and keeps its targets. Takes no memory.
+    pub fn restart(&mut self)
+        ensures { self.new ≡ restarted self.old }
+    {
+        self.exchanges.clear();
+        self.endpoint.clear();
+    }
+}

@@ -1,0 +1,156 @@
+//! What a proxy sends.
+ghost use Rattle.std.specs.Prelude.{◌≡◌, ◌<◌, ◌≤◌, ◌+◌, ◌++◌, ◌∷◌, [], true, IfOk, option_map};
+ghost use Rattle.osc_coap.specs.Message.{spelling};
+ghost use Rattle.osc_message.specs.Sending.{acknowledgement as acknowledgement_of};
+ghost use Rattle.osc_model.specs.Step.{sends};
+ghost use Rattle.osc_proxy.specs.Own.{datagram, goes_now, has_room, sends_own, with_own};
+ghost use Rattle.osc_proxy.specs.Going.{IsOwn, back_kept_by, back_sends_by};
+ghost use Rattle.osc_proxy.specs.Table.{sent_to};
+
+use osc_coap::{MessageBuilder, MessageRef};
+use osc_message::{Endpoint, Outbox, ReplyRoom, acknowledgement};
+use osc_model::{Bytes, Datagram, Datagrams, Draw, Moment, Peer, Step};
+use std::alloc::{AllocError, Global};
+
+/// The step that sends these bytes to the peer.
+pub(crate) fn sending_bytes(alloc: Global, to: Peer, bytes: Bytes) -> Result<Step, AllocError>
+    ensures { IfOk result (λ step. step ≡ sends ((record { to = to; bytes = bytes }) ∷ [])) }
+{
+    let mut out = Datagrams::new(alloc);
+    out.push(Datagram { to, bytes })?;
+    Ok(Step::sending(out))
+}
+
+/// The step that sends this message to the peer.
+pub(crate) fn sending(alloc: Global, to: Peer, message: &MessageBuilder) -> Result<Step, AllocError>
+    ensures { IfOk result (λ step. step ≡ sends (datagram to message.now ∷ [])) }
+{
+    sending_bytes(alloc, to, Bytes::from_slice(alloc, message.bytes())?)
+}
+
+/// A message's datagram, and its bytes to be noted.
+pub(crate) fn noted(
+    alloc: Global,
+    to: Peer,
+    message: &MessageBuilder,
+) -> Result<(Datagrams, Bytes), AllocError>
+    ensures sent { IfOk result (λ made. made.0 ≡ datagram to message.now ∷ []) }
+    ensures noted { IfOk result (λ made. made.1 ≡ spelling message.now) }
+{
+    let room = ReplyRoom::new(alloc, message.bytes().len())?;
+    Ok(room.fill(to, message.bytes()))
+}
+
+/// Room for two datagrams, the acknowledgement of a confirmable message in the first of them, and its bytes to be noted.
+pub(crate) fn acknowledged(
+    alloc: Global,
+    to: Peer,
+    message: &MessageRef<'_>,
+) -> Result<(Outbox, Option<Bytes>), AllocError>
+    ensures sent { IfOk result (λ made. made.0.sent ≡ sent_to to (acknowledgement_of message.now)) }
+    ensures place { IfOk result (λ made. 0 < made.0.places) }
+    ensures noted { IfOk result (λ made. made.1 ≡ option_map spelling (acknowledgement_of message.now)) }
+{
+    let mut out = Outbox::new(alloc, 2)?;
+    match acknowledgement(message) {
+        Some(answer) => {
+            let bytes = Bytes::from_slice(alloc, answer.bytes())?;
+            out.send(to, Bytes::from_slice(alloc, answer.bytes())?);
+            Ok((out, Some(bytes)))
+        }
+        None => Ok((out, None)),
+    }
+}
+
+/// A message that the proxy makes: to whom it goes, whether it is confirmable, and its bytes, to be sent and, where it is confirmable,
+/// to be kept for retransmissions.
+#[derive(Drop)]
+pub(crate) struct Own {
+    pub to: Peer,
+    pub confirmable: bool,
+    pub sent: Bytes,
+    pub kept: Bytes,
+}
+
+impl Own {
+    /// This message, whose kind says whether it is confirmable.
+    pub fn new(
+        alloc: Global,
+        to: Peer,
+        confirmable: bool,
+        message: &MessageBuilder,
+    ) -> Result<Own, AllocError>
+        ensures { IfOk result (λ own. IsOwn to confirmable (spelling message.now) own) }
+    {
+        let sent = Bytes::from_slice(alloc, message.bytes())?;
+        let kept = if confirmable {
+            sent.clone()?
+        } else {
+            Bytes::new(alloc)
+        };
+        Ok(Own {
+            to,
+            confirmable,
+            sent,
+            kept,
+        })
+    }
+}
+
+/// Whether there is room for one more message to this peer.
+pub(crate) fn has_room(endpoint: &Endpoint, confirmable: bool, to: Peer) -> bool
+    ensures { result ≡ has_room confirmable to endpoint.now }
+{
+    !confirmable || endpoint.takes(to)
+}
+
+/// Makes the message, for which there is room, and sends it where it goes out at once; whether it does. Takes no memory.
+pub(crate) fn send_own(
+    endpoint: &mut Endpoint,
+    out: &mut Outbox,
+    now: Moment,
+    draw: &Draw,
+    own: Own,
+) -> bool
+    requires place { 0 < out.old.places }
+    requires room { has_room own.confirmable own.to endpoint.old ≡ true }
+    ensures goes { result ≡ goes_now own.confirmable own.to endpoint.old }
+    ensures made { endpoint.new ≡ with_own own.confirmable endpoint.old now draw.now own.to own.kept }
+    ensures sent { out.new.sent ≡ out.old.sent ++ sends_own (goes_now own.confirmable own.to endpoint.old) own.to own.sent }
+    ensures places { out.old.places ≤ out.new.places + 1 }
+{
+    let Own {
+        to,
+        confirmable,
+        sent,
+        kept,
+    } = own;
+    let id = endpoint.take_id(draw);
+    let goes = if confirmable {
+        endpoint.send(now, to, id, draw, kept).unwrap()
+    } else {
+        true
+    };
+    if goes {
+        out.send(to, sent);
+    }
+    goes
+}
+
+/// Makes the message where there is room for one more to its peer, and drops it elsewhere. Takes no memory.
+pub(crate) fn send_back(
+    endpoint: &mut Endpoint,
+    out: &mut Outbox,
+    now: Moment,
+    draw: &Draw,
+    own: Own,
+)
+    requires { 0 < out.old.places }
+    ensures made { endpoint.new ≡ back_kept_by own.confirmable endpoint.old now draw.now own.to own.kept }
+    ensures sent { out.new.sent ≡ out.old.sent ++ back_sends_by own.confirmable endpoint.old own.to own.sent }
+    ensures places { out.old.places ≤ out.new.places + 1 }
+{
+    if has_room(endpoint, own.confirmable, own.to) {
+        let _goes = send_own(endpoint, out, now, draw, own);
+    }
+}
