@@ -7,3 +7,4 @@ pub mod Skipping
 pub mod StepKinds
 pub mod Telling
 pub mod Ticking
+pub mod Through

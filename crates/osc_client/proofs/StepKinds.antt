@@ -9,6 +9,7 @@ use Rattle.osc_model.specs.declared.step.ClientResult.TheVariants as result
 use Rattle.osc_model.specs.declared.step.ClientResult.TheVariants.{Refused}
 use Rattle.osc_model.specs.declared.step.Datagram.{Datagram}
 use Rattle.osc_model.specs.declared.step.Step.{Step}
+use Rattle.osc_coap.specs.Message.{Message}
 use Rattle.osc_coap.specs.declared.kind.Kind.{Kind}
 use Rattle.osc_authz.specs.Begun.{Begun, Made as ClientContext}
 use Rattle.osc_authz.specs.Client.{Finishes}
@@ -17,7 +18,6 @@ use Rattle.osc_run.specs.States.{ClientState, Nothing, Exchange as OpenExchange}
 use Rattle.osc_client.specs.Bounds.{HasContext}
 use Rattle.osc_client.specs.Case.{is_ended, is_reset}
 use Rattle.osc_context.specs.Nonce.{greatest_number}
-use Rattle.osc_model.specs.declared.node.Draw.{Draw}
 use Rattle.osc_client.specs.Lying.{LiesUnder, lies}
 use Rattle.osc_client.specs.State.{State, core, outstanding}
 use Rattle.osc_client.specs.Table.{Answers, Settles}
@@ -75,8 +75,8 @@ kind_of is_sealing old now from (Counted message) step new has makes answers =
     rw (before, answers.told, answers.kept) kind
 
 -- a lie, under the context that the client has
-pub lied : (is_sealing : List ℕ → List ℕ → List ℕ → List ℕ → List ℕ → Type 0) (tag : ℕ) (old : State) (to : Peer) (context : ClientContext) (number : ℕ) (text : List ℕ) (draw : Draw) (step : Step)
-    → old.context ≡ Some context → number ≤ greatest_number → LiesUnder is_sealing tag to context number text draw step → ClientStep true (core old) step.notes (core old)
-lied is_sealing tag old to context number text draw step held lawful (LiesUnder.too_long long told) = rw told (refusals true (core old) 14)
-lied is_sealing tag old to context number text draw step held lawful (lies protected fits sealed told) =
+pub lied : (is_sealing : List ℕ → List ℕ → List ℕ → List ℕ → List ℕ → Type 0) (tag : ℕ) (old : State) (to : Peer) (context : ClientContext) (number : ℕ) (text : List ℕ) (outside : Message) (step : Step)
+    → old.context ≡ Some context → number ≤ greatest_number → LiesUnder is_sealing tag to context number text outside step → ClientStep true (core old) step.notes (core old)
+lied is_sealing tag old to context number text outside step held lawful (LiesUnder.too_long long told) = rw told (refusals true (core old) 14)
+lied is_sealing tag old to context number text outside step held lawful (lies protected fits sealed told) =
     Lied refl (record { context = context; number = number; lawful = lawful; plaintext = text; noted = ap (λ (s : Step). s.notes) told; held = held; is = refl })

@@ -38,7 +38,7 @@ use Rattle.osc_run.specs.Texts.{IsReplyIn}
 use Rattle.osc_client.specs.Answering.{AskComes, Comes, ExchangeComes, code_of, ended_by, notes_of}
 use Rattle.osc_client.specs.Answering as comes
 use Rattle.osc_client.specs.Case.{case_of, is_ended}
-use Rattle.osc_client.specs.Lying.{LiesUnder, lies, outside_of}
+use Rattle.osc_client.specs.Lying.{LiesUnder, lies}
 use Rattle.osc_client.specs.Lying as lying
 use Rattle.osc_client.specs.Sending.{Asks, asks, datagram, hindered, plain_of, refusing}
 use Rattle.osc_client.specs.State.{State}
@@ -161,10 +161,10 @@ module _ (is_sealing : List ℕ → List ℕ → List ℕ → List ℕ → List 
   ask_told tag request draw step new (asks context protected free sealed told kept) =
       as_sent None step _ told (told_seal old.next_hop (plain_bytes (plain_of old draw request)) context.name context.next (plain_of old draw request) protected sealed)
 
-  pub under_told : (tag : ℕ) (to : Peer) (context : ClientContext) (number : ℕ) (text : List ℕ) (draw : Draw) (step : Step)
-      → LiesUnder is_sealing tag to context number text draw step → AreTold is_sealing old now None step
-  under_told tag to context number text draw step (lying.LiesUnder.too_long long told) = told_refusal step 14 told
-  under_told tag to context number text draw step (lies protected fits sealed told) = as_sent None step _ told (told_seal to text context.name number (outside_of draw) protected sealed)
+  pub under_told : (tag : ℕ) (to : Peer) (context : ClientContext) (number : ℕ) (text : List ℕ) (outside : Message) (step : Step)
+      → LiesUnder is_sealing tag to context number text outside step → AreTold is_sealing old now None step
+  under_told tag to context number text outside step (lying.LiesUnder.too_long long told) = told_refusal step 14 told
+  under_told tag to context number text outside step (lies protected fits sealed told) = as_sent None step _ told (told_seal to text context.name number outside protected sealed)
 
   -- ---- a datagram
 

@@ -1,4 +1,5 @@
 pub mod State
+pub mod Way
 pub mod Sending
 pub mod Lying
 pub mod Told

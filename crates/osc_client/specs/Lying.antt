@@ -13,30 +13,31 @@ use Rattle.osc_authz.specs.Begun.{Made as ClientContext}
 use Rattle.osc_run.specs.ClientKinds.{request_note}
 use Rattle.osc_client.specs.Sending.{datagram, refusing}
 use Rattle.osc_client.specs.State.{State}
+use Rattle.osc_client.specs.Way.{HostAndPort, through}
 
 -- what goes around a lie: a confirmable POST, with a message ID and a token that are drawn (RFC 8613 section 4.2)
-abbrev pub outside_of : Draw → Message
-outside_of draw = bare Confirmable 2 (message_id_drawn draw) (token_drawn draw)
+abbrev pub outside_of : Option HostAndPort → Draw → Message
+outside_of origin draw = through origin (bare Confirmable 2 (message_id_drawn draw) (token_drawn draw))
 
 -- `is_sealing key nonce aad text sealed` is the cipher's relation, and `tag` how long its tag is
 module _ (is_sealing : List ℕ → List ℕ → List ℕ → List ℕ → List ℕ → Type 0) (tag : ℕ) where
   -- 14 where it would be longer than a datagram may be, and else a protected request with this text and this number goes out
-  pub data LiesUnder (to : Peer) (context : ClientContext) (number : ℕ) (text : List ℕ) (draw : Draw) (step : Step) : Type 0 where
-    too_long : longest_message < length_of_request (length text + tag) context.name number (outside_of draw) → step ≡ refusing 14
-        → LiesUnder to context number text draw step
-    lies : (protected : Message) → length_of_request (length text + tag) context.name number (outside_of draw) ≤ longest_message
-        → IsRequestOf is_sealing text context.name number (outside_of draw) protected
+  pub data LiesUnder (to : Peer) (context : ClientContext) (number : ℕ) (text : List ℕ) (outside : Message) (step : Step) : Type 0 where
+    too_long : longest_message < length_of_request (length text + tag) context.name number outside → step ≡ refusing 14
+        → LiesUnder to context number text outside step
+    lies : (protected : Message) → length_of_request (length text + tag) context.name number outside ≤ longest_message
+        → IsRequestOf is_sealing text context.name number outside protected
         → step
         ≡ record {
           out = datagram to protected ∷ [];
           notes = record quiet { seals = Some (request_note context.name number text) };
         }
-        → LiesUnder to context number text draw step
+        → LiesUnder to context number text outside step
 
   -- 22 without a context, and else it is sealed under the one that the client has
-  abbrev pub LiesBy : Peer → Option ClientContext → ℕ → List ℕ → Draw → Step → Type 0
-  LiesBy to None number text draw step = step ≡ refusing 22
-  LiesBy to (Some context) number text draw step = LiesUnder to context number text draw step
+  abbrev pub LiesBy : Peer → Option ClientContext → ℕ → List ℕ → Message → Step → Type 0
+  LiesBy to None number text outside step = step ≡ refusing 22
+  LiesBy to (Some context) number text outside step = LiesUnder to context number text outside step
 
   abbrev pub Lies : State → ℕ → List ℕ → Draw → Step → Type 0
-  Lies client number text draw step = LiesBy client.next_hop client.context number text draw step
+  Lies client number text draw step = LiesBy client.next_hop client.context number text (outside_of client.origin draw) step

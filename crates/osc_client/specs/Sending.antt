@@ -27,6 +27,7 @@ use Rattle.osc_authz.specs.Exchange.{post_item}
 use Rattle.osc_authz.specs.declared.granted.ClientDesk.{ClientDesk}
 use Rattle.osc_run.specs.ClientKinds.{request_note}
 use Rattle.osc_client.specs.State.{State}
+use Rattle.osc_client.specs.Way.{through}
 use Rattle.osc_client.specs.declared.waiting.Awaited.{Awaited}
 use Rattle.osc_client.specs.declared.waiting.Awaited.TheVariants.{Exchange, Ask}
 use Rattle.osc_client.specs.declared.waiting.Waiting.{Waiting}
@@ -69,16 +70,16 @@ pub record IsRefused (number : ℕ) (old : State) (step : Step) (new : State) : 
 abbrev pub begun_by : State → Draw → Begun
 begun_by old draw = record { nonce1 = nonce_drawn draw; recipient_id = offered_id old.context }
 
--- the post: confirmable, to authz-info, as application/ace+cbor
+-- a post with this body: confirmable, to authz-info, as application/ace+cbor
+abbrev pub post_with : ℕ → List ℕ → List ℕ → Message
+post_with id token body =
+    record (bare Confirmable 2 id token) { options = (11, codes "authz-info") ∷ (12, 19 ∷ []) ∷ []; payload = payload_of body }
+
 abbrev pub post_of : ClientDesk → Begun → ℕ → List ℕ → Message
-post_of desk begun id token =
-    record (bare Confirmable 2 id token) {
-      options = (11, codes "authz-info") ∷ (12, 19 ∷ []) ∷ [];
-      payload = payload_of (item_spelling (post_item desk.token begun.nonce1 (begun.recipient_id ∷ [])));
-    }
+post_of desk begun id token = post_with id token (item_spelling (post_item desk.token begun.nonce1 (begun.recipient_id ∷ [])))
 
 abbrev pub post_by : State → Draw → Message
-post_by old draw = post_of old.desk (begun_by old draw) (own_id draw old.endpoint.next_id) (token_drawn draw)
+post_by old draw = through old.origin (post_of old.desk (begun_by old draw) (own_id draw old.endpoint.next_id) (token_drawn draw))
 
 -- 17 where something is open, 14 where the post is longer than a datagram may be, and else it goes out
 pub data Exchanges (old : State) (now : Moment) (draw : Draw) (step : Step) (new : State) : Type 0 where
@@ -117,8 +118,12 @@ restarted old = record old { context = None; waiting = None; endpoint = fresh }
 
 -- ---- a protected request (RFC 8613 section 8.1)
 
+-- the request as a message of its own: confirmable
+abbrev pub plain_request : ℕ → List ℕ → Request → Message
+plain_request id token request = with_request (bare Confirmable request.code.0 id token) request
+
 abbrev pub plain_of : State → Draw → Request → Message
-plain_of old draw request = with_request (bare Confirmable request.code.0 (own_id draw old.endpoint.next_id) (token_drawn draw)) request
+plain_of old draw request = through old.origin (plain_request (own_id draw old.endpoint.next_id) (token_drawn draw) request)
 
 -- `is_sealing key nonce aad text sealed` is the cipher's relation, and `tag` how long its tag is
 module _ (is_sealing : List ℕ → List ℕ → List ℕ → List ℕ → List ℕ → Type 0) (tag : ℕ) where

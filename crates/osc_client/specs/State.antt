@@ -5,14 +5,17 @@ use Rattle.osc_authz.specs.Begun.{Made as ClientContext}
 use Rattle.osc_authz.specs.declared.granted.ClientDesk.{ClientDesk}
 use Rattle.osc_message.specs.Endpoint.{EndpointState}
 use Rattle.osc_run.specs.States.{ClientState, Outstanding, Nothing, Exchange as OpenExchange, Ask as AskOf}
+use Rattle.osc_client.specs.Way.{HostAndPort}
 use Rattle.osc_client.specs.declared.waiting.Awaited.{Awaited}
 use Rattle.osc_client.specs.declared.waiting.Awaited.TheVariants.{Exchange, Ask}
 use Rattle.osc_client.specs.declared.waiting.Waiting.{Waiting}
 
--- what was granted; to whom it sends; its security context; what it waits for, one thing at most; and the message layer
+-- what was granted; to whom it sends; the server behind it, where that is a proxy; its security context; what it waits for, one
+-- thing at most; and the message layer
 pub record State : Type 0 where
   pub desk : ClientDesk
   pub next_hop : Peer
+  pub origin : Option HostAndPort
   pub context : Option ClientContext
   pub waiting : Option Waiting
   pub endpoint : EndpointState

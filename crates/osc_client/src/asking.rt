@@ -1,28 +1,49 @@
 //! Protected requests.
-ghost use Rattle.std.specs.Prelude.{◌≡◌, ◌≢◌, ◌≤◌, ◌<◌, [], ◌∷◌, length, None, Some, IfOk, IsSome, IfSome, ◌↔◌, ◌+◌};
-ghost use Rattle.osc_coap.specs.Building.{bare};
+ghost use Rattle.std.specs.Prelude.{◌≡◌, ◌≢◌, ◌≤◌, ◌<◌, [], ◌∷◌, length, None, Some, IfOk, IsOk, IsSome, IfSome, ◌↔◌, ◌+◌};
+ghost use Rattle.osc_coap.specs.Length.{datagram_limit};
 ghost use Rattle.osc_coap.specs.Message.{spelling};
-ghost use Rattle.osc_coap.specs.declared.kind.Kind.TheVariants.{Confirmable};
-ghost use Rattle.osc_options.specs.Requests.{with_request};
 ghost use Rattle.osc_context.specs.Nonce.{greatest_number};
 ghost use Rattle.osc_protect.specs.Protection.{HasShortContext, IsProtectedRequest, longest_message, plain_bytes, request_length};
 ghost use Rattle.osc_client.specs.Bounds.{IsRoomFor};
+ghost use Rattle.osc_client.specs.Sending.{plain_request};
+ghost use Rattle.osc_client.specs.Way.{through as through_of};
 ghost use Rattle.osc_run.specs.ClientKinds.{request_note};
 
+use crate::proxied::through;
 use crate::waiting::OpenAsk;
+use crate::way::Origin;
 use osc_authz::ClientContext;
 use osc_ccm::Aead;
 use osc_coap::laws::length_of_spelling;
-use osc_coap::{DATAGRAM_LIMIT, Kind, MessageBuilder};
+use osc_coap::{DATAGRAM_LIMIT, DatagramTooLong, Kind, MessageBuilder};
 use osc_message::{Buffer, ReplyRoom};
 use osc_model::{Note, Request};
+use osc_options::laws::merged_options;
 use osc_options::request_message;
 use osc_protect::{ProtectedRequest, Room, fits, protect_request};
 use std::alloc::{AllocError, Global};
 
+/// The request as a message that goes to the server; refused only where it is longer than a datagram may be.
+fn plain_message(
+    origin: &Option<Origin>,
+    id: u16,
+    token: &[u8; 8],
+    request: &Request,
+) -> Result<MessageBuilder, DatagramTooLong>
+    requires { 0 < request.now.code.0 }
+    ensures ok { IfOk result (λ plain. plain ≡ through_of origin.now (plain_request id token.now request.now)) }
+    ensures fits { IsOk result ↔ (length (spelling (through_of origin.now (plain_request id token.now request.now))) ≤ datagram_limit) }
+{
+    length_of_spelling();
+    merged_options();
+    let plain = request_message(Kind::Confirmable, id, token, request)?;
+    through(origin, plain)
+}
+
 /// The request as a message under the context's next number, where it fits a datagram once it is protected.
 pub(crate) fn fitting<A: Aead>(
     context: &ClientContext,
+    origin: &Option<Origin>,
     id: u16,
     token: &[u8; 8],
     request: &Request,
@@ -30,13 +51,13 @@ pub(crate) fn fitting<A: Aead>(
     requires code { 0 < request.now.code.0 }
     requires number { context.now.next ≤ greatest_number }
     requires short { HasShortContext context.now.name }
-    ensures plain { IfSome result (λ plain. plain ≡ with_request (bare Confirmable request.now.code.0 id token.now) request.now) }
-    ensures fits { IsSome result ↔ ((length (spelling (with_request (bare Confirmable request.now.code.0 id token.now) request.now)) ≤ longest_message)
-        × (request_length A.TAG context.now.name context.now.next (with_request (bare Confirmable request.now.code.0 id token.now) request.now) ≤ longest_message)) }
+    ensures plain { IfSome result (λ plain. plain ≡ through_of origin.now (plain_request id token.now request.now)) }
+    ensures fits { IsSome result ↔ ((length (spelling (through_of origin.now (plain_request id token.now request.now))) ≤ longest_message)
+        × (request_length A.TAG context.now.name context.now.next (through_of origin.now (plain_request id token.now request.now)) ≤ longest_message)) }
 {
     // For the proof alone: the call tells how long the ID is.
     let _id = context.sender().id();
-    let plain = request_message(Kind::Confirmable, id, token, request).ok()?;
+    let plain = plain_message(origin, id, token, request).ok()?;
     if fits::<A>(
         context.name(),
         context.sender().next_number(),

@@ -27,10 +27,11 @@ use crate::answering::{Learnt, learn, outcome_of};
 use crate::asking::{AskRoom, Asked, fitting, protected};
 use crate::case::{Case, case_of, is_ended};
 use crate::exchanging::post_message;
-use crate::lying::lie_under;
+use crate::lying::{lie_under, outside};
 use crate::refusing::{BUSY, EXHAUSTED, NO_CONTEXT, TOO_LONG, refused};
 use crate::sending::{acknowledged, noted, refusal, sending, sending_bytes};
 use crate::waiting::{Awaited, Waiting};
+use crate::way::{Origin, Way};
 use osc_authz::{ClientContext, ClientDesk};
 use osc_ccm::Aead;
 use osc_coap::{Kind, MessageBuilder, MessageRef};
@@ -44,11 +45,12 @@ use std::marker::Model;
 /// How long an acknowledged message is waited for, in ms: EXCHANGE_LIFETIME (RFC 7252 section 4.8.2).
 const LONGEST_WAIT: u64 = 247_000;
 
-/// A client: what was granted, to whom it sends, its security context, what it waits for, and its message layer.
+/// A client: what was granted, the way to the server, its security context, what it waits for, and its message layer.
 #[derive(Drop)]
 pub struct Client {
     desk: ClientDesk,
     next_hop: Peer,
+    origin: Option<Origin>,
     context: Option<ClientContext>,
     waiting: Option<Waiting>,
     endpoint: Endpoint,
@@ -60,7 +62,7 @@ impl Model for Client {
 
     ghost Value = { State };
 
-    ghost view = { λ c. record { desk = c.desk; next_hop = c.next_hop; context = c.context; waiting = c.waiting; endpoint = c.endpoint } };
+    ghost view = { λ c. record { desk = c.desk; next_hop = c.next_hop; origin = c.origin; context = c.context; waiting = c.waiting; endpoint = c.endpoint } };
 
     ghost invariant = { λ c. KeepsOwn c.next_hop c.waiting c.endpoint.sending × HasContext c.context c.waiting × IsOfGrant c.desk c.context };
 }
@@ -77,13 +79,15 @@ fn is_over(now: Moment, acknowledged: bool, none_left: bool, waiting: &Option<Wa
 }
 
 impl Client {
-    /// A client that was granted this, and sends to this peer; it has no context and waits for nothing.
-    pub fn new(alloc: Global, desk: ClientDesk, next_hop: Peer) -> Result<Client, AllocError>
-        ensures { IfOk result (λ client. client ≡ record { desk = desk; next_hop = next_hop; context = None; waiting = None; endpoint = fresh }) }
+    /// A client that was granted this, and reaches its server this way; it has no context and waits for nothing.
+    pub fn new(alloc: Global, desk: ClientDesk, way: Way) -> Result<Client, AllocError>
+        ensures { IfOk result (λ client. client ≡ record { desk = desk; next_hop = way.next_hop; origin = way.origin; context = None; waiting = None; endpoint = fresh }) }
     {
+        let Way { next_hop, origin } = way;
         Ok(Client {
             desk,
             next_hop,
+            origin,
             context: None,
             waiting: None,
             endpoint: Endpoint::new(alloc)?,
@@ -137,7 +141,8 @@ impl Client {
         let begun = self.desk.start(self.context.as_ref(), draw);
         let mut body = Vec::new(alloc);
         self.desk.write_post(alloc, &begun, &mut body)?;
-        let Ok(post) = post_message(self.endpoint.own_id(draw), &draw.token(), &body) else {
+        let id = self.endpoint.own_id(draw);
+        let Ok(post) = post_message(&self.origin, id, &draw.token(), &body) else {
             return Ok(refused(alloc, TOO_LONG));
         };
         let room = ReplyRoom::new(alloc, post.bytes().len())?;
@@ -199,7 +204,10 @@ impl Client {
         ensures told { IfOk result (λ step. (now : AnyMoment) → AreTold A.is_sealing self.now now None step) }
     {
         match &self.context {
-            Some(context) => lie_under::<A>(alloc, self.next_hop, context, number, text, draw),
+            Some(context) => {
+                let outside = outside(&self.origin, draw);
+                lie_under::<A>(alloc, self.next_hop, context, number, text, &outside)
+            }
             None => Ok(refused(alloc, NO_CONTEXT)),
         }
     }
@@ -227,7 +235,7 @@ impl Client {
             return Ok(Err(EXHAUSTED));
         }
         let id = self.endpoint.own_id(draw);
-        match fitting::<A>(context, id, &draw.token(), request) {
+        match fitting::<A>(context, &self.origin, id, &draw.token(), request) {
             Some(plain) => Ok(Ok((plain, AskRoom::new(alloc, context)?))),
             None => Ok(Err(TOO_LONG)),
         }

@@ -7,12 +7,16 @@ mod asking;
 mod case;
 mod client;
 mod exchanging;
+pub mod laws;
 mod lying;
+mod proxied;
 mod refusing;
 mod sending;
 mod waiting;
+mod way;
 
 pub use answering::Outcome;
 pub use case::Case;
 pub use client::Client;
 pub use waiting::{Awaited, OpenAsk, Waiting};
+pub use way::{Origin, Way};

@@ -4,8 +4,10 @@ ghost use Rattle.osc_context.specs.Nonce.{greatest_number};
 ghost use Rattle.osc_protect.specs.Protection.{HasShortContext};
 ghost use Rattle.osc_client.specs.Lying.{LiesUnder, outside_of};
 
+use crate::proxied::outer_message;
 use crate::refusing::{TOO_LONG, refused};
 use crate::sending::message_out;
+use crate::way::Origin;
 use osc_authz::ClientContext;
 use osc_ccm::Aead;
 use osc_coap::{DATAGRAM_LIMIT, Kind, MessageBuilder};
@@ -17,27 +19,30 @@ use std::alloc::{AllocError, Global};
 const POST: u8 = 0x02;
 
 /// The message in which a lie is sealed.
-fn outside(draw: &Draw) -> MessageBuilder
-    ensures { result ≡ outside_of draw.now }
+pub(crate) fn outside(origin: &Option<Origin>, draw: &Draw) -> MessageBuilder
+    ensures { result ≡ outside_of origin.now draw.now }
 {
-    MessageBuilder::start(Kind::Confirmable, POST, draw.message_id(), &draw.token())
+    let message = MessageBuilder::start(Kind::Confirmable, POST, draw.message_id(), &draw.token());
+    match origin {
+        Some(origin) => outer_message(origin, &message),
+        None => message,
+    }
 }
 
-/// Seals the text at this number under the context.
+/// Seals the text at this number under the context, in this message.
 pub(crate) fn lie_under<A: Aead>(
     alloc: Global,
     to: Peer,
     context: &ClientContext,
     number: u64,
     text: &[u8],
-    draw: &Draw,
+    outside: &MessageBuilder,
 ) -> Result<Step, AllocError>
     requires number { number ≤ greatest_number }
     requires short { HasShortContext context.now.name }
-    ensures { IfOk result (λ step. LiesUnder A.is_sealing A.TAG to context.now number text.now draw.now step) }
+    ensures { IfOk result (λ step. LiesUnder A.is_sealing A.TAG to context.now number text.now outside.now step) }
 {
     let room = Room::new(alloc, context.name(), DATAGRAM_LIMIT)?;
-    let outside = outside(draw);
     match protect_uncounted::<A>(room, context.sender(), number, &outside.message(), text) {
         Ok(UncountedRequest { message, note }) => Ok(Step {
             out: message_out(alloc, to, &message)?,

@@ -1,20 +1,20 @@
-use Rattle.std.proofs.Common.{rules, ◌≡◌, ◌∙◌, ◌≤◌, ◌+◌, length, refl, ap, ap₂, Some, List, [], ◌∷◌}
+use Rattle.std.proofs.Common.{◌≡◌, ◌∙◌, ◌≤◌, ◌+◌, length, refl, ap, ap₂, Some, List, [], ◌∷◌}
 use Rattle.osc_model.specs.StepNotes.{StepNotes, quiet}
 use Rattle.osc_model.specs.declared.step.Datagram.{Datagram}
 use Rattle.osc_model.specs.declared.step.Note.{Note}
 use Rattle.osc_protect.specs.Protection.{IsRequestOf, RoomOf, length_of_request, longest_message}
 use Rattle.osc_run.specs.ClientKinds.{request_note}
-use Rattle.osc_client.specs.Lying.{lies, outside_of}
+use Rattle.osc_client.specs.Lying.{lies}
 use Rattle.osc_client.specs.Sending.{datagram}
 use Rattle.osc_client.proofs.lying.lie_under.Goals as goal
 
 pub returns-in-Ok : goal.returns-in-Ok
 returns-in-Ok g c =
     let name : c.in_ok-room.room.name ≡ c.args.context.now.name = ap (λ (r : RoomOf). r.name) c.in_ok-room.ensures ∙ c.name.ensures in
-    let outside : c.message.result ≡ outside_of c.args.draw.now = search rules in
-    let sealed : IsRequestOf g.A.Aead.is_sealing c.args.text.now c.args.context.now.name c.args.number (outside_of c.args.draw.now) c.in-Ok.field-0.message =
+    let outside : c.message.result ≡ c.args.outside.now = c.message.ensures in
+    let sealed : IsRequestOf g.A.Aead.is_sealing c.args.text.now c.args.context.now.name c.args.number c.args.outside.now c.in-Ok.field-0.message =
     rw (name, outside) at c.in-Ok.ensures.protected in
-    let fits : length_of_request (length c.args.text.now + g.A.Aead.TAG) c.args.context.now.name c.args.number (outside_of c.args.draw.now) ≤ longest_message =
+    let fits : length_of_request (length c.args.text.now + g.A.Aead.TAG) c.args.context.now.name c.args.number c.args.outside.now ≤ longest_message =
     rw (name, outside) at (c.in-Ok.ensures.fits.0 refl) in
     let note : c.in-Ok.field-0.note ≡ request_note c.args.context.now.name c.args.number c.args.text.now = rw name at c.in-Ok.ensures.noted in
     let out : c.in_ok-message_out-in-Ok.field-0 ≡ datagram c.args.to c.in-Ok.field-0.message ∷ [] = c.in_ok-message_out-in-Ok.ensures in

@@ -6,6 +6,7 @@ use Rattle.osc_options.specs.Split.{has_oscore}
 use Rattle.osc_client.specs.Sending.{datagram}
 use Rattle.osc_client.specs.Told.{SealsNothing}
 use Rattle.osc_client.proofs.Telling.{begins_silently}
+use Rattle.osc_client.proofs.Through.{post_unprotected}
 use Rattle.osc_client.specs.State.{core}
 use Rattle.osc_client.proofs.StepKinds.{refusals}
 use Rattle.osc_client.proofs.client.Client.exchange.Goals as goal
@@ -18,7 +19,7 @@ returns-in_default-clause-kind c = rw c.refused-in_default.ensures (refusals fal
 
 pub returns-clause-told : goal.returns-clause-told
 returns-clause-told c =
-    let plain : has_oscore c.in-Ok.post.options ≡ false = ap (λ (m : Message). has_oscore m.options) c.in-Ok.ensures.ok in
+    let plain : has_oscore c.in-Ok.post.options ≡ false = ap (λ (m : Message). has_oscore m.options) c.in-Ok.ensures.ok ∙ post_unprotected c.self.inside.origin _ _ _ in
     let nonce = c.nonce1-nonce.result.now in
     let out : c.open-out.result ≡ datagram c.args.self.now.next_hop c.in-Ok.post ∷ [] = c.open-out.ensures.sent in
     let notes : c.with_drawn.result ≡ record quiet { drawn = Some nonce } = c.with_drawn.ensures ∙ ap (λ (q : StepNotes). record q { drawn = Some nonce }) c.quiet.ensures in

@@ -9,13 +9,13 @@ pub returns-in-Some-clause-kind : goal.returns-in-Some-clause-kind
 returns-in-Some-clause-kind g c =
     let held : c.args.self.now.context ≡ Some c.in-Some.context = search rules in
     IfOk-weaker c.lie_under.result _ _
-    (λ step it. lied g.A.Aead.is_sealing g.A.Aead.TAG c.args.self.now _ c.in-Some.context c.args.number c.args.text.now c.args.draw.now step held c.requires it)
+    (λ step it. lied g.A.Aead.is_sealing g.A.Aead.TAG c.args.self.now _ c.in-Some.context c.args.number c.args.text.now _ step held c.requires it)
     c.lie_under.ensures
 
 pub returns-in-Some-clause-told : goal.returns-in-Some-clause-told
 returns-in-Some-clause-told g c =
     IfOk-weaker c.lie_under.result _ _
-    (λ step it now. under_told g.A.Aead.is_sealing c.args.self.now now g.A.Aead.TAG _ c.in-Some.context c.args.number c.args.text.now c.args.draw.now step it)
+    (λ step it now. under_told g.A.Aead.is_sealing c.args.self.now now g.A.Aead.TAG _ c.in-Some.context c.args.number c.args.text.now _ step it)
     c.lie_under.ensures
 
 pub returns-in-None-clause-kind : goal.returns-in-None-clause-kind

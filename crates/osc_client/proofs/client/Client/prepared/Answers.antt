@@ -19,8 +19,9 @@ returns-in-None-clause-hindered g c =
     let early : c.in-Some.context.next ≤ greatest_number = omega (arith, c.if-next_number-gt-NUMBER_LIMIT.false, c.next_number.ensures, ap (λ s. s.next) c.sender.ensures) in
     let id : c.own_id-id.result ≡ own_id c.args.draw.now c.args.self.now.endpoint.next_id =
     c.own_id-id.ensures ∙ ap (λ s. own_id c.args.draw.now s.endpoint.next_id) c.self.view_is in
+    let origin : c.self.inside.origin ≡ c.args.self.now.origin = ap (λ s. s.origin) c.self.view_is in
     let none : Fits g.A.Aead.is_sealing g.A.Aead.TAG c.args.self.now c.args.draw.now c.args.request.now c.in-Some.context → ⊥ = λ fits.
-    let some : IsSome c.fitting.result = c.fitting.ensures.fits.1 (rw (id, c.token.ensures) (fits.plain, fits.sealed)) in
+    let some : IsSome c.fitting.result = c.fitting.ensures.fits.1 (rw (id, origin, c.token.ensures) (fits.plain, fits.sealed)) in
     let wrong : false ≡ true = rw c.in-None.is at some in
     absurd (cc) in
     too_long refl c.in-Some.context idle held early none
