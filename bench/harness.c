@@ -5,7 +5,10 @@
 #include <stdint.h>
 #include <stdio.h>
 #include <string.h>
+#include <sys/resource.h>
+#include <sys/wait.h>
 #include <time.h>
+#include <unistd.h>
 
 #ifdef WITH_MBEDTLS
 #include <mbedtls/aes.h>
@@ -26,6 +29,7 @@ uint64_t osc_bench_protect(const uint8_t *request, size_t length, uint64_t round
 uint64_t osc_bench_unprotect(const uint8_t *request, size_t length, uint64_t rounds);
 uint64_t osc_bench_read_token(uint64_t rounds);
 uint64_t osc_bench_post(uint8_t others, uint64_t rounds);
+uint64_t osc_bench_world(uint64_t requests);
 uint8_t osc_bench_encrypt(uint64_t rounds);
 uint64_t osc_bench_seal(const uint8_t *text, size_t length, uint8_t *out, size_t room, uint64_t rounds);
 uint64_t osc_bench_open(const uint8_t *sealed, size_t length, uint8_t *out, size_t room, uint64_t rounds);
@@ -226,6 +230,40 @@ static int tokens(void) {
     timed("osc_token::read", osc_bench_read_token, 20000);
     timed("ServerDesk::post, 1 token id in the table", post_alone, 5000);
     timed("ServerDesk::post, 63 token ids in the table", post_beside_62, 5000);
+    return 0;
+}
+
+/* ---- a world: an exchange of each of four clients and then requests in turn, with a quiet round of two deliveries behind each;
+   requests for some 5,000 events, and for twice as many */
+
+enum { FEW = 1663, MANY = 3329 };
+
+static uint64_t events_of(uint64_t requests) { return 3 * (4 + requests); }
+
+/* What the kernel counts as a child's largest resident set when it ran a world of so many requests, in bytes; 0 where the child
+   failed. */
+static uint64_t resident(uint64_t requests) {
+    fflush(stdout);
+    pid_t child = fork();
+    if (child < 0) return 0;
+    if (child == 0) _exit(osc_bench_world(requests) != events_of(requests));
+    int status;
+    struct rusage usage;
+    if (wait4(child, &status, 0, &usage) != child || status != 0) return 0;
+    return 1024 * (uint64_t)usage.ru_maxrss;
+}
+
+static int worlds(void) {
+    uint64_t none = resident(0), few = resident(FEW), many = resident(MANY);
+    if (none == 0 || few < none || many < few || osc_bench_world(FEW) != events_of(FEW) || osc_bench_world(MANY) != events_of(MANY)) {
+        fprintf(stderr, "bench: a world's requests were not answered\n");
+        return 1;
+    }
+    double set_up = best_of(osc_bench_world, 0), first = best_of(osc_bench_world, FEW), both = best_of(osc_bench_world, MANY);
+    row("World, 4 clients, the first 4,989 events", 3 * FEW, first - set_up);
+    row("World, 4 clients, the next 4,998 events", 3 * (MANY - FEW), both - first);
+    printf("%-48s %12.0f bytes\n", "the same, resident for each of the first", (double)(few - none) / (3 * FEW));
+    printf("%-48s %12.0f bytes\n", "the same, resident for each of the next", (double)(many - few) / (3 * (MANY - FEW)));
     return 0;
 }
 
@@ -480,6 +518,6 @@ int main(int count, char **words) {
     serve("Server::on_datagram, GET, 1st of 1,024", 1024, 1, GET_R000, sizeof GET_R000);
     serve("Server::on_datagram, GET, 1,000th of 1,024", 1024, 1, GET_R999, sizeof GET_R999);
     repeat("Server::on_datagram, a repeat", GET_R000, sizeof GET_R000);
-    if (protected_requests() != 0 || cbor() != 0 || oscore() != 0 || tokens() != 0) return 1;
+    if (protected_requests() != 0 || cbor() != 0 || oscore() != 0 || tokens() != 0 || worlds() != 0) return 1;
     return ciphers();
 }

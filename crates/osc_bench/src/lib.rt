@@ -1,5 +1,5 @@
 //! What a harness in C times: messages read, datagrams served, protected and not, items read, requests protected and opened,
-//! tokens read and posted, and ciphers.
+//! tokens read and posted, ciphers, and the events of a world.
 #![tactic(auto)]
 
 mod cipher;
@@ -8,3 +8,4 @@ mod objects;
 mod protected;
 mod protection;
 mod tokens;
+mod world;

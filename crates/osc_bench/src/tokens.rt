@@ -25,7 +25,7 @@ pub extern "C" fn osc_bench_post(alloc: Global, others: u8, rounds: u64) -> u64 
 }
 
 // The claims of the token of this id, for the audience `s`, with a date.
-fn claims_of(alloc: Global, id: u8) -> Result<Claims, AllocError> {
+pub(crate) fn claims_of(alloc: Global, id: u8) -> Result<Claims, AllocError> {
     Ok(Claims {
         audience: Audience::new(alloc, "s")?,
         not_before: None,

@@ -2,4 +2,14 @@
 #![tactic(auto)]
 
 #[cfg(test)]
+mod common;
+#[cfg(test)]
+mod conditions;
+#[cfg(test)]
+mod enrolling;
+#[cfg(test)]
+mod proxies;
+#[cfg(test)]
+mod quiet;
+#[cfg(test)]
 mod world;

@@ -1,127 +1,20 @@
 //! A client and a server in a world, and the history that explains what they did.
 
+use crate::common::{
+    GET, POST, SERVER, asks, counts, delivers, event, exchanges, happens, has, request, world,
+};
 use osc_ccm::Ccm;
-use osc_model::{Bytes, Code, Draw, ETags, Moment, Path, Peer, Request};
+use osc_model::{Bytes, Peer};
 use osc_run::Actor;
-use osc_scope::Scope;
-use osc_token::{Audience, Claims, InputMaterial};
-use osc_tree::Tree;
-use osc_world::{Event, Holder, Start, What, World};
+use osc_world::{Event, What, World};
 use std::alloc::{AllocError, Global};
 use std::process::Abort;
 use std::test::*;
-
-const SERVER: Peer = Peer {
-    address: [127, 0, 0, 1],
-    port: 5683,
-};
-
-const CLIENT: Peer = Peer {
-    address: [127, 0, 0, 1],
-    port: 7001,
-};
 
 const STRANGER: Peer = Peer {
     address: [127, 0, 0, 1],
     port: 9000,
 };
-
-/// The key that the server shares with the issuer of tokens.
-const KEY: [u8; 16] = *b"@ABCDEFGHIJKLMNO";
-
-const GET: u8 = 1;
-
-const POST: u8 = 2;
-
-fn material(alloc: Global) -> Result<InputMaterial, AllocError> {
-    Ok(InputMaterial {
-        id: Bytes::from_slice(alloc, &[1])?,
-        secret: Bytes::from_slice(alloc, &[1; 16])?,
-        salt: Bytes::new(alloc),
-        id_context: None,
-    })
-}
-
-/// GET and POST on `/log`.
-fn claims(alloc: Global) -> Result<Claims, AllocError> {
-    let audience = Audience::new(alloc, "s")?;
-    let material = material(alloc)?;
-    Ok(Claims {
-        audience,
-        not_before: None,
-        expires: None,
-        material,
-        scope: Bytes::from_slice(alloc, b"\x81\x82\x64/log\x03")?,
-    })
-}
-
-fn holder(alloc: Global) -> Result<Holder, AllocError> {
-    Ok(Holder {
-        at: CLIENT,
-        next_hop: SERVER,
-        claims: claims(alloc)?,
-        iv: [1; 13],
-    })
-}
-
-/// A world without resources, with one client.
-fn world(alloc: Global) -> Result<World, Fail> {
-    let audience = Audience::new(alloc, "s")?;
-    let mut start = Start::new(
-        alloc,
-        Tree::new(alloc),
-        Scope::new(alloc),
-        KEY,
-        audience,
-        SERVER,
-    );
-    let holder = holder(alloc)?;
-    let enrolled = start.enroll::<Ccm<8>>(alloc, holder);
-    let world = start.begin(alloc);
-    enrolled.ok().ok_or("not enrolled")?;
-    Ok(world?)
-}
-
-/// A request of this code on `/log`.
-fn request(alloc: Global, code: u8, payload: &[u8]) -> Result<Request, AllocError> {
-    Ok(Request {
-        code: Code(code),
-        path: Path::from_text(alloc, b"/log")?,
-        format: None,
-        accept: None,
-        if_match: ETags::new(alloc),
-        if_none_match: false,
-        payload: Bytes::from_slice(alloc, payload)?,
-    })
-}
-
-/// The event of this number, which gives its draw.
-fn event(number: u8, what: What) -> Event {
-    Event {
-        moment: Moment::START,
-        draw: Draw([number; 32]),
-        what,
-    }
-}
-
-/// Whether there was memory for what happens.
-fn happens(alloc: Global, world: &mut World, number: u8, what: What) -> bool {
-    let event = event(number, what);
-    let done = world.step::<Ccm<8>>(alloc, &event).is_ok();
-    drop(event);
-    done
-}
-
-fn exchanges(alloc: Global, world: &mut World, number: u8) -> bool {
-    happens(alloc, world, number, What::Exchange { client: 0 })
-}
-
-fn asks(alloc: Global, world: &mut World, number: u8, code: u8, payload: &[u8]) -> bool {
-    match request(alloc, code, payload) {
-        Ok(request) => happens(alloc, world, number, What::Ask { client: 0, request }),
-        Err(_) => false,
-    }
-}
 
 fn lies(alloc: Global, world: &mut World, event: u8, number: u64, text: &[u8]) -> bool {
     match Bytes::from_slice(alloc, text) {
@@ -139,10 +32,6 @@ fn lies(alloc: Global, world: &mut World, event: u8, number: u64, text: &[u8]) -
     }
 }
 
-fn delivers(alloc: Global, world: &mut World, number: u8, datagram: usize) -> bool {
-    happens(alloc, world, number, What::Deliver { datagram })
-}
-
 fn injects(alloc: Global, world: &mut World, number: u8, from: Peer, bytes: &[u8]) -> bool {
     match Bytes::from_slice(alloc, bytes) {
         Ok(bytes) => happens(
@@ -156,47 +45,6 @@ fn injects(alloc: Global, world: &mut World, number: u8, from: Peer, bytes: &[u8
             },
         ),
         Err(_) => false,
-    }
-}
-
-/// How many requests were served, asked and answered.
-fn counts(alloc: Global, world: &World) -> (usize, usize, usize) {
-    (
-        history(alloc, world),
-        asked(alloc, world),
-        accepted(alloc, world),
-    )
-}
-
-fn history(alloc: Global, world: &World) -> usize {
-    match world.history(alloc) {
-        Ok(all) => all.len(),
-        Err(_) => 1000,
-    }
-}
-
-fn asked(alloc: Global, world: &World) -> usize {
-    match world.asked(alloc) {
-        Ok(all) => all.len(),
-        Err(_) => 1000,
-    }
-}
-
-fn accepted(alloc: Global, world: &World) -> usize {
-    match world.accepted(alloc) {
-        Ok(all) => all.len(),
-        Err(_) => 1000,
-    }
-}
-
-/// Whether `/log` has these bytes.
-fn has(alloc: Global, world: &World, bytes: &[u8]) -> bool {
-    match Path::from_text(alloc, b"/log") {
-        Ok(Some(path)) => match world.tree().get(&path) {
-            Some(resource) => resource.payload.as_slice() == bytes,
-            None => false,
-        },
-        _ => false,
     }
 }
 

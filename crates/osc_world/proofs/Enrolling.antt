@@ -14,6 +14,7 @@ use Rattle.osc_world.specs.Nodes.{NodeStates}
 use Rattle.osc_world.specs.Starts.{AreEnrolled, Beginning, Enrols, IsEnrolled}
 use Rattle.osc_world.specs.Worlds.{run_with}
 use Rattle.osc_world.specs.declared.nodes.Placed.{Placed}
+use Rattle.osc_world.specs.declared.nodes.PlacedProxy.{PlacedProxy}
 use Rattle.osc_world.specs.declared.start.Holder.{Holder}
 
 -- ---- one more at the end of a list
@@ -80,22 +81,22 @@ enrolled_more is_sealing key holder minted clients one placed old is text = reco
         (at_end clients placed p number there)
 
 pub enrols : (is_sealing : List ℕ → List ℕ → List ℕ → List ℕ → List ℕ → Type 0) (self : Beginning) (first : Tree) (open_scope : Scope) (key audience : List ℕ) (server_at : Peer)
-    (minted minted' : List Minted) (clients clients' : List Placed) (holder : Holder) (one : Minted) (placed : Placed)
-    → record { first = first; open_scope = open_scope; key = key; audience = audience; server_at = server_at; minted = minted; clients = clients } ≡ self
+    (minted minted' : List Minted) (clients clients' : List Placed) (proxies : List PlacedProxy) (holder : Holder) (one : Minted) (placed : Placed)
+    → record { first = first; open_scope = open_scope; key = key; audience = audience; server_at = server_at; minted = minted; clients = clients; proxies = proxies } ≡ self
     → IsEnrolled is_sealing key (length clients) holder one placed
     → minted' ≡ minted ++ one ∷ [] → clients' ≡ clients ++ placed ∷ []
     → Enrols is_sealing self holder
-    (record { first = first; open_scope = open_scope; key = key; audience = audience; server_at = server_at; minted = minted'; clients = clients' })
-enrols is_sealing self first open_scope key audience server_at minted minted' clients clients' holder one placed is enrolled more_minted more_clients =
+    (record { first = first; open_scope = open_scope; key = key; audience = audience; server_at = server_at; minted = minted'; clients = clients'; proxies = proxies })
+enrols is_sealing self first open_scope key audience server_at minted minted' clients clients' proxies holder one placed is enrolled more_minted more_clients =
     subst
     (λ s. Enrols is_sealing s holder
-    (record { first = first; open_scope = open_scope; key = key; audience = audience; server_at = server_at; minted = minted'; clients = clients' }))
+    (record { first = first; open_scope = open_scope; key = key; audience = audience; server_at = server_at; minted = minted'; clients = clients'; proxies = proxies }))
     is
     (record {
       minted = one;
       placed = placed;
       enrolled = enrolled;
-      is = λ j. record { first = first; open_scope = open_scope; key = key; audience = audience; server_at = server_at; minted = more_minted j; clients = more_clients j };
+      is = λ j. record { first = first; open_scope = open_scope; key = key; audience = audience; server_at = server_at; minted = more_minted j; clients = more_clients j; proxies = proxies };
     })
 
 -- ---- the start

@@ -5,14 +5,14 @@ use Rattle.std.proofs.lemmas.List.{map-set}
 use Rattle.std.proofs.lemmas.Option.{slice_get-map}
 use Rattle.osc_model.specs.Tree.{Tree}
 use Rattle.osc_model.specs.declared.node.Moment.{Moment}
-use Rattle.osc_run.specs.Notes.{Noted, by_server, by_client}
-use Rattle.osc_run.specs.Runs.{IsReached, WorldStep, OfServer as ByTheServer, OfClient as ByTheClient, Skipped}
+use Rattle.osc_run.specs.Notes.{Noted, by_server, by_client, by_proxy}
+use Rattle.osc_run.specs.Runs.{IsReached, WorldStep, OfServer as ByTheServer, OfClient as ByTheClient, OfProxy as ByTheProxy, Skipped}
 use Rattle.osc_run.specs.States.{ClientState, Minted, WorldState}
 use Rattle.osc_server.specs.State.{core as core_of_server}
 use Rattle.osc_client.specs.State.{core as core_of_client}
 use Rattle.osc_world.specs.Log.{LogState, IsKept, delivered, sent_by, steps_with, recorded}
 use Rattle.osc_world.specs.Nodes.{NodeStates, whose_step}
-use Rattle.osc_world.specs.Steps.{IsSkip, IsStep, OfNobody, OfServer, OfClient, Skips, Stays, Takes}
+use Rattle.osc_world.specs.Steps.{IsSkip, IsStep, OfNobody, OfServer, OfClient, OfProxy, Skips, Stays, Takes}
 use Rattle.osc_world.specs.Worlds.{State, Happens, Happen, run_with, world_of}
 use Rattle.osc_world.specs.declared.event.Event.{Event}
 use Rattle.osc_world.specs.declared.log.Record.{Record}
@@ -46,6 +46,12 @@ goes_on minted first old new steps now taken (OfClient number lied before after 
     kind
     (λ j. record (run_with minted first old steps) { clients = map-set core_of old.clients number after j; notes = by_client number lied step.notes ∷ steps }))
     reached))
+goes_on minted first old new steps now taken (OfProxy number before after step there kind took is) reached =
+    subst (λ t. IsReached (run_with minted first new (steps_with t steps))) (sym took)
+    (subst (λ n. IsReached (run_with minted first n (by_proxy number step.notes ∷ steps))) (sym is)
+    (leads (run_with minted first old steps)
+    (run_with minted first (record old { proxies = slice_set old.proxies number after }) (by_proxy number step.notes ∷ steps))
+    (ByTheProxy number step.notes kind refl) reached))
 
 pub reached_after : (minted : List Minted) (first : Tree) (old new : NodeStates) (steps same later : List Noted) (now : Moment) (taken : Option Taken)
     → IsStep now old taken new → same ≡ steps → later ≡ steps_with taken same

@@ -3,6 +3,7 @@ pub mod Log
 pub mod Steps
 pub mod Worlds
 pub mod Claims
+pub mod Starting
 pub mod Starts
 pub mod Quiet
 pub mod Errors

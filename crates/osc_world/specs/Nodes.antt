@@ -11,31 +11,40 @@ use Rattle.osc_world.specs.declared.event.What.{What}
 use Rattle.osc_world.specs.declared.event.What.TheVariants.{Exchange, Ask, Lie, Tick, Restart, Deliver, Inject}
 use Rattle.osc_world.specs.declared.log.Sent.{Sent}
 use Rattle.osc_world.specs.declared.nodes.Placed.{Placed}
+use Rattle.osc_world.specs.declared.nodes.PlacedProxy.{PlacedProxy}
 use Rattle.osc_world.specs.declared.nodes.Whose.{Whose}
 use Rattle.osc_world.specs.declared.nodes.Whose.TheVariants as whose
 
--- the server, where it stands, and the clients, each with where it stands
+-- the server, where it stands, and the clients and the proxies, each with where it stands
 pub record NodeStates : Type 0 where
   pub server_at : Peer
   pub server : Server
   pub clients : List Placed
+  pub proxies : List PlacedProxy
 
 -- ---- whose step an event is
 
--- the client of this number, if one was found
-abbrev pub found : Option ℕ → Whose
-found None = whose.Nobody
-found (Some number) = whose.Client number
+-- the client of this number, if one was found, or else the proxy of that number
+abbrev pub found : Option ℕ → Option ℕ → Whose
+found None None = whose.Nobody
+found None (Some number) = whose.Proxy number
+found (Some number) proxy = whose.Client number
 
--- who stands there: the server, or the first client that does
+abbrev pub client_at : List Placed → Peer → Option ℕ
+client_at clients at = position (λ placed. same_peer placed.at at) clients
+
+abbrev pub proxy_at : List PlacedProxy → Peer → Option ℕ
+proxy_at proxies at = position (λ placed. same_peer placed.at at) proxies
+
+-- who stands there: the server, or the first client that does, or the first proxy
 abbrev pub node_at : NodeStates → Peer → Whose
-node_at nodes at = if same_peer nodes.server_at at then whose.Server else found (position (λ placed. same_peer placed.at at) nodes.clients)
+node_at nodes at = if same_peer nodes.server_at at then whose.Server else found (client_at nodes.clients at) (proxy_at nodes.proxies at)
 
--- the node of this name; a world has no proxies
+-- the node of this name
 abbrev pub node_of : Actor → Whose
 node_of actor.Server = whose.Server
 node_of (actor.Client number) = whose.Client number
-node_of (actor.Proxy number) = whose.Nobody
+node_of (actor.Proxy number) = whose.Proxy number
 
 -- a datagram is heard by whom it was sent to
 abbrev pub hearer : NodeStates → Option Sent → Whose

@@ -15,13 +15,16 @@ use Rattle.osc_message.specs.Endpoint.{fresh}
 use Rattle.osc_run.specs.Runs.{IsNewClient, IsTextOf}
 use Rattle.osc_run.specs.States.{Minted}
 use Rattle.osc_client.specs.State.{core}
+use Rattle.osc_proxy.specs.Exchanges.{none_open}
+use Rattle.osc_proxy.specs.declared.targets.Target.{Target}
 use Rattle.osc_world.specs.Nodes.{NodeStates}
 use Rattle.osc_world.specs.Worlds.{State}
 use Rattle.osc_world.specs.declared.nodes.Placed.{Placed}
+use Rattle.osc_world.specs.declared.nodes.PlacedProxy.{PlacedProxy}
 use Rattle.osc_world.specs.declared.start.Holder.{Holder}
 
 -- the resources; what needs no protection; the key of tokens, and for whom they are; where the server stands; the grants with the
--- texts of their tokens; and the clients, each with where it stands
+-- texts of their tokens; and the clients and the proxies, each with where it stands
 pub record Beginning : Type 0 where
   pub first : Tree
   pub open_scope : Scope
@@ -30,6 +33,7 @@ pub record Beginning : Type 0 where
   pub server_at : Peer
   pub minted : List Minted
   pub clients : List Placed
+  pub proxies : List PlacedProxy
 
 -- each text is that of its grant, and each client holds one and did nothing yet
 pub record AreEnrolled (minted : List Minted) (clients : List Placed) : Type 0 where
@@ -61,10 +65,11 @@ pub record IsDeskOf (material : InputMaterial) (token : List ℕ) (desk : Client
   pub salt : desk.salt ≡ material.salt
   pub id_context : desk.id_context ≡ material.id_context
 
--- a client that stands there, with this token, with no context, waiting for nothing, and having heard nothing
+-- a client that stands there and reaches its server that way, with this token, with no context, waiting for nothing, and having heard nothing
 pub record IsPlaced (holder : Holder) (token : List ℕ) (placed : Placed) : Type 0 where
   pub at : placed.at ≡ holder.at
-  pub next_hop : placed.client.next_hop ≡ holder.next_hop
+  pub next_hop : placed.client.next_hop ≡ holder.way.next_hop
+  pub origin : placed.client.origin ≡ holder.way.origin
   pub desk : IsDeskOf holder.claims.material token placed.client.desk
   pub context : placed.client.context ≡ None
   pub waiting : placed.client.waiting ≡ None
@@ -87,6 +92,12 @@ module _ (is_sealing : List ℕ → List ℕ → List ℕ → List ℕ → List 
     pub enrolled : IsEnrolled old.key (length old.clients) holder minted placed
     pub is : new ≡ record old { minted = old.minted ++ minted ∷ []; clients = old.clients ++ placed ∷ [] }
 
+-- ---- a proxy is added
+
+-- a proxy that stands there and forwards to these targets; it has heard nothing, and no exchange is open
+abbrev pub new_proxy : Peer → List Target → PlacedProxy
+new_proxy at targets = record { at = at; proxy = record { targets = targets; exchanges = none_open; endpoint = fresh } }
+
 -- ---- the world that begins so
 
 -- the server heard nothing and holds no context
@@ -100,6 +111,7 @@ first_nodes start = record {
     endpoint = fresh;
   };
   clients = start.clients;
+  proxies = start.proxies;
 }
 
 abbrev pub begun : Beginning → State

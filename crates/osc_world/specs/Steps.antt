@@ -1,5 +1,5 @@
 -- The step that a node takes at an event.
-use Rattle.std.specs.Prelude.{◌≡◌, ℕ, ◌≤◌, ◌<◌, Bool, true, false, ◌==◌, if◌then◌else◌, List, [], length, Option, Some, None, slice_get, slice_set}
+use Rattle.std.specs.Prelude.{◌≡◌, ℕ, ◌+◌, ◌≤◌, ◌<◌, Bool, true, false, ◌==◌, if◌then◌else◌, List, [], length, Option, Some, None, slice_get, slice_set}
 use Rattle.osc_model.specs.Step.{sends}
 use Rattle.osc_model.specs.declared.node.Draw.{Draw}
 use Rattle.osc_model.specs.declared.node.Moment.{Moment}
@@ -12,7 +12,8 @@ use Rattle.osc_message.specs.Heard.{heard}
 use Rattle.osc_message.specs.Received.{Receives}
 use Rattle.osc_message.specs.declared.received.Received.{Received}
 use Rattle.osc_run.specs.ClientKinds.{ClientStep, IsSkipped}
-use Rattle.osc_run.specs.Notes.{by_server, by_client}
+use Rattle.osc_run.specs.Notes.{by_server, by_client, by_proxy}
+use Rattle.osc_run.specs.ProxyKinds.{ProxyStep}
 use Rattle.osc_run.specs.ServerKinds.{ServerStep}
 use Rattle.osc_server.specs.Case.{case_of as server_case}
 use Rattle.osc_server.specs.State.{State as Server, core as core_of_server}
@@ -22,12 +23,19 @@ use Rattle.osc_client.specs.Lying.{Lies}
 use Rattle.osc_client.specs.Sending.{Asks, Exchanges, Ticks as ClientTicks, restarted}
 use Rattle.osc_client.specs.State.{State as Client, core as core_of_client}
 use Rattle.osc_client.specs.Table.{Answers as ClientAnswers}
+use Rattle.osc_proxy.specs.Case.{NamesIn, case_of as proxy_case}
+use Rattle.osc_proxy.specs.Exchanges.{count}
+use Rattle.osc_proxy.specs.ProxyUri.{HostAndPort}
+use Rattle.osc_proxy.specs.State.{State as Proxy, restarted as proxy_again}
+use Rattle.osc_proxy.specs.Table.{Answers as ProxyAnswers}
+use Rattle.osc_proxy.specs.Ticks.{Ticks as ProxyTicks}
 use Rattle.osc_world.specs.Nodes.{NodeStates}
 use Rattle.osc_world.specs.declared.event.Event.{Event}
 use Rattle.osc_world.specs.declared.event.What.{What}
 use Rattle.osc_world.specs.declared.event.What.TheVariants.{Exchange, Ask, Lie, Tick, Restart, Deliver, Inject}
 use Rattle.osc_world.specs.declared.log.Sent.{Sent}
 use Rattle.osc_world.specs.declared.nodes.Placed.{Placed}
+use Rattle.osc_world.specs.declared.nodes.PlacedProxy.{PlacedProxy}
 use Rattle.osc_world.specs.declared.nodes.Taken.{Taken}
 use Rattle.osc_world.specs.declared.nodes.Whose.{Whose}
 use Rattle.osc_world.specs.declared.nodes.Whose.TheVariants as whose
@@ -42,9 +50,18 @@ abbrev pub most_of : Option Placed → ℕ
 most_of None = 0
 most_of (Some placed) = one_or (length placed.client.endpoint.sending)
 
+-- two, and at a proxy's tick one for each message and each exchange that is open
+abbrev pub most_of_proxy : Proxy → ℕ
+most_of_proxy proxy = length proxy.endpoint.sending + count proxy.exchanges + 2
+
+abbrev pub most_of_placed : Option PlacedProxy → ℕ
+most_of_placed None = 0
+most_of_placed (Some placed) = most_of_proxy placed.proxy
+
 abbrev pub most_sent : NodeStates → Whose → ℕ
 most_sent nodes whose.Server = 1
 most_sent nodes (whose.Client number) = most_of (slice_get nodes.clients number)
+most_sent nodes (whose.Proxy number) = most_of_placed (slice_get nodes.proxies number)
 most_sent nodes whose.Nobody = 0
 
 -- ---- what a node does
@@ -72,6 +89,50 @@ pub record ServerTicks (old : Server) (now : Moment) (step : Step) (new : Server
 -- the server forgets its contexts and what it heard
 abbrev pub server_again : Server → Server
 server_again old = record old { desk = record old.desk { table = [] }; endpoint = fresh }
+
+-- ---- what a proxy does, which seals and opens nothing
+
+-- these bytes come to it from this address
+pub record ProxyHears (old : Proxy) (now : Moment) (draw : Draw) (from : Peer) (bytes : List ℕ) (step : Step) (new : Proxy) : Type 0 where
+  pub received : Received
+  pub receives : Receives bytes received
+  pub named : Option HostAndPort
+  pub names : NamesIn (heard old.endpoint.seen now from received) named
+  pub answers : ProxyAnswers old now from draw (proxy_case old.targets old.exchanges from named (heard old.endpoint.seen now from received)) step new
+
+-- a datagram that was sent comes to it; what was never sent doesn't come
+abbrev pub ProxyGets : Proxy → Moment → Draw → Option Sent → Step → Proxy → Type 0
+ProxyGets old now draw None step new = Idles old step new
+ProxyGets old now draw (Some datagram) step new = ProxyHears old now draw datagram.from datagram.bytes step new
+
+-- where the event is its own
+abbrev pub ProxyDoes : Proxy → Moment → Draw → List Sent → What → Step → Proxy → Type 0
+ProxyDoes old now draw sent (Exchange client) step new = Idles old step new
+ProxyDoes old now draw sent (Ask client request) step new = Idles old step new
+ProxyDoes old now draw sent (Lie client number text) step new = Idles old step new
+ProxyDoes old now draw sent (Tick node) step new = ProxyTicks old now draw step new
+ProxyDoes old now draw sent (Restart node) step new = StartsAgain (proxy_again old) step new
+ProxyDoes old now draw sent (Deliver datagram) step new = ProxyGets old now draw (slice_get sent datagram) step new
+ProxyDoes old now draw sent (Inject from to bytes) step new = ProxyHears old now draw from bytes step new
+
+-- nobody takes a step
+pub record NobodyTakes (old : NodeStates) (taken : Option Taken) (new : NodeStates) : Type 0 where
+  pub taken_is : taken ≡ None
+  pub is : new ≡ old
+
+-- this proxy, of this number, takes a step
+pub record ProxyTakes (old : NodeStates) (number : ℕ) (placed : PlacedProxy) (sent : List Sent) (event : Event) (taken : Option Taken) (new : NodeStates) : Type 0 where
+  pub step : Step
+  pub proxy : Proxy
+  pub does : ProxyDoes placed.proxy event.moment event.draw sent event.what step proxy
+  pub taken_is : taken ≡ Some (record { at = placed.at; noted = by_proxy number step.notes; out = step.out })
+  pub is : new ≡ record old { proxies = slice_set old.proxies number (record placed { proxy = proxy }) }
+
+abbrev pub TakesOfProxy : NodeStates → ℕ → Option PlacedProxy → List Sent → Event → Option Taken → NodeStates → Type 0
+TakesOfProxy old number None sent event taken new = NobodyTakes old taken new
+TakesOfProxy old number (Some placed) sent event taken new = ProxyTakes old number placed sent event taken new
+
+-- ---- what the server and a client do
 
 -- `is_sealing key nonce aad text sealed` is the cipher's relation, and `tag` how long its tag is
 module _ (is_sealing : List ℕ → List ℕ → List ℕ → List ℕ → List ℕ → Type 0) (tag : ℕ) where
@@ -144,11 +205,6 @@ module _ (is_sealing : List ℕ → List ℕ → List ℕ → List ℕ → List 
     pub taken_is : taken ≡ Some (record { at = placed.at; noted = by_client number (is_lie event.what) step.notes; out = step.out })
     pub is : new ≡ record old { clients = slice_set old.clients number (record placed { client = client }) }
 
-  -- nobody does
-  pub record NobodyTakes (old : NodeStates) (taken : Option Taken) (new : NodeStates) : Type 0 where
-    pub taken_is : taken ≡ None
-    pub is : new ≡ old
-
   abbrev pub TakesOf : NodeStates → ℕ → Option Placed → List Sent → Event → Option Taken → NodeStates → Type 0
   TakesOf old number None sent event taken new = NobodyTakes old taken new
   TakesOf old number (Some placed) sent event taken new = ClientTakes old number placed sent event taken new
@@ -156,11 +212,12 @@ module _ (is_sealing : List ℕ → List ℕ → List ℕ → List ℕ → List 
   abbrev pub Takes : NodeStates → Whose → List Sent → Event → Option Taken → NodeStates → Type 0
   Takes old whose.Server sent event taken new = ServerTakes old sent event taken new
   Takes old (whose.Client number) sent event taken new = TakesOf old number (slice_get old.clients number) sent event taken new
+  Takes old (whose.Proxy number) sent event taken new = TakesOfProxy old number (slice_get old.proxies number) sent event taken new
   Takes old whose.Nobody sent event taken new = NobodyTakes old taken new
 
 -- ---- of which kind the step is
 
--- A step of a run: the server's, a client's, or none.
+-- A step of a run: the server's, a client's, a proxy's, or none.
 pub data IsStep (now : Moment) (old : NodeStates) (taken : Option Taken) (new : NodeStates) : Type 0 where
   OfNobody : taken ≡ None → new ≡ old → IsStep now old taken new
   OfServer : (step : Step) (server : Server) → ServerStep (core_of_server old.server) now step.notes (core_of_server server)
@@ -171,6 +228,11 @@ pub data IsStep (now : Moment) (old : NodeStates) (taken : Option Taken) (new : 
       → ClientStep lied (core_of_client before.client) step.notes (core_of_client after.client)
       → taken ≡ Some (record { at = before.at; noted = by_client number lied step.notes; out = step.out })
       → new ≡ record old { clients = slice_set old.clients number after }
+      → IsStep now old taken new
+  OfProxy : (number : ℕ) (before after : PlacedProxy) (step : Step) → slice_get old.proxies number ≡ Some before
+      → ProxyStep step.notes
+      → taken ≡ Some (record { at = before.at; noted = by_proxy number step.notes; out = step.out })
+      → new ≡ record old { proxies = slice_set old.proxies number after }
       → IsStep now old taken new
 
 -- Between events nothing changes, or the next number of one client is raised.

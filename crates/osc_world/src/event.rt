@@ -6,8 +6,8 @@ ghost use Rattle.osc_world.specs.Steps.{is_lie};
 use osc_model::{Bytes, Draw, Moment, Peer, Request};
 use osc_run::Actor;
 
-/// What happens. Clients are named by their numbers, from 0, in the order in which they were enrolled; datagrams by theirs, from 0, in
-/// the order in which they were sent.
+/// What happens. Clients are named by their numbers, from 0, in the order in which they were enrolled; proxies by theirs, from 0, in
+/// the order in which they were added; datagrams by theirs, from 0, in the order in which they were sent.
 #[derive(Drop)]
 pub enum What {
     /// The client begins an exchange.

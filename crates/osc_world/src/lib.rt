@@ -1,5 +1,5 @@
-//! A world: a server, its clients, and a network that delivers any datagram ever sent, to whom it was sent, again and in any order,
-//! and forges others. What it keeps of its steps is a run, so what holds of every run holds of every world.
+//! A world: a server, its clients and proxies, and a network that delivers any datagram ever sent, to whom it was sent, again and in
+//! any order, and forges others. What it keeps of its steps is a run, so what holds of every run holds of every world.
 #![tactic(auto)]
 
 mod draws;
@@ -14,5 +14,6 @@ pub use draws::Draws;
 pub use error::EnrollError;
 pub use event::{Event, What};
 pub use log::{Record, Sent};
-pub use start::{Holder, Start};
+pub use nodes::{Placed, PlacedProxy};
+pub use start::{Holder, Parts, Start};
 pub use world::World;

@@ -1,15 +1,15 @@
 //! The nodes of a world, and the step that one of them takes at an event.
 ghost use Rattle.std.specs.Prelude.{◌≡◌, ◌≤◌, [], IfOk, OnErr, false, true, length, option_map, position, slice_get};
 ghost use Rattle.osc_model.specs.Step.{sends};
-ghost use Rattle.osc_message.specs.Confirmables.{same_peer};
+ghost use Rattle.osc_model.specs.StepNotes.{quiet};
 ghost use Rattle.osc_client.specs.Sending.{Ticks as ClientTicks};
 ghost use Rattle.osc_client.specs.State.{core as core_of_client};
 ghost use Rattle.osc_run.specs.ClientKinds.{ClientStep};
 ghost use Rattle.osc_run.specs.ServerKinds.{ServerStep};
 ghost use Rattle.osc_server.specs.State.{core as core_of_server};
 ghost use Rattle.osc_world.specs.Log.{sent_by};
-ghost use Rattle.osc_world.specs.Nodes.{found, node_at, node_of, skipped, whose_step};
-ghost use Rattle.osc_world.specs.Steps.{AsksFor, ClientDoes, ClientGets, ClientHears, IsStep, ServerDoes, ServerGets, ServerHears, ServerTakes, Takes, TakesOf, IsSkip, LiesAt, is_lie, most_of, most_sent, one_or};
+ghost use Rattle.osc_world.specs.Nodes.{client_at, found, node_at, node_of, proxy_at, skipped, whose_step};
+ghost use Rattle.osc_world.specs.Steps.{AsksFor, ClientDoes, ClientGets, ClientHears, IsStep, ProxyDoes, ProxyGets, ProxyHears, ServerDoes, ServerGets, ServerHears, ServerTakes, Takes, TakesOf, TakesOfProxy, IsSkip, LiesAt, is_lie, most_of, most_of_placed, most_of_proxy, most_sent, one_or};
 
 use crate::event::{Event, What};
 use crate::log::Sent;
@@ -18,6 +18,7 @@ use osc_client::Client;
 use osc_context::NUMBER_LIMIT;
 use osc_message::laws::ticks_send_few;
 use osc_model::{Datagrams, Draw, Moment, Peer, Request, Step};
+use osc_proxy::Proxy;
 use osc_run::{Actor, Noted};
 use osc_server::Server;
 use std::alloc::{AllocError, Global};
@@ -25,11 +26,20 @@ use std::marker::Model;
 
 /// A client, and where it stands.
 #[derive(Drop)]
-pub(crate) struct Placed {
+pub struct Placed {
     /// Its address.
     pub at: Peer,
     /// The client.
     pub client: Client,
+}
+
+/// A proxy, and where it stands.
+#[derive(Drop)]
+pub struct PlacedProxy {
+    /// Its address.
+    pub at: Peer,
+    /// The proxy.
+    pub proxy: Proxy,
 }
 
 /// Whose step an event is.
@@ -39,6 +49,8 @@ pub(crate) enum Whose {
     Server,
     /// That of the client of this number, if there is one.
     Client(usize),
+    /// That of the proxy of this number, if there is one.
+    Proxy(usize),
     /// Nobody's.
     Nobody,
 }
@@ -54,12 +66,13 @@ pub(crate) struct Taken {
     pub out: Datagrams,
 }
 
-/// The server, where it stands, and the clients.
+/// The server, where it stands, and the clients and the proxies.
 #[derive(Drop)]
 pub(crate) struct Nodes {
     server_at: Peer,
     server: Server,
     clients: Vec<Placed>,
+    proxies: Vec<PlacedProxy>,
 }
 
 impl Model for Nodes {
@@ -72,7 +85,7 @@ impl Model for Nodes {
 
     ghost coded = { Prim.hlevel (codes, coded_scope, coded_tree) };
 
-    ghost view = { λ n. record { server_at = n.server_at; server = n.server; clients = n.clients.items } };
+    ghost view = { λ n. record { server_at = n.server_at; server = n.server; clients = n.clients.items; proxies = n.proxies.items } };
 }
 
 /// A step that does nothing; takes no memory.
@@ -83,19 +96,27 @@ fn idle(alloc: Global) -> Step
 }
 
 /// The number of the first client that stands there.
-fn first_at(clients: &[Placed], at: Peer) -> Option<usize>
-    ensures { result ≡ position (λ placed. same_peer placed.at at) clients.now }
+fn client_at(clients: &[Placed], at: Peer) -> Option<usize>
+    ensures { result ≡ client_at clients.now at }
 {
     clients.iter().position(|placed| placed.at == at)
 }
 
-/// The client of this number, if one was found.
-fn found(number: Option<usize>) -> Whose
-    ensures { result ≡ found number }
+/// The number of the first proxy that stands there.
+fn proxy_at(proxies: &[PlacedProxy], at: Peer) -> Option<usize>
+    ensures { result ≡ proxy_at proxies.now at }
 {
-    match number {
-        Some(number) => Whose::Client(number),
-        None => Whose::Nobody,
+    proxies.iter().position(|placed| placed.at == at)
+}
+
+/// The client of this number, if one was found, or else the proxy of that number.
+fn found(client: Option<usize>, proxy: Option<usize>) -> Whose
+    ensures { result ≡ found client proxy }
+{
+    match (client, proxy) {
+        (Some(number), _) => Whose::Client(number),
+        (None, Some(number)) => Whose::Proxy(number),
+        (None, None) => Whose::Nobody,
     }
 }
 
@@ -106,7 +127,7 @@ fn node_of(node: Actor) -> Whose
     match node {
         Actor::Server => Whose::Server,
         Actor::Client(number) => Whose::Client(number),
-        Actor::Proxy(_) => Whose::Nobody,
+        Actor::Proxy(number) => Whose::Proxy(number),
     }
 }
 
@@ -223,15 +244,94 @@ fn client_does<A: Aead>(
     }
 }
 
+/// What a proxy does at an event that is its own.
+fn proxy_does(
+    alloc: Global,
+    proxy: &mut Proxy,
+    event: &Event,
+    sent: &[Sent],
+) -> Result<Step, AllocError>
+    ensures does { IfOk result (λ step. ProxyDoes proxy.old event.now.moment event.now.draw sent.now event.now.what step proxy.new) }
+    ensures silent { IfOk result (λ step. step.notes ≡ quiet) }
+    ensures few { IfOk result (λ step. length step.out ≤ most_of_proxy proxy.old) }
+    ensures err { OnErr result (proxy.new ≡ proxy.old) }
+{
+    match &event.what {
+        What::Exchange { .. } => Ok(idle(alloc)),
+        What::Ask { .. } => Ok(idle(alloc)),
+        What::Lie { .. } => Ok(idle(alloc)),
+        What::Tick { .. } => proxy.on_tick(alloc, event.moment, &event.draw),
+        What::Restart { .. } => {
+            proxy.restart();
+            Ok(idle(alloc))
+        }
+        What::Deliver { datagram } => {
+            proxy_gets(alloc, proxy, event.moment, &event.draw, sent.get(*datagram))
+        }
+        What::Inject { from, bytes, .. } => {
+            proxy_hears(
+                alloc,
+                proxy,
+                event.moment,
+                &event.draw,
+                *from,
+                bytes.as_slice(),
+            )
+        }
+    }
+}
+
+/// A datagram that was sent comes to the proxy.
+fn proxy_gets(
+    alloc: Global,
+    proxy: &mut Proxy,
+    now: Moment,
+    draw: &Draw,
+    datagram: Option<&Sent>,
+) -> Result<Step, AllocError>
+    ensures gets { IfOk result (λ step. ProxyGets proxy.old now draw.now (option_map (λ d. d.now) datagram.entry) step proxy.new) }
+    ensures silent { IfOk result (λ step. step.notes ≡ quiet) }
+    ensures few { IfOk result (λ step. length step.out ≤ 2) }
+    ensures err { OnErr result (proxy.new ≡ proxy.old) }
+{
+    match datagram {
+        Some(sent) => proxy_hears(alloc, proxy, now, draw, sent.from, sent.bytes.as_slice()),
+        None => Ok(idle(alloc)),
+    }
+}
+
+/// These bytes come to the proxy from this address.
+fn proxy_hears(
+    alloc: Global,
+    proxy: &mut Proxy,
+    now: Moment,
+    draw: &Draw,
+    from: Peer,
+    bytes: &[u8],
+) -> Result<Step, AllocError>
+    ensures hears { IfOk result (λ step. ProxyHears proxy.old now draw.now from bytes.now step proxy.new) }
+    ensures silent { IfOk result (λ step. step.notes ≡ quiet) }
+    ensures few { IfOk result (λ step. length step.out ≤ 2) }
+    ensures err { OnErr result (proxy.new ≡ proxy.old) }
+{
+    proxy.on_datagram(alloc, now, from, bytes, draw)
+}
+
 impl Nodes {
     /// These nodes.
-    pub fn new(server_at: Peer, server: Server, clients: Vec<Placed>) -> Nodes
-        ensures { result ≡ record { server_at = server_at; server = server; clients = clients.items } }
+    pub fn new(
+        server_at: Peer,
+        server: Server,
+        clients: Vec<Placed>,
+        proxies: Vec<PlacedProxy>,
+    ) -> Nodes
+        ensures { result ≡ record { server_at = server_at; server = server; clients = clients.items; proxies = proxies.items } }
     {
         Nodes {
             server_at,
             server,
             clients,
+            proxies,
         }
     }
 
@@ -249,7 +349,7 @@ impl Nodes {
         if self.server_at == at {
             return Whose::Server;
         }
-        found(first_at(&self.clients, at))
+        found(client_at(&self.clients, at), proxy_at(&self.proxies, at))
     }
 
     /// Whose step an event is.
@@ -272,14 +372,15 @@ impl Nodes {
         }
     }
 
-    /// How many datagrams a step of this node sends at most.
-    pub fn most_sent(&self, whose: Whose) -> usize
-        ensures { result ≡ most_sent self.now whose }
+    /// How many datagrams a step of this node sends at most. For more than there are numbers no memory is enough.
+    pub fn most_sent(&self, whose: Whose) -> Result<usize, AllocError>
+        ensures { IfOk result (λ most. most ≡ most_sent self.now whose) }
     {
         match whose {
-            Whose::Server => 1,
-            Whose::Client(number) => most_of(self.clients.get(number)),
-            Whose::Nobody => 0,
+            Whose::Server => Ok(1),
+            Whose::Client(number) => Ok(most_of(self.clients.get(number))),
+            Whose::Proxy(number) => most_of_placed(self.proxies.get(number)),
+            Whose::Nobody => Ok(0),
         }
     }
 
@@ -299,6 +400,7 @@ impl Nodes {
         match whose {
             Whose::Server => self.server_takes::<A>(alloc, event, sent),
             Whose::Client(number) => self.client_takes::<A>(alloc, number, event, sent),
+            Whose::Proxy(number) => self.proxy_takes(alloc, number, event, sent),
             Whose::Nobody => Ok(None),
         }
     }
@@ -358,6 +460,30 @@ impl Nodes {
             out: step.out,
         }))
     }
+
+    /// The step of the proxy of this number, if there is one.
+    fn proxy_takes(
+        &mut self,
+        alloc: Global,
+        number: usize,
+        event: &Event,
+        sent: &[Sent],
+    ) -> Result<Option<Taken>, AllocError>
+        ensures takes { IfOk result (λ taken. TakesOfProxy self.old number (slice_get self.old.proxies number) sent.now event.now taken self.new) }
+        ensures step { IfOk result (λ taken. IsStep event.now.moment self.old taken self.new) }
+        ensures few { IfOk result (λ taken. length (sent_by taken) ≤ most_of_placed (slice_get self.old.proxies number)) }
+        ensures err { OnErr result (self.new ≡ self.old) }
+    {
+        let Some(placed) = self.proxies.get_mut(number) else {
+            return Ok(None);
+        };
+        let step = proxy_does(alloc, &mut placed.proxy, event, sent)?;
+        Ok(Some(Taken {
+            at: placed.at,
+            noted: Noted::by_proxy(number, step.notes),
+            out: step.out,
+        }))
+    }
 }
 
 /// How many datagrams a step of this client sends at most.
@@ -368,6 +494,27 @@ fn most_of(placed: Option<&Placed>) -> usize
         Some(placed) => one_or(placed.client.open_messages()),
         None => 0,
     }
+}
+
+/// How many a step of this proxy sends at most.
+fn most_of_placed(placed: Option<&PlacedProxy>) -> Result<usize, AllocError>
+    ensures { IfOk result (λ most. most ≡ most_of_placed (option_map (λ p. p.now) placed.entry)) }
+{
+    match placed {
+        Some(placed) => most_of_proxy(&placed.proxy),
+        None => Ok(0),
+    }
+}
+
+/// Two, and one for each message and each exchange that is open.
+fn most_of_proxy(proxy: &Proxy) -> Result<usize, AllocError>
+    ensures { IfOk result (λ most. most ≡ most_of_proxy proxy.now) }
+{
+    let open = proxy
+        .open_messages()
+        .checked_add(proxy.open_exchanges())
+        .ok_or(AllocError)?;
+    open.checked_add(2).ok_or(AllocError)
 }
 
 /// One, or one for each message that is open.

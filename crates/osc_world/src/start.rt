@@ -1,5 +1,5 @@
 //! Where a world begins.
-ghost use Rattle.std.specs.Prelude.{◌≡◌, ◌<◌, ◌^◌, ℕ, List, [], IfErr, IfOk, OnErr, OnOk, length};
+ghost use Rattle.std.specs.Prelude.{◌≡◌, ◌<◌, ◌^◌, ◌++◌, ℕ, List, [], ◌∷◌, IfErr, IfOk, OnErr, OnOk, length};
 ghost use Rattle.std.specs.Option.{ForSome};
 ghost use Rattle.osc_cbor.specs.Spelling.{spelling};
 ghost use Rattle.osc_cose.specs.Encrypt0.{enc_structure, object_item};
@@ -8,15 +8,17 @@ ghost use Rattle.osc_scope.specs.Entries.{Entry, IsScope, scope_of};
 ghost use Rattle.osc_token.specs.Minted.{FitTheirTypes};
 ghost use Rattle.osc_token.specs.Token.{algorithm_header, claims_item, token_object};
 ghost use Rattle.osc_world.specs.Refusals.{FitAToken, HasScope, IsLawful, IsRefusal};
-ghost use Rattle.osc_world.specs.Starts.{Enrols, IsDeskOf, IsEnrolled, begun};
+ghost use Rattle.osc_world.specs.Starts.{Enrols, IsDeskOf, IsEnrolled, begun, new_proxy};
+ghost use Rattle.osc_world.specs.Starting.{AreParts};
 
 use crate::error::EnrollError;
-use crate::nodes::{Nodes, Placed};
+use crate::nodes::{Nodes, Placed, PlacedProxy};
 use crate::world::World;
 use osc_authz::{ClientDesk, ServerDesk};
 use osc_ccm::Aead;
-use osc_client::Client;
+use osc_client::{Client, Way};
 use osc_model::{Bytes, Peer};
+use osc_proxy::{Proxy, Targets};
 use osc_run::{Grant, Minted, kinds};
 use osc_scope::Scope;
 use osc_server::Server;
@@ -25,14 +27,14 @@ use osc_tree::Tree;
 use std::alloc::{AllocError, Global};
 use std::marker::Model;
 
-/// A client that is to be enrolled: where it stands, to whom it sends, what its token claims, and the IV under which the token is
+/// A client that is to be enrolled: where it stands, the way to the server, what its token claims, and the IV under which the token is
 /// sealed.
 #[derive(Drop)]
 pub struct Holder {
     /// Its address.
     pub at: Peer,
-    /// To whom it sends.
-    pub next_hop: Peer,
+    /// To whom it sends, and the server behind it where that is a proxy.
+    pub way: Way,
     /// What its token claims.
     pub claims: Claims,
     /// The IV under which its token is sealed; one IV is used for one token alone.
@@ -40,7 +42,7 @@ pub struct Holder {
 }
 
 /// A world before its first event: the resources, what needs no protection, the key that the issuer of tokens and the server share, for
-/// whom tokens are, where the server stands, and the clients that were enrolled.
+/// whom tokens are, where the server stands, the clients that were enrolled, and the proxies that were added.
 #[derive(Drop)]
 pub struct Start {
     first: Tree,
@@ -50,6 +52,21 @@ pub struct Start {
     server_at: Peer,
     minted: Vec<Minted>,
     clients: Vec<Placed>,
+    proxies: Vec<PlacedProxy>,
+}
+
+/// The parts of a world before its first event, for a network that isn't simulated: the grants with the texts of their tokens, and the
+/// nodes.
+#[derive(Drop)]
+pub struct Parts {
+    /// The grants.
+    pub minted: Vec<Minted>,
+    /// The server, which stands where the start said.
+    pub server: Server,
+    /// The clients, in the order in which they were enrolled.
+    pub clients: Vec<Placed>,
+    /// The proxies, in the order in which they were added.
+    pub proxies: Vec<PlacedProxy>,
 }
 
 impl Model for Start {
@@ -72,13 +89,14 @@ impl Model for Start {
       server_at = s.server_at;
       minted = s.minted.items;
       clients = s.clients.items;
+      proxies = s.proxies.items;
     } };
 
     ghost invariant = { λ s. AreEnrolled s.minted.items s.clients.items };
 }
 
 impl Start {
-    /// A world with these resources, and with no client yet; takes no memory.
+    /// A world with these resources, and with no client and no proxy yet; takes no memory.
     pub fn new(
         alloc: Global,
         first: Tree,
@@ -87,7 +105,7 @@ impl Start {
         audience: Audience,
         server_at: Peer,
     ) -> Start
-        ensures { result ≡ record { first = first; open_scope = open_scope; key = key; audience = audience; server_at = server_at; minted = []; clients = [] } }
+        ensures { result ≡ record { first = first; open_scope = open_scope; key = key; audience = audience; server_at = server_at; minted = []; clients = []; proxies = [] } }
     {
         Start {
             first,
@@ -97,6 +115,7 @@ impl Start {
             server_at,
             minted: Vec::new(alloc),
             clients: Vec::new(alloc),
+            proxies: Vec::new(alloc),
         }
     }
 
@@ -122,6 +141,18 @@ impl Start {
         Ok(())
     }
 
+    /// Adds a proxy that stands there and forwards to these targets. Its number is that of the proxies before it. Without memory all
+    /// stays as it was.
+    pub fn add_proxy(&mut self, alloc: Global, at: Peer, targets: Targets) -> Result<(), AllocError>
+        ensures added { OnOk result (self.new ≡ record self.old { proxies = self.old.proxies ++ new_proxy at targets ∷ [] }) }
+        ensures err { OnErr result (self.new ≡ self.old) }
+    {
+        self.proxies.reserve(1)?;
+        let proxy = Proxy::new(alloc, targets)?;
+        self.proxies.push_reserved(PlacedProxy { at, proxy });
+        Ok(())
+    }
+
     /// The world that begins so. Nothing was sent, and nothing happened yet.
     pub fn begin(self, alloc: Global) -> Result<World, AllocError>
         ensures { IfOk result (λ world. world ≡ begun self) }
@@ -134,10 +165,36 @@ impl Start {
             server_at,
             minted,
             clients,
+            proxies,
         } = self;
         let desk = ServerDesk::new(alloc, key, audience);
         let server = Server::new(alloc, first.copy(alloc)?, desk, open_scope)?;
-        Ok(World::begun(alloc, minted, first, Nodes::new(server_at, server, clients)))
+        let nodes = Nodes::new(server_at, server, clients, proxies);
+        Ok(World::begun(alloc, minted, first, nodes))
+    }
+
+    /// The nodes of the world that begins so, and the grants.
+    pub fn into_parts(self, alloc: Global) -> Result<Parts, AllocError>
+        ensures { IfOk result (λ parts. AreParts self parts) }
+    {
+        let Start {
+            first,
+            open_scope,
+            key,
+            audience,
+            minted,
+            clients,
+            proxies,
+            ..
+        } = self;
+        let desk = ServerDesk::new(alloc, key, audience);
+        let server = Server::new(alloc, first, desk, open_scope)?;
+        Ok(Parts {
+            minted,
+            server,
+            clients,
+            proxies,
+        })
     }
 }
 
@@ -157,7 +214,7 @@ fn enrolled<A: Aead>(
     fits(&holder.claims);
     let Holder {
         at,
-        next_hop,
+        way,
         claims,
         iv,
     } = holder;
@@ -165,7 +222,7 @@ fn enrolled<A: Aead>(
     let token = token_of::<A>(alloc, &claims, key, &iv)?;
     let text = Bytes::from_vec(claims_text(alloc, &claims)?);
     let desk = desk_of(&claims, token)?;
-    let client = Client::new(alloc, desk, next_hop)?;
+    let client = Client::new(alloc, desk, way)?;
     let Claims {
         not_before,
         expires,

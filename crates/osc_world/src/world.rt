@@ -22,7 +22,7 @@ use osc_tree::Tree;
 use std::alloc::{AllocError, Global};
 use std::marker::Model;
 
-/// A server, its clients, each datagram that was ever sent, and what is noted of each step.
+/// A server, its clients and proxies, each datagram that was ever sent, and what is noted of each step.
 ///
 /// Whatever happens in it, there is one history, where what is assumed holds: that whatever opened was sealed before by the other end
 /// of its context, or minted; that no drawn nonce came twice; and that no two grants share a secret. See [`World::premise_holds`].
@@ -85,7 +85,7 @@ impl World {
         ensures err { OnErr result (self.new ≡ self.old) }
     {
         let whose = self.nodes.whose(self.log.sent(), &event.what);
-        self.log.reserve(self.nodes.most_sent(whose))?;
+        self.log.reserve(self.nodes.most_sent(whose)?)?;
         let taken = self.nodes.take::<A>(alloc, whose, event, self.log.sent())?;
         self.log.keep(&event.what, taken);
         Ok(())

@@ -51,6 +51,7 @@ returns-clause-enrolled g c =
       client = record {
         at = refl;
         next_hop = ap (λ (k : Client). k.next_hop) client;
+        origin = ap (λ (k : Client). k.origin) client;
         desk = record {
           token_is = ap (λ (k : Client). k.desk.token) client ∙ desk.token_is ∙ sealed.2;
           secret = ap (λ (k : Client). k.desk.secret) client ∙ desk.secret;

@@ -7,8 +7,8 @@ use Rattle.osc_world.proofs.start.Start.begin.Goals as goal
 
 pub begun-requires : goal.begun-requires
 begun-requires c =
-    is_start c.self.inside.minted.items c.self.inside.first c.self.inside.clients.items c.new-2.result c.self.invariant
-    (ap (λ (n : NodeStates). n.clients) c.new-2.ensures)
-    (ap (λ (n : NodeStates). n.server.tree) c.new-2.ensures ∙ ap (λ (s : Server). s.tree) c.in_ok-server.ensures ∙ c.in_ok-copy.ensures)
-    (ap (λ (n : NodeStates). n.server.desk.table) c.new-2.ensures ∙ ap (λ (s : Server). s.desk.table) c.in_ok-server.ensures
+    is_start c.self.inside.minted.items c.self.inside.first c.self.inside.clients.items c.new-nodes.result c.self.invariant
+    (ap (λ (n : NodeStates). n.clients) c.new-nodes.ensures)
+    (ap (λ (n : NodeStates). n.server.tree) c.new-nodes.ensures ∙ ap (λ (s : Server). s.tree) c.in_ok-server.ensures ∙ c.in_ok-copy.ensures)
+    (ap (λ (n : NodeStates). n.server.desk.table) c.new-nodes.ensures ∙ ap (λ (s : Server). s.desk.table) c.in_ok-server.ensures
     ∙ ap (λ (d : DeskState). d.table) c.new-desk.ensures)

@@ -25,6 +25,6 @@ returns-clause-enrolled g c =
     let is : IsEnrolled g.A.Aead.is_sealing s.key (length s.clients.items) c.args.holder minted placed =
     subst (λ n. IsEnrolled g.A.Aead.is_sealing s.key n c.args.holder minted placed) number c.in_ok-minted.ensures.enrolled in
     enrols g.A.Aead.is_sealing c.args.self.now s.first s.open_scope s.key s.audience s.server_at s.minted.items c.push_reserved.new.self.items s.clients.items c.push_reserved-2.new.self.items
-    c.args.holder minted placed c.self.view_is is
+    s.proxies.items c.args.holder minted placed c.self.view_is is
     (c.push_reserved.ensures.items ∙ ap (λ xs. xs ++ minted ∷ []) c.reserve.ensures.items)
     (c.push_reserved-2.ensures.items ∙ ap (λ xs. xs ++ placed ∷ []) c.reserve-2.ensures.items)

@@ -1,0 +1,129 @@
+//! Clients that can't be enrolled, and one that can.
+
+use crate::common::{CLIENT, KEY, SERVER, counts, exchanges};
+use crate::quiet::is_quiet;
+use osc_authz::GrantError;
+use osc_ccm::Ccm;
+use osc_client::Way;
+use osc_model::Bytes;
+use osc_scope::Scope;
+use osc_token::{Audience, Claims, InputMaterial};
+use osc_tree::Tree;
+use osc_world::{EnrollError, Holder, Start};
+use std::alloc::{AllocError, Global};
+use std::process::Abort;
+use std::test::*;
+
+/// A scope, and how long the audience, the secret, the salt and the id context are; each of their bytes is an `a`.
+type Row = (&'static [u8], usize, usize, usize, usize);
+
+/// GET, POST and PUT on `/log`.
+const SCOPE: &[u8] = b"\x81\x82\x64/log\x07";
+
+/// One that has no method.
+const NO_SCOPE: &[u8] = b"\x81\x82\x64/log\0";
+
+const GOOD: Row = (SCOPE, 1, 16, 0, 0);
+
+/// Who is refused, and why: the first of what stands against it.
+const REFUSED: [(Row, EnrollError); 9] = [
+    ((NO_SCOPE, 1, 16, 0, 0), EnrollError::BadScope),
+    ((b"", 1, 16, 0, 0), EnrollError::BadScope),
+    ((NO_SCOPE, 65536, 0, 65, 65), EnrollError::BadScope),
+    ((SCOPE, 65536, 0, 65, 65), EnrollError::TooLong),
+    (
+        (SCOPE, 1, 0, 65, 65),
+        EnrollError::Grant(GrantError::Secret),
+    ),
+    ((SCOPE, 1, 65, 0, 0), EnrollError::Grant(GrantError::Secret)),
+    ((SCOPE, 1, 64, 65, 65), EnrollError::Grant(GrantError::Salt)),
+    (
+        (SCOPE, 1, 1, 64, 65),
+        EnrollError::Grant(GrantError::IdContext),
+    ),
+    (
+        (SCOPE, 1, 1, 0, 65),
+        EnrollError::Grant(GrantError::IdContext),
+    ),
+];
+
+fn bytes(alloc: Global, length: usize) -> Result<Bytes, AllocError> {
+    Bytes::from_slice(alloc, "a".repeat(alloc, length)?.as_bytes())
+}
+
+fn material(alloc: Global, row: Row) -> Result<InputMaterial, AllocError> {
+    let (_, _, secret, salt, id_context) = row;
+    Ok(InputMaterial {
+        id: Bytes::from_slice(alloc, &[1])?,
+        secret: bytes(alloc, secret)?,
+        salt: bytes(alloc, salt)?,
+        id_context: Some(bytes(alloc, id_context)?),
+    })
+}
+
+fn claims(alloc: Global, row: Row) -> Result<Claims, AllocError> {
+    let audience = Audience::new(alloc, "a".repeat(alloc, row.1)?.as_str())?;
+    let material = material(alloc, row)?;
+    Ok(Claims {
+        audience,
+        not_before: None,
+        expires: None,
+        material,
+        scope: Bytes::from_slice(alloc, row.0)?,
+    })
+}
+
+fn start(alloc: Global) -> Result<Start, AllocError> {
+    let audience = Audience::new(alloc, "a")?;
+    Ok(Start::new(
+        alloc,
+        Tree::new(alloc),
+        Scope::new(alloc),
+        KEY,
+        audience,
+        SERVER,
+    ))
+}
+
+/// Why the client of this row isn't enrolled, if it isn't.
+fn refusal(alloc: Global, start: &mut Start, row: Row) -> Option<EnrollError> {
+    match claims(alloc, row) {
+        Ok(claims) => {
+            let holder = Holder {
+                at: CLIENT,
+                way: Way {
+                    next_hop: SERVER,
+                    origin: None,
+                },
+                claims,
+                iv: [1; 13],
+            };
+            start.enroll::<Ccm<8>>(alloc, holder).err()
+        }
+        Err(_) => Some(EnrollError::Memory),
+    }
+}
+
+/// In the world that begins so, the first client is the one that was enrolled, and its token is good.
+fn begins(rt: &impl Abort, alloc: Global, start: Start) {
+    let mut world = start.begin(alloc).expect(rt, "memory");
+    assert!(rt; world.minted().len() == 1);
+    assert!(rt; exchanges(alloc, &mut world, 200));
+    assert!(rt; is_quiet(alloc, &mut world, 0, 9) == Some(true));
+    assert!(rt; world.sent().len() == 2);
+    assert!(rt; counts(alloc, &world) == (0, 0, 0));
+    drop(world);
+}
+
+#[test]
+fn who_is_refused(rt: HostRuntime) {
+    let mut start = start(rt.alloc()).expect(&rt, "memory");
+    for (row, error) in REFUSED {
+        assert!(rt;
+            refusal(rt.alloc(), &mut start, row) == Some(error),
+            "{error}"
+        );
+    }
+    assert!(rt; refusal(rt.alloc(), &mut start, GOOD) == None);
+    begins(&rt, rt.alloc(), start);
+}
