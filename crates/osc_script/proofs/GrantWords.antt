@@ -11,7 +11,7 @@ use Rattle.osc_token.specs.Token.{claims_item}
 use Rattle.osc_token.specs.declared.claims.Claims.{Claims}
 use Rattle.osc_script.specs.declared.client_name.ClientName.{ClientName}
 use Rattle.osc_script.specs.declared.line.Line.{Line}
-use Rattle.osc_script.specs.declared.line.Line.TheVariants.{Skipped, Put, Open, Grant, At, Draw, Drop, Skip, Exchange, Ask, Tick, Restart, Deliver, Alter, Graft, Inject, Lie, Quiet}
+use Rattle.osc_script.specs.declared.line.Line.TheVariants.{Skipped, Put, Open, Grant, Proxy, Via, At, Draw, Drop, Skip, Exchange, Ask, Tick, Restart, Deliver, Alter, Graft, Inject, Lie, Quiet}
 use Rattle.osc_script.specs.Grants.{claims_of}
 use Rattle.osc_script.specs.Node.{client_name}
 use Rattle.osc_script.specs.Words.{SpellsNumber, SpellsDate, SpellsScope}
@@ -153,6 +153,8 @@ grant_only args (Grant client scope not_before expires) s = record {
   short = s.7;
   is = refl;
 }
+grant_only args (Proxy proxy) s = absurd (differ (codes "grant") (codes "proxy") refl (head_is _ _ _ _ s))
+grant_only args (Via client proxy) s = absurd (differ (codes "grant") (codes "via") refl (head_is _ _ _ _ s))
 grant_only args (At moment) s = absurd (differ (codes "grant") (codes "at") refl (head_is _ _ _ _ s.1))
 grant_only args (Draw nonce) s = absurd (differ (codes "grant") (codes "draw") refl (head_is _ _ _ _ s.1))
 grant_only args (Drop datagram) s = absurd (differ (codes "grant") (codes "drop") refl (head_is _ _ _ _ s.1))

@@ -7,15 +7,15 @@ use Rattle.osc_model.specs.Path.{IsPath}
 use Rattle.osc_model.specs.Tree.{longest_payload}
 use Rattle.osc_model.specs.declared.node.Moment.{Moment}
 use Rattle.osc_script.specs.declared.line.Line.{Line}
-use Rattle.osc_script.specs.declared.line.Line.TheVariants.{Put, Open, At, Draw, Drop, Skip, Exchange, Ask, Tick, Restart, Deliver, Graft, Inject, Lie}
-use Rattle.osc_script.specs.Node.{name_of}
+use Rattle.osc_script.specs.declared.line.Line.TheVariants.{Put, Open, Proxy, Via, At, Draw, Drop, Skip, Exchange, Ask, Tick, Restart, Deliver, Graft, Inject, Lie}
+use Rattle.osc_script.specs.Node.{client_name, name_of}
 use Rattle.osc_script.specs.Words.{SpellsNumber}
 use Rattle.osc_script.specs.Line.{Say}
-use Rattle.osc_script.specs.Reading.{◌>>=◌, number_in, request_number_in, format_in, client_in, node_in, worker_in, bytes_in, nonce_in, changes_in, some_changes, request_in, moment_if, moment_in, put_in, at_in, draw_in, exchange_in, skip_in, ask_in, lie_in, deliver_in, drop_in, alter_in, graft_in, tick_in, restart_in, inject_in, HasPath}
+use Rattle.osc_script.specs.Reading.{◌>>=◌, number_in, request_number_in, format_in, client_in, node_in, worker_in, bytes_in, nonce_in, changes_in, some_changes, request_in, moment_if, moment_in, put_in, at_in, draw_in, exchange_in, skip_in, ask_in, lie_in, deliver_in, drop_in, alter_in, graft_in, tick_in, restart_in, inject_in, proxy_in, proxy_line_in, via_in, HasPath}
 use Rattle.osc_script.proofs.Found.{step_found, test_held}
 use Rattle.osc_script.proofs.Numbers.{number_found, format_found, request_number_found}
 use Rattle.osc_script.proofs.Payloads.{bytes_found, nonce_found}
-use Rattle.osc_script.proofs.Nodes.{client_found, node_found, worker_found}
+use Rattle.osc_script.proofs.Nodes.{client_found, node_found, proxy_found, worker_found}
 use Rattle.osc_script.proofs.Requests.{request_found}
 use Rattle.osc_script.proofs.ChangeWords.{changes_found, some_found}
 
@@ -72,6 +72,20 @@ open_found path line e has =
     let is_open : Open path ≡ line = line_is (Open path) line e in
     let is_path : IsPath path = subst HasPath (sym is_open) has in
     subst (Say (codes "open" ∷ path ∷ [])) is_open (refl, is_path)
+
+pub proxy_line_found : (proxy : List ℕ) (line : Line) → proxy_line_in proxy ≡ Some line → Say (codes "proxy" ∷ proxy ∷ []) line
+unfolding proxy_line_in
+proxy_line_found proxy line e =
+    let a = step_found (proxy_in proxy) (λ p. Some (Proxy p)) line e in
+    subst (Say (codes "proxy" ∷ proxy ∷ [])) (line_is (Proxy a.0) line a.2) (ap (λ (w : List ℕ). codes "proxy" ∷ w ∷ []) (proxy_found proxy a.0 a.1))
+
+pub via_found : (client proxy : List ℕ) (line : Line) → via_in client proxy ≡ Some line → Say (codes "via" ∷ client ∷ proxy ∷ []) line
+unfolding via_in
+via_found client proxy line e =
+    let a = step_found (client_in client) (λ c. proxy_in proxy >>= λ p. Some (Via c p)) line e in
+    let b = step_found (proxy_in proxy) (λ p. Some (Via a.0 p)) line a.2 in
+    subst (Say (codes "via" ∷ client ∷ proxy ∷ [])) (line_is (Via a.0 b.0) line b.2)
+    (ap (λ (w : List ℕ). codes "via" ∷ w ∷ proxy ∷ []) (client_found client a.0 a.1) ∙ ap (λ (w : List ℕ). codes "via" ∷ client_name a.0 ∷ w ∷ []) (proxy_found proxy b.0 b.1))
 
 pub at_found : (number : List ℕ) (line : Line) → at_in number ≡ Some line → Say (codes "at" ∷ number ∷ []) line
 unfolding at_in

@@ -4,18 +4,18 @@ use Rattle.std.proofs.lemmas.Bool.{cases_Bool}
 use Rattle.std.proofs.lemmas.Slice.Eq.{bytes_eq-Decides}
 use Rattle.osc_model.specs.Tree.{longest_payload}
 use Rattle.osc_script.specs.declared.line.Line.{Line}
-use Rattle.osc_script.specs.declared.line.Line.TheVariants.{Skipped, Put, Open, Grant, At, Draw, Drop, Skip, Exchange, Ask, Tick, Restart, Deliver, Alter, Graft, Inject, Lie, Quiet}
+use Rattle.osc_script.specs.declared.line.Line.TheVariants.{Skipped, Put, Open, Grant, Proxy, Via, At, Draw, Drop, Skip, Exchange, Ask, Tick, Restart, Deliver, Alter, Graft, Inject, Lie, Quiet}
 use Rattle.osc_script.specs.Words.{words_of}
 use Rattle.osc_script.specs.Line.{IsSkipped, Say, Says}
-use Rattle.osc_script.specs.Reading.{Reads, with_none, with_one, with_two, with_three, with_more, with_two_more, put_in, at_in, draw_in, exchange_in, skip_in, ask_in, lie_in, deliver_in, drop_in, alter_in, graft_in, tick_in, restart_in, inject_in, node_line_in, datagram_line_in, client_line_in, line_in, HasPath, Gives}
+use Rattle.osc_script.specs.Reading.{Reads, with_none, with_one, with_two, with_three, with_more, with_two_more, put_in, at_in, draw_in, exchange_in, skip_in, ask_in, lie_in, deliver_in, drop_in, alter_in, graft_in, tick_in, restart_in, inject_in, proxy_line_in, via_in, node_line_in, datagram_line_in, client_line_in, timed_line_in, line_in, HasPath, Gives}
 use Rattle.osc_script.proofs.Found.{chosen, test_held}
 use Rattle.osc_script.proofs.Numbers.{number_again, format_again, request_number_again}
 use Rattle.osc_script.proofs.Payloads.{bytes_again, nonce_again}
-use Rattle.osc_script.proofs.Nodes.{client_again, node_again, worker_again}
+use Rattle.osc_script.proofs.Nodes.{client_again, node_again, proxy_again, worker_again}
 use Rattle.osc_script.proofs.Requests.{request_again}
 use Rattle.osc_script.proofs.ChangeWords.{changes_again, some_again}
 use Rattle.osc_script.proofs.GrantWords.{one_grant}
-use Rattle.osc_script.proofs.Lines.{line_is, moment_again, put_found, open_found, at_found, draw_found, exchange_found, skip_found, ask_found, lie_found, deliver_found, drop_found, alter_found, graft_found, tick_found, restart_found, inject_found}
+use Rattle.osc_script.proofs.Lines.{line_is, moment_again, put_found, open_found, proxy_line_found, via_found, at_found, draw_found, exchange_found, skip_found, ask_found, lie_found, deliver_found, drop_found, alter_found, graft_found, tick_found, restart_found, inject_found}
 
 -- ---- arguments
 
@@ -136,6 +136,21 @@ client_said verb args line e has =
       ]
     ]
 
+timed_said : (verb : List ℕ) (args : List (List ℕ)) (line : Line) → timed_line_in verb args ≡ Some line → HasPath line → Say (verb ∷ args) line
+unfolding timed_line_in
+timed_said verb args line e has =
+    elim (chosen (bytes_eq verb (codes "at")) _ _ _ e) [
+      | inl at ↦
+          let a = one_found at_in args line at.1 in
+          rw (same_verb verb (codes "at") at.0, a.1) (at_found a.0 line a.2)
+      | inr other ↦ elim (chosen (bytes_eq verb (codes "draw")) _ _ _ other.1) [
+        | inl draw ↦
+            let a = one_found draw_in args line draw.1 in
+            rw (same_verb verb (codes "draw") draw.0, a.1) (draw_found a.0 line a.2)
+        | inr other ↦ client_said verb args line other.1 has
+      ]
+    ]
+
 line_said : (verb : List ℕ) (args : List (List ℕ)) (line : Line) → line_in verb args ≡ Some line → HasPath line → Say (verb ∷ args) line
 unfolding line_in
 line_said verb args line e has =
@@ -147,15 +162,15 @@ line_said verb args line e has =
         | inl open_ ↦
             let a = one_found (λ path. Some (Open path)) args line open_.1 in
             rw (same_verb verb (codes "open") open_.0, a.1) (open_found a.0 line a.2 has)
-        | inr other ↦ elim (chosen (bytes_eq verb (codes "at")) _ _ _ other.1) [
-          | inl at ↦
-              let a = one_found at_in args line at.1 in
-              rw (same_verb verb (codes "at") at.0, a.1) (at_found a.0 line a.2)
-          | inr other ↦ elim (chosen (bytes_eq verb (codes "draw")) _ _ _ other.1) [
-            | inl draw ↦
-                let a = one_found draw_in args line draw.1 in
-                rw (same_verb verb (codes "draw") draw.0, a.1) (draw_found a.0 line a.2)
-            | inr other ↦ client_said verb args line other.1 has
+        | inr other ↦ elim (chosen (bytes_eq verb (codes "proxy")) _ _ _ other.1) [
+          | inl proxy ↦
+              let a = one_found proxy_line_in args line proxy.1 in
+              rw (same_verb verb (codes "proxy") proxy.0, a.1) (proxy_line_found a.0 line a.2)
+          | inr other ↦ elim (chosen (bytes_eq verb (codes "via")) _ _ _ other.1) [
+            | inl via ↦
+                let a = two_found via_in args line via.1 in
+                rw (same_verb verb (codes "via") via.0, a.2) (via_found a.0 a.1 line a.3)
+            | inr other ↦ timed_said verb args line other.1 has
           ]
         ]
       ]
@@ -176,13 +191,15 @@ IsPlain (Grant client scope not_before expires) = ⊥
 IsPlain line = Unit {0}
 
 pub say_again : (words : List (List ℕ)) (line : Line) → IsPlain line → Say words line → (read_of words ≡ Some line) × HasPath line
-unfolding line_in client_line_in datagram_line_in node_line_in put_in at_in draw_in exchange_in skip_in ask_in lie_in deliver_in drop_in alter_in graft_in tick_in restart_in inject_in
+unfolding line_in timed_line_in client_line_in datagram_line_in node_line_in proxy_line_in via_in put_in at_in draw_in exchange_in skip_in ask_in lie_in deliver_in drop_in alter_in graft_in tick_in restart_in inject_in
 say_again words Skipped p s = absurd s
 say_again words (Put path resource) p s =
     let short : nat_le (length resource.payload) longest_payload ≡ true = le-leb (length resource.payload) longest_payload s.6 in
     (ap read_of s.2 ∙ rw (format_again s.0 resource.format s.4, bytes_again s.1 resource.payload s.5, short) refl, s.3)
 say_again words (Open path) p s = (ap read_of s.0, s.1)
 say_again words (Grant client scope not_before expires) p s = absurd p
+say_again words (Proxy proxy) p s = (ap read_of s ∙ rw (proxy_again proxy) refl, tt)
+say_again words (Via client proxy) p s = (ap read_of s ∙ rw (client_again client, proxy_again proxy) refl, tt)
 say_again words (At moment) p s = (ap read_of s.1 ∙ rw (number_again s.0 moment.ms s.2, moment_again moment) refl, tt)
 say_again words (Draw nonce) p s = (ap read_of s.1 ∙ rw (nonce_again s.0 nonce s.2 s.3) refl, tt)
 say_again words (Drop datagram) p s = (ap read_of s.1 ∙ rw (number_again s.0 datagram s.2) refl, tt)
@@ -204,9 +221,13 @@ say_again words Quiet p s = (ap read_of s, tt)
 
 -- ---- words that begin no line of a kind
 
-pub no_plain_verb : (verb : List ℕ) (args : List (List ℕ)) → (verb ≡ codes "put" → ⊥) → (verb ≡ codes "open" → ⊥) → (verb ≡ codes "at" → ⊥) → (verb ≡ codes "draw" → ⊥) → line_in verb args ≡ client_line_in verb args
+pub no_plain_verb : (verb : List ℕ) (args : List (List ℕ)) → (verb ≡ codes "put" → ⊥) → (verb ≡ codes "open" → ⊥) → (verb ≡ codes "proxy" → ⊥) → (verb ≡ codes "via" → ⊥) → line_in verb args ≡ timed_line_in verb args
 unfolding line_in
-no_plain_verb verb args p o a d = rw (other_verb verb (codes "put") p, other_verb verb (codes "open") o, other_verb verb (codes "at") a, other_verb verb (codes "draw") d) refl
+no_plain_verb verb args p o x v = rw (other_verb verb (codes "put") p, other_verb verb (codes "open") o, other_verb verb (codes "proxy") x, other_verb verb (codes "via") v) refl
+
+pub no_timed_verb : (verb : List ℕ) (args : List (List ℕ)) → (verb ≡ codes "at" → ⊥) → (verb ≡ codes "draw" → ⊥) → timed_line_in verb args ≡ client_line_in verb args
+unfolding timed_line_in
+no_timed_verb verb args a d = rw (other_verb verb (codes "at") a, other_verb verb (codes "draw") d) refl
 
 pub no_client_verb : (verb : List ℕ) (args : List (List ℕ)) → (verb ≡ codes "exchange" → ⊥) → (verb ≡ codes "ask" → ⊥) → (verb ≡ codes "skip" → ⊥) → (verb ≡ codes "lie" → ⊥) → client_line_in verb args ≡ datagram_line_in verb args
 unfolding client_line_in
@@ -251,6 +272,8 @@ plain verb args other (Grant client scope not_before expires) s = other (verb_is
   where
     verb_is : (x y : List ℕ) (xs ys : List (List ℕ)) → x ∷ xs ≡ y ∷ ys → x ≡ y
     verb_is x y xs ys e = cc
+plain verb args other (Proxy proxy) s = tt
+plain verb args other (Via client proxy) s = tt
 plain verb args other (At moment) s = tt
 plain verb args other (Draw nonce) s = tt
 plain verb args other (Drop datagram) s = tt
@@ -275,6 +298,8 @@ no_words line s = let read = say_again [] line (no_grant line s) s in let no : N
     no_grant (Put path resource) s = tt
     no_grant (Open path) s = tt
     no_grant (Grant client scope not_before expires) s = let no : [] ≡ codes "grant" ∷ _ = s.3 in absurd cc
+    no_grant (Proxy proxy) s = tt
+    no_grant (Via client proxy) s = tt
     no_grant (At moment) s = tt
     no_grant (Draw nonce) s = tt
     no_grant (Drop datagram) s = tt

@@ -11,13 +11,14 @@ use Rattle.osc_cbor.specs.Spelling.{spelling}
 use Rattle.osc_token.specs.Minted.{most_claims}
 use Rattle.osc_token.specs.Token.{claims_item}
 use Rattle.osc_script.specs.Grants.{claims_of}
-use Rattle.osc_script.specs.Node.{client_name, name_of}
+use Rattle.osc_script.specs.Node.{client_name, proxy_name, name_of}
 use Rattle.osc_script.specs.Words.{words_of, method_name, SpellsNumber, SpellsFormat, SpellsBytes, SpellsHex, SpellsScope, SpellsDate, SpellChanges}
 use Rattle.osc_script.specs.declared.line.Line.{Line}
-use Rattle.osc_script.specs.declared.line.Line.TheVariants.{Skipped, Put, Open, Grant, At, Draw, Drop, Skip, Exchange, Ask, Tick, Restart, Deliver, Alter, Graft, Inject, Lie, Quiet}
+use Rattle.osc_script.specs.declared.line.Line.TheVariants.{Skipped, Put, Open, Grant, Proxy, Via, At, Draw, Drop, Skip, Exchange, Ask, Tick, Restart, Deliver, Alter, Graft, Inject, Lie, Quiet}
 use Rattle.osc_script.specs.declared.client_name.ClientName.{ClientName}
 use Rattle.osc_script.specs.declared.node.Node.{Node}
-use Rattle.osc_script.specs.declared.node.Node.TheVariants.{Server, Client, Stranger}
+use Rattle.osc_script.specs.declared.node.Node.TheVariants as node
+use Rattle.osc_script.specs.declared.proxy_name.ProxyName.{ProxyName}
 
 -- no words, or a comment
 abbrev pub IsSkipped : List ℕ → Type 0
@@ -49,6 +50,10 @@ Say words (Open path) = (words ≡ codes "open" ∷ path ∷ []) × IsPath path
 Say words (Grant client scope not_before expires) = (text : List ℕ) × (begins ends : List (List ℕ)) × (words ≡ codes "grant" ∷ client_name client ∷ text ∷ (begins ++ ends))
     × SpellsScope text scope × SpellsDate (codes "nbf=") begins not_before × SpellsDate (codes "exp=") ends expires
     × (length (spelling (claims_item (claims_of 1 scope not_before expires))) ≤ most_claims)
+-- proxy PROXY: there is this proxy
+Say words (Proxy proxy) = words ≡ codes "proxy" ∷ proxy_name proxy ∷ []
+-- via CLIENT PROXY: it sends what is for the server to this proxy, which there is
+Say words (Via client proxy) = words ≡ codes "via" ∷ client_name client ∷ proxy_name proxy ∷ []
 -- at MS: the moment from here on
 Say words (At moment) = (number : List ℕ) × (words ≡ codes "at" ∷ number ∷ []) × SpellsNumber number moment.ms
 -- draw HEX16: the first random bytes of the next event
@@ -62,9 +67,9 @@ Say words (Exchange client) = words ≡ codes "exchange" ∷ client_name client 
 -- ask CLIENT METHOD PATH BYTES: it sends a request
 Say words (Ask client request) = (rest : List (List ℕ)) × (words ≡ codes "ask" ∷ client_name client ∷ rest) × SpellRequest rest request
 -- tick NODE: it does what is due
-Say words (Tick node) = (words ≡ codes "tick" ∷ name_of node ∷ []) × (node ≢ Stranger)
+Say words (Tick worker) = (words ≡ codes "tick" ∷ name_of worker ∷ []) × (worker ≢ node.Stranger)
 -- restart NODE: it starts anew
-Say words (Restart node) = (words ≡ codes "restart" ∷ name_of node ∷ []) × (node ≢ Stranger)
+Say words (Restart worker) = (words ≡ codes "restart" ∷ name_of worker ∷ []) × (worker ≢ node.Stranger)
 -- deliver K: the datagram reaches its addressee
 Say words (Deliver datagram) = (number : List ℕ) × (words ≡ codes "deliver" ∷ number ∷ []) × SpellsNumber number datagram
 -- alter K (OFFSET HEX)+: a copy of it with these bytes changed does
@@ -92,6 +97,8 @@ is_event Skipped = false
 is_event (Put path resource) = false
 is_event (Open path) = false
 is_event (Grant client scope not_before expires) = false
+is_event (Proxy proxy) = false
+is_event (Via client proxy) = false
 is_event (At moment) = false
 is_event (Draw nonce) = false
 is_event (Drop datagram) = false
@@ -110,6 +117,17 @@ abbrev pub grants : ClientName → Line → Bool
 grants client (Grant other scope not_before expires) = other.digit == client.digit
 grants client line = false
 
+-- a line that says that there is this proxy
+abbrev pub makes : ProxyName → Line → Bool
+makes proxy (Proxy other) = other.digit == proxy.digit
+makes proxy (Via client other) = other.digit == proxy.digit
+makes proxy line = false
+
+-- a line that says by which proxy the client sends
+abbrev pub routes : ClientName → Line → Bool
+routes client (Via other proxy) = other.digit == client.digit
+routes client line = false
+
 -- the moment that a line sets, or the one before it
 abbrev pub moment_behind : ℕ → Line → ℕ
 moment_behind moment (At later) = later.ms
@@ -123,24 +141,30 @@ moment_after moment (line ∷ lines) = moment_after (moment_behind moment line) 
 abbrev pub IsGranted : List Line → ClientName → Type 0
 IsGranted above client = list_any (grants client) above ≡ true
 
--- a client needs a grant, and the other nodes none
-abbrev pub IsKnown : List Line → Node → Type 0
-IsKnown above Server = Unit {0}
-IsKnown above (Client client) = IsGranted above client
-IsKnown above Stranger = Unit {0}
+abbrev pub IsMade : List Line → ProxyName → Type 0
+IsMade above proxy = list_any (makes proxy) above ≡ true
 
--- Set-up lines stand before the first event, a path is put once, a client is granted once and before other lines name it, and
--- the moment doesn't fall.
+-- a client needs a grant, a proxy a line that makes it, and the other nodes neither
+abbrev pub IsKnown : List Line → Node → Type 0
+IsKnown above node.Server = Unit {0}
+IsKnown above (node.Client client) = IsGranted above client
+IsKnown above (node.Proxy proxy) = IsMade above proxy
+IsKnown above node.Stranger = Unit {0}
+
+-- Set-up lines stand before the first event, a path is put once, a client is granted once and before other lines name it, it is sent
+-- by a proxy once, a proxy is made before events name it, and the moment doesn't fall.
 abbrev pub MayFollow : List Line → Line → Type 0
 MayFollow above (Put path resource) = (list_any is_event above ≡ false) × (list_any (puts path) above ≡ false) × (count_by is_put above < most_resources)
 MayFollow above (Open path) = list_any is_event above ≡ false
 MayFollow above (Grant client scope not_before expires) = (list_any is_event above ≡ false) × (list_any (grants client) above ≡ false)
+MayFollow above (Proxy proxy) = list_any is_event above ≡ false
+MayFollow above (Via client proxy) = (list_any is_event above ≡ false) × IsGranted above client × (list_any (routes client) above ≡ false)
 MayFollow above (At moment) = moment_after 0 above ≤ moment.ms
 MayFollow above (Skip client number) = IsGranted above client
 MayFollow above (Exchange client) = IsGranted above client
 MayFollow above (Ask client request) = IsGranted above client
-MayFollow above (Tick node) = IsKnown above node
-MayFollow above (Restart node) = IsKnown above node
+MayFollow above (Tick worker) = IsKnown above worker
+MayFollow above (Restart worker) = IsKnown above worker
 MayFollow above (Inject from to bytes) = IsKnown above from × IsKnown above to
 MayFollow above (Lie client number request) = IsGranted above client
 MayFollow above line = Unit {0}

@@ -16,10 +16,11 @@ use Rattle.osc_script.specs.Node.{name_of}
 use Rattle.osc_script.specs.Words.{method_name}
 use Rattle.osc_script.specs.declared.line.Change.{Change}
 use Rattle.osc_script.specs.declared.line.Line.{Line}
-use Rattle.osc_script.specs.declared.line.Line.TheVariants.{Put, Open, At, Draw, Drop, Skip, Exchange, Ask, Tick, Restart, Deliver, Alter, Graft, Inject, Lie, Quiet}
+use Rattle.osc_script.specs.declared.line.Line.TheVariants.{Put, Open, Proxy, Via, At, Draw, Drop, Skip, Exchange, Ask, Tick, Restart, Deliver, Alter, Graft, Inject, Lie, Quiet}
 use Rattle.osc_script.specs.declared.client_name.ClientName.{ClientName}
 use Rattle.osc_script.specs.declared.node.Node.{Node}
-use Rattle.osc_script.specs.declared.node.Node.TheVariants.{Server, Client, Stranger}
+use Rattle.osc_script.specs.declared.node.Node.TheVariants as node
+use Rattle.osc_script.specs.declared.proxy_name.ProxyName.{ProxyName}
 use Rattle.hex.specs.Hex.{decode_of}
 use Rattle.hex.specs.declared.error.FromHexError.{FromHexError}
 
@@ -107,21 +108,40 @@ unfoldable pub client_in : List ℕ → Option ClientName
 client_in (letter ∷ digit ∷ []) = if letter == 99 then client_with (digit - 48) else None
 client_in word = None
 
+-- the proxy of a digit, by the test that there is one
+abbrev pub proxy_if : (digit : ℕ) (is : Bool) → (nat_le 1 digit && nat_le digit 9) ≡ is → Option ProxyName
+proxy_if digit true e = let p = and_parts (nat_le 1 digit) (nat_le digit 9) e in Some (record { digit = digit; bound = (leb-true 1 digit p.0, leb-true digit 9 p.1) })
+proxy_if digit false e = None
+
+abbrev pub proxy_with : ℕ → Option ProxyName
+proxy_with digit = proxy_if digit (nat_le 1 digit && nat_le digit 9) refl
+
+unfoldable pub proxy_in : List ℕ → Option ProxyName
+proxy_in (letter ∷ digit ∷ []) = if letter == 112 then proxy_with (digit - 48) else None
+proxy_in word = None
+
+-- the client, or else the proxy
+abbrev pub one_named : Option ClientName → Option ProxyName → Option Node
+one_named (Some client) proxy = Some (node.Client client)
+one_named None proxy = proxy >>= λ p. Some (node.Proxy p)
+
 unfoldable pub node_in : List ℕ → Option Node
-node_in word = if bytes_eq word (name_of Server) then Some Server else if bytes_eq word (name_of Stranger) then Some Stranger else (do
-  client ← client_in word
-  Some (Client client))
+node_in word =
+    if bytes_eq word (name_of node.Server) then Some node.Server
+    else if bytes_eq word (name_of node.Stranger) then Some node.Stranger
+    else one_named (client_in word) (proxy_in word)
 
 -- a node that does something
 abbrev pub unless_stranger : Node → Option Node
-unless_stranger Server = Some Server
-unless_stranger (Client client) = Some (Client client)
-unless_stranger Stranger = None
+unless_stranger node.Server = Some node.Server
+unless_stranger (node.Client client) = Some (node.Client client)
+unless_stranger (node.Proxy proxy) = Some (node.Proxy proxy)
+unless_stranger node.Stranger = None
 
 unfoldable pub worker_in : List ℕ → Option Node
 worker_in word = do
-  node ← node_in word
-  unless_stranger node
+  found ← node_in word
+  unless_stranger found
 
 unfoldable pub change_in : List ℕ → List ℕ → Option Change
 change_in offset hex = do
@@ -197,6 +217,17 @@ put_in path format bytes = do
   payload ← bytes_in bytes
   if nat_le (length payload) longest_payload then Some (Put path (record { format = format; payload = payload })) else None
 
+unfoldable pub proxy_line_in : List ℕ → Option Line
+proxy_line_in proxy = do
+  proxy ← proxy_in proxy
+  Some (Proxy proxy)
+
+unfoldable pub via_in : List ℕ → List ℕ → Option Line
+via_in client proxy = do
+  client ← client_in client
+  proxy ← proxy_in proxy
+  Some (Via client proxy)
+
 -- the moment of so many milliseconds, by the test that they are few enough
 abbrev pub moment_if : (ms : ℕ) (few : Bool) → nat_lt ms (2 ^ 63) ≡ few → Option Moment
 moment_if ms true early = Some (record { ms = ms; early = ltb-true ms (2 ^ 63) early })
@@ -267,14 +298,14 @@ graft_in first second = do
   Some (Graft header body)
 
 unfoldable pub tick_in : List ℕ → Option Line
-tick_in node = do
-  node ← worker_in node
-  Some (Tick node)
+tick_in word = do
+  worker ← worker_in word
+  Some (Tick worker)
 
 unfoldable pub restart_in : List ℕ → Option Line
-restart_in node = do
-  node ← worker_in node
-  Some (Restart node)
+restart_in word = do
+  worker ← worker_in word
+  Some (Restart worker)
 
 unfoldable pub inject_in : List ℕ → List ℕ → List ℕ → Option Line
 inject_in from to spelled = do
@@ -310,14 +341,21 @@ client_line_in verb args =
     else if bytes_eq verb (codes "lie") then with_two_more lie_in args
     else datagram_line_in verb args
 
+-- those of time, and the others
+unfoldable pub timed_line_in : List ℕ → List (List ℕ) → Option Line
+timed_line_in verb args =
+    if bytes_eq verb (codes "at") then with_one at_in args
+    else if bytes_eq verb (codes "draw") then with_one draw_in args
+    else client_line_in verb args
+
 -- all lines but grants
 unfoldable pub line_in : List ℕ → List (List ℕ) → Option Line
 line_in verb args =
     if bytes_eq verb (codes "put") then with_three put_in args
     else if bytes_eq verb (codes "open") then with_one (λ path. Some (Open path)) args
-    else if bytes_eq verb (codes "at") then with_one at_in args
-    else if bytes_eq verb (codes "draw") then with_one draw_in args
-    else client_line_in verb args
+    else if bytes_eq verb (codes "proxy") then with_one proxy_line_in args
+    else if bytes_eq verb (codes "via") then with_two via_in args
+    else timed_line_in verb args
 
 -- the paths of a line are paths
 abbrev pub HasPath : Line → Type 0

@@ -107,13 +107,20 @@ pub(crate) fn graft(args: &[&str]) -> Option<Line>
 }
 
 // FROM TO BYTES
-#[tactic(auto, unfolding(crate::specs::Reading::inject_in))]
 pub(crate) fn inject(alloc: Global, args: &[&str]) -> Result<Option<Line>, AllocError>
     ensures { IfOk result (λ found. Gives (with_three inject_in (map (λ arg. arg.now) args.now)) found) }
 {
-    let [from, to, payload] = args else {
-        return Ok(None);
-    };
+    match args {
+        [from, to, payload] => inject_of(alloc, from, to, payload),
+        _ => Ok(None),
+    }
+}
+
+// The same of the words of each.
+#[tactic(auto, unfolding(crate::specs::Reading::inject_in))]
+fn inject_of(alloc: Global, from: &str, to: &str, payload: &str) -> Result<Option<Line>, AllocError>
+    ensures { IfOk result (λ found. Gives (inject_in from.now to.now payload.now) found) }
+{
     let Some(from) = node(from) else {
         return Ok(None);
     };

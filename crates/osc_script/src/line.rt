@@ -4,6 +4,7 @@ ghost use Rattle.std.specs.Prelude.{◌≡◌};
 
 use crate::client_name::ClientName;
 use crate::node::Node;
+use crate::proxy_name::ProxyName;
 use osc_model::{Bytes, Moment, Path, Request, Resource};
 use std::marker::Model;
 
@@ -48,8 +49,8 @@ impl Changes {
 
 /// What a line says. PATH has a `/` before each segment, as in `/a/b`. A number is of decimal digits, without a
 /// sign, below 2^64. BYTES is `-` for none, or parts joined by `+`, each pairs of hexadecimal digits, or one pair, `*`
-/// and a count: `68+69*2` is `hii`. METHOD is `GET`, `POST`, `PUT` or `DELETE`. CLIENT is `c1` to `c9`; NODE, FROM and
-/// TO are `s`, a client, or `x`. J and K count the datagrams from 1, as they are sent.
+/// and a count: `68+69*2` is `hii`. METHOD is `GET`, `POST`, `PUT` or `DELETE`. CLIENT is `c1` to `c9`, PROXY `p1` to `p9`; NODE,
+/// FROM and TO are `s`, a client, a proxy, or `x`. J and K count the datagrams from 1, as they are sent.
 #[derive(Debug, Drop)]
 pub enum Line {
     /// Nothing: the line is empty, or begins with `#`.
@@ -70,6 +71,15 @@ pub enum Line {
         scope: Bytes,
         not_before: Option<u64>,
         expires: Option<u64>,
+    },
+    /// `proxy PROXY`: there is this forward proxy, to the server alone.
+    Proxy {
+        proxy: ProxyName,
+    },
+    /// `via CLIENT PROXY`: the client sends what is for the server to this proxy, which there is by this line.
+    Via {
+        client: ClientName,
+        proxy: ProxyName,
     },
     /// `at MS`: the moment from here on, in milliseconds. It doesn't fall.
     At {

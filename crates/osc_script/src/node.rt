@@ -2,8 +2,10 @@
 ghost use Rattle.std.specs.Prelude.{◌≡◌, ◌+◌, IfSome, IfNone};
 ghost use Rattle.osc_script.specs.Node as spec;
 ghost use Rattle.osc_script.specs.declared.client_name.ClientName.{ClientName as AnyClient};
+ghost use Rattle.osc_script.specs.declared.proxy_name.ProxyName.{ProxyName as AnyProxy};
 
 use crate::client_name::ClientName;
+use crate::proxy_name::ProxyName;
 use osc_model::Peer;
 
 impl ClientName {
@@ -31,7 +33,7 @@ impl ClientName {
     {
         Peer {
             address: LOCAL,
-            port: FIRST_PORT + self.digit as u16,
+            port: CLIENTS_PORT + self.digit as u16,
         }
     }
 
@@ -40,11 +42,54 @@ impl ClientName {
         ensures some { IfSome result (λ client. peer ≡ spec.local (7000 + client.digit)) }
         ensures none { IfNone result ((client : AnyClient) → ¬ (peer ≡ spec.local (7000 + client.digit))) }
     {
-        if peer.address != LOCAL || peer.port <= FIRST_PORT || peer.port > FIRST_PORT + 9 {
+        if peer.address != LOCAL || peer.port <= CLIENTS_PORT || peer.port > CLIENTS_PORT + 9 {
             return None;
         }
         Some(ClientName {
-            digit: (peer.port - FIRST_PORT) as u8,
+            digit: (peer.port - CLIENTS_PORT) as u8,
+        })
+    }
+}
+
+impl ProxyName {
+    /// Its name in a script and in a trace.
+    pub fn name(self) -> &'static str
+        ensures { result.now ≡ spec.proxy_name self }
+    {
+        match self.digit {
+            1 => "p1",
+            2 => "p2",
+            3 => "p3",
+            4 => "p4",
+            5 => "p5",
+            6 => "p6",
+            7 => "p7",
+            8 => "p8",
+            9 => "p9",
+            _ => unreachable!(),
+        }
+    }
+
+    /// Where its datagrams come from and go to.
+    pub fn address(self) -> Peer
+        ensures { result ≡ spec.local (6000 + self.digit) }
+    {
+        Peer {
+            address: LOCAL,
+            port: PROXIES_PORT + self.digit as u16,
+        }
+    }
+
+    // The proxy of an address.
+    fn at(peer: Peer) -> Option<ProxyName>
+        ensures some { IfSome result (λ proxy. peer ≡ spec.local (6000 + proxy.digit)) }
+        ensures none { IfNone result ((proxy : AnyProxy) → ¬ (peer ≡ spec.local (6000 + proxy.digit))) }
+    {
+        if peer.address != LOCAL || peer.port <= PROXIES_PORT || peer.port > PROXIES_PORT + 9 {
+            return None;
+        }
+        Some(ProxyName {
+            digit: (peer.port - PROXIES_PORT) as u8,
         })
     }
 }
@@ -56,6 +101,8 @@ pub enum Node {
     Server,
     /// `c1` to `c9`, 127.0.0.1:7001 to 127.0.0.1:7009.
     Client(ClientName),
+    /// `p1` to `p9`, 127.0.0.1:6001 to 127.0.0.1:6009.
+    Proxy(ProxyName),
     /// `x`, 127.0.0.1:9000: it takes datagrams and does nothing.
     Stranger,
 }
@@ -64,7 +111,10 @@ pub enum Node {
 const LOCAL: [u8; 4] = [127, 0, 0, 1];
 
 // The clients' ports are this and their digit.
-const FIRST_PORT: u16 = 7000;
+const CLIENTS_PORT: u16 = 7000;
+
+// The proxies' ports are this and their digit.
+const PROXIES_PORT: u16 = 6000;
 
 const SERVER: Peer = Peer {
     address: LOCAL,
@@ -84,6 +134,7 @@ impl Node {
         match self {
             Node::Server => "s",
             Node::Client(client) => client.name(),
+            Node::Proxy(proxy) => proxy.name(),
             Node::Stranger => "x",
         }
     }
@@ -95,6 +146,7 @@ impl Node {
         match self {
             Node::Server => SERVER,
             Node::Client(client) => client.address(),
+            Node::Proxy(proxy) => proxy.address(),
             Node::Stranger => STRANGER,
         }
     }
@@ -109,7 +161,10 @@ impl Node {
         } else if peer == STRANGER {
             Some(Node::Stranger)
         } else {
-            Some(Node::Client(ClientName::at(peer)?))
+            match ClientName::at(peer) {
+                Some(client) => Some(Node::Client(client)),
+                None => Some(Node::Proxy(ProxyName::at(peer)?)),
+            }
         }
     }
 }

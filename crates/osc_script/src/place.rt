@@ -3,13 +3,15 @@
 ghost use Rattle.std.specs.Prelude.{◌≡◌, ◌<◌, ◌+◌, ◌||◌, ◌&&◌, ◌↔◌, ◌++◌, ◌∷◌, [], cond, false, IsTrue, IfSome, IfNone, slice_index_or, count_by};
 ghost use Rattle.std.specs.List.{list_any};
 ghost use Rattle.osc_model.specs.Tree.{most_resources};
-ghost use Rattle.osc_script.specs.Line.{grants, is_event, is_put, moment_behind, puts, IsKnown, IsGranted, MayFollow};
+ghost use Rattle.osc_script.specs.Line.{grants, is_event, is_put, makes, moment_behind, puts, routes, IsKnown, IsGranted, MayFollow};
 ghost use Rattle.osc_script.specs.Place.{IsPlace};
 ghost use Rattle.osc_script.specs.declared.client_name.ClientName.{ClientName as AnyClient};
+ghost use Rattle.osc_script.specs.declared.proxy_name.ProxyName.{ProxyName as AnyProxy};
 
 use crate::client_name::ClientName;
 use crate::line::Line;
 use crate::node::Node;
+use crate::proxy_name::ProxyName;
 use osc_model::{Moment, Path};
 
 // The most resources that a tree has.
@@ -25,6 +27,10 @@ pub(crate) struct Place {
     puts: usize,
     /// The clients that were granted, by their digits.
     granted: [bool; 10],
+    /// The proxies that were made, by their digits.
+    made: [bool; 10],
+    /// The clients that send by a proxy, by their digits.
+    routed: [bool; 10],
 }
 
 impl Place {
@@ -34,6 +40,8 @@ impl Place {
         moment: Moment::START,
         puts: 0,
         granted: [false; 10],
+        made: [false; 10],
+        routed: [false; 10],
     };
 
     /// The place behind this line, if it may stand here, behind the lines above it. A line that puts, of which a script has
@@ -58,6 +66,8 @@ impl Place {
             Line::Put { path, .. } => self.may_put(above, path),
             Line::Open { .. } => !self.has_event,
             Line::Grant { client, .. } => !self.has_event && !self.has_granted(above, *client),
+            Line::Proxy { .. } => !self.has_event,
+            Line::Via { client, .. } => self.may_route(above, *client),
             Line::At { moment } => self.moment.ms <= moment.ms,
             Line::Skip { client, .. } => self.has_granted(above, *client),
             Line::Exchange { client } => self.has_granted(above, *client),
@@ -83,6 +93,29 @@ impl Place {
         !self.has_event && self.puts < MOST_RESOURCES && !has_put(above, path)
     }
 
+    fn may_route(self, above: &[Line], client: ClientName) -> bool
+        requires { IsPlace above.now self }
+        ensures { IsTrue result ↔ (list_any is_event above.now ≡ false) × IsGranted above.now client × (list_any (routes client) above.now ≡ false) }
+    {
+        !self.has_event && self.has_granted(above, client) && !self.has_routed(above, client)
+    }
+
+    // Whether a line above says by which proxy the client sends.
+    fn has_routed(self, above: &[Line], client: ClientName) -> bool
+        requires { IsPlace above.now self }
+        ensures { result ≡ list_any (routes client) above.now }
+    {
+        self.routed[client.digit as usize]
+    }
+
+    // Whether a line above makes the proxy.
+    fn has_made(self, above: &[Line], proxy: ProxyName) -> bool
+        requires { IsPlace above.now self }
+        ensures { result ≡ list_any (makes proxy) above.now }
+    {
+        self.made[proxy.digit as usize]
+    }
+
     // Whether a line above grants to the client.
     fn has_granted(self, above: &[Line], client: ClientName) -> bool
         requires { IsPlace above.now self }
@@ -91,7 +124,7 @@ impl Place {
         self.granted[client.digit as usize]
     }
 
-    // Whether the node is no client, or one to whom a line above grants.
+    // Whether a line above grants to the node where it is a client, or makes it where it is a proxy.
     fn knows(self, above: &[Line], node: Node) -> bool
         requires { IsPlace above.now self }
         ensures { IsTrue result ↔ IsKnown above.now node }
@@ -99,6 +132,7 @@ impl Place {
         match node {
             Node::Server => true,
             Node::Client(client) => self.has_granted(above, client),
+            Node::Proxy(proxy) => self.has_made(above, proxy),
             Node::Stranger => true,
         }
     }
@@ -114,6 +148,8 @@ impl Place {
             moment: moment_behind(self.moment, line),
             puts: self.puts_with(above, line),
             granted: granted_with(self.granted, line),
+            made: made_with(self.made, line),
+            routed: routed_with(self.routed, line),
         }
     }
 
@@ -140,6 +176,28 @@ fn granted_with(mut granted: [bool; 10], line: &Line) -> [bool; 10]
     granted
 }
 
+// The proxies that were made, with the one that the line makes.
+fn made_with(mut made: [bool; 10], line: &Line) -> [bool; 10]
+    ensures { (proxy : AnyProxy) → slice_index_or result proxy.digit false ≡ (slice_index_or made proxy.digit false || makes proxy line.now) }
+{
+    match line {
+        Line::Proxy { proxy } => made[proxy.digit as usize] = true,
+        Line::Via { proxy, .. } => made[proxy.digit as usize] = true,
+        _ => {}
+    }
+    made
+}
+
+// The clients that send by a proxy, with the one of which the line says so.
+fn routed_with(mut routed: [bool; 10], line: &Line) -> [bool; 10]
+    ensures { (client : AnyClient) → slice_index_or result client.digit false ≡ (slice_index_or routed client.digit false || routes client line.now) }
+{
+    if let Line::Via { client, .. } = line {
+        routed[client.digit as usize] = true;
+    }
+    routed
+}
+
 fn is_event(line: &Line) -> bool
     ensures { result ≡ is_event line.now }
 {
@@ -148,6 +206,8 @@ fn is_event(line: &Line) -> bool
         | Line::Put { .. }
         | Line::Open { .. }
         | Line::Grant { .. }
+        | Line::Proxy { .. }
+        | Line::Via { .. }
         | Line::At { .. }
         | Line::Draw { .. }
         | Line::Drop { .. }

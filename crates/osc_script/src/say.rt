@@ -2,13 +2,13 @@
 
 ghost use Rattle.std.specs.Prelude.{◌≡◌, IfOk, map};
 ghost use Rattle.osc_script.specs.Line.{Say};
-ghost use Rattle.osc_script.specs.Reading.{client_line_in, datagram_line_in, line_in, node_line_in, Gives, Reads};
+ghost use Rattle.osc_script.specs.Reading.{client_line_in, datagram_line_in, line_in, node_line_in, timed_line_in, Gives, Reads};
 
 use crate::asking::{ask, exchange, lie, skip};
 use crate::datagrams::{alter, deliver, drop_line, graft, inject};
 use crate::line::Line;
 use crate::running::{at, draw, quiet, restart, tick};
-use crate::set_up::{grant, open, put};
+use crate::set_up::{grant, open, proxy_line, put, via};
 use std::alloc::{AllocError, Global};
 
 /// What the words say, if they say anything.
@@ -32,6 +32,18 @@ fn plain_line(alloc: Global, verb: &str, args: &[&str]) -> Result<Option<Line>, 
     match verb {
         "put" => put(alloc, args),
         "open" => open(alloc, args),
+        "proxy" => Ok(proxy_line(args)),
+        "via" => Ok(via(args)),
+        _ => timed_line(alloc, verb, args),
+    }
+}
+
+// Those of a line of time, clients, datagrams or nodes.
+#[tactic(auto, unfolding(crate::specs::Reading::timed_line_in))]
+fn timed_line(alloc: Global, verb: &str, args: &[&str]) -> Result<Option<Line>, AllocError>
+    ensures { IfOk result (λ found. Gives (timed_line_in verb.now (map (λ arg. arg.now) args.now)) found) }
+{
+    match verb {
         "at" => Ok(at(args)),
         "draw" => draw(alloc, args),
         _ => client_line(alloc, verb, args),

@@ -7,11 +7,11 @@ ghost use Rattle.osc_token.specs.Token.{claims_item};
 ghost use Rattle.osc_script.specs.Grants.{claims_of};
 ghost use Rattle.osc_script.specs.Line.{Say};
 ghost use Rattle.osc_script.specs.declared.line.Line.TheVariants.{Open};
-ghost use Rattle.osc_script.specs.Reading.{with_one, with_three, put_in, Gives, Reads};
+ghost use Rattle.osc_script.specs.Reading.{with_one, with_two, with_three, proxy_line_in, put_in, via_in, Gives, Reads};
 
 use crate::grants::grant_claims;
 use crate::line::Line;
-use crate::words::{bytes, client, dates, format, scope};
+use crate::words::{bytes, client, dates, format, proxy, scope};
 use osc_model::{Bytes, Path, Resource};
 use osc_token::claims_text;
 use std::alloc::{AllocError, Global};
@@ -57,6 +57,31 @@ pub(crate) fn open(alloc: Global, args: &[&str]) -> Result<Option<Line>, AllocEr
         return Ok(None);
     };
     Ok(Some(Line::Open { path }))
+}
+
+// PROXY
+#[tactic(auto, unfolding(crate::specs::Reading::proxy_line_in))]
+pub(crate) fn proxy_line(args: &[&str]) -> Option<Line>
+    ensures { Gives (with_one proxy_line_in (map (λ arg. arg.now) args.now)) result }
+{
+    let [proxy_name] = args else {
+        return None;
+    };
+    let proxy = proxy(proxy_name.as_bytes())?;
+    Some(Line::Proxy { proxy })
+}
+
+// CLIENT PROXY
+#[tactic(auto, unfolding(crate::specs::Reading::via_in))]
+pub(crate) fn via(args: &[&str]) -> Option<Line>
+    ensures { Gives (with_two via_in (map (λ arg. arg.now) args.now)) result }
+{
+    let [client_name, proxy_name] = args else {
+        return None;
+    };
+    let client = client(client_name.as_bytes())?;
+    let proxy = proxy(proxy_name.as_bytes())?;
+    Some(Line::Via { client, proxy })
 }
 
 // CLIENT SCOPE [nbf=N] [exp=N]

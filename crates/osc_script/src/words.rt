@@ -1,11 +1,12 @@
 //! Single words of a script.
 
 ghost use Rattle.std.specs.Prelude.{◌≡◌, ◌≢◌, ◌==◌, length, slice_index, IfOk, IfSome, IsNone, ◌∷◌, [], map, option_map};
-ghost use Rattle.osc_script.specs.Reading.{number_in, short_number_in, request_number_in, format_in, client_in, client_with, node_in, worker_in, method_in, hex_in, nonce_in, repeated_in, part_in, parts_in, bytes_in, date_in, dates_in, one_date, Reads};
+ghost use Rattle.osc_script.specs.Reading.{number_in, short_number_in, request_number_in, format_in, client_in, client_with, proxy_in, proxy_with, node_in, one_named, worker_in, method_in, hex_in, nonce_in, repeated_in, part_in, parts_in, bytes_in, date_in, dates_in, one_date, Reads};
 ghost use Rattle.osc_script.specs.Words.{SpellsScope};
 
 use crate::client_name::ClientName;
 use crate::node::Node;
+use crate::proxy_name::ProxyName;
 use crate::split::parts;
 use hex::FromHexError;
 use osc_model::{Bytes, Method};
@@ -83,6 +84,24 @@ fn client_of(digit: u8) -> Option<ClientName>
     ClientName::new(digit)
 }
 
+/// A proxy's name.
+#[tactic(auto, unfolding(crate::specs::Reading::proxy_in))]
+pub(crate) fn proxy(word: &[u8]) -> Option<ProxyName>
+    ensures { result ≡ proxy_in word.now }
+{
+    match word {
+        [b'p', digit] => proxy_of(digit.saturating_sub(b'0')),
+        _ => None,
+    }
+}
+
+// The proxy of a digit.
+fn proxy_of(digit: u8) -> Option<ProxyName>
+    ensures { result ≡ proxy_with digit }
+{
+    ProxyName::new(digit)
+}
+
 /// A node's name.
 #[tactic(auto, unfolding(crate::specs::Reading::node_in))]
 pub(crate) fn node(word: &str) -> Option<Node>
@@ -93,7 +112,17 @@ pub(crate) fn node(word: &str) -> Option<Node>
     } else if word == Node::Stranger.name() {
         Some(Node::Stranger)
     } else {
-        Some(Node::Client(client(word.as_bytes())?))
+        one_named(client(word.as_bytes()), proxy(word.as_bytes()))
+    }
+}
+
+// The client, or else the proxy.
+fn one_named(client: Option<ClientName>, proxy: Option<ProxyName>) -> Option<Node>
+    ensures { result ≡ one_named client proxy }
+{
+    match client {
+        Some(client) => Some(Node::Client(client)),
+        None => Some(Node::Proxy(proxy?)),
     }
 }
 
@@ -105,6 +134,7 @@ pub(crate) fn worker(word: &str) -> Option<Node>
     match node(word)? {
         Node::Stranger => None,
         Node::Client(client) => Some(Node::Client(client)),
+        Node::Proxy(proxy) => Some(Node::Proxy(proxy)),
         Node::Server => Some(Node::Server),
     }
 }

@@ -1,4 +1,4 @@
-use Rattle.osc_script.specs.declared.line.Line.TheVariants.{Put, Grant, Skip, Ask, Lie}
+use Rattle.osc_script.specs.declared.line.Line.TheVariants.{Put, Grant, Via, Skip, Ask, Lie}
 use Rattle.osc_script.proofs.Lets.{lets_as, lets_is, lets_grant}
 use Rattle.osc_script.proofs.place.Place.lets.Goals as goal
 
@@ -9,6 +9,9 @@ pub returns-then-not-self : goal.returns-then-not-self
 returns-then-not-self c =
     lets_as c.args.above.now c.args.line.now (Grant c.in-Grant.client c.in-Grant.scope c.in-Grant.not_before c.in-Grant.expires) _ c.in-Grant.is
     (lets_grant c.args.self.has_event c.has_granted.result _ _ c.if-not-self.true c.requires.event c.has_granted.ensures)
+
+pub returns-in-Via : goal.returns-in-Via
+returns-in-Via c = lets_as c.args.above.now c.args.line.now (Via c.in-Via.client c.in-Via.proxy) _ c.in-Via.is c.may_route.ensures
 
 pub returns-in-Skip : goal.returns-in-Skip
 returns-in-Skip c = lets_as c.args.above.now c.args.line.now (Skip c.in-Skip.client c.in-Skip.number) _ c.in-Skip.is (lets_is _ _ c.has_granted-in-Skip.ensures)

@@ -4,4 +4,4 @@ use Rattle.osc_script.proofs.place.Place.with.Goals as goal
 use Rattle.osc_script.proofs.place.Place.with.Goals.{then-self, else-self}
 
 pub returns : goal.returns
-returns c = place_more c.args.above.now c.args.line.now c.args.self _ c.requires.is (elim c.if-self.branch [ then-self w ↦ search rules | else-self w ↦ search rules ]) c.moment_behind.ensures c.puts_with.ensures c.granted_with.ensures
+returns c = place_more c.args.above.now c.args.line.now c.args.self _ c.requires.is (elim c.if-self.branch [ then-self w ↦ search rules | else-self w ↦ search rules ]) c.moment_behind.ensures c.puts_with.ensures c.granted_with.ensures c.made_with.ensures c.routed_with.ensures

@@ -1,0 +1,10 @@
+use Rattle.std.proofs.Common.{sym, subst, map}
+use Rattle.std.proofs.lemmas.Result.{IfOk-weaker}
+use Rattle.osc_script.specs.Reading.{Gives}
+use Rattle.osc_script.proofs.Said.{no_timed_verb}
+use Rattle.osc_script.proofs.say.timed_line.Goals as goal
+
+pub returns-in_default : goal.returns-in_default
+returns-in_default c =
+    let same = no_timed_verb c.args.verb.now (map (λ arg. arg.now) c.args.args.now) c.in_default.not-at c.in_default.not-draw in
+    IfOk-weaker c.client_line.result _ _ (λ found. subst (λ read. Gives read found) (sym same)) c.client_line.ensures
