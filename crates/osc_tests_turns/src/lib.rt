@@ -1,0 +1,16 @@
+//! Tests of turns, by what callers see: a port of queues in memory, and nodes that run at such ports. They stand apart, so that a test
+//! that changes has no crate below proved anew.
+#![tactic(auto)]
+
+#[cfg(test)]
+mod network;
+#[cfg(test)]
+mod nodes;
+#[cfg(test)]
+mod queues;
+#[cfg(test)]
+mod serving;
+#[cfg(test)]
+mod sweep;
+#[cfg(test)]
+mod telling;

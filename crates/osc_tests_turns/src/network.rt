@@ -1,0 +1,146 @@
+//! The ports of a client, a proxy and a server, and what brings each one's datagrams to the others.
+ghost use Rattle.std.specs.Prelude.{◌<◌};
+
+use crate::nodes::{CLIENT, PROXY, SERVER, at, drawn};
+use crate::queues::Queues;
+use crate::telling::{sends, takes};
+use osc_ccm::Ccm;
+use osc_client::Client;
+use osc_model::{Datagram, Peer, Request};
+use osc_proxy::Proxy;
+use osc_server::Server;
+use std::alloc::Global;
+use std::mem;
+use std::process::Abort;
+use std::test::*;
+
+/// Three ports, of whose calls one fails.
+#[derive(Drop)]
+pub(crate) struct Network<'a, R: Abort> {
+    rt: &'a R,
+    alloc: Global,
+    client: Queues<'a, R>,
+    proxy: Queues<'a, R>,
+    server: Queues<'a, R>,
+    /// The call that fails, counted over all three: the next one is 1. None fails where this is 0.
+    pub failing: usize,
+}
+
+impl<'a, R: Abort> Network<'a, R> {
+    /// Nothing was sent, and the call of this number fails.
+    pub fn new(rt: &'a R, alloc: Global, failing: usize) -> Network<'a, R> {
+        Network {
+            rt,
+            alloc,
+            client: Queues::new(rt, alloc, 0),
+            proxy: Queues::new(rt, alloc, 0),
+            server: Queues::new(rt, alloc, 0),
+            failing,
+        }
+    }
+
+    /// How many calls failed.
+    pub fn failures(&self) -> (usize, usize, usize) {
+        (
+            self.client.failures,
+            self.proxy.failures,
+            self.server.failures,
+        )
+    }
+
+    /// What was sent from there comes to whom it was sent.
+    fn deliver(&mut self, from: Peer, gone: Vec<Datagram>) {
+        for datagram in gone {
+            self.deliver_one(from, datagram);
+        }
+    }
+
+    fn deliver_one(&mut self, from: Peer, datagram: Datagram) {
+        let Datagram { to, bytes } = datagram;
+        if to == CLIENT {
+            self.client.comes(from, bytes);
+        } else if to == PROXY {
+            self.proxy.comes(from, bytes);
+        } else {
+            self.server.comes(from, bytes);
+        }
+    }
+
+    /// What the client sent of late comes to whom it was sent.
+    fn deliver_from_client(&mut self) {
+        self.failing = self.client.failing;
+        let gone = mem::replace(&mut self.client.gone, Vec::new(self.alloc));
+        self.deliver(CLIENT, gone);
+    }
+
+    /// The client begins an exchange at this moment.
+    pub fn exchanges(&mut self, client: &mut Client, ms: u64) {
+        let step = client.exchange(self.alloc, at(ms), &drawn(1));
+        self.client.failing = self.failing;
+        sends(self.rt, &mut self.client, step);
+        self.deliver_from_client();
+    }
+
+    /// The client asks for this at this moment.
+    pub fn asks(&mut self, client: &mut Client, request: &Request, ms: u64)
+        requires { 0 < request.now.code.0 }
+    {
+        let step = client.ask::<Ccm<8>>(self.alloc, at(ms), request, &drawn(2));
+        self.client.failing = self.failing;
+        sends(self.rt, &mut self.client, step);
+        self.deliver_from_client();
+    }
+
+    /// The client's turn, and what it learns. After a failed receive it is as before.
+    fn client_turns(&mut self, client: &mut Client, ms: u64) -> u8 {
+        let open = client.open_messages();
+        self.client.failing = self.failing;
+        let learnt = takes(self.rt, self.alloc, &mut self.client, client, ms);
+        assert!(self.rt; learnt.is_some() || client.open_messages() == open);
+        self.deliver_from_client();
+        learnt.unwrap_or(0)
+    }
+
+    /// The proxy's turn. After a failed receive it is as before.
+    fn proxy_turns(&mut self, proxy: &mut Proxy, ms: u64) {
+        let open = (proxy.open_messages(), proxy.open_exchanges());
+        self.proxy.failing = self.failing;
+        let told = takes(self.rt, self.alloc, &mut self.proxy, proxy, ms);
+        assert!(self.rt; told.is_some() || (proxy.open_messages(), proxy.open_exchanges()) == open);
+        self.failing = self.proxy.failing;
+        let gone = mem::replace(&mut self.proxy.gone, Vec::new(self.alloc));
+        self.deliver(PROXY, gone);
+    }
+
+    /// The server's turn. After a failed receive it is as before.
+    fn server_turns(&mut self, server: &mut Server, ms: u64) {
+        let resources = server.tree().len();
+        self.server.failing = self.failing;
+        let told = takes(self.rt, self.alloc, &mut self.server, server, ms);
+        assert!(self.rt; told.is_some() || server.tree().len() == resources);
+        self.failing = self.server.failing;
+        let gone = mem::replace(&mut self.server.gone, Vec::new(self.alloc));
+        self.deliver(SERVER, gone);
+    }
+
+    /// Three turns of each at this moment: the last that the client learnt, if anything, and else this.
+    pub fn turns(
+        &mut self,
+        client: &mut Client,
+        proxy: &mut Proxy,
+        server: &mut Server,
+        ms: u64,
+        before: u8,
+    ) -> u8 {
+        let mut last = before;
+        for _ in 0..3 {
+            let learnt = self.client_turns(client, ms);
+            self.proxy_turns(proxy, ms);
+            self.server_turns(server, ms);
+            if learnt != 0 {
+                last = learnt;
+            }
+        }
+        last
+    }
+}

@@ -1,0 +1,89 @@
+//! One turn of a node at its port.
+ghost use Rattle.std.specs.Prelude.{◌≡◌, ◌≤◌, ◌∷◌, [], Option, IfErr, IfOk, IfSome, OnErr, is_some};
+ghost use Rattle.osc_turn.specs.Ports.{Arrival, CountsFault, arrival, grown};
+ghost use Rattle.osc_turn.specs.Turns.{IsRefusedBy};
+
+use crate::error::TurnError;
+use crate::node::Node;
+use crate::port::{Port, PortFault};
+use osc_ccm::Aead;
+use osc_model::{Datagram, Draw, Moment, Peer, Step};
+use std::alloc::{AllocError, Global};
+
+/// A turn that made a step.
+#[derive(Debug, Drop)]
+pub struct Turned {
+    /// Whether a datagram came; else the step is that of a tick.
+    pub received: bool,
+    /// The step.
+    pub step: Step,
+    /// Of the sends that failed, the first one's fault. Their datagrams are lost; the step stands, and all others were sent.
+    pub fault: Option<PortFault>,
+}
+
+/// One turn: receives at most one datagram (none gives a tick), makes one step and sends its datagrams in order, each once.
+///
+/// # Errors
+///
+/// `Port` where the receive failed. `Memory` where there was no memory for the step; then the datagram that came is lost. The node is as
+/// before, and nothing was sent.
+pub fn turn<A: Aead, P: Port, N: Node<A>>(
+    alloc: Global,
+    port: &mut P,
+    node: &mut N,
+    now: Moment,
+    draw: &Draw,
+) -> Result<Turned, TurnError>
+    ensures done { IfOk result (λ turned. (came : Option Arrival)
+        × (P.received port.new ≡ grown (P.received port.old) (came ∷ []))
+        × (turned.received ≡ is_some came)
+        × N.is_step node.old now draw.now came turned.step node.new
+        × (P.sent port.new ≡ grown (P.sent port.old) turned.step.out)) }
+    ensures fault { IfOk result (λ turned. CountsFault turned.fault (P.failures port.old) (P.failures port.new)) }
+    ensures refused { IfErr result (λ error. IsRefusedBy error (P.received port.old) (P.received port.new) (P.failures port.old) (P.failures port.new)) }
+    ensures err { OnErr result (node.new ≡ node.old) }
+    ensures not_sent { OnErr result (P.sent port.new ≡ P.sent port.old) }
+{
+    let mut buffer = [0; 1153];
+    let got = port.receive(&mut buffer)?;
+    let step = step_of::<A, N>(alloc, node, now, draw, &buffer, got)?;
+    let fault = send_all(port, step.out.as_slice());
+    Ok(Turned {
+        received: got.is_some(),
+        step,
+        fault,
+    })
+}
+
+/// The step that the node makes of what was received.
+fn step_of<A: Aead, N: Node<A>>(
+    alloc: Global,
+    node: &mut N,
+    now: Moment,
+    draw: &Draw,
+    buffer: &[u8; 1153],
+    got: Option<(Peer, usize)>,
+) -> Result<Step, AllocError>
+    requires { IfSome got (λ datagram. datagram.1 ≤ 1153) }
+    ensures made { IfOk result (λ step. N.is_step node.old now draw.now (arrival buffer.now got) step node.new) }
+    ensures err { OnErr result (node.new ≡ node.old) }
+{
+    match got {
+        Some((from, len)) => node.hear(alloc, now, from, &buffer[..len], draw),
+        None => node.tick(alloc, now, draw),
+    }
+}
+
+/// Sends these in order, each once. After a failure the rest is still sent; the fault is that of the first one.
+pub fn send_all<P: Port>(port: &mut P, datagrams: &[Datagram]) -> Option<PortFault>
+    ensures sent { P.sent port.new ≡ grown (P.sent port.old) datagrams.now }
+    ensures not_received { P.received port.new ≡ P.received port.old }
+    ensures fault { CountsFault result (P.failures port.old) (P.failures port.new) }
+{
+    let mut fault = None;
+    for datagram in datagrams {
+        let sent = port.send(datagram.to, datagram.bytes.as_slice());
+        fault = fault.or(sent.err());
+    }
+    fault
+}
