@@ -1,0 +1,6 @@
+pub mod Addresses
+pub mod Hexadecimal
+pub mod Keys
+pub mod Listed
+pub mod Parts
+pub mod Spelled

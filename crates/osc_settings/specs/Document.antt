@@ -1,0 +1,43 @@
+-- What stands in a document of TOML, key by key.
+use Rattle.std.specs.Prelude.{◌≡◌, ℕ, ℤ, Bool, true, ◌&&◌, List, [], ◌∷◌, Option, Some, None, IsSomeAnd}
+use Rattle.std.specs.List.{list_any}
+use Rattle.std.specs.Str.{bytes_eq}
+use Rattle.toml.specs.Data.{Data, Items, Members, no_members, member, no_items, item, string, integer, array, get_member}
+use Rattle.toml.specs.Parse.{parse_document}
+use Rattle.osc_settings.specs.Values.{IsPort}
+
+-- the text is a document that stands for these settings
+abbrev pub StandsFor : {S : Type 0} → (Members → S → Type 0) → List ℕ → S → Type 0
+StandsFor Are text settings = IsSomeAnd (parse_document text) (λ document. Are document settings)
+
+-- the document has no other keys
+abbrev pub has_only : List (List ℕ) → Members → Bool
+has_only keys no_members = true
+has_only keys (member key value rest) = list_any (bytes_eq key) keys && has_only keys rest
+
+-- nothing stands at the key
+abbrev pub IsLeftOut : List ℕ → Members → Type 0
+IsLeftOut key document = get_member key document ≡ None
+
+-- a text stands at the key, and spells this
+abbrev pub SpelledAt : {X : Type 0} → List ℕ → (List ℕ → X → Type 0) → Members → X → Type 0
+SpelledAt key Spells document x = (text : List ℕ) × (get_member key document ≡ Some (string text)) × Spells text x
+
+-- the same, where a setting may be left out
+abbrev pub MaySpellAt : {X : Type 0} → List ℕ → (List ℕ → X → Type 0) → Members → Option X → Type 0
+MaySpellAt key Spells document None = IsLeftOut key document
+MaySpellAt key Spells document (Some x) = SpelledAt key Spells document x
+
+-- an integer stands at the key, and is a port
+abbrev pub IsPortAt : List ℕ → Members → ℕ → Type 0
+IsPortAt key document port = (number : ℤ) × (get_member key document ≡ Some (integer number)) × IsPort number port
+
+-- each item stands for one of these, in this order
+abbrev pub StandForEach : {X : Type 0} → (Data → X → Type 0) → Items → List X → Type 0
+StandForEach Stands no_items [] = Unit {0}
+StandForEach Stands (item value items) (x ∷ xs) = Stands value x × StandForEach Stands items xs
+StandForEach Stands items xs = ⊥
+
+-- an array of such items stands at the key
+abbrev pub ListedAt : {X : Type 0} → List ℕ → (Data → X → Type 0) → Members → List X → Type 0
+ListedAt key Stands document xs = (items : Items) × (get_member key document ≡ Some (array items)) × StandForEach Stands items xs

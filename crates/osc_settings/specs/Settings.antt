@@ -1,0 +1,65 @@
+-- Which settings a document stands for, program by program. A key that isn't named here is in none of them.
+use Rattle.std.specs.Prelude.{◌≡◌, ◌⊎◌, ℕ, true, List, [], ◌∷◌, Option, Some, None, codes}
+use Rattle.toml.specs.Data.{Data, Members, string, table, get_member}
+use Rattle.osc_model.specs.Path.{IsPath}
+use Rattle.osc_settings.specs.Document.{has_only, IsLeftOut, SpelledAt, MaySpellAt, IsPortAt, ListedAt}
+use Rattle.osc_settings.specs.Values.{IsAddress, IsHost, SpellsHex, SpellsBytes}
+use Rattle.osc_settings.specs.declared.client.ClientSettings.{ClientSettings}
+use Rattle.osc_settings.specs.declared.proxy.ProxySettings.{ProxySettings}
+use Rattle.osc_settings.specs.declared.proxy.TargetSetting.{TargetSetting}
+use Rattle.osc_settings.specs.declared.server.ServerSettings.{ServerSettings}
+
+-- ---- of a server
+
+-- a path, as its text
+abbrev pub IsPathText : Data → List ℕ → Type 0
+IsPathText value path = (value ≡ string path) × IsPath path
+
+pub record AreServerSettings (document : Members) (settings : ServerSettings) : Type 0 where
+  pub keys : has_only (codes "audience" ∷ codes "bind" ∷ codes "key" ∷ codes "open" ∷ []) document ≡ true
+  pub bind : SpelledAt (codes "bind") IsAddress document settings.bind
+  pub key : SpelledAt (codes "key") (SpellsBytes 16 16) document settings.key
+  pub audience : get_member (codes "audience") document ≡ Some (string settings.audience)
+  pub open_paths : ListedAt (codes "open") IsPathText document settings.open.items
+
+-- ---- of a proxy
+
+pub record IsTarget (document : Members) (target : TargetSetting) : Type 0 where
+  pub keys : has_only (codes "host" ∷ codes "port" ∷ codes "to" ∷ []) document ≡ true
+  pub host : SpelledAt (codes "host") IsHost document target.host
+  pub port : IsPortAt (codes "port") document target.port
+  pub to : SpelledAt (codes "to") IsAddress document target.to
+
+-- a target, as a table of its own
+abbrev pub IsTargetTable : Data → TargetSetting → Type 0
+IsTargetTable value target = (document : Members) × (value ≡ table document) × IsTarget document target
+
+pub record AreProxySettings (document : Members) (settings : ProxySettings) : Type 0 where
+  pub keys : has_only (codes "bind" ∷ codes "target" ∷ []) document ≡ true
+  pub bind : SpelledAt (codes "bind") IsAddress document settings.bind
+  pub targets : ListedAt (codes "target") IsTargetTable document settings.targets.items
+
+-- ---- of a client
+
+-- a port that is left out is 5683, that of `coap` (RFC 7252 section 6.1)
+abbrev pub IsOriginPort : Members → ℕ → Type 0
+IsOriginPort document port = IsPortAt (codes "port") document port ⊎ (IsLeftOut (codes "port") document × (port ≡ 5683))
+
+-- The host and the port by which a proxy knows the server. Without a host there is no proxy, and then no port either.
+abbrev pub IsOrigin : Members → Option (List ℕ × ℕ) → Type 0
+IsOrigin document None = IsLeftOut (codes "host") document × IsLeftOut (codes "port") document
+IsOrigin document (Some origin) = SpelledAt (codes "host") IsHost document origin.0 × IsOriginPort document origin.1
+
+-- a salt that is left out is empty
+abbrev pub IsSalt : Members → List ℕ → Type 0
+IsSalt document salt = SpelledAt (codes "salt") (SpellsBytes 0 64) document salt ⊎ (IsLeftOut (codes "salt") document × (salt ≡ []))
+
+pub record AreClientSettings (document : Members) (settings : ClientSettings) : Type 0 where
+  pub keys : has_only (codes "bind" ∷ codes "context" ∷ codes "host" ∷ codes "peer" ∷ codes "port" ∷ codes "salt" ∷ codes "secret" ∷ codes "token" ∷ []) document ≡ true
+  pub bind : SpelledAt (codes "bind") IsAddress document settings.bind
+  pub peer : SpelledAt (codes "peer") IsAddress document settings.peer
+  pub origin : IsOrigin document settings.origin
+  pub token : SpelledAt (codes "token") SpellsHex document settings.token
+  pub secret : SpelledAt (codes "secret") (SpellsBytes 1 64) document settings.secret
+  pub salt : IsSalt document settings.salt
+  pub context : MaySpellAt (codes "context") (SpellsBytes 0 64) document settings.context

@@ -1,0 +1,34 @@
+-- What the texts and the numbers of a document spell.
+use Rattle.std.specs.Prelude.{◌≡◌, ℕ, ◌≤◌, ℤ, pos, List, ◌++◌, length, codes, decimal, Ok}
+use Rattle.std.specs.Net.Grammar.{IsDotted}
+use Rattle.hex.specs.Hex.{decode_of}
+use Rattle.osc_model.specs.declared.node.Peer.{Peer}
+
+-- the numbers of UDP ports that can be sent to
+abbrev pub IsPortNumber : ℕ → Type 0
+IsPortNumber port = (1 ≤ port) × (port ≤ 65535)
+
+-- `A.B.C.D:PORT`: decimal numbers without leading zeros, A to D at most 255, PORT from 1 to 65535
+pub record IsAddress (text : List ℕ) (peer : Peer) : Type 0 where
+  pub dotted : List ℕ
+  pub address : IsDotted dotted peer.address
+  pub port : IsPortNumber peer.port
+  pub spelled : text ≡ dotted ++ codes ":" ++ decimal peer.port
+
+-- pairs of hexadecimal digits in either case
+abbrev pub SpellsHex : List ℕ → List ℕ → Type 0
+SpellsHex text bytes = decode_of text ≡ Ok bytes
+
+-- the same, for a number of bytes in these bounds
+pub record SpellsBytes (least most : ℕ) (text bytes : List ℕ) : Type 0 where
+  pub digits : SpellsHex text bytes
+  pub at_least : least ≤ length bytes
+  pub at_most : length bytes ≤ most
+
+-- the bytes of a text that an option Uri-Host can hold: 1 to 255 (RFC 7252 section 5.10, table 4)
+abbrev pub IsHost : List ℕ → List ℕ → Type 0
+IsHost text host = (host ≡ text) × (1 ≤ length host) × (length host ≤ 255)
+
+-- an integer that is the number of a port
+abbrev pub IsPort : ℤ → ℕ → Type 0
+IsPort number port = (number ≡ pos port) × IsPortNumber port

@@ -1,0 +1,107 @@
+//! Settings of a server.
+ghost use Rattle.std.specs.Prelude.{◌≡◌, IfOk, MatchResult, Err, Some, codes};
+ghost use Rattle.toml.specs.Data.{get_member, string};
+ghost use Rattle.toml.specs.View.{items_view, table_view, view};
+ghost use Rattle.osc_settings.specs.Document.{StandsFor};
+ghost use Rattle.osc_settings.specs.Reading.{AllListedAt, IsRefusal, StandForAll};
+ghost use Rattle.osc_settings.specs.Settings.{AreServerSettings, IsPathText};
+ghost use Rattle.osc_settings.specs.declared.server.ServerSettings.{ServerSettings as AnySettings};
+
+use crate::document::{address_at, array_at, document, has_only, items_at, text_at};
+use crate::error::SettingsError;
+use crate::values;
+use osc_model::{Path, Peer};
+use osc_token::Audience;
+use std::alloc::Global;
+use std::fmt;
+use toml::{Table, Value};
+
+/// What a server is told.
+#[derive(Drop)]
+pub struct ServerSettings {
+    /// The address and the port that it receives on: `bind`, a text `A.B.C.D:PORT`.
+    pub bind: Peer,
+    /// The key that it shares with those who issue tokens: `key`, 16 bytes in hexadecimal.
+    pub key: [u8; 16],
+    /// Its name in tokens: `audience`, a text.
+    pub audience: Audience,
+    /// The paths whose resources everyone may GET: `open`, an array of their texts.
+    pub open: Vec<Path>,
+}
+
+// The key isn't printed.
+impl fmt::Debug for ServerSettings {
+    fn fmt<W: fmt::Write>(&self, f: &mut fmt::Formatter<W>) -> fmt::Result {
+        f.write_str("ServerSettings")
+    }
+}
+
+/// Reads the settings of a server: a document with the keys `bind`, `key`, `audience` and `open`, and no other.
+///
+/// # Errors
+///
+/// `Bad` where the text is no such document, and `Memory` for want of memory.
+pub fn read_server_settings(alloc: Global, text: &str) -> Result<ServerSettings, SettingsError>
+    ensures read { IfOk result (StandsFor AreServerSettings text.now) }
+    ensures bad { result ≡ Err SettingsError.Bad → (settings : AnySettings) → ¬ StandsFor AreServerSettings text.now settings }
+{
+    let table = document(alloc, text)?;
+    settings_in(alloc, &table)
+}
+
+fn settings_in(alloc: Global, table: &Table) -> Result<ServerSettings, SettingsError>
+    ensures { MatchResult result (AreServerSettings (table_view table.now)) (IsRefusal (AreServerSettings (table_view table.now))) }
+{
+    if !has_only(&["audience", "bind", "key", "open"], table) {
+        return Err(SettingsError::Bad);
+    }
+    Ok(ServerSettings {
+        bind: address_at(alloc, "bind", table)?,
+        key: array_at("key", table)?,
+        audience: audience(alloc, table)?,
+        open: open_paths(alloc, table)?,
+    })
+}
+
+fn audience(alloc: Global, table: &Table) -> Result<Audience, SettingsError>
+    ensures { MatchResult result
+        (λ audience. get_member (codes "audience") (table_view table.now) ≡ Some (string audience))
+        (IsRefusal (λ audience. get_member (codes "audience") (table_view table.now) ≡ Some (string audience))) }
+{
+    match text_at("audience", table) {
+        Some(text) => Ok(Audience::new(alloc, text)?),
+        None => Err(SettingsError::Bad),
+    }
+}
+
+fn open_paths(alloc: Global, table: &Table) -> Result<Vec<Path>, SettingsError>
+    ensures { MatchResult result
+        (AllListedAt (codes "open") IsPathText (table_view table.now))
+        (IsRefusal (AllListedAt (codes "open") IsPathText (table_view table.now))) }
+{
+    match items_at("open", table) {
+        Some(values) => paths(alloc, values),
+        None => Err(SettingsError::Bad),
+    }
+}
+
+fn paths(alloc: Global, values: &[Value]) -> Result<Vec<Path>, SettingsError>
+    ensures { MatchResult result
+        (StandForAll IsPathText (items_view values.now))
+        (IsRefusal (StandForAll IsPathText (items_view values.now))) }
+{
+    let mut paths = Vec::with_capacity(alloc, values.len())?;
+    for value in values {
+        paths.push(path(alloc, value)?)?;
+    }
+    Ok(paths)
+}
+
+fn path(alloc: Global, value: &Value) -> Result<Path, SettingsError>
+    ensures { MatchResult result (IsPathText (view value.now)) (IsRefusal (IsPathText (view value.now))) }
+{
+    match value.as_str() {
+        Some(text) => values::path(alloc, text),
+        None => Err(SettingsError::Bad),
+    }
+}

@@ -1,0 +1,5 @@
+//! Tests of settings, by what callers see.
+#![tactic(auto)]
+
+#[cfg(test)]
+mod settings;

@@ -1,0 +1,352 @@
+//! Settings of the three programs: what a good text gives, and texts that are bad.
+use osc_model::{Path, Peer};
+use osc_settings::{
+    ClientSettings, ProxySettings, ServerSettings, SettingsError, TargetSetting,
+    read_client_settings, read_proxy_settings, read_server_settings,
+};
+use std::alloc::{AllocError, Global};
+use std::test::Fail;
+
+/// Whether this is that port of the loopback address.
+fn is_local(peer: Peer, port: u16) -> bool {
+    peer.address == [127, 0, 0, 1] && peer.port == port
+}
+
+// ---- a server
+
+const SERVER: &str =
+    "bind = '127.0.0.1:5683'\nkey = '000102030405060708090a0B0C0D0e0f'\naudience = 's'\nopen = ['/log', '/a/b', '/log']\n";
+
+const KEY: [u8; 16] = [0, 1, 2, 3, 4, 5, 6, 7, 8, 9, 10, 11, 12, 13, 14, 15];
+
+fn is_path(path: &Path, text: &str) -> bool {
+    path.text() == text.as_bytes()
+}
+
+fn are_open(settings: &ServerSettings) -> bool {
+    match settings.open.as_slice() {
+        [a, b, c] => is_path(a, "/log") && is_path(b, "/a/b") && is_path(c, "/log"),
+        _ => false,
+    }
+}
+
+#[test]
+fn a_server(rt: HostRuntime) -> Result<(), Fail> {
+    let settings = read_server_settings(rt.alloc(), SERVER)?;
+    assert!(rt; is_local(settings.bind, 5683));
+    assert!(rt; settings.key == KEY);
+    assert!(rt; settings.audience.as_str() == "s");
+    assert!(rt; are_open(&settings));
+    Ok(())
+}
+
+/// Whether these lines give a server no settings.
+fn is_bad_for_a_server(alloc: Global, first: &str, rest: &str) -> Result<bool, AllocError> {
+    let text = format!(in alloc; "{first}\n{rest}")?;
+    Ok(matches!(
+        read_server_settings(alloc, text.as_str()),
+        Err(SettingsError::Bad)
+    ))
+}
+
+const NO_BIND: &str = "key = '000102030405060708090a0b0c0d0e0f'\naudience = 's'\nopen = []";
+
+const ADDRESSES: [&str; 18] = [
+    "",
+    "bind = 5683",
+    "bind = ''",
+    "bind = '127.0.0.1'",
+    "bind = '127.0.0.1:'",
+    "bind = '127.0.0.1:0'",
+    "bind = '127.0.0.1:05683'",
+    "bind = '127.0.0.1:65536'",
+    "bind = '127.0.0.1:+1'",
+    "bind = '127.0.0.01:5683'",
+    "bind = '256.0.0.1:1'",
+    "bind = '127.0.1:1'",
+    "bind = '127.0.0.0.1:1'",
+    "bind = ' 127.0.0.1:1'",
+    "bind = '127.0.0.1:1 '",
+    "bind = '127.0.0.1:1:1'",
+    "bind = '[::1]:1'",
+    "bind = 'localhost:1'",
+];
+
+#[test]
+fn bad_addresses(rt: HostRuntime) -> Result<(), Fail> {
+    for line in ADDRESSES {
+        assert!(rt; is_bad_for_a_server(rt.alloc(), line, NO_BIND)?, "{line}");
+    }
+    for line in ["bind = '0.0.0.0:1'", "bind = '255.255.255.255:65535'"] {
+        assert!(rt; !is_bad_for_a_server(rt.alloc(), line, NO_BIND)?, "{line}");
+    }
+    Ok(())
+}
+
+const NO_KEY: &str = "bind = '127.0.0.1:1'\naudience = 's'\nopen = []";
+
+const KEYS: [&str; 7] = [
+    "",
+    "key = 1",
+    "key = ''",
+    "key = '000102030405060708090a0b0c0d0e'",
+    "key = '000102030405060708090a0b0c0d0e0f10'",
+    "key = '000102030405060708090a0b0c0d0e0'",
+    "key = '000102030405060708090a0b0c0d0e0g'",
+];
+
+#[test]
+fn bad_keys(rt: HostRuntime) -> Result<(), Fail> {
+    for line in KEYS {
+        assert!(rt; is_bad_for_a_server(rt.alloc(), line, NO_KEY)?, "{line}");
+    }
+    Ok(())
+}
+
+const BIND_AND_KEY: &str = "bind = '127.0.0.1:1'\nkey = '000102030405060708090a0b0c0d0e0f'\n";
+
+const OTHER_LINES: [&str; 12] = [
+    "",
+    "audience = 's'",
+    "open = []",
+    "audience = 1\nopen = []",
+    "audience = 's'\nopen = '/e'",
+    "audience = 's'\nopen = ['e']",
+    "audience = 's'\nopen = ['/e', 1]",
+    "audience = 's'\nopen = ['/e', '/']",
+    "audience = 's'\nopen = []\nport = 1",
+    "audience = 's'\nopen = []\n[more]",
+    "audience = 's'\nopen = []\nopen = []",
+    "audience = 's'\nopen = [",
+];
+
+#[test]
+fn bad_servers(rt: HostRuntime) -> Result<(), Fail> {
+    for lines in OTHER_LINES {
+        assert!(rt;
+            is_bad_for_a_server(rt.alloc(), BIND_AND_KEY, lines)?,
+            "{lines}"
+        );
+    }
+    Ok(())
+}
+
+// ---- a proxy
+
+const PROXY: &str =
+    "bind = '127.0.0.1:5683'\n[[target]]\nhost = 's.example'\nport = 5683\nto = '127.0.0.1:1'\n[[target]]\nto = '127.0.0.1:2'\nhost = 't'\nport = 65535\n";
+
+/// Whether this is that target.
+fn is_target(target: &TargetSetting, host: &[u8], port: u16, to: u16) -> bool {
+    target.host.as_slice() == host && target.port == port && is_local(target.to, to)
+}
+
+fn are_targets(settings: &ProxySettings) -> bool {
+    match settings.targets.as_slice() {
+        [a, b] => is_target(a, b"s.example", 5683, 1) && is_target(b, b"t", 65535, 2),
+        _ => false,
+    }
+}
+
+#[test]
+fn a_proxy(rt: HostRuntime) -> Result<(), Fail> {
+    let settings = read_proxy_settings(rt.alloc(), PROXY)?;
+    assert!(rt; is_local(settings.bind, 5683));
+    assert!(rt; are_targets(&settings));
+    Ok(())
+}
+
+/// Whether these lines give a proxy no settings.
+fn is_bad_for_a_proxy(alloc: Global, first: &str, rest: &str) -> Result<bool, AllocError> {
+    let text = format!(in alloc; "{first}\n{rest}")?;
+    Ok(matches!(
+        read_proxy_settings(alloc, text.as_str()),
+        Err(SettingsError::Bad)
+    ))
+}
+
+const TARGETS: [&str; 15] = [
+    "",
+    "target = 't'",
+    "target = ['t']",
+    "target = [{}]",
+    "target = { host = 't', port = 1, to = '127.0.0.1:1' }",
+    "target = [{ port = 1, to = '127.0.0.1:1' }]",
+    "target = [{ host = 't', to = '127.0.0.1:1' }]",
+    "target = [{ host = 't', port = 1 }]",
+    "target = [{ host = '', port = 1, to = '127.0.0.1:1' }]",
+    "target = [{ host = 't', port = 0, to = '127.0.0.1:1' }]",
+    "target = [{ host = 't', port = 65536, to = '127.0.0.1:1' }]",
+    "target = [{ host = 't', port = '1', to = '127.0.0.1:1' }]",
+    "target = [{ host = 't', port = 1, to = '127.0.0.1' }]",
+    "target = [{ host = 't', port = 1, to = '127.0.0.1:1', key = '' }]",
+    "target = []\nkey = ''",
+];
+
+#[test]
+fn bad_targets(rt: HostRuntime) -> Result<(), Fail> {
+    for lines in TARGETS {
+        assert!(rt;
+            is_bad_for_a_proxy(rt.alloc(), "bind = '127.0.0.1:1'", lines)?,
+            "{lines}"
+        );
+    }
+    assert!(rt; is_bad_for_a_proxy(rt.alloc(), "", "target = []")?);
+    assert!(rt; !is_bad_for_a_proxy(rt.alloc(), "bind = '127.0.0.1:1'", "target = []")?);
+    Ok(())
+}
+
+/// A proxy's text, with a host of so many bytes.
+fn with_host(alloc: Global, length: usize) -> Result<String, AllocError> {
+    let host = "h".repeat(alloc, length)?;
+    format!(in alloc; "target = [{{ host = '{host}', port = 1, to = '127.0.0.1:1' }}]")
+}
+
+#[test]
+fn hosts_have_at_most_255_bytes(rt: HostRuntime) -> Result<(), Fail> {
+    for (length, is_bad) in [(255, false), (256, true)] {
+        let lines = with_host(rt.alloc(), length)?;
+        assert!(rt;
+            is_bad_for_a_proxy(rt.alloc(), "bind = '127.0.0.1:1'", lines.as_str())? == is_bad
+        );
+    }
+    Ok(())
+}
+
+// ---- a client
+
+const CLIENT: &str =
+    "bind = '127.0.0.1:1'\npeer = '127.0.0.1:2'\nhost = 's'\nport = 3\ntoken = 'd08343'\nsecret = '01'\nsalt = '0203'\ncontext = ''\n";
+
+/// Whether it sends through a proxy to this host and port.
+fn goes_to(settings: &ClientSettings, host: &[u8], port: u16) -> bool {
+    match &settings.origin {
+        Some((named, at)) => named.as_slice() == host && *at == port,
+        None => false,
+    }
+}
+
+fn has_an_empty_context(settings: &ClientSettings) -> bool {
+    match &settings.context {
+        Some(context) => context.is_empty(),
+        None => false,
+    }
+}
+
+#[test]
+fn a_client(rt: HostRuntime) -> Result<(), Fail> {
+    let settings = read_client_settings(rt.alloc(), CLIENT)?;
+    assert!(rt; is_local(settings.bind, 1));
+    assert!(rt; is_local(settings.peer, 2));
+    assert!(rt; goes_to(&settings, b"s", 3));
+    assert!(rt; settings.token.as_slice() == b"\xd0\x83\x43".as_slice());
+    assert!(rt; settings.secret.as_slice() == b"\x01".as_slice());
+    assert!(rt; settings.salt.as_slice() == b"\x02\x03".as_slice());
+    assert!(rt; has_an_empty_context(&settings));
+    Ok(())
+}
+
+const BIND_AND_PEER: &str = "bind = '127.0.0.1:1'\npeer = '127.0.0.1:2'";
+
+/// The client's settings of these lines.
+fn client_of(alloc: Global, lines: &str) -> Result<ClientSettings, SettingsError> {
+    let text = format!(in alloc; "{BIND_AND_PEER}\n{lines}")?;
+    read_client_settings(alloc, text.as_str())
+}
+
+#[test]
+fn what_a_client_may_leave_out(rt: HostRuntime) -> Result<(), Fail> {
+    let settings = client_of(rt.alloc(), "token = ''\nsecret = '01'")?;
+    assert!(rt; settings.origin.is_none());
+    assert!(rt; settings.token.is_empty());
+    assert!(rt; settings.salt.is_empty());
+    assert!(rt; settings.context.is_none());
+    Ok(())
+}
+
+#[test]
+fn the_port_of_coap(rt: HostRuntime) -> Result<(), Fail> {
+    let settings = client_of(rt.alloc(), "token = ''\nsecret = '01'\nhost = 's'")?;
+    assert!(rt; goes_to(&settings, b"s", 5683));
+    Ok(())
+}
+
+/// Whether these lines give a client no settings.
+fn is_bad_for_a_client(alloc: Global, lines: &str) -> bool {
+    matches!(client_of(alloc, lines), Err(SettingsError::Bad))
+}
+
+const CLIENTS: [&str; 17] = [
+    "",
+    "token = ''",
+    "secret = '01'",
+    "token = 1\nsecret = '01'",
+    "token = '0'\nsecret = '01'",
+    "token = ''\nsecret = ''",
+    "token = ''\nsecret = '0'",
+    "token = ''\nsecret = 1",
+    "token = ''\nsecret = '01'\nport = 1",
+    "token = ''\nsecret = '01'\nhost = ''",
+    "token = ''\nsecret = '01'\nhost = 1",
+    "token = ''\nsecret = '01'\nhost = 's'\nport = 0",
+    "token = ''\nsecret = '01'\nhost = 's'\nport = 1.0",
+    "token = ''\nsecret = '01'\nsalt = 1",
+    "token = ''\nsecret = '01'\nsalt = '0'",
+    "token = ''\nsecret = '01'\ncontext = 1",
+    "token = ''\nsecret = '01'\nkey = ''",
+];
+
+#[test]
+fn bad_clients(rt: HostRuntime) {
+    for lines in CLIENTS {
+        assert!(rt; is_bad_for_a_client(rt.alloc(), lines), "{lines}");
+    }
+}
+
+/// Lines of a client where a key has so many bytes.
+fn with_bytes(alloc: Global, key: &str, length: usize) -> Result<String, AllocError> {
+    let digits = "0a".repeat(alloc, length)?;
+    format!(in alloc; "token = ''\n{key} = '{digits}'")
+}
+
+#[test]
+fn material_has_at_most_64_bytes(rt: HostRuntime) -> Result<(), Fail> {
+    for (key, length, is_bad) in [
+        ("secret", 64, false),
+        ("secret", 65, true),
+        ("secret = '01'\nsalt", 64, false),
+        ("secret = '01'\nsalt", 65, true),
+        ("secret = '01'\ncontext", 64, false),
+        ("secret = '01'\ncontext", 65, true),
+    ] {
+        let lines = with_bytes(rt.alloc(), key, length)?;
+        assert!(rt;
+            is_bad_for_a_client(rt.alloc(), lines.as_str()) == is_bad,
+            "{key}"
+        );
+    }
+    Ok(())
+}
+
+// ---- what is printed
+
+#[test]
+fn secrets_are_not_printed(rt: HostRuntime) -> Result<(), Fail> {
+    let server = read_server_settings(rt.alloc(), SERVER)?;
+    let client = read_client_settings(rt.alloc(), CLIENT)?;
+    let text = format!(in rt.alloc(); "{server:?} {client:?}")?;
+    assert_eq!(rt; text.as_str(), "ServerSettings ClientSettings");
+    Ok(())
+}
+
+#[test]
+fn errors_are_told(rt: HostRuntime) -> Result<(), Fail> {
+    for (error, wanted) in [
+        (SettingsError::Bad, "settings: bad"),
+        (SettingsError::Memory, "out of memory"),
+    ] {
+        let text = format!(in rt.alloc(); "{error}")?;
+        assert_eq!(rt; text.as_str(), wanted);
+    }
+    Ok(())
+}
