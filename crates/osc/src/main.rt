@@ -2,8 +2,8 @@
 #![tactic(auto)]
 
 use osc_programs::{
-    Ended, TokenWords, Words, WordsError, ended_by, ended_by_io, fault_line, iv_of, read_words,
-    sim, started_by_io, status, token, token_fault,
+    Ended, TokenWords, Words, WordsError, ask, ended_by, ended_by_io, fault_line, forward, iv_of,
+    lab, read_words, running_fault, serve, sim, started_by_io, status, token, token_fault,
 };
 use std::process::ExitCode;
 use std::{env, io};
@@ -24,6 +24,16 @@ fn run(rt: &HostRuntime) -> io::Result<Ended> {
     match read_words(alloc, &words) {
         Ok(Words::Sim { bytes }) => Ok(sim(alloc, &mut rt.reader(), &mut io::writer(rt), bytes)),
         Ok(Words::Token(words)) => print_token(rt, &words),
+        Ok(Words::Server { turns }) => tell(rt, serve(alloc, rt, &mut rt.reader(), turns)),
+        Ok(Words::Proxy { turns }) => tell(rt, forward(alloc, rt, &mut rt.reader(), turns)),
+        Ok(Words::Client(words)) => tell(
+            rt,
+            ask(alloc, rt, &mut rt.reader(), &mut io::writer(rt), &words),
+        ),
+        Ok(Words::Lab { turns }) => tell(
+            rt,
+            lab(alloc, rt, &mut rt.reader(), &mut io::writer(rt), turns),
+        ),
         Err(error) => explain(rt, &error),
     }
 }
@@ -40,7 +50,15 @@ fn print_token(rt: &HostRuntime, words: &TokenWords) -> io::Result<Ended> {
     Ok(ended)
 }
 
-/// Help goes to the standard output, and the one line of a fault to the standard error.
+/// The one line of a fault of what runs on sockets goes to the standard error.
+fn tell(rt: &HostRuntime, ended: Ended) -> io::Result<Ended> {
+    if let Some(line) = running_fault(rt.alloc(), ended)? {
+        rt.eprintln(line.as_str())?;
+    }
+    Ok(ended)
+}
+
+/// Help and the version go to the standard output, and the one line of a fault to the standard error.
 fn explain(rt: &HostRuntime, error: &WordsError) -> io::Result<Ended> {
     let ended = ended_by(error);
     match (ended, error) {

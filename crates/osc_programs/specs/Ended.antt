@@ -1,16 +1,19 @@
 -- How the programs end: their exit statuses, and what ends them.
-use Rattle.std.specs.Prelude.{ℕ, List, Option, Some, None, codes}
+use Rattle.std.specs.Prelude.{ℕ, List, ◌++◌, Option, Some, None, codes, decimal}
 use Rattle.std.specs.declared.io.ErrorKind.{ErrorKind}
 use Rattle.std.specs.declared.io.ErrorKind.TheVariants as kind
 use Rattle.osc_programs.specs.declared.ended.Ended.{Ended}
-use Rattle.osc_programs.specs.declared.ended.Ended.TheVariants.{Done, BadCommandLine, BadLine, OutOfMemory, Failed}
+use Rattle.osc_programs.specs.declared.ended.Ended.TheVariants.{Done, BadCommandLine, BadLine, BadSettings, OutOfMemory, Failed, PortFailed, NotDone}
 
 abbrev pub status_of : Ended → ℕ
 status_of Done = 0
 status_of BadCommandLine = 2
 status_of (BadLine number) = 2
+status_of BadSettings = 2
 status_of OutOfMemory = 3
 status_of Failed = 4
+status_of PortFailed = 4
+status_of NotDone = 1
 
 -- want of memory is told apart from other faults of an input or an output
 abbrev pub ended_by_io : ErrorKind → Ended
@@ -27,3 +30,11 @@ abbrev pub token_fault_of : Ended → Option (List ℕ)
 token_fault_of BadCommandLine = Some (codes "error: the claims have more than 65535 bytes")
 token_fault_of OutOfMemory = Some (codes "out of memory")
 token_fault_of ended = None
+
+-- what is told where a program ended that runs nodes on sockets
+abbrev pub running_fault_of : Ended → Option (List ℕ)
+running_fault_of (BadLine number) = Some (codes "line " ++ decimal number ++ codes ": bad")
+running_fault_of BadSettings = Some (codes "settings: bad")
+running_fault_of OutOfMemory = Some (codes "out of memory")
+running_fault_of PortFailed = Some (codes "port failed")
+running_fault_of ended = None

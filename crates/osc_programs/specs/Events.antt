@@ -7,7 +7,6 @@ use Rattle.osc_options.specs.Requests.{path_options}
 use Rattle.osc_run.specs.declared.noted.Actor.{Actor}
 use Rattle.osc_run.specs.declared.noted.Actor.TheVariants as actor
 use Rattle.osc_script.specs.Node.{address_of}
-use Rattle.osc_script.specs.declared.client_name.ClientName.{ClientName}
 use Rattle.osc_script.specs.declared.node.Node.{Node}
 use Rattle.osc_script.specs.declared.node.Node.TheVariants as node
 use Rattle.osc_script.specs.declared.line.Change.{Change}
@@ -17,7 +16,7 @@ use Rattle.osc_world.specs.declared.event.What.{What}
 use Rattle.osc_world.specs.declared.event.What.TheVariants.{Exchange, Ask, Lie, Tick, Restart, Deliver, Inject}
 use Rattle.osc_world.specs.declared.log.Sent.{Sent}
 use Rattle.osc_programs.specs.Copies.{altered, grafted}
-use Rattle.osc_programs.specs.Names.{number_of}
+use Rattle.osc_programs.specs.Names.{Names, number_of, proxy_number}
 
 -- the number in the world of the datagram K, which a script counts from 1; for 0, the number of the next one
 abbrev pub datagram_number : List Sent → ℕ → ℕ
@@ -51,10 +50,11 @@ abbrev pub text_of : Request → List ℕ
 text_of request = plaintext_spelling (record { code = request.code.0; options = path_options request.path; payload = payload_of request.payload })
 
 -- the node of this name; the stranger is none
-abbrev pub actor_of : List ClientName → Node → Option Actor
-actor_of clients node.Server = Some actor.Server
-actor_of clients (node.Client client) = Some (actor.Client (number_of clients client))
-actor_of clients node.Stranger = None
+abbrev pub actor_of : Names → Node → Option Actor
+actor_of names node.Server = Some actor.Server
+actor_of names (node.Client client) = Some (actor.Client (number_of names.clients client))
+actor_of names (node.Proxy proxy) = Some (actor.Proxy (proxy_number names.proxies proxy))
+actor_of names node.Stranger = None
 
 -- the stranger does nothing
 abbrev pub ticks : List Sent → Option Actor → What
@@ -66,14 +66,14 @@ restarts sent None = nothing_comes sent
 restarts sent (Some node) = Restart node
 
 -- what happens by a line that is one event, and none of the others
-abbrev pub what_of : List ClientName → List Sent → Line → Option What
-what_of clients sent (line.Exchange client) = Some (Exchange (number_of clients client))
-what_of clients sent (line.Ask client request) = Some (Ask (number_of clients client) request)
-what_of clients sent (line.Tick node) = Some (ticks sent (actor_of clients node))
-what_of clients sent (line.Restart node) = Some (restarts sent (actor_of clients node))
-what_of clients sent (line.Deliver datagram) = Some (Deliver (datagram_number sent datagram))
-what_of clients sent (line.Alter datagram changes) = Some (what_altered sent changes (datagram_of sent datagram))
-what_of clients sent (line.Graft header body) = Some (what_grafted sent (datagram_of sent header) (datagram_of sent body))
-what_of clients sent (line.Inject from to bytes) = Some (Inject (address_of from) (address_of to) bytes)
-what_of clients sent (line.Lie client number request) = Some (Lie (number_of clients client) number (text_of request))
-what_of clients sent other = None
+abbrev pub what_of : Names → List Sent → Line → Option What
+what_of names sent (line.Exchange client) = Some (Exchange (number_of names.clients client))
+what_of names sent (line.Ask client request) = Some (Ask (number_of names.clients client) request)
+what_of names sent (line.Tick node) = Some (ticks sent (actor_of names node))
+what_of names sent (line.Restart node) = Some (restarts sent (actor_of names node))
+what_of names sent (line.Deliver datagram) = Some (Deliver (datagram_number sent datagram))
+what_of names sent (line.Alter datagram changes) = Some (what_altered sent changes (datagram_of sent datagram))
+what_of names sent (line.Graft header body) = Some (what_grafted sent (datagram_of sent header) (datagram_of sent body))
+what_of names sent (line.Inject from to bytes) = Some (Inject (address_of from) (address_of to) bytes)
+what_of names sent (line.Lie client number request) = Some (Lie (number_of names.clients client) number (text_of request))
+what_of names sent other = None

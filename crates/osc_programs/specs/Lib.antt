@@ -11,6 +11,10 @@ pub mod SetUp
 pub mod Options
 pub mod Values
 pub mod TokenWords
+pub mod ClientOptions
+pub mod ClientWords
+pub mod NamedOptions
 pub mod Command
 pub mod Reading
 pub mod TokenLine
+pub mod Conversation

@@ -1,5 +1,5 @@
 -- The options of `osc token`.
-use Rattle.std.specs.Prelude.{ℕ, Bool, true, false, List, ◌++◌, codes, Option, Some}
+use Rattle.std.specs.Prelude.{ℕ, Bool, true, false, List, codes, Option, Some}
 use Rattle.clap.specs.Words.{Row, Rule, first_of, new_rule}
 use Rattle.osc_programs.specs.declared.token_option.TokenOption.{TokenOption}
 use Rattle.osc_programs.specs.declared.token_option.TokenOption.TheVariants.{Key, Audience, Id, Secret, Salt, Context, Scope, Expires, NotBefore, Iv}
@@ -49,7 +49,3 @@ form_of Scope = codes "a scope"
 form_of Expires = codes "a number of 64 bits in decimal digits"
 form_of NotBefore = codes "a number of 64 bits in decimal digits"
 form_of Iv = codes "13 bytes in hexadecimal"
-
--- what is said where it isn't
-abbrev pub refusal_text : TokenOption → List ℕ
-refusal_text option = codes "error: --" ++ name_of option ++ codes " is not " ++ form_of option

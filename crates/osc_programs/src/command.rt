@@ -1,25 +1,33 @@
 //! The words of the command line.
-ghost use Rattle.std.specs.Prelude.{◌≡◌, IfOk, MatchResult, Err, false, [], map, option_map};
+ghost use Rattle.std.specs.Prelude.{◌≡◌, IfOk, MatchResult, Err, true, false, [], map, option_map, codes};
 ghost use Rattle.clap.specs.Words.{FailsBy, app_of, fault_of, first_of, found_of, rows_of, subcommand_of, subcommand_rows_of, with_rule};
 ghost use Rattle.clap.specs.declared.builder.command.Command.TheViews.{out-Command};
 ghost use Rattle.osc_programs.specs.Command as spec;
+ghost use Rattle.osc_programs.specs.NamedOptions.{name_of};
 ghost use Rattle.osc_programs.specs.Options.{value_rule};
 ghost use Rattle.osc_programs.specs.Reading.{IsKnown, IsRefusalIn};
-ghost use Rattle.osc_programs.specs.declared.token_option.TokenOption.{TokenOption as AnyOption};
+ghost use Rattle.osc_programs.specs.declared.named_option.NamedOption.{NamedOption as AnyOption};
 ghost use Rattle.osc_programs.specs.declared.words.Words.{Words as AnyWords};
 
+use crate::client_option::ClientOption;
+use crate::client_words::client_words;
+use crate::given;
+use crate::named_option::NamedOption;
 use crate::token_option::TokenOption;
 use crate::token_words::token_words;
 use crate::words::{Words, WordsError};
 use clap::{Arg, ArgAction, ArgMatches, Command, Error};
 use std::alloc::{AllocError, Global};
 
+const TOKEN_EXAMPLE: &str =
+    "Example: osc token --key 404142434445464748494a4b4c4d4e4f --aud s --id 01 --secret 0123456789abcdef --scope /log:GET+POST";
+
 /// Reads a command line, the program's own name first.
 ///
 /// # Errors
 ///
-/// `Clap` for a fault of the words and for a wish for help, then `Value` for an option of `token` whose value is none that
-/// it may have; `Memory` for want of memory.
+/// `Clap` for a fault of the words and for a wish for help or the version, then `Value` for an option whose value is none
+/// that it may have; `Memory` for want of memory.
 pub fn read_words(alloc: Global, words: &[&str]) -> Result<Words, WordsError>
     // What is read is what the words stand for ..
     ensures read { IfOk result (λ read. spec.StandFor (map (λ word. word.now) words.now) read) }
@@ -27,6 +35,7 @@ pub fn read_words(alloc: Global, words: &[&str]) -> Result<Words, WordsError>
     ensures fault { MatchResult result
         (λ _. fault_of spec.program (map (λ word. word.now) words.now) ≡ [])
         (spec.HaveFault (map (λ word. word.now) words.now)) }
+    ensures method { IfOk result spec.AsksByMethod }
     ensures nothing { (option : AnyOption) → result ≡ Err (WordsError.Value option)
         → (read : AnyWords) → ¬ spec.StandFor (map (λ word. word.now) words.now) read }
 {
@@ -44,6 +53,16 @@ fn words_in(alloc: Global, matches: &ArgMatches<'_>) -> Result<Words, WordsError
             bytes: is_set(options, "bytes"),
         }),
         Some(("token", options)) => Ok(Words::Token(token_words(alloc, options)?)),
+        Some(("server", options)) => Ok(Words::Server {
+            turns: given::turns(options, NamedOption::ServerTurns)?,
+        }),
+        Some(("proxy", options)) => Ok(Words::Proxy {
+            turns: given::turns(options, NamedOption::ProxyTurns)?,
+        }),
+        Some(("client", options)) => Ok(Words::Client(client_words(alloc, options)?)),
+        Some(("lab", options)) => Ok(Words::Lab {
+            turns: given::required_number(options, NamedOption::LabTurns)?,
+        }),
         _ => unreachable!(),
     }
 }
@@ -60,14 +79,24 @@ fn read_matches<'a>(alloc: Global, words: &'a [&'a str]) -> Result<ArgMatches<'a
 fn program<'a>(alloc: Global) -> Result<Command<'a>, AllocError>
     ensures { IfOk result (λ command. app_of command ≡ spec.program) }
 {
-    let sim = sim_command(alloc)?;
-    let token = token_command(alloc)?;
+    bare_program(alloc)
+        .subcommand(sim_command(alloc)?)?
+        .subcommand(token_command(alloc)?)?
+        .subcommand(server_command(alloc)?)?
+        .subcommand(proxy_command(alloc)?)?
+        .subcommand(client_command(alloc)?)?
+        .subcommand(lab_command(alloc)?)
+}
+
+// The program without its subcommands.
+fn bare_program<'a>(alloc: Global) -> Command<'a>
+    ensures app { app_of result ≡ spec.bare_program }
+    ensures local { (out-Command result).has_globals ≡ false }
+{
     Command::new(alloc, "osc")
-        .about("Runs scripts of a CoAP server, and prints tokens")
+        .version("0.1.0")
+        .about("CoAP nodes that are protected by OSCORE, and the tokens that they take")
         .subcommand_required(true)
-        .disable_help_subcommand(true)
-        .subcommand(sim)?
-        .subcommand(token)
 }
 
 // The subcommand that runs a script.
@@ -81,6 +110,7 @@ fn sim_command<'a>(alloc: Global) -> Result<Command<'a>, AllocError>
         .action(ArgAction::SetTrue);
     Command::new(alloc, "sim")
         .about("Runs the script on the standard input, and prints its trace")
+        .after_help("Example: osc sim --bytes < SCRIPT")
         .arg(bytes)
 }
 
@@ -89,22 +119,97 @@ fn token_command<'a>(alloc: Global) -> Result<Command<'a>, AllocError>
     ensures app { IfOk result (λ command. app_of command ≡ spec.token_app) }
     ensures local { IfOk result (λ command. (out-Command command).has_globals ≡ false) }
 {
-    let mut command = Command::new(alloc, "token").about("Prints a token in hexadecimal");
+    let mut command = Command::new(alloc, "token")
+        .about("Prints a token in hexadecimal")
+        .after_help(TOKEN_EXAMPLE);
     for option in TokenOption::ALL {
         command = with_option(
             alloc,
             command,
-            option.name(),
-            option.value_name(),
-            option.help(),
+            NamedOption::Token(option),
             option.is_required(),
         )?;
     }
     Ok(command)
 }
 
+// The subcommand that runs a server.
+fn server_command<'a>(alloc: Global) -> Result<Command<'a>, AllocError>
+    ensures app { IfOk result (λ command. app_of command ≡ spec.turns_app (codes "server") false) }
+    ensures local { IfOk result (λ command. (out-Command command).has_globals ≡ false) }
+{
+    let command = Command::new(alloc, "server")
+        .about("Runs a server on a UDP socket, by the settings on the standard input")
+        .after_help("Example: osc server < SETTINGS");
+    with_option(alloc, command, NamedOption::ServerTurns, false)
+}
+
+// The subcommand that runs a forward proxy.
+fn proxy_command<'a>(alloc: Global) -> Result<Command<'a>, AllocError>
+    ensures app { IfOk result (λ command. app_of command ≡ spec.turns_app (codes "proxy") false) }
+    ensures local { IfOk result (λ command. (out-Command command).has_globals ≡ false) }
+{
+    let command = Command::new(alloc, "proxy")
+        .about("Runs a forward proxy on a UDP socket, by the settings on the standard input")
+        .after_help("Example: osc proxy --turns 1000 < SETTINGS");
+    with_option(alloc, command, NamedOption::ProxyTurns, false)
+}
+
+// The subcommand that asks a server.
+fn client_command<'a>(alloc: Global) -> Result<Command<'a>, AllocError>
+    ensures app { IfOk result (λ command. app_of command ≡ spec.client_app) }
+    ensures local { IfOk result (λ command. (out-Command command).has_globals ≡ false) }
+{
+    let mut command = Command::new(alloc, "client")
+        .about("Posts a token and asks for a resource, by the settings on the standard input")
+        .after_help(
+            "Example: osc client --turns 1000 --method POST --path /log --payload 61 < SETTINGS",
+        );
+    for option in ClientOption::ALL {
+        command = with_option(
+            alloc,
+            command,
+            NamedOption::Client(option),
+            option.is_required(),
+        )?;
+    }
+    Ok(command)
+}
+
+// The subcommand that runs a script over sockets.
+fn lab_command<'a>(alloc: Global) -> Result<Command<'a>, AllocError>
+    ensures app { IfOk result (λ command. app_of command ≡ spec.turns_app (codes "lab") true) }
+    ensures local { IfOk result (λ command. (out-Command command).has_globals ≡ false) }
+{
+    let command = Command::new(alloc, "lab")
+        .about(
+            "Runs the script on the standard input over UDP sockets, and prints what clients get",
+        )
+        .after_help("Example: osc lab --turns 1000000 < SCRIPT");
+    with_option(alloc, command, NamedOption::LabTurns, true)
+}
+
 // An option with one value.
 fn with_option<'a>(
+    alloc: Global,
+    command: Command<'a>,
+    option: NamedOption,
+    is_required: bool,
+) -> Result<Command<'a>, AllocError>
+    ensures app { IfOk result (λ more. app_of more ≡ with_rule (app_of command.entry) (value_rule (name_of option) is_required)) }
+    ensures local { IfOk result (λ more. (out-Command more).has_globals ≡ (out-Command command.entry).has_globals) }
+{
+    with_value(
+        alloc,
+        command,
+        option.name(),
+        option.value_name(),
+        option.help(),
+        is_required,
+    )
+}
+
+fn with_value<'a>(
     alloc: Global,
     command: Command<'a>,
     name: &'a str,

@@ -1,8 +1,9 @@
 //! How a program ends.
 ghost use Rattle.std.specs.IoError.{error_kind};
-ghost use Rattle.std.specs.Prelude.{◌≡◌, option_map};
+ghost use Rattle.std.specs.Prelude.{◌≡◌, IfOk, option_map, string_bytes};
 ghost use Rattle.osc_programs.specs.Ended as spec;
 
+use std::alloc::{AllocError, Global};
 use std::io::{self, ErrorKind};
 
 /// How a program ended.
@@ -12,21 +13,28 @@ pub enum Ended {
     BadCommandLine,
     /// The script's line of this number, counted from 1, is bad.
     BadLine(u64),
+    /// The settings are none.
+    BadSettings,
     OutOfMemory,
     /// The input or the output failed.
     Failed,
+    /// The socket failed, or its address can't be had.
+    PortFailed,
+    /// The last result of `osc client` is no answer of class 2.
+    NotDone,
 }
 
-/// The exit status: 0, 2 for a bad command line or a bad line, 3 for want of memory, and 4 for an input or an output
-/// that failed.
+/// The exit status: 0, 1 for a client without an answer of class 2, 2 for a bad command line, bad settings or a bad line, 3 for want of
+/// memory, and 4 for a socket, an input or an output that failed.
 pub fn status(ended: Ended) -> u8
     ensures { result ≡ spec.status_of ended }
 {
     match ended {
         Ended::Done => 0,
-        Ended::BadCommandLine | Ended::BadLine(_) => 2,
+        Ended::NotDone => 1,
+        Ended::BadCommandLine | Ended::BadLine(_) | Ended::BadSettings => 2,
         Ended::OutOfMemory => 3,
-        Ended::Failed => 4,
+        Ended::Failed | Ended::PortFailed => 4,
     }
 }
 
@@ -47,6 +55,19 @@ pub fn started_by_io(error: &io::Error) -> Ended
     match error.kind() {
         ErrorKind::InvalidData => Ended::BadCommandLine,
         _ => ended_by_io(error),
+    }
+}
+
+/// The line that tells on the standard error how a program ended that runs nodes on sockets, if one does.
+pub fn running_fault(alloc: Global, ended: Ended) -> Result<Option<String>, AllocError>
+    ensures { IfOk result (λ line. option_map string_bytes line ≡ spec.running_fault_of ended) }
+{
+    match ended {
+        Ended::BadLine(number) => Ok(Some(format!(in alloc; "line {number}: bad")?)),
+        Ended::BadSettings => Ok(Some("settings: bad".to_string(alloc)?)),
+        Ended::OutOfMemory => Ok(Some("out of memory".to_string(alloc)?)),
+        Ended::PortFailed => Ok(Some("port failed".to_string(alloc)?)),
+        Ended::Done | Ended::NotDone | Ended::BadCommandLine | Ended::Failed => Ok(None),
     }
 }
 

@@ -4,29 +4,29 @@ ghost use Rattle.osc_programs.specs.Events as spec;
 
 use crate::copies::{altered, grafted};
 use crate::lying::text_of;
-use crate::names::number_of;
+use crate::names::{Names, number_of, proxy_number};
 use osc_model::{Bytes, Peer, Request};
 use osc_run::Actor;
-use osc_script::{Change, ClientName, Line, Node};
+use osc_script::{Change, Line, Node};
 use osc_world::{Sent, What};
 use std::alloc::{AllocError, Global};
 
 /// What happens by a line that is one event, in a world that sent these datagrams; by any other line nothing.
 pub(crate) fn what_of(
     alloc: Global,
-    clients: &[ClientName],
+    names: &Names,
     sent: &[Sent],
     line: &Line,
 ) -> Result<Option<What>, AllocError>
-    ensures { IfOk result (λ what. what ≡ spec.what_of clients.now sent.now line.now) }
+    ensures { IfOk result (λ what. what ≡ spec.what_of names.now sent.now line.now) }
 {
     match line {
         Line::Exchange { client } => Ok(Some(What::Exchange {
-            client: number_of(clients, *client),
+            client: number_of(names.clients(), *client),
         })),
-        Line::Ask { client, request } => asks(alloc, number_of(clients, *client), request),
-        Line::Tick { node } => Ok(Some(ticks(sent, actor_of(clients, *node)))),
-        Line::Restart { node } => Ok(Some(restarts(sent, actor_of(clients, *node)))),
+        Line::Ask { client, request } => asks(alloc, number_of(names.clients(), *client), request),
+        Line::Tick { node } => Ok(Some(ticks(sent, actor_of(names, *node)))),
+        Line::Restart { node } => Ok(Some(restarts(sent, actor_of(names, *node)))),
         Line::Deliver { datagram } => Ok(Some(What::Deliver {
             datagram: datagram_number(sent, *datagram),
         })),
@@ -51,7 +51,7 @@ pub(crate) fn what_of(
             client,
             number,
             request,
-        } => lies(alloc, number_of(clients, *client), *number, request),
+        } => lies(alloc, number_of(names.clients(), *client), *number, request),
         _ => Ok(None),
     }
 }
@@ -117,12 +117,13 @@ fn nothing_comes(sent: &[Sent]) -> What
 }
 
 /// The node of this name; the stranger is none.
-fn actor_of(clients: &[ClientName], node: Node) -> Option<Actor>
-    ensures { result ≡ spec.actor_of clients.now node }
+fn actor_of(names: &Names, node: Node) -> Option<Actor>
+    ensures { result ≡ spec.actor_of names.now node }
 {
     match node {
         Node::Server => Some(Actor::Server),
-        Node::Client(client) => Some(Actor::Client(number_of(clients, client))),
+        Node::Client(client) => Some(Actor::Client(number_of(names.clients(), client))),
+        Node::Proxy(proxy) => Some(Actor::Proxy(proxy_number(names.proxies(), proxy))),
         Node::Stranger => None,
     }
 }

@@ -134,7 +134,7 @@ fn holder_name(clients: &[ClientName], minted: &[Minted], secret: &Bytes) -> &'s
 }
 
 /// The client and what it learnt, if it did.
-fn result_text(
+pub(crate) fn result_text(
     alloc: Global,
     clients: &[ClientName],
     actor: Actor,
@@ -161,7 +161,7 @@ fn actor_name(clients: &[ClientName], actor: Actor) -> &'static str
 }
 
 /// `context`, `answer CODE FORMAT BYTES`, `unverified CODE`, `timeout` or `refused N`.
-fn learnt_text(alloc: Global, learnt: &ClientResult) -> Result<String, AllocError>
+pub(crate) fn learnt_text(alloc: Global, learnt: &ClientResult) -> Result<String, AllocError>
     ensures { IfOk result (λ text. string_bytes text ≡ spec.learnt_text learnt.now) }
 {
     match learnt {

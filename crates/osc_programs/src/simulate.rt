@@ -13,12 +13,12 @@ ghost use Rattle.osc_programs.specs.declared.stage.Stage.{Stage as AnyStage};
 
 use crate::ended::{Ended, ended_by_io};
 use crate::issue::written;
-use crate::names::granted;
+use crate::names::Names;
 use crate::record::records_text;
 use crate::set_up::first_world;
 use crate::stage::Stage;
 use crate::trace::{bad_line_text, end_text};
-use osc_script::{ClientName, Line, ScriptError, read_script};
+use osc_script::{Line, ScriptError, read_script};
 use osc_world::{Record, World};
 use std::alloc::{AllocError, Global};
 use std::cmp::min;
@@ -55,8 +55,8 @@ fn told_last<W: Write>(writer: &mut W, text: &[u8]) -> Ended
     Ended::OutOfMemory
 }
 
-// The same end, where the text is written.
-fn ended_when_written<W: Write>(writer: &mut W, text: &[u8], ended: Ended) -> Ended
+/// The same end, where the text is written.
+pub(crate) fn ended_when_written<W: Write>(writer: &mut W, text: &[u8], ended: Ended) -> Ended
     ensures written { result ≢ Ended.Failed → Appends (W.contents writer.old) (W.contents writer.new) text.now }
     ensures same { (result ≡ ended) ⊎ (result ≡ Ended.Failed) }
 {
@@ -154,10 +154,10 @@ fn trace_lines(
     requires { CanPutAll map.empty lines.now }
     ensures { OnOk result ((printed : List ℕ) × spec.IsTrace with_bytes lines.now printed × (text.new.items ≡ text.old.items ++ printed)) }
 {
-    let clients = granted(alloc, lines)?;
-    let world = first_world(alloc, lines)?;
+    let names = Names::of(alloc, lines)?;
+    let world = first_world(alloc, &names, lines)?;
     let mut stage = Stage::first(world);
-    let traced = trace_from(alloc, &mut stage, &clients, lines, with_bytes, text);
+    let traced = trace_from(alloc, &mut stage, &names, lines, with_bytes, text);
     drop(stage);
     traced
 }
@@ -166,15 +166,15 @@ fn trace_lines(
 fn trace_from(
     alloc: Global,
     stage: &mut Stage,
-    clients: &[ClientName],
+    names: &Names,
     lines: &[Line],
     with_bytes: bool,
     text: &mut Vec<u8>,
 ) -> Result<(), AllocError>
-    ensures { OnOk result ((printed end : List ℕ) × spec.Prints with_bytes clients.now stage.old lines.now printed stage.new
+    ensures { OnOk result ((printed end : List ℕ) × spec.Prints with_bytes names.now stage.old lines.now printed stage.new
         × spec.IsEnd stage.new.world end × (text.new.items ≡ text.old.items ++ (printed ++ end))) }
 {
-    trace_events(alloc, stage, clients, lines, with_bytes, text)?;
+    trace_events(alloc, stage, names, lines, with_bytes, text)?;
     trace_end(alloc, stage.world(), text)
 }
 
@@ -182,15 +182,15 @@ fn trace_from(
 fn trace_events(
     alloc: Global,
     stage: &mut Stage,
-    clients: &[ClientName],
+    names: &Names,
     lines: &[Line],
     with_bytes: bool,
     text: &mut Vec<u8>,
 ) -> Result<(), AllocError>
-    ensures { OnOk result ((printed : List ℕ) × spec.Prints with_bytes clients.now stage.old lines.now printed stage.new × (text.new.items ≡ text.old.items ++ printed)) }
+    ensures { OnOk result ((printed : List ℕ) × spec.Prints with_bytes names.now stage.old lines.now printed stage.new × (text.new.items ≡ text.old.items ++ printed)) }
 {
     for line in lines {
-        let more = line_text(alloc, stage, clients, line, with_bytes)?;
+        let more = line_text(alloc, stage, names, line, with_bytes)?;
         text.extend_from_slice(&more)?;
     }
     Ok(())
@@ -200,15 +200,15 @@ fn trace_events(
 fn line_text(
     alloc: Global,
     stage: &mut Stage,
-    clients: &[ClientName],
+    names: &Names,
     line: &Line,
     with_bytes: bool,
 ) -> Result<Vec<u8>, AllocError>
-    ensures { IfOk result (λ text. spec.PrintsLine with_bytes clients.now stage.old line.now text.items stage.new) }
+    ensures { IfOk result (λ text. spec.PrintsLine with_bytes names.now stage.old line.now text.items stage.new) }
 {
     let before = count_events(stage);
-    let quiet = stage.does(alloc, clients, line)?;
-    let mut text = text_behind(alloc, with_bytes, clients, stage, before)?;
+    let quiet = stage.does(alloc, names, line)?;
+    let mut text = text_behind(alloc, with_bytes, names, stage, before)?;
     add_quiet(&mut text, quiet)?;
     Ok(text)
 }
@@ -224,17 +224,17 @@ fn count_events(stage: &Stage) -> usize
 fn text_behind(
     alloc: Global,
     with_bytes: bool,
-    clients: &[ClientName],
+    names: &Names,
     stage: &Stage,
     before: usize,
 ) -> Result<Vec<u8>, AllocError>
-    ensures { IfOk result (λ text. PrintAllRecords with_bytes clients.now stage.now.world (drop before stage.now.world.records) text.items) }
+    ensures { IfOk result (λ text. PrintAllRecords with_bytes names.now.clients stage.now.world (drop before stage.now.world.records) text.items) }
 {
     let world = stage.world();
     records_text(
         alloc,
         with_bytes,
-        clients,
+        names.clients(),
         world,
         behind(world.records(), before),
     )

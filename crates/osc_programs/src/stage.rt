@@ -8,10 +8,10 @@ ghost use Rattle.osc_programs.specs.Simulation as spec;
 
 use crate::draw::{DrawnBefore, ScriptDraws};
 use crate::happening::{datagram_number, what_of};
-use crate::names::number_of;
+use crate::names::{Names, number_of};
 use osc_ccm::Ccm;
 use osc_model::{Draw, Moment};
-use osc_script::{ClientName, Line};
+use osc_script::Line;
 use osc_world::{Draws, Event, What, World};
 use std::alloc::{AllocError, Global};
 
@@ -48,23 +48,20 @@ impl Stage {
         &self.world
     }
 
-    /// Does what the line says, in a script that grants to these clients. Whether nothing waits still at the end of a quiet round; for
+    /// Does what the line says, in a script of these names. Whether nothing waits still at the end of a quiet round; for
     /// any other line that is so. For want of memory an `AllocError`; a quiet round may have begun then.
-    pub fn does(
-        &mut self,
-        alloc: Global,
-        clients: &[ClientName],
-        line: &Line,
-    ) -> Result<bool, AllocError>
-        ensures { IfOk result (λ quiet. spec.Does clients.now self.old line.now quiet self.new) }
+    pub fn does(&mut self, alloc: Global, names: &Names, line: &Line) -> Result<bool, AllocError>
+        ensures { IfOk result (λ quiet. spec.Does names.now self.old line.now quiet self.new) }
     {
         match line {
             Line::At { moment } => self.moment = *moment,
             Line::Draw { nonce } => self.give(*nonce),
             Line::Drop { datagram } => self.leave_out(*datagram),
-            Line::Skip { client, number } => self.world.skip(number_of(clients, *client), *number),
+            Line::Skip { client, number } => self
+                .world
+                .skip(number_of(names.clients(), *client), *number),
             Line::Quiet => return self.quiet(alloc),
-            _ => self.event(alloc, clients, line)?,
+            _ => self.event(alloc, names, line)?,
         }
         Ok(true)
     }
@@ -97,15 +94,10 @@ impl Stage {
     }
 
     // The event that the line is, if it is one.
-    fn event(
-        &mut self,
-        alloc: Global,
-        clients: &[ClientName],
-        line: &Line,
-    ) -> Result<(), AllocError>
-        ensures { OnOk result (spec.ComesOf self.old (what_of clients.now self.old.world.sent line.now) self.new) }
+    fn event(&mut self, alloc: Global, names: &Names, line: &Line) -> Result<(), AllocError>
+        ensures { OnOk result (spec.ComesOf self.old (what_of names.now self.old.world.sent line.now) self.new) }
     {
-        match what_of(alloc, clients, self.world.sent(), line)? {
+        match what_of(alloc, names, self.world.sent(), line)? {
             Some(what) => self.comes(alloc, what),
             None => Ok(()),
         }

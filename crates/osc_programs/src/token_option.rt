@@ -1,8 +1,6 @@
 //! The options of `osc token`.
-ghost use Rattle.std.specs.Prelude.{◌≡◌, IfOk, string_bytes};
+ghost use Rattle.std.specs.Prelude.{◌≡◌};
 ghost use Rattle.osc_programs.specs.Options as spec;
-
-use std::alloc::{AllocError, Global};
 
 /// An option of `osc token`. Each has one value.
 #[derive(Clone, Copy, Debug, PartialEq, Eq)]
@@ -93,13 +91,6 @@ impl TokenOption {
             }
             TokenOption::Iv => "13 bytes in hexadecimal",
         }
-    }
-
-    /// The line that says that its value is none.
-    pub(crate) fn refusal(self, alloc: Global) -> Result<String, AllocError>
-        ensures { IfOk result (λ line. string_bytes line ≡ spec.refusal_text self) }
-    {
-        format!(in alloc; "error: --{} is not {}", self.name(), self.form())
     }
 
     /// What help calls its value.

@@ -1,5 +1,5 @@
 //! What the options of `osc token` stand for.
-ghost use Rattle.std.specs.Prelude.{◌≡◌, MatchResult, [], option_map, unwrap_or};
+ghost use Rattle.std.specs.Prelude.{◌≡◌, MatchResult, [], unwrap_or};
 ghost use Rattle.clap.specs.Words.{found_of, rows_of};
 ghost use Rattle.osc_script.specs.Words.{SpellsNumber};
 ghost use Rattle.osc_programs.specs.Options.{value_of};
@@ -7,10 +7,10 @@ ghost use Rattle.osc_programs.specs.Reading.{IsRefusal, IsRefusalOf};
 ghost use Rattle.osc_programs.specs.TokenWords as spec;
 ghost use Rattle.osc_programs.specs.Values.{IsGiven, SpellsBytes, SpellsScope};
 
-use crate::command::text_of;
+use crate::named_option::NamedOption;
 use crate::token_option::TokenOption;
-use crate::values;
 use crate::words::WordsError;
+use crate::{given, values};
 use clap::ArgMatches;
 use osc_model::Bytes;
 use osc_token::{Audience, Claims, InputMaterial};
@@ -73,9 +73,10 @@ fn required_array<const N: usize>(
 ) -> Result<[u8; N], WordsError>
     ensures { MatchResult result
         (λ bytes. IsGiven (SpellsBytes N N) (value_of option (rows_of (found_of options.now))) (Some bytes))
-        (IsRefusalOf option (λ bytes. IsGiven (SpellsBytes N N) (value_of option (rows_of (found_of options.now))) (Some bytes))) }
+        (IsRefusalOf (NamedOption.Token option) (λ bytes. IsGiven (SpellsBytes N N) (value_of option (rows_of (found_of options.now))) (Some bytes))) }
 {
-    let Some(bytes) = values::array(required(options, option)?) else {
+    let option = NamedOption::Token(option);
+    let Some(bytes) = values::array(given::required_text(options, option)?) else {
         return Err(WordsError::Value(option));
     };
     Ok(bytes)
@@ -88,9 +89,10 @@ fn array<const N: usize>(
 ) -> Result<Option<[u8; N]>, WordsError>
     ensures { MatchResult result
         (IsGiven (SpellsBytes N N) (value_of option (rows_of (found_of options.now))))
-        (IsRefusalOf option (IsGiven (SpellsBytes N N) (value_of option (rows_of (found_of options.now))))) }
+        (IsRefusalOf (NamedOption.Token option) (IsGiven (SpellsBytes N N) (value_of option (rows_of (found_of options.now))))) }
 {
-    let Some(text) = given(options, option) else {
+    let option = NamedOption::Token(option);
+    let Some(text) = given::text(options, option) else {
         return Ok(None);
     };
     let Some(bytes) = values::array(text) else {
@@ -108,9 +110,10 @@ fn required_bytes(
 ) -> Result<Bytes, WordsError>
     ensures { MatchResult result
         (λ bytes. IsGiven (SpellsBytes least 64) (value_of option (rows_of (found_of options.now))) (Some bytes))
-        (IsRefusalOf option (λ bytes. IsGiven (SpellsBytes least 64) (value_of option (rows_of (found_of options.now))) (Some bytes))) }
+        (IsRefusalOf (NamedOption.Token option) (λ bytes. IsGiven (SpellsBytes least 64) (value_of option (rows_of (found_of options.now))) (Some bytes))) }
 {
-    let text = required(options, option)?;
+    let option = NamedOption::Token(option);
+    let text = given::required_text(options, option)?;
     let Some(bytes) = values::bytes(alloc, text, least, LONGEST)? else {
         return Err(WordsError::Value(option));
     };
@@ -126,9 +129,10 @@ fn bytes(
 ) -> Result<Option<Bytes>, WordsError>
     ensures { MatchResult result
         (IsGiven (SpellsBytes least 64) (value_of option (rows_of (found_of options.now))))
-        (IsRefusalOf option (IsGiven (SpellsBytes least 64) (value_of option (rows_of (found_of options.now))))) }
+        (IsRefusalOf (NamedOption.Token option) (IsGiven (SpellsBytes least 64) (value_of option (rows_of (found_of options.now))))) }
 {
-    let Some(text) = given(options, option) else {
+    let option = NamedOption::Token(option);
+    let Some(text) = given::text(options, option) else {
         return Ok(None);
     };
     let Some(bytes) = values::bytes(alloc, text, least, LONGEST)? else {
@@ -141,60 +145,40 @@ fn bytes(
 fn salt(alloc: Global, options: &ArgMatches<'_>) -> Result<Bytes, WordsError>
     ensures { MatchResult result
         (SpellsBytes 0 64 (unwrap_or (value_of TokenOption.Salt (rows_of (found_of options.now))) []))
-        (IsRefusalOf TokenOption.Salt (SpellsBytes 0 64 (unwrap_or (value_of TokenOption.Salt (rows_of (found_of options.now))) []))) }
+        (IsRefusalOf (NamedOption.Token TokenOption.Salt) (SpellsBytes 0 64 (unwrap_or (value_of TokenOption.Salt (rows_of (found_of options.now))) []))) }
 {
-    let text = given(options, TokenOption::Salt).unwrap_or("");
-    values::bytes(alloc, text, 0, LONGEST)?.ok_or(WordsError::Value(TokenOption::Salt))
+    let option = NamedOption::Token(TokenOption::Salt);
+    let text = given::text(options, option).unwrap_or("");
+    values::bytes(alloc, text, 0, LONGEST)?.ok_or(WordsError::Value(option))
 }
 
 // A number, where it is given.
 fn number(options: &ArgMatches<'_>, option: TokenOption) -> Result<Option<u64>, WordsError>
     ensures { MatchResult result
         (IsGiven SpellsNumber (value_of option (rows_of (found_of options.now))))
-        (IsRefusalOf option (IsGiven SpellsNumber (value_of option (rows_of (found_of options.now))))) }
+        (IsRefusalOf (NamedOption.Token option) (IsGiven SpellsNumber (value_of option (rows_of (found_of options.now))))) }
 {
-    let Some(text) = given(options, option) else {
-        return Ok(None);
-    };
-    let Some(number) = values::number(text) else {
-        return Err(WordsError::Value(option));
-    };
-    Ok(Some(number))
+    given::number(options, NamedOption::Token(option))
 }
 
 fn audience(alloc: Global, options: &ArgMatches<'_>) -> Result<Audience, WordsError>
     ensures { MatchResult result
         (λ audience. value_of TokenOption.Audience (rows_of (found_of options.now)) ≡ Some audience)
-        (IsRefusalOf TokenOption.Audience (λ audience. value_of TokenOption.Audience (rows_of (found_of options.now)) ≡ Some audience)) }
+        (IsRefusalOf (NamedOption.Token TokenOption.Audience) (λ audience. value_of TokenOption.Audience (rows_of (found_of options.now)) ≡ Some audience)) }
 {
-    let text = required(options, TokenOption::Audience)?;
+    let text = given::required_text(options, NamedOption::Token(TokenOption::Audience))?;
     Ok(Audience::new(alloc, text)?)
 }
 
 fn scope(alloc: Global, options: &ArgMatches<'_>) -> Result<Bytes, WordsError>
     ensures { MatchResult result
         (λ bytes. IsGiven SpellsScope (value_of TokenOption.Scope (rows_of (found_of options.now))) (Some bytes))
-        (IsRefusalOf TokenOption.Scope (λ bytes. IsGiven SpellsScope (value_of TokenOption.Scope (rows_of (found_of options.now))) (Some bytes))) }
+        (IsRefusalOf (NamedOption.Token TokenOption.Scope) (λ bytes. IsGiven SpellsScope (value_of TokenOption.Scope (rows_of (found_of options.now))) (Some bytes))) }
 {
-    let text = required(options, TokenOption::Scope)?;
+    let option = NamedOption::Token(TokenOption::Scope);
+    let text = given::required_text(options, option)?;
     let Some(bytes) = values::scope(alloc, text)? else {
-        return Err(WordsError::Value(TokenOption::Scope));
+        return Err(WordsError::Value(option));
     };
     Ok(bytes)
-}
-
-// The value of an option that has to be given.
-fn required<'a>(options: &ArgMatches<'a>, option: TokenOption) -> Result<&'a str, WordsError>
-    ensures { MatchResult result
-        (λ text. value_of option (rows_of (found_of options.now)) ≡ Some text.now)
-        (λ error. (error ≡ WordsError.Value option) × (value_of option (rows_of (found_of options.now)) ≡ None)) }
-{
-    given(options, option).ok_or(WordsError::Value(option))
-}
-
-// The value that an option was given.
-fn given<'a>(options: &ArgMatches<'a>, option: TokenOption) -> Option<&'a str>
-    ensures { option_map (λ text. text.now) result ≡ value_of option (rows_of (found_of options.now)) }
-{
-    text_of(options, option.name())
 }

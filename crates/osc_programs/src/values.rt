@@ -1,10 +1,10 @@
 //! The values of options.
-ghost use Rattle.std.specs.Prelude.{IfOk};
-ghost use Rattle.osc_script.specs.Words.{SpellsNumber};
-ghost use Rattle.osc_programs.specs.Values.{IsWithin, Reads, SpellsBytes, SpellsScope};
+ghost use Rattle.std.specs.Prelude.{◌≡◌, IfOk};
+ghost use Rattle.osc_script.specs.Words.{SpellsNumber, method_name};
+ghost use Rattle.osc_programs.specs.Values.{IsWithin, Reads, SpellsAnyBytes, SpellsBytes, SpellsScope, SpellsShortNumber};
 
 use hex::{FromHex, FromHexError};
-use osc_model::Bytes;
+use osc_model::{Bytes, Method};
 use osc_scope::{ScopeError, text_to_cbor};
 use std::alloc::{AllocError, Global};
 
@@ -40,6 +40,17 @@ fn bytes_within(bytes: Vec<u8>, least: usize, most: usize) -> Option<Bytes>
     Some(Bytes::from_vec(bytes))
 }
 
+/// Any number of bytes in hexadecimal.
+pub(crate) fn any_bytes(alloc: Global, text: &str) -> Result<Option<Bytes>, AllocError>
+    ensures { IfOk result (λ found. Reads (SpellsAnyBytes text.now) found) }
+{
+    match hex::decode(alloc, text) {
+        Ok(bytes) => Ok(Some(Bytes::from_vec(bytes))),
+        Err(FromHexError::OutOfMemory) => Err(AllocError),
+        Err(_) => Ok(None),
+    }
+}
+
 /// A number of 64 bits in decimal digits, without a sign.
 pub(crate) fn number(text: &str) -> Option<u64>
     ensures { Reads (SpellsNumber text.now) result }
@@ -47,6 +58,26 @@ pub(crate) fn number(text: &str) -> Option<u64>
     match text.as_bytes() {
         [b'+', ..] => None,
         _ => text.parse().ok(),
+    }
+}
+
+/// The same of 16 bits.
+pub(crate) fn short_number(text: &str) -> Option<u16>
+    ensures { Reads (SpellsShortNumber text.now) result }
+{
+    u16::try_from(number(text)?).ok()
+}
+
+/// The method of this name.
+pub(crate) fn method(text: &str) -> Option<Method>
+    ensures { Reads (λ method. text.now ≡ method_name method) result }
+{
+    match text {
+        "GET" => Some(Method::Get),
+        "POST" => Some(Method::Post),
+        "PUT" => Some(Method::Put),
+        "DELETE" => Some(Method::Delete),
+        _ => None,
     }
 }
 

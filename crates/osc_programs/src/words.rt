@@ -4,8 +4,9 @@ ghost use Rattle.clap.specs.Words.{kind_of};
 ghost use Rattle.osc_programs.specs.Command as spec;
 ghost use Rattle.osc_programs.specs.declared.words.WordsError.TheVariants as words_error;
 
+use crate::client_words::ClientWords;
 use crate::ended::Ended;
-use crate::token_option::TokenOption;
+use crate::named_option::NamedOption;
 use crate::token_words::TokenWords;
 use clap::error::ErrorKind;
 use std::alloc::{AllocError, Global};
@@ -17,15 +18,23 @@ pub enum Words {
     Sim { bytes: bool },
     /// `osc token`: print a token.
     Token(TokenWords),
+    /// `osc server [--turns N]`: run a server for so many turns. Where none are given, there are `u64::MAX`.
+    Server { turns: u64 },
+    /// `osc proxy [--turns N]`: run a forward proxy likewise.
+    Proxy { turns: u64 },
+    /// `osc client`: post a token and send a request.
+    Client(ClientWords),
+    /// `osc lab --turns N`: run a script over sockets, with at most so many turns after each exchange and request.
+    Lab { turns: u64 },
 }
 
 /// Why a command line can't be heeded.
 #[derive(Debug, Drop)]
 pub enum WordsError {
-    /// The words are at fault, or wish for help.
+    /// The words are at fault, or wish for help or the version.
     Clap(clap::Error),
     /// The value of this option is none that it may have.
-    Value(TokenOption),
+    Value(NamedOption),
     /// There was no memory.
     Memory,
 }
@@ -64,7 +73,7 @@ fn ended_by_kind(kind: ErrorKind) -> Ended
     ensures { result ≡ spec.ended_by_kind kind }
 {
     match kind {
-        ErrorKind::DisplayHelp => Ended::Done,
+        ErrorKind::DisplayHelp | ErrorKind::DisplayVersion => Ended::Done,
         ErrorKind::OutOfMemory => Ended::OutOfMemory,
         _ => Ended::BadCommandLine,
     }
@@ -75,24 +84,32 @@ pub fn fault_line(alloc: Global, error: &WordsError) -> Result<String, AllocErro
     ensures { IfOk result (λ line. spec.IsFaultLine error.now (string_bytes line)) }
 {
     match error {
-        WordsError::Clap(error) => first_paragraph(alloc, error.to_string(alloc)?.as_str()),
+        WordsError::Clap(error) => told(alloc, error.to_string(alloc)?.as_str()),
         WordsError::Value(option) => option.refusal(alloc),
         WordsError::Memory => "out of memory".to_string(alloc),
     }
 }
 
-// The lines before the first empty one, as one line.
-fn first_paragraph(alloc: Global, text: &str) -> Result<String, AllocError> {
-    let mut paragraph = String::new(alloc);
-    for line in text.lines() {
-        let line = line.trim();
-        if line.is_empty() {
+// What clap tells before the usage, as one line; an empty line of it parts a tip from what is at fault.
+fn told(alloc: Global, text: &str) -> Result<String, AllocError> {
+    let mut line = String::new(alloc);
+    let mut is_apart = false;
+    for part in text.lines() {
+        let part = part.trim();
+        if is_past_the_fault(part) {
             break;
         }
-        if !paragraph.is_empty() {
-            paragraph.push(' ')?;
+        if !part.is_empty() {
+            if !line.is_empty() {
+                line.push_str(if is_apart { "; " } else { " " })?;
+            }
+            line.push_str(part)?;
         }
-        paragraph.push_str(line)?;
+        is_apart = part.is_empty();
     }
-    Ok(paragraph)
+    Ok(line)
+}
+
+fn is_past_the_fault(part: &str) -> bool {
+    part.starts_with("Usage:") || part.starts_with("For more information")
 }

@@ -3,7 +3,7 @@ ghost use Rattle.std.specs.Prelude.{◌≡◌, ◌<◌, IfOk};
 
 use osc_authz::{ClientDesk, ServerDesk};
 use osc_ccm::Ccm;
-use osc_client::Client;
+use osc_client::{Client, Way};
 use osc_model::{Bytes, ClientResult, Code, Draw, ETags, Moment, Path, Peer, Request, Step};
 use osc_scope::Scope;
 use osc_server::Server;
@@ -67,7 +67,11 @@ fn client(alloc: Global) -> Result<Client, Fail> {
     let desk = ClientDesk::new(token(alloc)?, secret, Bytes::new(alloc), None)
         .ok()
         .ok_or("not granted")?;
-    Ok(Client::new(alloc, desk, SERVER)?)
+    let way = Way {
+        next_hop: SERVER,
+        origin: None,
+    };
+    Ok(Client::new(alloc, desk, way)?)
 }
 
 /// A server without resources and contexts.

@@ -10,5 +10,5 @@ loop-line-preserved c =
     record {
       count = c.in_ok-enroll.ensures.count;
       rest = λ last more. here.invariant.rest last
-          (subst (λ lines. AllEnrolled here.start lines last) (sym left) (c.enroll.new.start, c.in_ok-enroll.ensures.enrolled, more));
+          (subst (λ lines. AllEnrolled c.args.lines.now here.start lines last) (sym left) (c.enroll.new.start, c.in_ok-enroll.ensures.enrolled, more));
     }

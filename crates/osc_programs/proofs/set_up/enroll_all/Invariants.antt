@@ -7,5 +7,5 @@ use Rattle.osc_programs.proofs.set_up.enroll_all.Given as goal
 abbrev pub invariant-loop-line : goal.invariant-loop-line
 invariant-loop-line l = record {
   count : l.enrolled ≡ length l.start.clients;
-  rest : (last : Beginning) → AllEnrolled l.start (drop l.line-index l.lines) last → AllEnrolled l.initial.start l.lines last;
+  rest : (last : Beginning) → AllEnrolled l.lines l.start (drop l.line-index l.lines) last → AllEnrolled l.lines l.initial.start l.lines last;
 }

@@ -9,6 +9,6 @@ returns c =
       c.in_ok-quiet.quiet,
       events,
       c.in_ok-quiet.ensures,
-      subst (λ before. PrintAllRecords c.args.with_bytes c.args.clients.now world (drop before world.records) events) c.count_events-before.ensures c.in_ok-text.ensures,
+      subst (λ before. PrintAllRecords c.args.with_bytes c.args.names.now.clients world (drop before world.records) events) c.count_events-before.ensures c.in_ok-text.ensures,
       c.in_ok-add_quiet.ensures,
     )

@@ -23,15 +23,15 @@ loop-line-preserved c =
     record {
       printed = before.printed ++ more;
       written = grown ∙ (ap (λ bytes. bytes ++ more) before.written ∙ append_assoc c.args.text.now.items before.printed more);
-      prints = lines_more c.args.with_bytes c.args.clients.now here.stage c.line_text.new.stage (drop here.line-index all) (drop (here.line-index + 1) all) c.line-item.result
-          before.printed more (Prints c.args.with_bytes c.args.clients.now c.args.stage.now all) left c.in_ok-more.ensures before.prints;
+      prints = lines_more c.args.with_bytes c.args.names.now here.stage c.line_text.new.stage (drop here.line-index all) (drop (here.line-index + 1) all) c.line-item.result
+          before.printed more (Prints c.args.with_bytes c.args.names.now c.args.stage.now all) left c.in_ok-more.ensures before.prints;
     }
 
 pub returns : goal.returns
 returns c =
     let here = c.loop-line in (
       here.invariant.printed,
-      lines_end c.args.with_bytes c.args.clients.now here.stage (drop here.line-index c.args.lines.now) here.invariant.printed
-          (Prints c.args.with_bytes c.args.clients.now c.args.stage.now c.args.lines.now) (drop_of_length-le c.args.lines.now c.loop-line-test.false) here.invariant.prints,
+      lines_end c.args.with_bytes c.args.names.now here.stage (drop here.line-index c.args.lines.now) here.invariant.printed
+          (Prints c.args.with_bytes c.args.names.now c.args.stage.now c.args.lines.now) (drop_of_length-le c.args.lines.now c.loop-line-test.false) here.invariant.prints,
       here.invariant.written,
     )

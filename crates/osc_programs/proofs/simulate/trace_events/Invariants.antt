@@ -8,6 +8,6 @@ abbrev pub invariant-loop-line : goal.invariant-loop-line
 invariant-loop-line l = record {
   printed : List ℕ;
   written : l.text.items ≡ l.initial.text.items ++ printed;
-  prints : (rest : List ℕ) (last : Stage) → Prints l.with_bytes l.clients l.stage (drop l.line-index l.lines) rest last
-      → Prints l.with_bytes l.clients l.initial.stage l.lines (printed ++ rest) last;
+  prints : (rest : List ℕ) (last : Stage) → Prints l.with_bytes l.names l.stage (drop l.line-index l.lines) rest last
+      → Prints l.with_bytes l.names l.initial.stage l.lines (printed ++ rest) last;
 }

@@ -1,4 +1,4 @@
-use Rattle.std.proofs.Common.{◌∙◌, ◌++◌, refl, sym, subst}
+use Rattle.std.proofs.Common.{◌++◌, refl, sym, subst}
 use Rattle.std.proofs.lemmas.Result.{IfOk-weaker}
 use Rattle.osc_programs.specs.Simulation.{Begins, Prints}
 use Rattle.osc_programs.proofs.simulate.trace_lines.Goals as goal
@@ -19,7 +19,7 @@ returns c =
         last,
         begins,
         c.first-stage.ensures.first,
-        subst (λ clients. Prints c.args.with_bytes clients first lines t.0 last) (c.deref.ensures.value ∙ c.in_ok-clients.ensures) t.2,
+        subst (λ names. Prints c.args.with_bytes names first lines t.0 last) c.in_ok-names.ensures t.2,
         t.3,
         refl,
       ),

@@ -1,7 +1,7 @@
 use Rattle.std.proofs.Common.{◌≡◌, ◌∙◌, ◌||◌, Bool, true, false, refl, ap, rules}
 use Rattle.std.proofs.lemmas.Result.{IfOk-weaker}
 use Rattle.clap.specs.declared.builder.command.Command.TheViews.{out-Command}
-use Rattle.osc_programs.proofs.command.with_option.Goals as goal
+use Rattle.osc_programs.proofs.command.with_value.Goals as goal
 
 or_false : (b : Bool) → (b || false) ≡ b
 or_false true = refl

@@ -75,8 +75,8 @@ fn bad_line(rt: &HostRuntime, text: &[u8]) -> Option<u64> {
     }
 }
 
-/// Scripts, and the first bad line of each.
-const SCRIPTS: [(&[u8], Option<u64>); 112] = [
+/// Scripts without nodes, and the first bad line of each.
+const MOMENTS: [(&[u8], Option<u64>); 17] = [
     (b"", None),
     (b"\n\n#", None),
     (b"#\x80", Some(1)),
@@ -94,6 +94,17 @@ const SCRIPTS: [(&[u8], Option<u64>); 112] = [
     (b"at 9223372036854775807", None),
     (b"at 9223372036854775808", Some(1)),
     (b"at 18446744073709551616", Some(1)),
+];
+
+#[test]
+fn comments_and_moments(rt: HostRuntime) {
+    for (text, want) in MOMENTS {
+        assert_eq!(rt; bad_line(&rt, text), want, "at {text:?}");
+    }
+}
+
+/// Scripts of the first tree, and the first bad line of each.
+const RESOURCES: [(&[u8], Option<u64>); 11] = [
     (b"open /1/2/3/4/5/6/7/8", None),
     (b"open /1/2/3/4/5/6/7/8/9", Some(1)),
     (b"open /aaaaaaaaaaaaaaaaaaaaaaaaaaaaaaaa", None),
@@ -105,9 +116,17 @@ const SCRIPTS: [(&[u8], Option<u64>); 112] = [
     (b"put /a 65536 -", Some(1)),
     (b"put /a none 61*513", Some(1)),
     (b"put /a none -\nput /b none -\nput /a 0 61", Some(3)),
-    (b"inject x s -\nput /a none -", Some(2)),
-    (b"inject x s -\nopen /a\n", Some(2)),
-    (b"inject x s -\nat 3\ninject x s -\n", None),
+];
+
+#[test]
+fn resources(rt: HostRuntime) {
+    for (text, want) in RESOURCES {
+        assert_eq!(rt; bad_line(&rt, text), want, "at {text:?}");
+    }
+}
+
+/// Scripts of injected datagrams, and the first bad line of each.
+const INJECTED: [(&[u8], Option<u64>); 12] = [
     (b"inject s x -\ninject x x -\ninject s s -", None),
     (b"inject y s -", Some(1)),
     (b"inject s p1 -", Some(1)),
@@ -120,8 +139,66 @@ const SCRIPTS: [(&[u8], Option<u64>); 112] = [
     (b"inject x s 00*", Some(1)),
     (b"inject x s 0000*2", Some(1)),
     (b"inject x s 61*18446744073709551615", Some(0)),
-    (b"proxy p1", Some(1)),
+];
+
+#[test]
+fn injections(rt: HostRuntime) {
+    for (text, want) in INJECTED {
+        assert_eq!(rt; bad_line(&rt, text), want, "at {text:?}");
+    }
+}
+
+/// Scripts of proxies, and the first bad line of each.
+const PROXIES: [(&[u8], Option<u64>); 29] = [
+    (b"proxy p1", None),
+    (b"proxy p9\nproxy p9", None),
+    (b"proxy p0", Some(1)),
+    (b"proxy p10", Some(1)),
+    (b"proxy p", Some(1)),
+    (b"proxy x", Some(1)),
+    (b"proxy c1", Some(1)),
+    (b"proxy", Some(1)),
+    (b"proxy p1 p2", Some(1)),
+    (b"quiet\nproxy p1", Some(2)),
+    (b"at 1\ndrop 1\nproxy p1", None),
     (b"via c1 p1", Some(1)),
+    (b"via c1 p1\ngrant c1 /a:GET", Some(1)),
+    (b"grant c1 /a:GET\nvia c2 p1", Some(2)),
+    (b"grant c1 /a:GET\nvia c1", Some(2)),
+    (b"grant c1 /a:GET\nvia c1 s", Some(2)),
+    (b"grant c1 /a:GET\nvia c1 p0", Some(2)),
+    (b"grant c1 /a:GET\nvia p1 c1", Some(2)),
+    (b"grant c1 /a:GET\nvia c1 p1 p2", Some(2)),
+    (b"grant c1 /a:GET\nvia c1 p1\nvia c1 p1", Some(3)),
+    (b"grant c1 /a:GET\nvia c1 p1\nvia c1 p2", Some(3)),
+    (
+        b"grant c1 /a:GET\ngrant c2 /a:GET\nvia c1 p1\nvia c2 p1",
+        None,
+    ),
+    (b"grant c1 /a:GET\nexchange c1\nvia c1 p1", Some(3)),
+    (
+        b"grant c1 /a:GET\nvia c1 p1\nproxy p1\ntick p1\nrestart p1\ninject p1 x -",
+        None,
+    ),
+    (b"tick p1", Some(1)),
+    (b"restart p1", Some(1)),
+    (b"inject p1 s -", Some(1)),
+    (b"proxy p1\ntick p2", Some(2)),
+    (b"tick p1\nproxy p1", Some(1)),
+];
+
+#[test]
+fn proxies(rt: HostRuntime) {
+    for (text, want) in PROXIES {
+        assert_eq!(rt; bad_line(&rt, text), want, "at {text:?}");
+    }
+}
+
+/// Scripts whose lines stand where they may, or not, and the first bad line of each.
+const PLACES: [(&[u8], Option<u64>); 10] = [
+    (b"inject x s -\nput /a none -", Some(2)),
+    (b"inject x s -\nopen /a\n", Some(2)),
+    (b"inject x s -\nat 3\ninject x s -\n", None),
     (b"inject x s -\ngrant c1 /a:GET", Some(2)),
     (b"quiet\nput /a none -", Some(2)),
     (b"deliver 1\nopen /a", Some(2)),
@@ -130,6 +207,19 @@ const SCRIPTS: [(&[u8], Option<u64>); 112] = [
         b"grant c1 /a:GET\nskip c1 1\nopen /a\nexchange c1\nopen /a",
         Some(5),
     ),
+    (b"exchange c1\ngrant c1 /a:GET", Some(1)),
+    (b"quiet\nat 0", None),
+];
+
+#[test]
+fn places(rt: HostRuntime) {
+    for (text, want) in PLACES {
+        assert_eq!(rt; bad_line(&rt, text), want, "at {text:?}");
+    }
+}
+
+/// Scripts of grants, and the first bad line of each.
+const GRANTS: [(&[u8], Option<u64>); 16] = [
     (b"grant c1 /a:GET\ngrant c1 /a:GET", Some(2)),
     (b"grant c0 /a:GET", Some(1)),
     (b"grant c10 /a:GET", Some(1)),
@@ -146,8 +236,18 @@ const SCRIPTS: [(&[u8], Option<u64>); 112] = [
     (b"grant c1 /a:GET alg=1", Some(1)),
     (b"grant c1 /a:GET exp=18446744073709551615", None),
     (b"grant c1 /a:GET exp=18446744073709551616", Some(1)),
+];
+
+#[test]
+fn grants(rt: HostRuntime) {
+    for (text, want) in GRANTS {
+        assert_eq!(rt; bad_line(&rt, text), want, "at {text:?}");
+    }
+}
+
+/// Scripts of what clients do, and the first bad line of each.
+const CLIENTS: [(&[u8], Option<u64>); 21] = [
     (b"exchange c1", Some(1)),
-    (b"exchange c1\ngrant c1 /a:GET", Some(1)),
     (b"skip c1 1", Some(1)),
     (b"ask c1 GET /a -", Some(1)),
     (b"lie c1 1 GET /a -", Some(1)),
@@ -168,6 +268,17 @@ const SCRIPTS: [(&[u8], Option<u64>); 112] = [
     (b"grant c1 /a:GET\nask c1 GET /a", Some(2)),
     (b"grant c1 /a:GET\nask c1 GET /a - -", Some(2)),
     (b"grant c1 /a:GET\nask c1 PUT /a 00*513", None),
+];
+
+#[test]
+fn clients(rt: HostRuntime) {
+    for (text, want) in CLIENTS {
+        assert_eq!(rt; bad_line(&rt, text), want, "at {text:?}");
+    }
+}
+
+/// Scripts of what befalls nodes and datagrams, and the first bad line of each.
+const NETWORK: [(&[u8], Option<u64>); 23] = [
     (b"tick s\nrestart s", None),
     (b"tick x", Some(1)),
     (b"restart x", Some(1)),
@@ -191,12 +302,11 @@ const SCRIPTS: [(&[u8], Option<u64>); 112] = [
     (b"draw 001122334455667788", Some(1)),
     (b"draw 001122334455667g", Some(1)),
     (b"quiet 1", Some(1)),
-    (b"quiet\nat 0", None),
 ];
 
 #[test]
-fn bad_lines(rt: HostRuntime) {
-    for (text, want) in SCRIPTS {
+fn nodes_and_datagrams(rt: HostRuntime) {
+    for (text, want) in NETWORK {
         assert_eq!(rt; bad_line(&rt, text), want, "at {text:?}");
     }
 }
@@ -343,7 +453,15 @@ fn each_kind_of_event(rt: HostRuntime) {
 
 #[test]
 fn addresses(rt: HostRuntime) {
-    for (port, name) in [(5683, "s"), (7001, "c1"), (7009, "c9"), (9000, "x")] {
+    let nodes = [
+        (5683, "s"),
+        (6001, "p1"),
+        (6009, "p9"),
+        (7001, "c1"),
+        (7009, "c9"),
+        (9000, "x"),
+    ];
+    for (port, name) in nodes {
         let peer = Peer {
             address: [127, 0, 0, 1],
             port,
@@ -352,7 +470,7 @@ fn addresses(rt: HostRuntime) {
         assert!(rt; node.name() == name);
         assert!(rt; node.address() == peer);
     }
-    for port in [7000, 7010, 6001] {
+    for port in [6000, 6010, 7000, 7010] {
         let peer = Peer {
             address: [127, 0, 0, 1],
             port,

@@ -1,0 +1,249 @@
+//! A lab: what a script's clients ask, over sockets of this machine.
+ghost use Rattle.std.specs.Prelude.{IfOk};
+ghost use Rattle.std.specs.FinMap as map;
+ghost use Rattle.osc_programs.specs.SetUp.{CanPutAll};
+
+use crate::ended::{Ended, ended_by_io};
+use crate::ground::{Ground, ground_of};
+use crate::lab_nodes::{LabNodes, Round, Task};
+use crate::names::{Names, name_of_number, number_of};
+use crate::record::learnt_text;
+use crate::set_up::start_of;
+use crate::simulate::ended_when_written;
+use crate::trace::end_text;
+use osc_model::ClientResult;
+use osc_script::{ClientName, Line, Script, ScriptError, read_script};
+use std::alloc::{AllocError, Global};
+use std::io::{Read, Write};
+use std::net::Net;
+use std::random::RandomSource;
+use std::time::Clock;
+
+/// Runs the script that the reader gives with a server, clients and proxies on sockets of this machine, in one process, which take
+/// their turns one after another: moments are those of the clock, and random bytes are drawn. Its lines are `put`, `open`, `grant`,
+/// `via`, `exchange` and `ask`. After each exchange or request the nodes take turns until the client has its result and no datagram
+/// came to a node in a whole turn, or until so many whole turns are gone; a client without a result is `open` then. It writes the
+/// clients' results, and the end lines.
+///
+/// A script with another line, or one that stands for nothing, does nothing: `BadLine` has the number of the first such line.
+pub fn lab<R: Clock + Net + RandomSource, I: Read, W: Write>(
+    alloc: Global,
+    runtime: &R,
+    reader: &mut I,
+    writer: &mut W,
+    turns: u64,
+) -> Ended {
+    let mut text = Vec::new(alloc);
+    let ended = match lab_text(alloc, runtime, reader, turns, &mut text) {
+        Ok(()) => Ended::Done,
+        Err(ended) => ended,
+    };
+    ended_when_written(writer, &text, ended)
+}
+
+// The lines that a lab writes, behind what `text` has; those so far where it ends before.
+fn lab_text<R: Clock + Net + RandomSource, I: Read>(
+    alloc: Global,
+    runtime: &R,
+    reader: &mut I,
+    turns: u64,
+    text: &mut Vec<u8>,
+) -> Result<(), Ended> {
+    let script = script_of(alloc, reader)?;
+    let mut nodes = nodes_of(alloc, runtime, &script)?;
+    let done = run(alloc, runtime, &script, &mut nodes, turns, text);
+    drop(nodes);
+    done
+}
+
+// ---- the script
+
+fn script_of<I: Read>(alloc: Global, reader: &mut I) -> Result<Script, Ended>
+    ensures { IfOk result (λ script. CanPutAll map.empty script) }
+{
+    let mut bytes = Vec::new(alloc);
+    match reader.read_to_end(&mut bytes) {
+        Ok(_) => lab_script(alloc, &bytes),
+        Err(error) => Err(ended_by_io(&error)),
+    }
+}
+
+// The script, if it has no lines but those of a lab.
+fn lab_script(alloc: Global, bytes: &[u8]) -> Result<Script, Ended>
+    ensures { IfOk result (λ script. CanPutAll map.empty script) }
+{
+    match read_script(alloc, bytes) {
+        Ok(script) => match other_line(script.lines()) {
+            None => Ok(script),
+            Some(number) => Err(Ended::BadLine(number)),
+        },
+        Err(ScriptError::BadLine(number)) => Err(first_bad(alloc, bytes, number)),
+        Err(ScriptError::OutOfMemory) => Err(Ended::OutOfMemory),
+    }
+}
+
+// The first line that a lab can't heed, where the line of this number stands for nothing: a line of another kind may stand before it.
+fn first_bad(alloc: Global, bytes: &[u8], number: u64) -> Ended {
+    match read_script(alloc, lines_before(bytes, number)) {
+        Ok(script) => Ended::BadLine(other_line(script.lines()).unwrap_or(number)),
+        Err(ScriptError::BadLine(_)) => Ended::BadLine(number),
+        Err(ScriptError::OutOfMemory) => Ended::OutOfMemory,
+    }
+}
+
+// The lines before that of this number, from 1.
+fn lines_before(bytes: &[u8], number: u64) -> &[u8] {
+    let mut line = 1;
+    for (place, byte) in bytes.iter().enumerate() {
+        if line >= number {
+            return &bytes[..place];
+        }
+        if *byte == b'\n' {
+            line = next(line);
+        }
+    }
+    bytes
+}
+
+fn next(line: u64) -> u64 {
+    line.saturating_add(1)
+}
+
+// The number of the first line that is none of a lab's.
+fn other_line(lines: &[Line]) -> Option<u64> {
+    let place = lines.iter().position(|line| !is_of_a_lab(line))?;
+    Some((place as u64).saturating_add(1))
+}
+
+fn is_of_a_lab(line: &Line) -> bool {
+    matches!(
+        line,
+        Line::Skipped
+            | Line::Put { .. }
+            | Line::Open { .. }
+            | Line::Grant { .. }
+            | Line::Via { .. }
+            | Line::Exchange { .. }
+            | Line::Ask { .. }
+    )
+}
+
+// ---- the nodes
+
+fn nodes_of<R: Net>(alloc: Global, runtime: &R, script: &Script) -> Result<LabNodes, Ended>
+    requires { CanPutAll map.empty script.now }
+{
+    let lines = script.lines();
+    let Ok(names) = Names::of(alloc, lines) else {
+        return Err(Ended::OutOfMemory);
+    };
+    let Ok(start) = start_of(alloc, &names, lines) else {
+        return Err(Ended::OutOfMemory);
+    };
+    match start.into_parts(alloc) {
+        Ok(parts) => LabNodes::new(alloc, runtime, parts),
+        Err(_) => Err(Ended::OutOfMemory),
+    }
+}
+
+// ---- what the clients ask
+
+fn run<R: Clock + RandomSource>(
+    alloc: Global,
+    runtime: &R,
+    script: &Script,
+    nodes: &mut LabNodes,
+    turns: u64,
+    text: &mut Vec<u8>,
+) -> Result<(), Ended> {
+    let mut ground = ground_of(runtime)?;
+    let Ok(names) = Names::of(alloc, script.lines()) else {
+        return Err(Ended::OutOfMemory);
+    };
+    for line in script.lines() {
+        if let Some((client, task)) = task_of(line) {
+            let number = number_of(names.clients(), client);
+            let learnt = perform(alloc, &mut ground, nodes, number, task, turns)?;
+            tell(alloc, name_of_number(names.clients(), number), learnt, text)?;
+        }
+    }
+    tell_end(alloc, nodes, text)
+}
+
+// What a line has a client do, if it does.
+fn task_of(line: &Line) -> Option<(ClientName, Task<'_>)> {
+    match line {
+        Line::Exchange { client } => Some((*client, Task::Exchange)),
+        Line::Ask { client, request } => Some((*client, Task::Ask(request))),
+        _ => None,
+    }
+}
+
+// The client's result, or none where the turns are gone before.
+fn perform<R: Clock + RandomSource>(
+    alloc: Global,
+    ground: &mut Ground<'_, R>,
+    nodes: &mut LabNodes,
+    number: usize,
+    task: Task<'_>,
+    turns: u64,
+) -> Result<Option<ClientResult>, Ended> {
+    let mut learnt = nodes.begin(alloc, ground, number, task)?;
+    for _ in 0..turns {
+        let round = nodes.round(alloc, ground, number)?;
+        let Round {
+            received,
+            learnt: more,
+        } = round;
+        if more.is_some() {
+            learnt = more;
+        }
+        if learnt.is_some() && !received {
+            return Ok(learnt);
+        }
+    }
+    Ok(learnt)
+}
+
+// `CLIENT RESULT`, or `CLIENT open`.
+fn tell(
+    alloc: Global,
+    client: &str,
+    learnt: Option<ClientResult>,
+    text: &mut Vec<u8>,
+) -> Result<(), Ended> {
+    let Ok(line) = told_line(alloc, client, learnt) else {
+        return Err(Ended::OutOfMemory);
+    };
+    match text.extend_from_slice(line.as_bytes()) {
+        Ok(()) => Ok(()),
+        Err(_) => Err(Ended::OutOfMemory),
+    }
+}
+
+fn told_line(
+    alloc: Global,
+    client: &str,
+    learnt: Option<ClientResult>,
+) -> Result<String, AllocError> {
+    match learnt {
+        Some(learnt) => {
+            let learnt = learnt_text(alloc, &learnt)?;
+            format!(in alloc; "{client} {learnt}\n")
+        }
+        None => format!(in alloc; "{client} open\n"),
+    }
+}
+
+fn tell_end(alloc: Global, nodes: &LabNodes, text: &mut Vec<u8>) -> Result<(), Ended> {
+    let Ok(entries) = nodes.count_entries(alloc) else {
+        return Err(Ended::OutOfMemory);
+    };
+    let Ok(lines) = end_text(alloc, nodes.tree(), entries, nodes.premise_holds()) else {
+        return Err(Ended::OutOfMemory);
+    };
+    match text.extend_from_slice(&lines) {
+        Ok(()) => Ok(()),
+        Err(_) => Err(Ended::OutOfMemory),
+    }
+}

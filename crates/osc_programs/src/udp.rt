@@ -1,0 +1,98 @@
+//! A port over a UDP socket.
+ghost use Rattle.std.specs.Prelude.{◌≡◌, ◌<◌, IfOk, None, OnErr, OnOk};
+
+use osc_model::Peer;
+use osc_turn::{Port, PortFault};
+use std::io::{self, ErrorKind};
+use std::net::{IpAddr, Ipv4Addr, Net, SocketAddr, UdpSocket};
+use std::time::Duration;
+
+// The longest wait of one receive, in milliseconds.
+const WAIT_MILLIS: u64 = 10;
+
+/// A port over a UDP socket (RFC 7252 section 3) with an IPv4 address. A receive waits for at most 10 milliseconds.
+#[derive(Drop)]
+pub struct UdpPort {
+    socket: UdpSocket,
+    failures: u64,
+}
+
+impl UdpPort {
+    /// A port at this address; the system picks the number of a port of 0.
+    ///
+    /// # Errors
+    ///
+    /// Those of the system, such as that of an address that is in use.
+    pub fn bind<N: Net>(net: &N, at: Peer) -> io::Result<UdpPort> {
+        let socket = UdpSocket::bind(net, socket_address(at))?;
+        socket.set_read_timeout(Some(Duration::from_millis(WAIT_MILLIS)))?;
+        Ok(UdpPort {
+            socket,
+            failures: 0,
+        })
+    }
+
+    /// The address at which it listens, where the system tells it.
+    pub fn address(&self) -> Option<Peer> {
+        match self.socket.local_addr() {
+            Ok(address) => peer_of(address),
+            Err(_) => None,
+        }
+    }
+
+    // Counts a failure. One that can't be counted any more isn't told, as if nothing had come or all had gone.
+    fn fail<T>(&mut self, untold: T) -> Result<T, PortFault>
+    where
+        T: Drop,
+        ensures failed { OnErr result (self.old.failures < self.new.failures) }
+        ensures same { IfOk result (λ value. value ≡ untold) }
+        ensures kept { OnOk result (self.new.failures ≡ self.old.failures) }
+    {
+        if self.failures == u64::MAX {
+            return Ok(untold);
+        }
+        self.failures += 1;
+        Err(PortFault)
+    }
+}
+
+impl Port for UdpPort {
+    ghost failures = { λ port. port.failures };
+
+    // Nothing can be said of what comes and goes at a socket.
+    ghost received = { λ _. None };
+
+    ghost sent = { λ _. None };
+
+    fn receive(&mut self, buffer: &mut [u8; 1153]) -> Result<Option<(Peer, usize)>, PortFault> {
+        match self.socket.recv_from(buffer) {
+            Ok((len, from)) => Ok(peer_of(from).map(|peer| (peer, len))),
+            Err(fault) => match fault.kind() {
+                ErrorKind::WouldBlock | ErrorKind::TimedOut | ErrorKind::Interrupted => Ok(None),
+                _ => self.fail(None),
+            },
+        }
+    }
+
+    fn send(&mut self, to: Peer, bytes: &[u8]) -> Result<(), PortFault> {
+        match self.socket.send_to(bytes, socket_address(to)) {
+            Ok(len) if len == bytes.len() => Ok(()),
+            _ => self.fail(()),
+        }
+    }
+}
+
+fn socket_address(peer: Peer) -> SocketAddr {
+    SocketAddr::new(IpAddr::V4(Ipv4Addr::from_octets(peer.address)), peer.port)
+}
+
+// The peer at a socket's address, if that is an IPv4 address.
+fn peer_of(address: SocketAddr) -> Option<Peer> {
+    match address.ip() {
+        IpAddr::V4(ip) => Some(Peer {
+            address: ip.octets(),
+            port: address.port(),
+        }),
+        IpAddr::V6(_) => None,
+    }
+}

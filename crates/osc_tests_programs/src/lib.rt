@@ -1,0 +1,15 @@
+//! Tests of scripts and programs, by what callers see. They stand apart, so that a test that changes has no crate below proved anew.
+#![tactic(auto)]
+
+#[cfg(test)]
+mod broken;
+#[cfg(test)]
+mod lab;
+#[cfg(test)]
+mod programs;
+#[cfg(test)]
+mod scripts;
+#[cfg(test)]
+mod tokens;
+#[cfg(test)]
+mod words;

@@ -1,0 +1,195 @@
+//! Whole scripts with the traces that are wanted of them, and inputs and outputs that fail.
+use crate::broken::{BrokenReader, BrokenWriter};
+use osc_programs::{Ended, run_script, sim, status};
+use std::alloc::Global;
+use std::test::Fail;
+
+const FIRST_RUN: &str = "put /e none -\nopen /e\ninject x s 40010002b165\n";
+
+const FIRST_TRACE: &str =
+    "sent 1 s>x ACK 2.05 60450002486e340b9cffb37a98\ntree /e none -\nhistory 0\npremise: held\n";
+
+const REJECTED: &str =
+    "# none of these is a request\n\nopen /e\ninject x s -\ninject x s 80010006\ninject x s 40000005\ninject x s 4025000c";
+
+const REJECTED_TRACE: &str =
+    "nothing\nnothing\nsent 1 s>x RST 0.00\nsent 2 s>x RST 0.00\nhistory 0\npremise: held\n";
+
+const REFUSED: &str =
+    "put /t 42 00*33\nput /k none 37+3a*2\nat 5\nopen /e\ninject x s 40010014b174\ninject x s 40010018b165c0\n";
+
+const REFUSED_TRACE: &str =
+    "sent 1 s>x ACK 4.01 60810014\nsent 2 s>x ACK 4.02 60820018\ntree /k none 373a3a\ntree /t 42 bytes=33\nhistory 0\npremise: held\n";
+
+const REPEATED: &str =
+    "put /e none -\nopen /e\ninject x s 40010002b165\ninject x s 40010002b165\ninject x s 50010020b165\ninject x s 50010020b165\nat 145000\ninject x s 50010020b165\n";
+
+const REPEATED_TRACE: &str =
+    "sent 1 s>x ACK 2.05 60450002486e340b9cffb37a98\nsent 2 s>x ACK 2.05 60450002486e340b9cffb37a98\nsent 3 s>x NON 2.05 50450300486e340b9cffb37a98\nnothing\nsent 4 s>x NON 2.05 50450301486e340b9cffb37a98\ntree /e none -\nhistory 0\npremise: held\n";
+
+// A resource of 512 bytes, a GET of it with a payload, and a PUT.
+const FULL: &str =
+    "put /b none 61*512\nopen /b\ninject x s 40010002b162\ninject x s 40010003b162ff61\ninject x s 40030004b162ff+61*512\n";
+
+const FULL_TRACE: &str =
+    "sent 1 s>x ACK 2.05\nsent 2 s>x ACK 2.05\nsent 3 s>x ACK 4.01\ntree /b none bytes=512\nhistory 0\npremise: held\n";
+
+// Datagrams of 1,152 bytes and of 1,153, and datagrams to the stranger and from the server to itself.
+const LONG: &str =
+    "inject x s 40010001ff+61*1147\ninject x s 40010002ff+61*1148\ninject s x 40010003\ninject s s 40010003\n";
+
+const LONG_TRACE: &str =
+    "sent 1 s>x ACK 4.01\nnothing\nnothing\nsent 2 s>s ACK 4.01\nhistory 0\npremise: held\n";
+
+// How the run ends, and what it writes.
+fn run(alloc: Global, script: &str, with_bytes: bool) -> (Ended, Vec<u8>) {
+    let mut reader = script.as_bytes();
+    let mut writer = Vec::new(alloc);
+    let ended = sim(alloc, &mut reader, &mut writer, with_bytes);
+    (ended, writer)
+}
+
+// Whether the run ends so, and writes this.
+fn writes(alloc: Global, script: &str, with_bytes: bool, ended: Ended, text: &str) -> bool {
+    let (so, written) = run(alloc, script, with_bytes);
+    so == ended && written.as_slice() == text.as_bytes()
+}
+
+#[test]
+fn scripts_have_their_traces(rt: HostRuntime) -> Result<(), Fail> {
+    for (script, with_bytes, trace) in [
+        ("", false, "history 0\npremise: held\n"),
+        (FIRST_RUN, true, FIRST_TRACE),
+        (REJECTED, false, REJECTED_TRACE),
+        (REFUSED, true, REFUSED_TRACE),
+        (REPEATED, true, REPEATED_TRACE),
+        (FULL, false, FULL_TRACE),
+        (LONG, false, LONG_TRACE),
+    ] {
+        assert!(rt;
+            writes(rt.alloc(), script, with_bytes, Ended::Done, trace),
+            "{script}"
+        );
+    }
+    Ok(())
+}
+
+// Without a reader and a writer, the trace goes behind what is there.
+#[test]
+fn a_trace_goes_behind_other_bytes(rt: HostRuntime) -> Result<(), Fail> {
+    let mut text = Vec::from_slice(rt.alloc(), b"> ")?;
+    let ended = run_script(rt.alloc(), b"at 1\n", false, &mut text);
+    assert_eq!(rt; ended, Ended::Done);
+    assert_eq!(rt; text.as_slice(), b"> history 0\npremise: held\n".as_slice());
+    Ok(())
+}
+
+#[test]
+fn a_bad_line_is_all_that_is_written(rt: HostRuntime) -> Result<(), Fail> {
+    for (script, number, text) in [
+        ("grant c1", 1, "line 1: bad\n"),
+        ("\nput e none -", 2, "line 2: bad\n"),
+        ("put /e 65536 -", 1, "line 1: bad\n"),
+        ("put /e none 0", 1, "line 1: bad\n"),
+        ("put /e none 00*513", 1, "line 1: bad\n"),
+        ("put /e none -\nput /e none -", 2, "line 2: bad\n"),
+        ("open /e  ", 1, "line 1: bad\n"),
+        ("at 2\nat 1", 2, "line 2: bad\n"),
+        ("inject s y -", 1, "line 1: bad\n"),
+        ("inject x s -\nopen /e", 2, "line 2: bad\n"),
+    ] {
+        assert!(rt;
+            writes(rt.alloc(), script, true, Ended::BadLine(number), text),
+            "{script}"
+        );
+    }
+    Ok(())
+}
+
+// Lines whose event is nobody's, or that are no events: what isn't there neither comes nor changes anything.
+#[test]
+fn what_is_not_there_does_nothing(rt: HostRuntime) -> Result<(), Fail> {
+    for (script, trace) in [
+        (
+            "grant c1 /t:GET\ndraw 0011223344556677\ndrop 1\nskip c1 5\nquiet\n",
+            "",
+        ),
+        ("deliver 0\ndeliver 1", "nothing\nnothing\n"),
+        (
+            "alter 1 0 ff\ngraft 1 1\ninject s x -",
+            "nothing\nnothing\nnothing\n",
+        ),
+        ("tick s\nrestart s\n", "nothing\nnothing\n"),
+        (
+            "grant c1 /t:GET\nask c1 GET /t -\nlie c1 0 GET /t -",
+            "c1 refused 22\nc1 refused 22\n",
+        ),
+    ] {
+        assert!(rt; prints(rt.alloc(), script, trace), "{script}");
+    }
+    Ok(())
+}
+
+// Whether the events print this, of a run that leaves nothing.
+fn prints(alloc: Global, script: &str, trace: &str) -> bool {
+    let (ended, written) = run(alloc, script, false);
+    ended == Ended::Done
+        && written
+            .as_slice()
+            .strip_suffix(b"history 0\npremise: held\n")
+            == Some(trace.as_bytes())
+}
+
+// Whether these bytes are a front of the trace of the first run, and the line that says why no more of it follows.
+fn is_a_front(written: &[u8]) -> bool {
+    match written.strip_suffix(b"out of memory\n") {
+        Some(front) => FIRST_TRACE.as_bytes().starts_with(front),
+        None => false,
+    }
+}
+
+// Where an allocation fails, what is written is a front of the trace, and the line that says so.
+#[test]
+fn want_of_memory_is_told_last(rt: HostRuntime) -> Result<(), Fail> {
+    let (ended, written) = run(rt.alloc(), FIRST_RUN, true);
+    let is_said = match ended {
+        Ended::Done => written.as_slice() == FIRST_TRACE.as_bytes(),
+        Ended::OutOfMemory => is_a_front(&written),
+        _ => false,
+    };
+    assert!(rt; is_said);
+    Ok(())
+}
+
+#[test]
+fn a_broken_input_or_output_fails(rt: HostRuntime) -> Result<(), Fail> {
+    let alloc = rt.alloc();
+    let mut reader = BrokenReader {
+        bytes: FIRST_RUN.as_bytes(),
+    };
+    let mut written = Vec::new(alloc);
+    assert_eq!(rt; sim(alloc, &mut reader, &mut written, true), Ended::Failed);
+    assert_eq!(rt; written.len(), 0);
+    for (writes, ended) in [(0, Ended::Failed), (1, Ended::Done)] {
+        let mut script = FIRST_RUN.as_bytes();
+        let mut writer = BrokenWriter { writes };
+        assert_eq!(rt; sim(alloc, &mut script, &mut writer, true), ended);
+    }
+    Ok(())
+}
+
+#[test]
+fn endings_have_their_statuses(rt: HostRuntime) {
+    for (ended, wanted) in [
+        (Ended::Done, 0),
+        (Ended::BadCommandLine, 2),
+        (Ended::BadLine(7), 2),
+        (Ended::BadSettings, 2),
+        (Ended::OutOfMemory, 3),
+        (Ended::Failed, 4),
+        (Ended::PortFailed, 4),
+        (Ended::NotDone, 1),
+    ] {
+        assert_eq!(rt; status(ended), wanted);
+    }
+}

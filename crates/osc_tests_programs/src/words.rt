@@ -1,0 +1,401 @@
+//! Command lines: what each subcommand is asked for, and what is said of words that aren't heeded.
+use clap::error::ErrorKind::{DisplayHelp, DisplayVersion};
+use osc_model::Request;
+use osc_programs::{Ended, Words, WordsError, ended_by, fault_line, read_words};
+use std::alloc::{AllocError, Global};
+use std::test::Fail;
+
+// The value of the flag, where the words are those of `osc sim`.
+fn sim_asked(alloc: Global, words: &[&str]) -> Option<bool> {
+    match read_words(alloc, words) {
+        Ok(Words::Sim { bytes }) => Some(bytes),
+        _ => None,
+    }
+}
+
+#[test]
+fn a_script_is_run(rt: HostRuntime) {
+    for (words, bytes) in [
+        (&["osc", "sim"].as_slice(), Some(false)),
+        (&["osc", "sim", "--bytes"].as_slice(), Some(true)),
+        (&["osc", "sim", "script"].as_slice(), None),
+        (&["osc", "server"].as_slice(), None),
+    ] {
+        assert_eq!(rt; sim_asked(rt.alloc(), words), bytes);
+    }
+}
+
+// ---- turns
+
+// The subcommand that the words name, and its turns.
+fn turns_asked(alloc: Global, words: &[&str]) -> Option<(&'static str, u64)> {
+    match read_words(alloc, words) {
+        Ok(words) => turns_of(&words),
+        Err(_) => None,
+    }
+}
+
+fn turns_of(words: &Words) -> Option<(&'static str, u64)> {
+    match words {
+        Words::Server { turns } => Some(("server", *turns)),
+        Words::Proxy { turns } => Some(("proxy", *turns)),
+        Words::Client(words) => Some(("client", words.turns)),
+        Words::Lab { turns } => Some(("lab", *turns)),
+        _ => None,
+    }
+}
+
+#[test]
+fn turns_are_counted(rt: HostRuntime) {
+    for (subcommand, text, turns) in [
+        ("server", "0", 0),
+        ("server", "18446744073709551615", u64::MAX),
+        ("proxy", "7", 7),
+        ("proxy", "18446744073709551615", u64::MAX),
+        ("lab", "1000000", 1000000),
+        ("lab", "018446744073709551615", u64::MAX),
+    ] {
+        assert_eq!(rt;
+            turns_asked(rt.alloc(), &["osc", subcommand, "--turns", text]),
+            Some((subcommand, turns))
+        );
+    }
+}
+
+#[test]
+fn a_server_and_a_proxy_go_on_by_default(rt: HostRuntime) {
+    for subcommand in ["server", "proxy"] {
+        assert_eq!(rt;
+            turns_asked(rt.alloc(), &["osc", subcommand]),
+            Some((subcommand, u64::MAX))
+        );
+    }
+}
+
+#[test]
+fn turns_beyond_their_bounds(rt: HostRuntime) -> Result<(), Fail> {
+    let line = "error: --turns is not a number of 64 bits in decimal digits";
+    for subcommand in ["server", "proxy", "lab"] {
+        for text in ["", "+1", "1.", "0x1", "18446744073709551616"] {
+            assert!(rt;
+                is_told(rt.alloc(), &["osc", subcommand, "--turns", text], line)?,
+                "{subcommand} {text}"
+            );
+        }
+    }
+    Ok(())
+}
+
+// ---- what a client asks
+
+const USUAL: [(&str, &str); 3] = [("--turns", "5"), ("--method", "GET"), ("--path", "/a")];
+
+// Adds the options that a client needs, but for this one.
+fn add_others<'a>(words: &mut Vec<&'a str>, option: &'a str) -> Result<(), AllocError> {
+    for (name, usual) in USUAL {
+        if name != option {
+            words.push(name)?;
+            words.push(usual)?;
+        }
+    }
+    Ok(())
+}
+
+// `osc client` with these options, one of them with another value, or one more.
+fn client_command<'a>(
+    alloc: Global,
+    option: &'a str,
+    value: &'a str,
+) -> Result<Vec<&'a str>, AllocError> {
+    let mut words = vec![in alloc; "osc", "client", option, value]?;
+    add_others(&mut words, option)?;
+    Ok(words)
+}
+
+// Whether a request is this one, with no other option.
+fn is_request(
+    request: &Request,
+    code: u8,
+    path: &str,
+    format: Option<u16>,
+    payload: &[u8],
+) -> bool {
+    let has_path = match &request.path {
+        Some(found) => found.text() == path.as_bytes(),
+        None => false,
+    };
+    has_path
+        && request.code.0 == code
+        && request.format == format
+        && request.payload.as_slice() == payload
+        && request.accept.is_none()
+        && request.if_match.as_slice().is_empty()
+        && !request.if_none_match
+}
+
+// Whether the words ask for this, in five turns.
+fn asks(
+    alloc: Global,
+    words: &[&str],
+    code: u8,
+    path: &str,
+    format: Option<u16>,
+    payload: &[u8],
+) -> bool {
+    match read_words(alloc, words) {
+        Ok(Words::Client(words)) => words.turns == 5
+            && is_request(&words.request, code, path, format, payload),
+        _ => false,
+    }
+}
+
+#[test]
+fn a_client_asks_by_a_method(rt: HostRuntime) -> Result<(), Fail> {
+    for (method, code) in [("GET", 1), ("POST", 2), ("PUT", 3), ("DELETE", 4)] {
+        let words = client_command(rt.alloc(), "--method", method)?;
+        assert!(rt; asks(rt.alloc(), &words, code, "/a", None, b""), "{method}");
+    }
+    Ok(())
+}
+
+#[test]
+fn a_client_names_a_resource(rt: HostRuntime) -> Result<(), Fail> {
+    for path in [
+        "/log",
+        "/a/b",
+        "/1/2/3/4/5/6/7/8",
+        "/00000000000000000000000000000032",
+        "/ü",
+    ] {
+        let words = client_command(rt.alloc(), "--path", path)?;
+        assert!(rt; asks(rt.alloc(), &words, 1, path, None, b""), "{path}");
+    }
+    Ok(())
+}
+
+#[test]
+fn a_client_sends_bytes(rt: HostRuntime) -> Result<(), Fail> {
+    for (text, payload) in [
+        ("", b"".as_slice()),
+        ("61", b"a".as_slice()),
+        ("0aFf", b"\n\xff".as_slice()),
+    ] {
+        let words = client_command(rt.alloc(), "--payload", text)?;
+        assert!(rt; asks(rt.alloc(), &words, 1, "/a", None, payload), "{text}");
+    }
+    Ok(())
+}
+
+#[test]
+fn a_client_names_a_format(rt: HostRuntime) -> Result<(), Fail> {
+    for (text, format) in [("0", 0), ("042", 42), ("65535", 65535)] {
+        let words = client_command(rt.alloc(), "--format", text)?;
+        assert!(rt;
+            asks(rt.alloc(), &words, 1, "/a", Some(format), b""),
+            "{text}"
+        );
+    }
+    Ok(())
+}
+
+// Values that an option of a client may not have, and what they are not.
+const BAD: [(&str, &str, &str); 19] = [
+    ("--turns", "", "a number of 64 bits in decimal digits"),
+    ("--turns", "+1", "a number of 64 bits in decimal digits"),
+    (
+        "--turns",
+        "18446744073709551616",
+        "a number of 64 bits in decimal digits",
+    ),
+    ("--method", "", "GET, POST, PUT or DELETE"),
+    ("--method", "get", "GET, POST, PUT or DELETE"),
+    ("--method", "GETS", "GET, POST, PUT or DELETE"),
+    ("--method", "FETCH", "GET, POST, PUT or DELETE"),
+    (
+        "--path",
+        "",
+        "a path of 1 to 8 segments of 1 to 32 bytes, as /a/b",
+    ),
+    (
+        "--path",
+        "a",
+        "a path of 1 to 8 segments of 1 to 32 bytes, as /a/b",
+    ),
+    (
+        "--path",
+        "/",
+        "a path of 1 to 8 segments of 1 to 32 bytes, as /a/b",
+    ),
+    (
+        "--path",
+        "/a//b",
+        "a path of 1 to 8 segments of 1 to 32 bytes, as /a/b",
+    ),
+    (
+        "--path",
+        "/1/2/3/4/5/6/7/8/9",
+        "a path of 1 to 8 segments of 1 to 32 bytes, as /a/b",
+    ),
+    (
+        "--path",
+        "/000000000000000000000000000000033",
+        "a path of 1 to 8 segments of 1 to 32 bytes, as /a/b",
+    ),
+    ("--payload", "0", "bytes in hexadecimal"),
+    ("--payload", "0g", "bytes in hexadecimal"),
+    ("--payload", "61+62", "bytes in hexadecimal"),
+    ("--format", "", "a number of 16 bits in decimal digits"),
+    ("--format", "none", "a number of 16 bits in decimal digits"),
+    ("--format", "65536", "a number of 16 bits in decimal digits"),
+];
+
+// Whether the value is refused as one that the option of a client can't have.
+fn is_refused(alloc: Global, option: &str, value: &str, form: &str) -> Result<bool, AllocError> {
+    let words = client_command(alloc, option, value)?;
+    let line = format!(in alloc; "error: {option} is not {form}")?;
+    is_told(alloc, &words, line.as_str())
+}
+
+#[test]
+fn values_of_a_client_beyond_their_bounds(rt: HostRuntime) -> Result<(), Fail> {
+    for (option, value, form) in BAD {
+        assert!(rt;
+            is_refused(rt.alloc(), option, value, form)?,
+            "{option} {value}"
+        );
+    }
+    Ok(())
+}
+
+// ---- words that aren't heeded
+
+/// How the command ends on words that aren't heeded, and what it says: what help or the version says, or the line of the fault.
+pub(crate) fn refused(
+    alloc: Global,
+    words: &[&str],
+) -> Result<Option<(Ended, String)>, AllocError> {
+    match read_words(alloc, words) {
+        Ok(_) => Ok(None),
+        Err(error) => Ok(Some((ended_by(&error), said(alloc, &error)?))),
+    }
+}
+
+fn said(alloc: Global, error: &WordsError) -> Result<String, AllocError> {
+    match error {
+        WordsError::Clap(shown) if matches!(shown.kind(), DisplayHelp | DisplayVersion) => {
+            shown.to_string(alloc)
+        }
+        _ => fault_line(alloc, error),
+    }
+}
+
+// Whether the words are a bad command line, of which this line tells.
+fn is_told(alloc: Global, words: &[&str], line: &str) -> Result<bool, AllocError> {
+    match refused(alloc, words)? {
+        Some((ended, told)) => Ok(ended == Ended::BadCommandLine && told.as_str() == line),
+        None => Ok(false),
+    }
+}
+
+const WRONG: [(&[&str], &str); 15] = [
+    (
+        &["osc"],
+        "error: 'osc' requires a subcommand but one was not provided [subcommands: sim, token, server, proxy, client, lab, help]",
+    ),
+    (
+        &["osc", "sever"],
+        "error: unrecognized subcommand 'sever'; tip: a similar subcommand exists: 'server'",
+    ),
+    (&["osc", "run"], "error: unrecognized subcommand 'run'"),
+    (
+        &["osc", "help", "run"],
+        "error: unrecognized subcommand 'run'",
+    ),
+    (
+        &["osc", "--bytes"],
+        "error: unexpected argument '--bytes' found",
+    ),
+    (
+        &["osc", "sim", "--byte"],
+        "error: unexpected argument '--byte' found; tip: a similar argument exists: '--bytes'",
+    ),
+    (
+        &["osc", "sim", "script"],
+        "error: unexpected argument 'script' found",
+    ),
+    (
+        &["osc", "sim", "--version"],
+        "error: unexpected argument '--version' found",
+    ),
+    (
+        &["osc", "token", "--aud", "s", "--scope", "/a:GET"],
+        "error: the following required arguments were not provided: --key <HEX> --id <HEX> --secret <HEX>",
+    ),
+    (
+        &["osc", "token", "--iv", "", "--iv", ""],
+        "error: the argument '--iv <HEX>' cannot be used multiple times",
+    ),
+    (
+        &["osc", "server", "--turns"],
+        "error: a value is required for '--turns <N>' but none was supplied",
+    ),
+    (
+        &["osc", "proxy", "--turns", "-1"],
+        "error: unexpected argument '-1' found",
+    ),
+    (
+        &["osc", "lab"],
+        "error: the following required arguments were not provided: --turns <N>",
+    ),
+    (
+        &["osc", "client"],
+        "error: the following required arguments were not provided: --turns <N> --method <METHOD> --path <PATH>",
+    ),
+    (
+        &["osc", "client", "--turns", "1", "--path", "/a"],
+        "error: the following required arguments were not provided: --method <METHOD>",
+    ),
+];
+
+#[test]
+fn one_line_tells_of_wrong_words(rt: HostRuntime) -> Result<(), Fail> {
+    for (words, line) in WRONG {
+        assert!(rt; is_told(rt.alloc(), words, line)?, "{line}");
+    }
+    Ok(())
+}
+
+// Whether the words wish for help or the version, which says this among other things.
+fn shows(alloc: Global, words: &[&str], part: &str) -> Result<bool, AllocError> {
+    match refused(alloc, words)? {
+        Some((ended, shown)) => Ok(ended == Ended::Done && shown.as_str().contains(part)),
+        None => Ok(false),
+    }
+}
+
+const SHOWN: [(&[&str], &str); 16] = [
+    (&["osc", "--version"], "osc 0.1.0\n"),
+    (&["osc", "-V"], "osc 0.1.0\n"),
+    (&["osc", "help"], "\n  sim     Runs the script"),
+    (&["osc", "help"], "\n  token   Prints a token"),
+    (&["osc", "help"], "\n  server  Runs a server"),
+    (&["osc", "help"], "\n  proxy   Runs a forward proxy"),
+    (&["osc", "--help"], "\n  client  Posts a token"),
+    (&["osc", "--help"], "\n  lab     Runs the script"),
+    (&["osc", "help", "sim"], "\nExample: osc sim"),
+    (&["osc", "help", "token"], "      --nbf <N>"),
+    (&["osc", "token", "--help"], "\nExample: osc token --key"),
+    (&["osc", "server", "--help"], "\nExample: osc server"),
+    (&["osc", "help", "proxy"], "\nExample: osc proxy"),
+    (&["osc", "help", "client"], "      --format <N>"),
+    (&["osc", "client", "--help"], "\nExample: osc client"),
+    (&["osc", "lab", "-h"], "\nExample: osc lab"),
+];
+
+#[test]
+fn help_and_the_version_are_shown(rt: HostRuntime) -> Result<(), Fail> {
+    for (words, part) in SHOWN {
+        assert!(rt; shows(rt.alloc(), words, part)?, "{part}");
+    }
+    Ok(())
+}
