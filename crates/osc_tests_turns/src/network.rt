@@ -123,6 +123,15 @@ impl<'a, R: Abort> Network<'a, R> {
         self.deliver(SERVER, gone);
     }
 
+    /// The proxy forwards what the client asked at this moment and the server answers it; but whatever came to the client meanwhile is lost,
+    /// and the proxy starts again before the answer comes to it.
+    pub fn forgets(&mut self, proxy: &mut Proxy, server: &mut Server, ms: u64) {
+        self.proxy_turns(proxy, ms);
+        self.server_turns(server, ms);
+        self.client.waiting.clear();
+        proxy.restart();
+    }
+
     /// Three turns of each at this moment: the last that the client learnt, if anything, and else this.
     pub fn turns(
         &mut self,

@@ -3,6 +3,7 @@ ghost use Rattle.std.specs.Prelude.{◌<◌};
 
 use crate::network::Network;
 use crate::nodes::{client, post, proxy, server};
+use crate::telling::UNVERIFIED;
 use osc_client::Client;
 use osc_model::{Code, Request};
 use osc_proxy::Proxy;
@@ -14,7 +15,20 @@ use std::test::*;
 /// More than there are calls.
 const NONE: usize = 1000;
 
-/// An exchange and a POST, each through the proxy; 4 seconds after each what got lost was sent again, and is answered.
+/// An exchange through the proxy; 4 seconds after it what got lost was sent again, and is answered.
+fn is_granted<R: Abort>(
+    rt: &R,
+    network: &mut Network<'_, R>,
+    client: &mut Client,
+    proxy: &mut Proxy,
+    server: &mut Server,
+) {
+    network.exchanges(client, 0);
+    let made = network.turns(client, proxy, server, 0, 0);
+    assert!(rt; network.turns(client, proxy, server, 4_000, made) == 1);
+}
+
+/// A POST through the proxy; 4 seconds after it what got lost was sent again, and is answered.
 fn goes_through<R: Abort>(
     rt: &R,
     network: &mut Network<'_, R>,
@@ -25,13 +39,61 @@ fn goes_through<R: Abort>(
 )
     requires { 0 < request.now.code.0 }
 {
-    network.exchanges(client, 0);
-    let made = network.turns(client, proxy, server, 0, 0);
-    assert!(rt; network.turns(client, proxy, server, 4_000, made) == 1);
     network.asks(client, request, 8_000);
     let answered = network.turns(client, proxy, server, 8_000, 0);
     assert!(rt; network.turns(client, proxy, server, 12_000, answered) == Code::CREATED.0);
-    assert!(rt; server.tree().len() == 2);
+}
+
+/// A POST through the proxy, which starts again before the answer comes to it: what the client sends again is forwarded anew. Where the
+/// server had served it, it refuses the number that comes twice, and all that the client learns is that an unprotected 4.01 came.
+fn goes_through_anew<R: Abort>(
+    rt: &R,
+    network: &mut Network<'_, R>,
+    client: &mut Client,
+    proxy: &mut Proxy,
+    server: &mut Server,
+    request: &Request,
+)
+    requires { 0 < request.now.code.0 }
+{
+    network.asks(client, request, 8_000);
+    network.forgets(proxy, server, 8_000);
+    let once = network.turns(client, proxy, server, 12_000, 0);
+    let again = network.turns(client, proxy, server, 16_000, once);
+    let last = network.turns(client, proxy, server, 22_000, again);
+    assert!(rt; last == UNVERIFIED || last == Code::CREATED.0);
+}
+
+/// Whether the resource that the request makes is there, with its payload once.
+fn holds(server: &Server, request: &Request) -> bool {
+    let Some(path) = &request.path else {
+        return false;
+    };
+    match server.tree().get(path) {
+        Some(resource) => resource.payload.as_slice() == request.payload.as_slice(),
+        None => false,
+    }
+}
+
+/// An exchange and a POST, in whose midst the proxy starts again if it does so: the POST was served once.
+fn goes<R: Abort>(
+    rt: &R,
+    network: &mut Network<'_, R>,
+    client: &mut Client,
+    proxy: &mut Proxy,
+    server: &mut Server,
+    request: &Request,
+    restarts: bool,
+)
+    requires { 0 < request.now.code.0 }
+{
+    is_granted(rt, network, client, proxy, server);
+    if restarts {
+        goes_through_anew(rt, network, client, proxy, server, request);
+    } else {
+        goes_through(rt, network, client, proxy, server, request);
+    }
+    assert!(rt; holds(server, request));
 }
 
 /// The run in which the call of this number fails: how many calls failed at the client, the proxy and the server, and how many more
@@ -40,6 +102,7 @@ fn run<R: Abort + Drop>(
     rt: &R,
     alloc: Global,
     request: &Request,
+    restarts: bool,
     failing: usize,
 ) -> Result<((usize, usize, usize), usize), Fail>
     requires { 0 < request.now.code.0 }
@@ -48,13 +111,14 @@ fn run<R: Abort + Drop>(
     let mut proxy = proxy(alloc)?;
     let mut server = server(alloc)?;
     let mut network = Network::new(rt, alloc, failing);
-    goes_through(
+    goes(
         rt,
         &mut network,
         &mut client,
         &mut proxy,
         &mut server,
         request,
+        restarts,
     );
     let told = (network.failures(), network.failing);
     drop(network);
@@ -70,14 +134,19 @@ fn is_one(failures: (usize, usize, usize)) -> bool {
 }
 
 /// Each call of the run in turn.
-fn sweeps<R: Abort + Drop>(rt: &R, alloc: Global, request: &Request) -> Result<(), Fail>
+fn sweeps<R: Abort + Drop>(
+    rt: &R,
+    alloc: Global,
+    request: &Request,
+    restarts: bool,
+) -> Result<(), Fail>
     requires { 0 < request.now.code.0 }
 {
-    let (failures, left) = run(rt, alloc, request, NONE)?;
+    let (failures, left) = run(rt, alloc, request, restarts, NONE)?;
     assert!(rt; failures == (0, 0, 0));
     assert!(rt; 40 < left && left < 960);
     for failing in 1..=NONE - left {
-        let (failures, left) = run(rt, alloc, request, failing)?;
+        let (failures, left) = run(rt, alloc, request, restarts, failing)?;
         assert!(rt; is_one(failures) && left == 0);
     }
     Ok(())
@@ -86,7 +155,15 @@ fn sweeps<R: Abort + Drop>(rt: &R, alloc: Global, request: &Request) -> Result<(
 #[test]
 fn each_call_fails_in_turn(rt: HostRuntime) -> Result<(), Fail> {
     let request = post(rt.alloc(), b"a")?;
-    let swept = sweeps(&rt, rt.alloc(), &request);
+    let swept = sweeps(&rt, rt.alloc(), &request, false);
+    drop(request);
+    swept
+}
+
+#[test]
+fn each_call_fails_in_turn_around_a_restart(rt: HostRuntime) -> Result<(), Fail> {
+    let request = post(rt.alloc(), b"a")?;
+    let swept = sweeps(&rt, rt.alloc(), &request, true);
     drop(request);
     swept
 }

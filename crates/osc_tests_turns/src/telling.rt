@@ -46,19 +46,23 @@ fn is_refused<R: Abort>(port: &Queues<'_, R>, before: Before, error: TurnError) 
         && port.sent.len() == before.sent
 }
 
-/// What a client learnt in the step: 0 for nothing, 1 for a context, and the code of an answer that opened; 255 for all else.
+/// What stands for a response that didn't open, where another would be a code.
+pub(crate) const UNVERIFIED: u8 = 2;
+
+/// What a client learnt in the step: 0 for nothing, 1 for a context, `UNVERIFIED`, the code of an answer that opened; 255 for all else.
 fn learnt(turned: Turned) -> u8 {
     let learnt = match turned.step.notes.result() {
         None => 0,
         Some(ClientResult::Made) => 1,
         Some(ClientResult::Answer(reply)) => reply.code.0,
+        Some(ClientResult::Unverified(_)) => UNVERIFIED,
         Some(_) => 255,
     };
     drop(turned);
     learnt
 }
 
-/// One turn at this moment: what a client learnt, or `None` where the receive failed.
+/// One turn at this moment, each second with bytes of its own: what a client learnt, or `None` where the receive failed.
 pub(crate) fn takes<R: Abort, N: Node<Ccm<8>>>(
     rt: &R,
     alloc: Global,
@@ -67,7 +71,7 @@ pub(crate) fn takes<R: Abort, N: Node<Ccm<8>>>(
     ms: u64,
 ) -> Option<u8> {
     let before = counts(port);
-    match turn::<Ccm<8>, _, _>(alloc, port, node, at(ms), &drawn(7)) {
+    match turn::<Ccm<8>, _, _>(alloc, port, node, at(ms), &drawn((ms / 1_000) as u8)) {
         Ok(turned) => {
             assert!(rt; is_told(port, before, &turned));
             Some(learnt(turned))
