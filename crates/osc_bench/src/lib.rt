@@ -1,7 +1,8 @@
 //! What a harness in C times: messages read, datagrams served, protected and not, items read, requests protected and opened,
-//! tokens read and posted, ciphers, and the events of a world.
+//! tokens read and posted, ciphers, the events of a world, and what nodes keep.
 #![tactic(auto)]
 
+mod alone;
 mod cipher;
 mod messages;
 mod objects;

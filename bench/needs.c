@@ -1,0 +1,149 @@
+/* What nodes need: the most bytes of the heap that a call of osc_bench held, and how deep the stack went. The heap is counted at malloc, free
+   and realloc, by what was asked for; the stack is one of this program's own, painted before each call. */
+#include <stddef.h>
+#include <stdint.h>
+#include <stdio.h>
+#include <stdlib.h>
+#include <string.h>
+#include <ucontext.h>
+
+uint64_t osc_bench_serve(uint16_t resources, uint32_t apart, const uint8_t *datagram, size_t length, uint64_t rounds);
+uint64_t osc_bench_serve_gets(uint8_t contexts, uint16_t rounds);
+uint64_t osc_bench_serve_posts(uint8_t contexts, uint16_t rounds);
+uint64_t osc_bench_post(uint8_t others, uint64_t rounds);
+uint64_t osc_bench_client(uint8_t posts);
+uint64_t osc_bench_forward(uint8_t requests);
+
+void *__real_malloc(size_t size);
+void *__real_realloc(void *block, size_t size);
+void __real_free(void *block);
+
+/* In front of each block: its size. */
+typedef union {
+    size_t size;
+    max_align_t align;
+} header;
+
+static size_t live, peak;
+
+static void grow(size_t size) {
+    live += size;
+    if (live > peak) peak = live;
+}
+
+void *__wrap_malloc(size_t size) {
+    header *block = __real_malloc(sizeof(header) + size);
+    if (!block) return NULL;
+    block->size = size;
+    grow(size);
+    return block + 1;
+}
+
+void __wrap_free(void *bytes) {
+    if (!bytes) return;
+    header *block = (header *)bytes - 1;
+    live -= block->size;
+    __real_free(block);
+}
+
+void *__wrap_realloc(void *bytes, size_t size) {
+    if (!bytes) return __wrap_malloc(size);
+    header *block = (header *)bytes - 1;
+    size_t before = block->size;
+    block = __real_realloc(block, sizeof(header) + size);
+    if (!block) return NULL;
+    block->size = size;
+    /* While the bytes move, both blocks may be held. */
+    if (live + size > peak) peak = live + size;
+    live = live - before + size;
+    return block + 1;
+}
+
+enum { STACK = 4 << 20, PAINT = 0xa5 };
+static uint8_t stack[STACK] __attribute__((aligned(64)));
+static ucontext_t outside, inside;
+static uint64_t (*called)(void);
+static uint64_t answer;
+
+static void call(void) { answer = called(); }
+
+typedef struct {
+    uint64_t answer;
+    size_t heap, stack;
+} need;
+
+/* What the call needs. What glibc itself needs for the switch is taken off by `nothing`. */
+static need need_of(uint64_t (*of)(void)) {
+    memset(stack, PAINT, STACK);
+    called = of;
+    size_t before = live;
+    peak = live;
+    getcontext(&inside);
+    inside.uc_stack.ss_sp = stack;
+    inside.uc_stack.ss_size = STACK;
+    inside.uc_link = &outside;
+    makecontext(&inside, call, 0);
+    swapcontext(&outside, &inside);
+    size_t clean = 0;
+    while (clean < STACK && stack[clean] == PAINT) clean++;
+    if (live != before) {
+        fprintf(stderr, "needs: %zu bytes weren't given back\n", live - before);
+        exit(1);
+    }
+    return (need){answer, peak - before, STACK - clean};
+}
+
+/* A confirmable GET of /r000, which is open. */
+static const uint8_t GET[] = {0x44, 0x01, 0x00, 0x01, 1, 2, 3, 4, 0xb4, 'r', '0', '0', '0'};
+
+static uint64_t nothing(void) { return 1; }
+static uint64_t server_alone(void) { osc_bench_serve(0, 1, GET, sizeof GET, 0); return 1; }
+static uint64_t server_of_1(void) { osc_bench_serve(1, 1, GET, sizeof GET, 0); return 1; }
+static uint64_t server_of_1024(void) { osc_bench_serve(1024, 1, GET, sizeof GET, 0); return 1; }
+static uint64_t get_once(void) { return osc_bench_serve(1, 1, GET, sizeof GET, 1); }
+static uint64_t get_often(void) { return osc_bench_serve(1, 1, GET, sizeof GET, 1000); }
+static uint64_t contexts_1(void) { osc_bench_serve_gets(1, 0); return 1; }
+static uint64_t contexts_64(void) { osc_bench_serve_gets(64, 0); return 1; }
+static uint64_t gets(void) { return osc_bench_serve_gets(1, 1000); }
+static uint64_t posts(void) { return osc_bench_serve_posts(1, 1000); }
+static uint64_t token_post(void) { return osc_bench_post(0, 1); }
+static uint64_t client_alone(void) { osc_bench_client(0); return 1; }
+static uint64_t client_posting(void) { return osc_bench_client(1); }
+static uint64_t proxy_alone(void) { osc_bench_forward(0); return 1; }
+static uint64_t proxy_1(void) { return osc_bench_forward(1); }
+static uint64_t proxy_64(void) { return osc_bench_forward(64); }
+
+static need measured(uint64_t (*of)(void)) {
+    need it = need_of(of);
+    if (!it.answer) {
+        fprintf(stderr, "needs: a call did not do what it was to do\n");
+        exit(1);
+    }
+    return it;
+}
+
+static void heap_row(const char *name, size_t bytes) { printf("%-52s %9zu bytes\n", name, bytes); }
+
+int main(void) {
+    size_t frame = measured(nothing).stack;
+    need empty = measured(server_alone), one = measured(server_of_1), many = measured(server_of_1024);
+    puts("Heap");
+    heap_row("Server, without resources and contexts", empty.heap);
+    heap_row("for each open resource of 4 bytes, 1 of 1,024", (many.heap - one.heap) / 1023);
+    heap_row("for each security context, 1 of 64", (measured(contexts_64).heap - measured(contexts_1).heap) / 63);
+    heap_row("a GET, while it is served and noted", measured(get_once).heap - one.heap);
+    heap_row("what 1,000 GETs leave for repeats, and the last", measured(get_often).heap - one.heap);
+    heap_row("Client, with a token of 73 bytes", measured(client_alone).heap);
+    heap_row("its post, while it is open", measured(client_posting).heap - measured(client_alone).heap);
+    heap_row("Proxy, of one target", measured(proxy_alone).heap);
+    heap_row("the first open exchange", measured(proxy_1).heap - measured(proxy_alone).heap);
+    heap_row("for each open exchange, 1 of 64", (measured(proxy_64).heap - measured(proxy_1).heap) / 63);
+    puts("Stack");
+    heap_row("Server::on_datagram, a GET that isn't protected", measured(get_once).stack - frame);
+    heap_row("Server::on_datagram, protected GETs", measured(gets).stack - frame);
+    heap_row("Server::on_datagram, protected POSTs", measured(posts).stack - frame);
+    heap_row("ServerDesk::post", measured(token_post).stack - frame);
+    heap_row("Client::exchange", measured(client_posting).stack - frame);
+    heap_row("Proxy::on_datagram", measured(proxy_64).stack - frame);
+    return 0;
+}
