@@ -71,7 +71,7 @@ pub(crate) fn takes<R: Abort, N: Node<Ccm<8>>>(
     ms: u64,
 ) -> Option<u8> {
     let before = counts(port);
-    match turn::<Ccm<8>, _, _>(alloc, port, node, at(ms), &drawn((ms / 1_000) as u8)) {
+    match turn::<Ccm<8>, _, _>(alloc, port, node, at(ms), &drawn((ms / 1_000 % 256) as u8)) {
         Ok(turned) => {
             assert!(rt; is_told(port, before, &turned));
             Some(learnt(turned))
