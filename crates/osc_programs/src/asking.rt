@@ -10,12 +10,11 @@ ghost use Rattle.osc_programs.specs.Conversation as spec;
 ghost use Rattle.osc_programs.specs.declared.asking.Outcome.{Outcome as AnyOutcome};
 
 use crate::client_words::ClientWords;
-use crate::ended::Ended;
-use crate::ground::{Ground, given, ground_of};
+use crate::ended::{Ended, failed};
+use crate::ground::{Ground, ground_of, moment_and_draw};
 use crate::issue::written;
-use crate::lab_nodes::{copy_of, send};
 use crate::record::learnt_text;
-use crate::running::{bound, ended_by_settings, ended_by_turn, text_of};
+use crate::running::{bound, copy_of, ended_by_settings, ended_by_turn, send, text_of};
 use crate::udp::UdpPort;
 use osc_authz::ClientDesk;
 use osc_ccm::Ccm;
@@ -30,7 +29,7 @@ use std::random::RandomSource;
 use std::time::Clock;
 
 /// What came of a program's client at last: its last result, or none where it still waited when its turns were gone.
-#[derive(Debug, Drop)]
+#[derive(Drop)]
 pub(crate) enum Outcome {
     /// The last result.
     Told(ClientResult),
@@ -58,17 +57,6 @@ pub fn ask<R: Clock + Net + RandomSource, I: Read, W: Write>(
     }
 }
 
-// The fault, which is never that the client came to its last result.
-fn failed(ended: Ended) -> Ended
-    ensures done { result ≢ Ended.Done }
-    ensures not_done { result ≢ Ended.NotDone }
-{
-    match ended {
-        Ended::Done | Ended::NotDone => Ended::Failed,
-        fault => fault,
-    }
-}
-
 // ---- the last result
 
 fn told<W: Write>(alloc: Global, writer: &mut W, outcome: &Outcome) -> Ended
@@ -80,7 +68,7 @@ fn told<W: Write>(alloc: Global, writer: &mut W, outcome: &Outcome) -> Ended
     };
     match written(writer, line.as_bytes()) {
         Ended::Done => ended_by_outcome(outcome),
-        failed => failed,
+        fault => fault,
     }
 }
 
@@ -255,7 +243,7 @@ fn post<R: Clock + RandomSource>(
 ) -> Result<Option<ClientResult>, Ended>
     ensures { IfOk result (λ learnt. spec.Posts client.old learnt client.new) }
 {
-    let (now, draw) = given(ground)?;
+    let (now, draw) = moment_and_draw(ground)?;
     match client.exchange(alloc, now, &draw) {
         Ok(step) => sent(port, &step),
         Err(_) => Err(Ended::OutOfMemory),
@@ -275,7 +263,7 @@ fn send_request<R: Clock + RandomSource>(
     if request.code.0 == 0 {
         return Err(Ended::BadCommandLine);
     }
-    let (now, draw) = given(ground)?;
+    let (now, draw) = moment_and_draw(ground)?;
     match client.ask::<Ccm<8>>(alloc, now, request, &draw) {
         Ok(step) => sent(port, &step),
         Err(_) => Err(Ended::OutOfMemory),
@@ -319,7 +307,7 @@ fn wait<R: Clock + RandomSource>(
 {
     let most = *turns;
     for taken in 0..most {
-        let learnt = take_turn(alloc, ground, port, client)?;
+        let learnt = client_turn(alloc, ground, port, client)?;
         match learnt {
             Some(result) => {
                 *turns = most - taken - 1;
@@ -333,7 +321,7 @@ fn wait<R: Clock + RandomSource>(
 }
 
 // What the client learnt by a turn, if it did.
-fn take_turn<R: Clock + RandomSource>(
+fn client_turn<R: Clock + RandomSource>(
     alloc: Global,
     ground: &mut Ground<'_, R>,
     port: &mut UdpPort,
@@ -341,7 +329,7 @@ fn take_turn<R: Clock + RandomSource>(
 ) -> Result<Option<ClientResult>, Ended>
     ensures { IfOk result (λ learnt. spec.TakesTurn client.old learnt client.new) }
 {
-    let (now, draw) = given(ground)?;
+    let (now, draw) = moment_and_draw(ground)?;
     match turn::<Ccm<8>, _, _>(alloc, port, client, now, &draw) {
         Ok(turned) => learnt_by(&turned),
         Err(error) => Err(ended_by_turn(error)),

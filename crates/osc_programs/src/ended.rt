@@ -1,6 +1,6 @@
 //! How a program ends.
 ghost use Rattle.std.specs.IoError.{error_kind};
-ghost use Rattle.std.specs.Prelude.{◌≡◌, IfOk, option_map, string_bytes};
+ghost use Rattle.std.specs.Prelude.{◌≡◌, ◌≢◌, Some, IfOk, option_map, string_bytes};
 ghost use Rattle.osc_programs.specs.Ended as spec;
 
 use std::alloc::{AllocError, Global};
@@ -58,17 +58,40 @@ pub fn started_by_io(error: &io::Error) -> Ended
     }
 }
 
+/// The fault of a program that didn't come to its end.
+pub(crate) fn failed(ended: Ended) -> Ended
+    ensures done { result ≢ Ended.Done }
+    ensures not_done { result ≢ Ended.NotDone }
+{
+    match ended {
+        Ended::Done | Ended::NotDone => Ended::Failed,
+        fault => fault,
+    }
+}
+
 /// The line that tells on the standard error how a program ended that runs nodes on sockets, if one does.
 pub fn running_fault(alloc: Global, ended: Ended) -> Result<Option<String>, AllocError>
     ensures { IfOk result (λ line. option_map string_bytes line ≡ spec.running_fault_of ended) }
 {
     match ended {
-        Ended::BadLine(number) => Ok(Some(format!(in alloc; "line {number}: bad")?)),
-        Ended::BadSettings => Ok(Some("settings: bad".to_string(alloc)?)),
-        Ended::OutOfMemory => Ok(Some("out of memory".to_string(alloc)?)),
-        Ended::PortFailed => Ok(Some("port failed".to_string(alloc)?)),
+        Ended::BadLine(number) => bad_line(alloc, number),
+        Ended::BadSettings => said(alloc, "settings: bad"),
+        Ended::OutOfMemory => said(alloc, "out of memory"),
+        Ended::PortFailed => said(alloc, "port failed"),
         Ended::Done | Ended::NotDone | Ended::BadCommandLine | Ended::Failed => Ok(None),
     }
+}
+
+fn bad_line(alloc: Global, number: u64) -> Result<Option<String>, AllocError>
+    ensures { IfOk result (λ line. option_map string_bytes line ≡ spec.running_fault_of (Ended.BadLine number)) }
+{
+    Ok(Some(format!(in alloc; "line {number}: bad")?))
+}
+
+fn said(alloc: Global, text: &str) -> Result<Option<String>, AllocError>
+    ensures { IfOk result (λ line. option_map string_bytes line ≡ Some text.now) }
+{
+    Ok(Some(text.to_string(alloc)?))
 }
 
 /// The line that tells on the standard error why no token was printed, if one does.

@@ -28,7 +28,9 @@ impl<'a, R: Clock + RandomSource> Ground<'a, R> {
     }
 
     /// The moment: milliseconds since 1970, as tokens count their seconds (RFC 7519 section 2). Where the clock goes back, it stays.
-    pub fn moment(&mut self) -> io::Result<Moment> {
+    pub fn moment(&mut self) -> io::Result<Moment>
+        ensures rises { IfOk result (λ now. (self.old.last.ms ≤ now.ms) × (self.new.last ≡ now)) }
+    {
         let since_1970 = self.runtime.since_1970()?;
         self.last = not_before(self.last, since_1970);
         Ok(self.last)
@@ -51,7 +53,7 @@ pub(crate) fn ground_of<R: Clock + RandomSource>(runtime: &R) -> Result<Ground<'
 }
 
 /// The moment and the random bytes of one event, or how a program ends without.
-pub(crate) fn given<R: Clock + RandomSource>(
+pub(crate) fn moment_and_draw<R: Clock + RandomSource>(
     ground: &mut Ground<'_, R>,
 ) -> Result<(Moment, Draw), Ended> {
     match ground.moment() {

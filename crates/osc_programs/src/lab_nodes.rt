@@ -1,10 +1,10 @@
 //! The nodes of a lab, which take their turns one after another.
-ghost use Rattle.std.specs.Prelude.{◌≡◌, ◌<◌, IfOk, OnOk, option_map};
+ghost use Rattle.std.specs.Prelude.{◌<◌, OnOk};
 
 use crate::ended::Ended;
-use crate::ground::{Ground, given};
+use crate::ground::{Ground, moment_and_draw};
 use crate::lab_port::{Book, Known, LabPort};
-use crate::running::{bound, ended_by_turn};
+use crate::running::{bound, copy_of, ended_by_turn, send};
 use crate::udp::UdpPort;
 use osc_ccm::Ccm;
 use osc_client::Client;
@@ -14,7 +14,7 @@ use osc_run::{Minted, Noted, Notes};
 use osc_script::Node;
 use osc_server::Server;
 use osc_tree::Tree;
-use osc_turn::{Port, Turned, send_all, turn};
+use osc_turn::{PortFault, Turned, turn};
 use osc_world::{Parts, Placed, PlacedProxy};
 use std::alloc::{AllocError, Global};
 use std::net::Net;
@@ -133,10 +133,14 @@ impl LabNodes {
     ) -> Result<bool, Ended> {
         reserve(&mut self.notes)?;
         let turned = turn_of(alloc, ground, &mut self.ports.server, &mut self.server)?;
-        let Turned { received, step, .. } = turned;
+        let Turned {
+            received,
+            step,
+            fault,
+        } = turned;
         let Step { notes, .. } = step;
         self.notes.add(Noted::by_server(notes));
-        Ok(received)
+        unless_lost(fault, received)
     }
 
     // Whether a datagram came to one of them. What proxies do isn't noted, since they seal and open nothing.
@@ -165,8 +169,7 @@ impl LabNodes {
         let Some(port) = self.ports.proxies.get_mut(number) else {
             return Ok(false);
         };
-        let turned = turn_of(alloc, ground, port, &mut placed.proxy)?;
-        Ok(turned.received)
+        came(turn_of(alloc, ground, port, &mut placed.proxy)?)
     }
 
     fn client_turns<R: Clock + RandomSource>(
@@ -201,14 +204,15 @@ impl LabNodes {
             return Ok(NOTHING);
         };
         let turned = turn_of(alloc, ground, port, &mut placed.client)?;
-        let Turned { received, step, .. } = turned;
+        let Turned {
+            received,
+            step,
+            fault,
+        } = turned;
         let learnt = copy_of(step.notes.result());
         let Step { notes, .. } = step;
         self.notes.add(Noted::by_client(number, false, notes));
-        Ok(Round {
-            received,
-            learnt: learnt?,
-        })
+        told(unless_lost(fault, received), learnt)
     }
 }
 
@@ -304,18 +308,50 @@ fn reserve(notes: &mut Notes) -> Result<(), Ended>
     }
 }
 
-// A turn of the node, none of whose datagrams is lost.
+// A turn of the node.
 fn turn_of<R: Clock + RandomSource, N: osc_turn::Node<Ccm<8>>>(
     alloc: Global,
     ground: &mut Ground<'_, R>,
     port: &mut LabPort,
     node: &mut N,
 ) -> Result<Turned, Ended> {
-    let (now, draw) = given(ground)?;
-    let turned = turn::<Ccm<8>, _, _>(alloc, port, node, now, &draw).map_err(ended_by_turn)?;
-    match turned.fault {
-        None => Ok(turned),
+    let (now, draw) = moment_and_draw(ground)?;
+    match turn::<Ccm<8>, _, _>(alloc, port, node, now, &draw) {
+        Ok(turned) => Ok(turned),
+        Err(error) => Err(ended_by_turn(error)),
+    }
+}
+
+// Whether a datagram came by the turn.
+fn came(turned: Turned) -> Result<bool, Ended> {
+    let (received, fault) = (turned.received, turned.fault);
+    drop(turned);
+    unless_lost(fault, received)
+}
+
+// Whether a datagram came by a turn, unless one of its own was lost.
+fn unless_lost(fault: Option<PortFault>, received: bool) -> Result<bool, Ended> {
+    match fault {
+        None => Ok(received),
         Some(_) => Err(Ended::PortFailed),
+    }
+}
+
+// Whether a datagram came to a client, and what it learnt.
+fn told(
+    received: Result<bool, Ended>,
+    learnt: Result<Option<ClientResult>, Ended>,
+) -> Result<Round, Ended> {
+    match learnt {
+        Ok(learnt) => told_of(received, learnt),
+        Err(ended) => Err(ended),
+    }
+}
+
+fn told_of(received: Result<bool, Ended>, learnt: Option<ClientResult>) -> Result<Round, Ended> {
+    match received {
+        Ok(received) => Ok(Round { received, learnt }),
+        Err(ended) => Err(ended),
     }
 }
 
@@ -326,7 +362,7 @@ fn begun<R: Clock + RandomSource>(
     client: &mut Client,
     task: Task<'_>,
 ) -> Result<Step, Ended> {
-    let (now, draw) = given(ground)?;
+    let (now, draw) = moment_and_draw(ground)?;
     let step = match task {
         Task::Exchange => client.exchange(alloc, now, &draw),
         Task::Ask(request) if request.code.0 > 0 => {
@@ -342,26 +378,5 @@ fn send_from(ports: &mut [LabPort], number: usize, out: &Datagrams) -> Result<()
     match ports.get_mut(number) {
         Some(port) => send(port, out),
         None => Ok(()),
-    }
-}
-
-/// Sends these datagrams.
-pub(crate) fn send<P: Port>(port: &mut P, out: &Datagrams) -> Result<(), Ended> {
-    match send_all(port, out.as_slice()) {
-        None => Ok(()),
-        Some(_) => Err(Ended::PortFailed),
-    }
-}
-
-/// What a client learnt, if it did, once more.
-pub(crate) fn copy_of(learnt: Option<&ClientResult>) -> Result<Option<ClientResult>, Ended>
-    ensures { IfOk result (λ copied. copied ≡ option_map (λ it. it.now) learnt.entry) }
-{
-    match learnt {
-        None => Ok(None),
-        Some(learnt) => match learnt.clone() {
-            Ok(learnt) => Ok(Some(learnt)),
-            Err(_) => Err(Ended::OutOfMemory),
-        },
     }
 }

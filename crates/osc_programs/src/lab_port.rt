@@ -1,5 +1,5 @@
 //! Where the nodes of a lab listen.
-ghost use Rattle.std.specs.Prelude.{None};
+ghost use Rattle.std.specs.Prelude.{◌≡◌, ◌++◌, ◌∷◌, [], None, IfOk, OnOk};
 
 use crate::udp::UdpPort;
 use osc_model::Peer;
@@ -23,19 +23,25 @@ pub(crate) struct Book {
 
 impl Book {
     /// No nodes.
-    pub fn new(alloc: Global) -> Book {
+    pub fn new(alloc: Global) -> Book
+        ensures { result.entries.items ≡ [] }
+    {
         Book {
             entries: Vec::new(alloc),
         }
     }
 
     /// Adds a node.
-    pub fn add(&mut self, known: Known) -> Result<(), AllocError> {
+    pub fn add(&mut self, known: Known) -> Result<(), AllocError>
+        ensures { OnOk result (self.new.entries.items ≡ self.old.entries.items ++ known ∷ []) }
+    {
         Ok(self.entries.push(known)?)
     }
 
     /// The same once more.
-    pub fn copy(&self, alloc: Global) -> Result<Book, AllocError> {
+    pub fn copy(&self, alloc: Global) -> Result<Book, AllocError>
+        ensures { IfOk result (λ book. book.entries.items ≡ self.now.entries.items) }
+    {
         let mut entries = Vec::new(alloc);
         entries.extend_from_slice(&self.entries)?;
         Ok(Book { entries })
@@ -67,7 +73,10 @@ pub(crate) struct LabPort {
 
 impl LabPort {
     /// Over this port.
-    pub fn new(port: UdpPort, book: Book) -> LabPort {
+    pub fn new(port: UdpPort, book: Book) -> LabPort
+        ensures port { result.port ≡ port }
+        ensures book { result.book ≡ book }
+    {
         LabPort { port, book }
     }
 }

@@ -1,12 +1,16 @@
 //! Nodes that run on a socket: a server, and a proxy.
-ghost use Rattle.std.specs.Prelude.{◌≡◌, IfOk, IfSome, string_bytes};
+ghost use Rattle.std.specs.Prelude.{◌≡◌, IfOk, IfSome, option_map, string_bytes};
+ghost use Rattle.osc_settings.specs.Document.{StandsFor};
+ghost use Rattle.osc_settings.specs.Settings.{AreProxySettings, AreServerSettings};
+ghost use Rattle.osc_settings.specs.declared.proxy.ProxySettings.{ProxySettings as ForwardedBy};
+ghost use Rattle.osc_settings.specs.declared.server.ServerSettings.{ServerSettings as ServedBy};
 
-use crate::ended::{Ended, ended_by_io};
-use crate::ground::{Ground, given, ground_of};
+use crate::ended::{Ended, ended_by_io, failed};
+use crate::ground::{Ground, ground_of, moment_and_draw};
 use crate::udp::UdpPort;
 use osc_authz::ServerDesk;
 use osc_ccm::Ccm;
-use osc_model::{Method, Path, Peer};
+use osc_model::{ClientResult, Datagrams, Method, Path, Peer};
 use osc_proxy::{Proxy, Target, Targets};
 use osc_scope::Scope;
 use osc_server::Server;
@@ -15,7 +19,7 @@ use osc_settings::{
     read_server_settings,
 };
 use osc_tree::Tree;
-use osc_turn::{Node, TurnError, turn};
+use osc_turn::{Node, Port, TurnError, send_all, turn};
 use std::alloc::{AllocError, Global};
 use std::io::{self, Eprint, Read};
 use std::net::Net;
@@ -29,15 +33,12 @@ pub fn serve<R: Clock + Eprint + Net + RandomSource, I: Read>(
     runtime: &R,
     reader: &mut I,
     turns: u64,
-) -> Ended {
-    let settings = match server_settings(alloc, reader) {
-        Ok(settings) => settings,
-        Err(ended) => return ended,
-    };
-    let bind = settings.bind;
-    match server_of(alloc, settings) {
-        Ok(mut server) => run(alloc, runtime, bind, &mut server, turns),
-        Err(_) => Ended::OutOfMemory,
+) -> Ended
+    ensures done { result ≡ Ended.Done → IfSome (I.remaining reader.old) (λ text. (settings : ServedBy) × StandsFor AreServerSettings text settings) }
+{
+    match server_settings(alloc, reader) {
+        Ok(settings) => serve_by(alloc, runtime, settings, turns),
+        Err(ended) => failed(ended),
     }
 }
 
@@ -47,15 +48,12 @@ pub fn forward<R: Clock + Eprint + Net + RandomSource, I: Read>(
     runtime: &R,
     reader: &mut I,
     turns: u64,
-) -> Ended {
-    let settings = match proxy_settings(alloc, reader) {
-        Ok(settings) => settings,
-        Err(ended) => return ended,
-    };
-    let bind = settings.bind;
-    match proxy_of(alloc, settings) {
-        Ok(mut proxy) => run(alloc, runtime, bind, &mut proxy, turns),
-        Err(_) => Ended::OutOfMemory,
+) -> Ended
+    ensures done { result ≡ Ended.Done → IfSome (I.remaining reader.old) (λ text. (settings : ForwardedBy) × StandsFor AreProxySettings text settings) }
+{
+    match proxy_settings(alloc, reader) {
+        Ok(settings) => forward_by(alloc, runtime, settings, turns),
+        Err(ended) => failed(ended),
     }
 }
 
@@ -82,7 +80,9 @@ pub(crate) fn ended_by_settings(error: SettingsError) -> Ended {
     }
 }
 
-fn server_settings<I: Read>(alloc: Global, reader: &mut I) -> Result<ServerSettings, Ended> {
+fn server_settings<I: Read>(alloc: Global, reader: &mut I) -> Result<ServerSettings, Ended>
+    ensures { IfOk result (λ settings. IfSome (I.remaining reader.old) (λ text. StandsFor AreServerSettings text settings)) }
+{
     let text = text_of(alloc, reader)?;
     match read_server_settings(alloc, text.as_str()) {
         Ok(settings) => Ok(settings),
@@ -90,7 +90,9 @@ fn server_settings<I: Read>(alloc: Global, reader: &mut I) -> Result<ServerSetti
     }
 }
 
-fn proxy_settings<I: Read>(alloc: Global, reader: &mut I) -> Result<ProxySettings, Ended> {
+fn proxy_settings<I: Read>(alloc: Global, reader: &mut I) -> Result<ProxySettings, Ended>
+    ensures { IfOk result (λ settings. IfSome (I.remaining reader.old) (λ text. StandsFor AreProxySettings text settings)) }
+{
     let text = text_of(alloc, reader)?;
     match read_proxy_settings(alloc, text.as_str()) {
         Ok(settings) => Ok(settings),
@@ -99,6 +101,32 @@ fn proxy_settings<I: Read>(alloc: Global, reader: &mut I) -> Result<ProxySetting
 }
 
 // ---- nodes
+
+fn serve_by<R: Clock + Eprint + Net + RandomSource>(
+    alloc: Global,
+    runtime: &R,
+    settings: ServerSettings,
+    turns: u64,
+) -> Ended {
+    let bind = settings.bind;
+    match server_of(alloc, settings) {
+        Ok(mut server) => run(alloc, runtime, bind, &mut server, turns),
+        Err(_) => Ended::OutOfMemory,
+    }
+}
+
+fn forward_by<R: Clock + Eprint + Net + RandomSource>(
+    alloc: Global,
+    runtime: &R,
+    settings: ProxySettings,
+    turns: u64,
+) -> Ended {
+    let bind = settings.bind;
+    match proxy_of(alloc, settings) {
+        Ok(mut proxy) => run(alloc, runtime, bind, &mut proxy, turns),
+        Err(_) => Ended::OutOfMemory,
+    }
+}
 
 // A server without resources, and without contexts.
 fn server_of(alloc: Global, settings: ServerSettings) -> Result<Server, AllocError> {
@@ -209,7 +237,7 @@ fn take_turn<R: Clock + RandomSource, N: Node<Ccm<8>>>(
     port: &mut UdpPort,
     node: &mut N,
 ) -> Result<(), Ended> {
-    let (now, draw) = given(ground)?;
+    let (now, draw) = moment_and_draw(ground)?;
     match turn::<Ccm<8>, _, _>(alloc, port, node, now, &draw) {
         Ok(_) => Ok(()),
         Err(error) => Err(ended_by_turn(error)),
@@ -221,5 +249,26 @@ pub(crate) fn ended_by_turn(error: TurnError) -> Ended {
     match error {
         TurnError::Port(_) => Ended::PortFailed,
         TurnError::Memory => Ended::OutOfMemory,
+    }
+}
+
+/// Sends these datagrams.
+pub(crate) fn send<P: Port>(port: &mut P, out: &Datagrams) -> Result<(), Ended> {
+    match send_all(port, out.as_slice()) {
+        None => Ok(()),
+        Some(_) => Err(Ended::PortFailed),
+    }
+}
+
+/// What a client learnt, if it did, once more.
+pub(crate) fn copy_of(learnt: Option<&ClientResult>) -> Result<Option<ClientResult>, Ended>
+    ensures { IfOk result (λ copied. copied ≡ option_map (λ it. it.now) learnt.entry) }
+{
+    match learnt {
+        None => Ok(None),
+        Some(learnt) => match learnt.clone() {
+            Ok(learnt) => Ok(Some(learnt)),
+            Err(_) => Err(Ended::OutOfMemory),
+        },
     }
 }

@@ -23,7 +23,9 @@ impl UdpPort {
     /// # Errors
     ///
     /// Those of the system, such as that of an address that is in use.
-    pub fn bind<N: Net>(net: &N, at: Peer) -> io::Result<UdpPort> {
+    pub fn bind<N: Net>(net: &N, at: Peer) -> io::Result<UdpPort>
+        ensures { IfOk result (λ port. port.failures ≡ 0) }
+    {
         let socket = UdpSocket::bind(net, socket_address(at))?;
         socket.set_read_timeout(Some(Duration::from_millis(WAIT_MILLIS)))?;
         Ok(UdpPort {

@@ -1,6 +1,6 @@
 use Rattle.std.proofs.Common.{sym}
 use Rattle.std.proofs.lemmas.Result.{IfOk-weaker}
-use Rattle.osc_programs.proofs.asking.take_turn.Goals as goal
+use Rattle.osc_programs.proofs.asking.client_turn.Goals as goal
 
 pub returns-in-Ok : goal.returns-in-Ok
 returns-in-Ok g c = IfOk-weaker c.learnt_by.result _ _ (λ _ is. (_, c.in-Ok.ensures.done.0, _, c.in-Ok.ensures.done.3, sym is)) c.learnt_by.ensures
