@@ -53,8 +53,10 @@ fn client_of(alloc: Global) -> Result<Client, AllocError> {
 fn desk_of(alloc: Global) -> Result<ClientDesk, AllocError> {
     let token = Bytes::from_slice(alloc, &[b't'; 73])?;
     let secret = Bytes::from_slice(alloc, &[b's'; 16])?;
-    let desk = ClientDesk::new(token, secret, Bytes::new(alloc), None);
-    desk.map_err(|_| AllocError)
+    match ClientDesk::new(token, secret, Bytes::new(alloc), None) {
+        Ok(desk) => Ok(desk),
+        Err(_) => Err(AllocError),
+    }
 }
 
 // How many messages are open.

@@ -5,7 +5,7 @@ ghost use Rattle.osc_model.specs.declared.context.Side.TheVariants.{Client};
 ghost use Rattle.osc_context.specs.Derivation.{sender_of};
 
 use crate::messages::answer;
-use crate::protection::protect_next;
+use crate::protection::{pair, protect_next};
 use crate::tokens::{KEY, post_of};
 use osc_authz::ServerDesk;
 use osc_coap::MessageRef;
@@ -97,13 +97,21 @@ fn post_datagram(alloc: Global, id: u8) -> Result<Vec<u8>, AllocError> {
 fn name_of(alloc: Global, id: u8) -> Result<ContextName, AllocError>
     ensures { IfOk result (λ name. name.id_context ≡ None) }
 {
+    let (client_id, server_id) = pair(alloc, &[id], &[0])?;
+    let (secret, salt) = keying(alloc, id)?;
     Ok(ContextName {
-        secret: Bytes::from_slice(alloc, &[id; 16])?,
-        salt: joined_salt(alloc, &[], &[id; 8], &[id; 8])?,
+        secret,
+        salt,
         id_context: None,
-        client_id: Bytes::from_slice(alloc, &[id])?,
-        server_id: Bytes::from_slice(alloc, &[0])?,
+        client_id,
+        server_id,
     })
+}
+
+// The master secret and the master salt.
+fn keying(alloc: Global, id: u8) -> Result<(Bytes, Bytes), AllocError> {
+    let secret = Bytes::from_slice(alloc, &[id; 16])?;
+    Ok((secret, joined_salt(alloc, &[], &[id; 8], &[id; 8])?))
 }
 
 // The requests, protected under the context of this token id.

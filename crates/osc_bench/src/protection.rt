@@ -39,13 +39,21 @@ pub extern "C" fn osc_bench_unprotect(alloc: Global, request: &[u8], rounds: u64
 fn name_of(alloc: Global) -> Result<ContextName, AllocError>
     ensures { IfOk result (λ name. name.id_context ≡ None) }
 {
+    let (secret, salt) = pair(alloc, &[1; 16], &[2; 8])?;
+    let (client_id, server_id) = pair(alloc, &[0], &[1])?;
     Ok(ContextName {
-        secret: Bytes::from_slice(alloc, &[1; 16])?,
-        salt: Bytes::from_slice(alloc, &[2; 8])?,
+        secret,
+        salt,
         id_context: None,
-        client_id: Bytes::from_slice(alloc, &[0])?,
-        server_id: Bytes::from_slice(alloc, &[1])?,
+        client_id,
+        server_id,
     })
+}
+
+// Copies of both.
+pub(crate) fn pair(alloc: Global, one: &[u8], other: &[u8]) -> Result<(Bytes, Bytes), AllocError> {
+    let one = Bytes::from_slice(alloc, one)?;
+    Ok((one, Bytes::from_slice(alloc, other)?))
 }
 
 // The request under the next number, if there is one and it fits.

@@ -26,18 +26,29 @@ pub extern "C" fn osc_bench_post(alloc: Global, others: u8, rounds: u64) -> u64 
 
 // The claims of the token of this id, for the audience `s`, with a date.
 pub(crate) fn claims_of(alloc: Global, id: u8) -> Result<Claims, AllocError> {
+    let material = material_of(alloc, id)?;
+    let (audience, scope) = audience_and_scope(alloc)?;
     Ok(Claims {
-        audience: Audience::new(alloc, "s")?,
+        audience,
         not_before: None,
         expires: Some(100),
-        material: InputMaterial {
-            id: Bytes::from_slice(alloc, &[id])?,
-            secret: Bytes::from_slice(alloc, &[id; 16])?,
-            salt: Bytes::new(alloc),
-            id_context: None,
-        },
-        scope: Bytes::from_slice(alloc, SCOPE)?,
+        material,
+        scope,
     })
+}
+
+fn material_of(alloc: Global, id: u8) -> Result<InputMaterial, AllocError> {
+    Ok(InputMaterial {
+        id: Bytes::from_slice(alloc, &[id])?,
+        secret: Bytes::from_slice(alloc, &[id; 16])?,
+        salt: Bytes::new(alloc),
+        id_context: None,
+    })
+}
+
+fn audience_and_scope(alloc: Global) -> Result<(Audience, Bytes), AllocError> {
+    let audience = Audience::new(alloc, "s")?;
+    Ok((audience, Bytes::from_slice(alloc, SCOPE)?))
 }
 
 // The token of these claims.
@@ -95,12 +106,34 @@ fn first_post(alloc: Global, client: &ClientDesk, id: u8) -> Result<Vec<u8>, All
 
 fn contexts_made(alloc: Global, others: u8, rounds: u64) -> Result<u64, AllocError> {
     let mut desk = ServerDesk::new(alloc, KEY, Audience::new(alloc, "s")?);
+    let made = posts_behind(alloc, &mut desk, others, rounds);
+    drop(desk);
+    made
+}
+
+// How many posts made a context, behind those of so many other token ids.
+fn posts_behind(
+    alloc: Global,
+    desk: &mut ServerDesk,
+    others: u8,
+    rounds: u64,
+) -> Result<u64, AllocError> {
     for id in 0..others {
-        let body = post_of(alloc, id)?;
-        desk.post::<Ccm<8>>(alloc, Moment::START, &body, &Draw([id; 32]))?;
+        post_token(alloc, desk, id)?;
     }
     let body = post_of(alloc, 255)?;
-    posts_made(alloc, &mut desk, &body, rounds)
+    let made = posts_made(alloc, desk, &body, rounds);
+    drop(body);
+    made
+}
+
+// Posts the token of this id.
+fn post_token(alloc: Global, desk: &mut ServerDesk, id: u8) -> Result<(), AllocError> {
+    let body = post_of(alloc, id)?;
+    let made = is_made(alloc, desk, &body, id);
+    drop(body);
+    made?;
+    Ok(())
 }
 
 // How many of so many posts made a context.
@@ -112,10 +145,22 @@ fn posts_made(
 ) -> Result<u64, AllocError> {
     let mut made = 0u64;
     for _ in 0..rounds {
-        let post = desk.post::<Ccm<8>>(alloc, Moment::START, body, &Draw([255; 32]))?;
-        if post.answer.is_ok() {
+        if is_made(alloc, desk, body, 255)? {
             made = made.wrapping_add(1);
         }
     }
     Ok(made)
+}
+
+// Whether the post made a context, where this byte is drawn.
+fn is_made(
+    alloc: Global,
+    desk: &mut ServerDesk,
+    body: &[u8],
+    drawn: u8,
+) -> Result<bool, AllocError> {
+    let post = desk.post::<Ccm<8>>(alloc, Moment::START, body, &Draw([drawn; 32]))?;
+    let is_made = post.answer.is_ok();
+    drop(post);
+    Ok(is_made)
 }

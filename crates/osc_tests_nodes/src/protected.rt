@@ -53,15 +53,34 @@ const FIRST: Exchanged = Exchanged { nonce: 2, id: 1 };
 fn name(alloc: Global, exchanged: Exchanged) -> Result<ContextName, AllocError>
     ensures { IfOk result (λ name. HasShortContext name) }
 {
-    let mut salt = *b"\x40\x48\0\0\0\0\0\0\0\x01\x48\0\0\0\0\0\0\0\0";
-    salt[18] = exchanged.nonce;
+    let (secret, salt) = material(alloc, exchanged.nonce)?;
+    let (client_id, server_id) = ids(alloc, exchanged.id)?;
     Ok(ContextName {
-        secret: Bytes::from_slice(alloc, b"\0\0\0\0\0\0\0\0\0\0\0\0\0\0\0\x01")?,
-        salt: Bytes::from_slice(alloc, &salt)?,
+        secret,
+        salt,
         id_context: None,
-        client_id: Bytes::from_slice(alloc, &[exchanged.id])?,
-        server_id: Bytes::from_slice(alloc, b"\x00")?,
+        client_id,
+        server_id,
     })
+}
+
+/// The master secret, and the master salt where the server's nonce ends in this byte.
+fn material(alloc: Global, nonce: u8) -> Result<(Bytes, Bytes), AllocError> {
+    let mut salt = *b"\x40\x48\0\0\0\0\0\0\0\x01\x48\0\0\0\0\0\0\0\0";
+    salt[18] = nonce;
+    let secret = b"\0\0\0\0\0\0\0\0\0\0\0\0\0\0\0\x01";
+    Ok((
+        Bytes::from_slice(alloc, secret)?,
+        Bytes::from_slice(alloc, &salt)?,
+    ))
+}
+
+/// The client's sender ID, which is this byte, and the server's.
+fn ids(alloc: Global, id: u8) -> Result<(Bytes, Bytes), AllocError> {
+    Ok((
+        Bytes::from_slice(alloc, &[id])?,
+        Bytes::from_slice(alloc, b"\x00")?,
+    ))
 }
 
 /// The number that the client takes, where it has skipped to this one.
@@ -115,10 +134,30 @@ fn request_under(
     message.option(11, b"log")?;
     message.payload(payload)?;
     let name = name(alloc, exchanged)?;
-    let room = Room::new(alloc, &name, 1152)?;
-    let taken = number_of(alloc, &name, number)?;
-    let made = protect_in(room, taken, &message.message())?;
-    Ok(Vec::from_slice(alloc, made.message.bytes())?)
+    let made = protected(alloc, &name, number, &message.message());
+    drop(name);
+    made
+}
+
+/// The message, protected under this number of the context.
+fn protected(
+    alloc: Global,
+    name: &ContextName,
+    number: u64,
+    message: &MessageRef<'_>,
+) -> Result<Vec<u8>, Fail>
+    requires { HasShortContext name.now }
+{
+    let room = Room::new(alloc, name, 1152)?;
+    let taken = number_of(alloc, name, number)?;
+    let made = protect_in(room, taken, message)?;
+    bytes_of(alloc, made)
+}
+
+fn bytes_of(alloc: Global, made: ProtectedRequest) -> Result<Vec<u8>, Fail> {
+    let bytes = Vec::from_slice(alloc, made.message.bytes());
+    drop(made);
+    Ok(bytes?)
 }
 
 /// What is sealed in a reply to the request of this number under the context of this exchange.
@@ -334,13 +373,25 @@ fn bits_that_nothing_protects(rt: HostRuntime) -> Result<(), Fail> {
     Ok(())
 }
 
+/// The first request makes the resource.
+fn serves_first(rt: &impl Abort, alloc: Global, server: &mut Server) -> Result<(), Fail> {
+    let post = request(alloc, 2, 1, 0, b"a")?;
+    check_served(rt, alloc, server, 0, &post, b"\x41")
+}
+
+/// The server starts again behind a tick.
+fn restarted(alloc: Global, server: &mut Server) -> Result<(), AllocError> {
+    let step = server.on_tick(alloc, Moment::START)?;
+    drop(step);
+    server.restart();
+    Ok(())
+}
+
 /// A server that started again has its resources, and no context.
 fn starts_again(rt: &impl Abort, alloc: Global, server: &mut Server) -> Result<(), Fail> {
     check(rt, alloc, server, POST, POSTED);
-    let post = request(alloc, 2, 1, 0, b"a")?;
-    check_served(rt, alloc, server, 0, &post, b"\x41")?;
-    server.on_tick(alloc, Moment::START)?;
-    server.restart();
+    serves_first(rt, alloc, server)?;
+    restarted(alloc, server)?;
     assert!(rt; server.tree().len() == 1);
     let get = request(alloc, 1, 2, 1, b"")?;
     check(

@@ -31,7 +31,10 @@ const PUTS: &[u8] = b"\x82\x82\x62/e\x04\x82\x62/t\x04";
 
 /// The scope of these entries.
 fn scope_of(alloc: Global, entries: &[u8]) -> Result<Scope, AllocError> {
-    Scope::from_cbor(alloc, entries).map_err(|_| AllocError)
+    match Scope::from_cbor(alloc, entries) {
+        Ok(scope) => Ok(scope),
+        Err(_) => Err(AllocError),
+    }
 }
 
 fn put(alloc: Global, tree: &mut Tree, text: &[u8], payload: &[u8]) -> Result<(), AllocError> {

@@ -1,7 +1,10 @@
 //! Tests of `osc_tree`: requests on small trees, with their replies.
+ghost use Rattle.std.specs.Prelude.{◌≤◌, IfOk, length};
+ghost use Rattle.osc_model.specs.Tree.{longest_payload};
+
 use osc_model::{Bytes, Code, ETags, Path, Request, Resource};
 use osc_scope::Scope;
-use osc_tree::{LONGEST_PAYLOAD, MOST_RESOURCES, Tree, etag};
+use osc_tree::{MOST_RESOURCES, Tree, etag};
 use std::alloc::{AllocError, Global};
 use std::test::Fail;
 
@@ -180,13 +183,21 @@ const UNDER_A_SCOPE: [(Asked, Code); 6] = [
 #[test]
 fn the_scope_comes_first(rt: HostRuntime) -> Result<(), Fail> {
     let alloc = rt.alloc();
-    let scope = Scope::from_cbor(alloc, b"\x81\x82\x62/e\x01").map_err(|_| AllocError)?;
+    let scope = get_scope(alloc)?;
     let mut tree = Tree::new(alloc);
     for (asked, code) in UNDER_A_SCOPE {
         let (answered, _, _) = answer(alloc, &mut tree, &scope, asked)?;
         assert!(rt; answered == code);
     }
     Ok(())
+}
+
+/// GET on `/e`.
+fn get_scope(alloc: Global) -> Result<Scope, AllocError> {
+    match Scope::from_cbor(alloc, b"\x81\x82\x62/e\x01") {
+        Ok(scope) => Ok(scope),
+        Err(_) => Err(AllocError),
+    }
 }
 
 fn tag_answered(alloc: Global) -> Result<Option<[u8; 8]>, AllocError> {
@@ -247,21 +258,23 @@ fn a_tree_holds_1024_resources(rt: HostRuntime) -> Result<(), Fail> {
 
 // Gives the path of one segment its segment as payload.
 fn put_segment(alloc: Global, tree: &mut Tree, segment: u8) -> Result<(), AllocError> {
-    let payload = Bytes::from_slice(alloc, &[segment])?;
-    if let Some(path) = Path::from_text(alloc, &[b'/', segment])?
-        && !tree.is_full()
-        && payload.len() <= LONGEST_PAYLOAD
-    {
-        tree.put(
-            alloc,
-            path,
-            Resource {
-                format: Some(42),
-                payload,
-            },
-        )?;
+    if tree.is_full() {
+        return Ok(());
     }
-    Ok(())
+    match Path::from_text(alloc, &[b'/', segment])? {
+        Some(path) => tree.put(alloc, path, resource_of(alloc, segment)?),
+        None => Ok(()),
+    }
+}
+
+// A resource of this byte.
+fn resource_of(alloc: Global, byte: u8) -> Result<Resource, AllocError>
+    ensures { IfOk result (λ resource. length resource.payload ≤ longest_payload) }
+{
+    Ok(Resource {
+        format: Some(42),
+        payload: Bytes::from_slice(alloc, &[byte])?,
+    })
 }
 
 // The paths, each before its payload.
