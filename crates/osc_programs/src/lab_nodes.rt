@@ -104,9 +104,9 @@ impl LabNodes {
         let step = begun(alloc, ground, &mut placed.client, task)?;
         let learnt = copy_of(step.notes.result());
         let sent = send_from(&mut self.ports.clients, number, &step.out);
-        self.notes.add(Noted::by_client(number, false, step.notes));
-        sent?;
-        learnt
+        let Step { notes, .. } = step;
+        self.notes.add(Noted::by_client(number, false, notes));
+        unless_failed(sent, learnt)
     }
 
     /// Each node takes one turn; the client of this number is waited for.
@@ -337,6 +337,20 @@ fn unless_lost(fault: Option<PortFault>, received: bool) -> Result<bool, Ended> 
     }
 }
 
+// What a client learnt, unless its sending failed.
+fn unless_failed(
+    sent: Result<(), Ended>,
+    learnt: Result<Option<ClientResult>, Ended>,
+) -> Result<Option<ClientResult>, Ended> {
+    match sent {
+        Ok(()) => learnt,
+        Err(ended) => {
+            drop(learnt);
+            Err(ended)
+        }
+    }
+}
+
 // Whether a datagram came to a client, and what it learnt.
 fn told(
     received: Result<bool, Ended>,
@@ -370,7 +384,10 @@ fn begun<R: Clock + RandomSource>(
         }
         Task::Ask(_) => Ok(Step::sending(Datagrams::new(alloc))),
     };
-    step.map_err(|_| Ended::OutOfMemory)
+    match step {
+        Ok(step) => Ok(step),
+        Err(_) => Err(Ended::OutOfMemory),
+    }
 }
 
 // What the client of this number sends.
