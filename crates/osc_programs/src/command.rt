@@ -1,6 +1,6 @@
 //! The words of the command line.
 ghost use Rattle.std.specs.Prelude.{◌≡◌, IfOk, MatchResult, Err, true, false, [], map, option_map, codes};
-ghost use Rattle.clap.specs.Words.{FailsBy, app_of, fault_of, first_of, found_of, rows_of, subcommand_of, subcommand_rows_of, with_rule};
+ghost use Rattle.clap.specs.Words.{FailsBy, app_of, fault_of, first_of, found_of, rows_of, subcommand_of, subcommand_rows_of, with_rule, with_subcommand};
 ghost use Rattle.clap.specs.declared.builder.command.Command.TheViews.{out-Command};
 ghost use Rattle.osc_programs.specs.Command as spec;
 ghost use Rattle.osc_programs.specs.NamedOptions.{name_of};
@@ -79,11 +79,34 @@ fn read_matches<'a>(alloc: Global, words: &'a [&'a str]) -> Result<ArgMatches<'a
 fn program<'a>(alloc: Global) -> Result<Command<'a>, AllocError>
     ensures { IfOk result (λ command. app_of command ≡ spec.program) }
 {
+    with_asking(alloc, with_nodes(alloc, with_tools(alloc)?)?)
+}
+
+// The program with the subcommands that open no socket.
+fn with_tools<'a>(alloc: Global) -> Result<Command<'a>, AllocError>
+    ensures { IfOk result (λ command. app_of command ≡ with_subcommand (with_subcommand spec.bare_program spec.sim_app.top) spec.token_app.top) }
+{
     bare_program(alloc)
         .subcommand(sim_command(alloc)?)?
-        .subcommand(token_command(alloc)?)?
+        .subcommand(token_command(alloc)?)
+}
+
+// The command with the subcommands of the nodes that are asked.
+fn with_nodes<'a>(alloc: Global, command: Command<'a>) -> Result<Command<'a>, AllocError>
+    ensures { IfOk result (λ more. app_of more
+        ≡ with_subcommand (with_subcommand (app_of command.entry) (spec.turns_app (codes "server") false).top) (spec.turns_app (codes "proxy") false).top) }
+{
+    command
         .subcommand(server_command(alloc)?)?
-        .subcommand(proxy_command(alloc)?)?
+        .subcommand(proxy_command(alloc)?)
+}
+
+// The command with the subcommands that ask.
+fn with_asking<'a>(alloc: Global, command: Command<'a>) -> Result<Command<'a>, AllocError>
+    ensures { IfOk result (λ more. app_of more
+        ≡ with_subcommand (with_subcommand (app_of command.entry) spec.client_app.top) (spec.turns_app (codes "lab") true).top) }
+{
+    command
         .subcommand(client_command(alloc)?)?
         .subcommand(lab_command(alloc)?)
 }

@@ -1,0 +1,14 @@
+use Rattle.std.proofs.Common.{◌≡◌, ◌∙◌, ap, ap₂}
+use Rattle.std.proofs.lemmas.Result.{IfOk-weaker}
+use Rattle.clap.specs.Words.{App, app_of, with_subcommand}
+use Rattle.osc_programs.proofs.command.with_asking.Goals as goal
+
+top : {a b : App} → a ≡ b → a.top ≡ b.top
+top e = ap (λ (app : App). app.top) e
+
+pub returns : goal.returns
+returns c =
+    let with_first = c.in_ok-subcommand.ensures.shape c.in_ok-client_command.ensures.local
+    ∙ ap (with_subcommand (app_of c.args.command)) (top c.in_ok-client_command.ensures.app) in
+    IfOk-weaker c.subcommand-2.result _ _
+    (λ command added. added.shape c.in_ok-lab_command.ensures.local ∙ ap₂ with_subcommand with_first (top c.in_ok-lab_command.ensures.app)) c.subcommand-2.ensures

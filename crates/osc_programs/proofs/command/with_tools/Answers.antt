@@ -1,0 +1,14 @@
+use Rattle.std.proofs.Common.{◌≡◌, ◌∙◌, ap, ap₂}
+use Rattle.std.proofs.lemmas.Result.{IfOk-weaker}
+use Rattle.clap.specs.Words.{App, with_subcommand}
+use Rattle.osc_programs.proofs.command.with_tools.Goals as goal
+
+top : {a b : App} → a ≡ b → a.top ≡ b.top
+top e = ap (λ (app : App). app.top) e
+
+pub returns : goal.returns
+returns c =
+    let with_sim = c.in_ok-subcommand.ensures.shape c.in_ok-sim_command.ensures.local
+    ∙ ap₂ with_subcommand c.bare_program.ensures.app (top c.in_ok-sim_command.ensures.app) in
+    IfOk-weaker c.subcommand-2.result _ _
+    (λ command added. added.shape c.in_ok-token_command.ensures.local ∙ ap₂ with_subcommand with_sim (top c.in_ok-token_command.ensures.app)) c.subcommand-2.ensures
