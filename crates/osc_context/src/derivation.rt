@@ -19,8 +19,13 @@ use std::alloc::{AllocError, Global};
 /// The number of AES-CCM-16-64-128 (RFC 9053 section 4.2).
 const ALGORITHM: u64 = 10;
 
-/// The info that tells an output from the others: the ID, the id context, the algorithm, what it is for and its length.
-pub(crate) fn info_of(
+/// The info that tells an output from the others (RFC 8613 section 3.2.1): the ID, the id context of the name, the algorithm, what the
+/// output is for (`Key` or `IV`) and its length in bytes.
+///
+/// # Errors
+///
+/// Want of memory.
+pub fn info_of(
     alloc: Global,
     name: &ContextName,
     id: &[u8],

@@ -12,12 +12,9 @@ mod recipient;
 mod salt;
 mod sender;
 
-pub use derivation::derive;
+pub use derivation::{derive, info_of};
 pub use error::{DeriveError, Exhausted};
 pub use nonce::{ID_LIMIT, NUMBER_LIMIT, nonce_for, partial_iv_of};
 pub use recipient::RecipientContext;
 pub use salt::joined_salt;
 pub use sender::{SendNumber, SenderContext};
-
-#[cfg(test)]
-mod tests;

@@ -1,12 +1,22 @@
-//! Tests of the codecs, by what callers see: a module for each crate. They stand apart, so that a test that changes has no
-//! crate below proved anew.
+//! Tests of ciphers and codecs, by what callers see. They stand apart, so that a test that changes has no crate below proved
+//! anew.
 #![tactic(auto)]
 
 #[cfg(test)]
+mod aes;
+#[cfg(test)]
 mod cbor;
+#[cfg(test)]
+mod ccm;
 #[cfg(test)]
 mod coap;
 #[cfg(test)]
 mod cose;
+#[cfg(test)]
+mod hkdf;
+#[cfg(test)]
+mod reference;
+#[cfg(test)]
+mod same;
 #[cfg(test)]
 mod scope;

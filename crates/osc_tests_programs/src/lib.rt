@@ -1,4 +1,5 @@
-//! Tests of scripts and programs, by what callers see. They stand apart, so that a test that changes has no crate below proved anew.
+//! Tests of settings, scripts and programs, by what callers see. They stand apart, so that a test that changes has no crate below proved
+//! anew.
 #![tactic(auto)]
 
 #[cfg(test)]
@@ -9,6 +10,8 @@ mod lab;
 mod programs;
 #[cfg(test)]
 mod scripts;
+#[cfg(test)]
+mod settings;
 #[cfg(test)]
 mod tokens;
 #[cfg(test)]

@@ -1,10 +1,16 @@
-//! Tests of rights, by what callers see: a module for each crate. They stand apart, so that a test that changes has no
-//! crate below proved anew.
+//! Tests of rights and of the notes of runs, by what callers see. They stand apart, so that a test that changes has no crate below proved
+//! anew.
 #![tactic(auto)]
 
 #[cfg(test)]
 mod authz;
 #[cfg(test)]
 mod claims;
+#[cfg(test)]
+mod premise;
+#[cfg(test)]
+mod readers;
+#[cfg(test)]
+mod steps;
 #[cfg(test)]
 mod token;

@@ -1,16 +1,24 @@
-//! Tests of turns, by what callers see: a port of queues in memory, and nodes that run at such ports. They stand apart, so that a test
-//! that changes has no crate below proved anew.
+//! Tests of proxies and turns, by what callers see: a port of queues in memory, and nodes that run at such ports. They stand apart, so that a test that changes has no crate below proved
+//! anew.
 #![tactic(auto)]
 
+#[cfg(test)]
+mod forwarding;
 #[cfg(test)]
 mod network;
 #[cfg(test)]
 mod nodes;
 #[cfg(test)]
+mod proxy_uri;
+#[cfg(test)]
 mod queues;
 #[cfg(test)]
 mod serving;
 #[cfg(test)]
+mod stage;
+#[cfg(test)]
 mod sweep;
 #[cfg(test)]
 mod telling;
+#[cfg(test)]
+mod waiting;

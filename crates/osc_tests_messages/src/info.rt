@@ -1,5 +1,5 @@
 //! The info that tells an output from the others.
-use crate::derivation::info_of;
+use osc_context::info_of;
 use osc_model::{Bytes, ContextName};
 use std::alloc::{AllocError, Global};
 use std::test::*;
