@@ -245,7 +245,7 @@ fn post<R: Clock + RandomSource>(
 {
     let (now, draw) = moment_and_draw(ground)?;
     match client.exchange(alloc, now, &draw) {
-        Ok(step) => sent(port, &step),
+        Ok(step) => sent(port, step),
         Err(_) => Err(Ended::OutOfMemory),
     }
 }
@@ -265,13 +265,21 @@ fn send_request<R: Clock + RandomSource>(
     }
     let (now, draw) = moment_and_draw(ground)?;
     match client.ask::<Ccm<8>>(alloc, now, request, &draw) {
-        Ok(step) => sent(port, &step),
+        Ok(step) => sent(port, step),
         Err(_) => Err(Ended::OutOfMemory),
     }
 }
 
 // Sends what the step sends: what the client learnt by it, if it did.
-fn sent(port: &mut UdpPort, step: &Step) -> Result<Option<ClientResult>, Ended>
+fn sent(port: &mut UdpPort, step: Step) -> Result<Option<ClientResult>, Ended>
+    ensures { IfOk result (λ learnt. learnt ≡ step.notes.result) }
+{
+    let learnt = sent_by(port, &step);
+    drop(step);
+    learnt
+}
+
+fn sent_by(port: &mut UdpPort, step: &Step) -> Result<Option<ClientResult>, Ended>
     ensures { IfOk result (λ learnt. learnt ≡ step.now.notes.result) }
 {
     send(port, &step.out)?;
@@ -331,12 +339,20 @@ fn client_turn<R: Clock + RandomSource>(
 {
     let (now, draw) = moment_and_draw(ground)?;
     match turn::<Ccm<8>, _, _>(alloc, port, client, now, &draw) {
-        Ok(turned) => learnt_by(&turned),
+        Ok(turned) => learnt_of(turned),
         Err(error) => Err(ended_by_turn(error)),
     }
 }
 
 // What the client learnt, if all that it sent went out.
+fn learnt_of(turned: Turned) -> Result<Option<ClientResult>, Ended>
+    ensures { IfOk result (λ learnt. learnt ≡ turned.step.notes.result) }
+{
+    let learnt = learnt_by(&turned);
+    drop(turned);
+    learnt
+}
+
 fn learnt_by(turned: &Turned) -> Result<Option<ClientResult>, Ended>
     ensures { IfOk result (λ learnt. learnt ≡ turned.now.step.notes.result) }
 {

@@ -52,14 +52,20 @@ fn words_in(alloc: Global, matches: &ArgMatches<'_>) -> Result<Words, WordsError
         Some(("sim", options)) => Ok(Words::Sim {
             bytes: is_set(options, "bytes"),
         }),
-        Some(("token", options)) => Ok(Words::Token(token_words(alloc, options)?)),
+        Some(("token", options)) => match token_words(alloc, options) {
+            Ok(words) => Ok(Words::Token(words)),
+            Err(error) => Err(error),
+        },
         Some(("server", options)) => Ok(Words::Server {
             turns: given::turns(options, NamedOption::ServerTurns)?,
         }),
         Some(("proxy", options)) => Ok(Words::Proxy {
             turns: given::turns(options, NamedOption::ProxyTurns)?,
         }),
-        Some(("client", options)) => Ok(Words::Client(client_words(alloc, options)?)),
+        Some(("client", options)) => match client_words(alloc, options) {
+            Ok(words) => Ok(Words::Client(words)),
+            Err(error) => Err(error),
+        },
         Some(("lab", options)) => Ok(Words::Lab {
             turns: given::required_number(options, NamedOption::LabTurns)?,
         }),

@@ -228,18 +228,51 @@ const NOTHING: Round = Round {
 fn bind_all<R: Net>(alloc: Global, runtime: &R, parts: &Parts) -> Result<Ports, Ended> {
     let mut book = Book::new(alloc);
     let server = bind_at(runtime, &mut book, Node::Server.address())?;
-    let mut proxies = Vec::new(alloc);
-    for placed in &parts.proxies {
-        push(&mut proxies, bind_at(runtime, &mut book, placed.at)?)?;
+    let proxies = bind_proxies(alloc, runtime, &mut book, parts.proxies.as_slice())?;
+    let clients = bind_clients(alloc, runtime, &mut book, parts.clients.as_slice())?;
+    ports_of(alloc, server, proxies, clients, &book)
+}
+
+fn bind_proxies<R: Net>(
+    alloc: Global,
+    runtime: &R,
+    book: &mut Book,
+    all: &[PlacedProxy],
+) -> Result<Vec<UdpPort>, Ended> {
+    let mut ports = Vec::new(alloc);
+    for placed in all {
+        push(&mut ports, bind_at(runtime, book, placed.at)?)?;
     }
-    let mut clients = Vec::new(alloc);
-    for placed in &parts.clients {
-        push(&mut clients, bind_at(runtime, &mut book, placed.at)?)?;
+    Ok(ports)
+}
+
+fn bind_clients<R: Net>(
+    alloc: Global,
+    runtime: &R,
+    book: &mut Book,
+    all: &[Placed],
+) -> Result<Vec<UdpPort>, Ended> {
+    let mut ports = Vec::new(alloc);
+    for placed in all {
+        push(&mut ports, bind_at(runtime, book, placed.at)?)?;
     }
+    Ok(ports)
+}
+
+// These sockets, each with the book of all addresses.
+fn ports_of(
+    alloc: Global,
+    server: UdpPort,
+    proxies: Vec<UdpPort>,
+    clients: Vec<UdpPort>,
+    book: &Book,
+) -> Result<Ports, Ended> {
+    let proxies = with_books(alloc, proxies, book)?;
+    let clients = with_books(alloc, clients, book)?;
     Ok(Ports {
-        server: with_book(alloc, server, &book)?,
-        proxies: with_books(alloc, proxies, &book)?,
-        clients: with_books(alloc, clients, &book)?,
+        server: with_book(alloc, server, book)?,
+        proxies,
+        clients,
     })
 }
 

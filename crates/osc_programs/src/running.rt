@@ -239,7 +239,10 @@ fn take_turn<R: Clock + RandomSource, N: Node<Ccm<8>>>(
 ) -> Result<(), Ended> {
     let (now, draw) = moment_and_draw(ground)?;
     match turn::<Ccm<8>, _, _>(alloc, port, node, now, &draw) {
-        Ok(_) => Ok(()),
+        Ok(turned) => {
+            drop(turned);
+            Ok(())
+        }
         Err(error) => Err(ended_by_turn(error)),
     }
 }
