@@ -8,6 +8,7 @@ pub mod Hexadecimal
 pub mod Parts
 pub mod ClientParts
 pub mod Stand
+pub mod Subcommands
 pub mod Printing
 pub mod Segments
 pub mod Talking

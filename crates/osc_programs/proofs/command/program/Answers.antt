@@ -1,8 +1,16 @@
-use Rattle.std.proofs.Common.{◌≡◌, ◌∙◌, ap, codes, true, false}
+use Rattle.std.proofs.Common.{◌∙◌, ap, codes, true, false}
 use Rattle.std.proofs.lemmas.Result.{IfOk-weaker}
 use Rattle.clap.specs.Words.{App, with_subcommand}
-use Rattle.osc_programs.specs.Command as spec
+use Rattle.osc_programs.specs.Command.{client_app, turns_app}
 use Rattle.osc_programs.proofs.command.program.Goals as goal
 
+with_nodes : App → App
+with_nodes app = with_subcommand (with_subcommand app (turns_app (codes "server") false).top) (turns_app (codes "proxy") false).top
+
+with_asking : App → App
+with_asking app = with_subcommand (with_subcommand app client_app.top) (turns_app (codes "lab") true).top
+
 pub returns : goal.returns
-returns c = IfOk-weaker c.with_asking.result _ _ (λ _ is. is ∙ ap (λ (app : App). with_subcommand (with_subcommand app spec.client_app.top) (spec.turns_app (codes "lab") true).top) (c.in_ok-with_nodes.ensures ∙ ap (λ (app : App). with_subcommand (with_subcommand app (spec.turns_app (codes "server") false).top) (spec.turns_app (codes "proxy") false).top) c.in_ok-with_tools.ensures)) c.with_asking.ensures
+returns c =
+    let nodes = c.in_ok-with_nodes.ensures ∙ ap with_nodes c.in_ok-with_tools.ensures in
+    IfOk-weaker c.with_asking.result _ _ (λ _ is. is ∙ ap with_asking nodes) c.with_asking.ensures

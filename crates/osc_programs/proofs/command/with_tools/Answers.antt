@@ -1,10 +1,8 @@
-use Rattle.std.proofs.Common.{◌≡◌, ◌∙◌, ap, ap₂}
+use Rattle.std.proofs.Common.{◌∙◌, ap₂}
 use Rattle.std.proofs.lemmas.Result.{IfOk-weaker}
-use Rattle.clap.specs.Words.{App, with_subcommand}
+use Rattle.clap.specs.Words.{with_subcommand}
+use Rattle.osc_programs.proofs.Subcommands.{top}
 use Rattle.osc_programs.proofs.command.with_tools.Goals as goal
-
-top : {a b : App} → a ≡ b → a.top ≡ b.top
-top e = ap (λ (app : App). app.top) e
 
 pub returns : goal.returns
 returns c =
