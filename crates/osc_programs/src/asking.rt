@@ -279,6 +279,7 @@ fn sent(port: &mut UdpPort, step: Step) -> Result<Option<ClientResult>, Ended>
     learnt
 }
 
+// The same of a step that somebody else drops.
 fn sent_by(port: &mut UdpPort, step: &Step) -> Result<Option<ClientResult>, Ended>
     ensures { IfOk result (λ learnt. learnt ≡ step.now.notes.result) }
 {
@@ -353,6 +354,7 @@ fn learnt_of(turned: Turned) -> Result<Option<ClientResult>, Ended>
     learnt
 }
 
+// The same of a turn that somebody else drops.
 fn learnt_by(turned: &Turned) -> Result<Option<ClientResult>, Ended>
     ensures { IfOk result (λ learnt. learnt ≡ turned.now.step.notes.result) }
 {
