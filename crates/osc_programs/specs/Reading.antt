@@ -1,13 +1,14 @@
 -- What the reading of words comes to, part by part. No public contract rests on this file.
-use Rattle.std.specs.Prelude.{◌≡◌, ◌||◌, Bool, true, false, List, Option, codes}
+use Rattle.std.specs.Prelude.{◌≡◌, ◌||◌, Bool, true, false, List, MatchResult, Option, Result, codes}
 use Rattle.std.specs.Option.{option_map_or}
 use Rattle.std.specs.Str.{bytes_eq}
 use Rattle.clap.specs.Words.{Row, Text}
 use Rattle.osc_programs.specs.ClientWords as client
-use Rattle.osc_programs.specs.Command.{HasNothing}
+use Rattle.osc_programs.specs.Command.{AreWords, HasNothing}
 use Rattle.osc_programs.specs.TokenWords as token
 use Rattle.osc_programs.specs.declared.named_option.NamedOption.{NamedOption}
 use Rattle.osc_programs.specs.declared.named_option.NamedOption.TheVariants.{Client, Token}
+use Rattle.osc_programs.specs.declared.words.Words.{Words}
 use Rattle.osc_programs.specs.declared.words.WordsError.{WordsError}
 use Rattle.osc_programs.specs.declared.words.WordsError.TheVariants.{Clap, Value, Memory}
 
@@ -42,3 +43,7 @@ is_subcommand name = bytes_eq name (codes "sim") || bytes_eq name (codes "token"
 -- a subcommand of the program was entered
 abbrev pub IsKnown : Option (Text × List Row) → Type 0
 IsKnown entered = option_map_or (λ entered. is_subcommand entered.0) entered false ≡ true
+
+-- the subcommand that was entered, with its rows, asks for what was read, or has this refused
+abbrev pub IsReadFrom : Option (Text × List Row) → Result Words WordsError → Type 0
+IsReadFrom entered result = MatchResult result (AreWords entered) (IsRefusalIn entered)

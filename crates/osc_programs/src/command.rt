@@ -1,11 +1,11 @@
 //! The words of the command line.
-ghost use Rattle.std.specs.Prelude.{◌≡◌, IfOk, MatchResult, Err, true, false, [], map, option_map, codes};
+ghost use Rattle.std.specs.Prelude.{◌≡◌, IfOk, MatchResult, Err, Some, true, false, [], map, option_map, codes};
 ghost use Rattle.clap.specs.Words.{FailsBy, app_of, fault_of, first_of, found_of, rows_of, subcommand_of, subcommand_rows_of, with_rule, with_subcommand};
 ghost use Rattle.clap.specs.declared.builder.command.Command.TheViews.{out-Command};
 ghost use Rattle.osc_programs.specs.Command as spec;
 ghost use Rattle.osc_programs.specs.NamedOptions.{name_of};
 ghost use Rattle.osc_programs.specs.Options.{value_rule};
-ghost use Rattle.osc_programs.specs.Reading.{IsKnown, IsRefusalIn};
+ghost use Rattle.osc_programs.specs.Reading.{IsKnown, IsReadFrom};
 ghost use Rattle.osc_programs.specs.declared.named_option.NamedOption.{NamedOption as AnyOption};
 ghost use Rattle.osc_programs.specs.declared.words.Words.{Words as AnyWords};
 
@@ -46,31 +46,60 @@ pub fn read_words(alloc: Global, words: &[&str]) -> Result<Words, WordsError>
 // What the subcommand that was entered asks for.
 fn words_in(alloc: Global, matches: &ArgMatches<'_>) -> Result<Words, WordsError>
     requires { IsKnown (subcommand_rows_of matches.now) }
-    ensures { MatchResult result (spec.AreWords (subcommand_rows_of matches.now)) (IsRefusalIn (subcommand_rows_of matches.now)) }
+    ensures { IsReadFrom (subcommand_rows_of matches.now) result }
 {
     match matches.subcommand() {
         Some(("sim", options)) => Ok(Words::Sim {
             bytes: is_set(options, "bytes"),
         }),
-        Some(("token", options)) => match token_words(alloc, options) {
-            Ok(words) => Ok(Words::Token(words)),
-            Err(error) => Err(error),
-        },
-        Some(("server", options)) => Ok(Words::Server {
-            turns: given::turns(options, NamedOption::ServerTurns)?,
-        }),
-        Some(("proxy", options)) => Ok(Words::Proxy {
-            turns: given::turns(options, NamedOption::ProxyTurns)?,
-        }),
-        Some(("client", options)) => match client_words(alloc, options) {
-            Ok(words) => Ok(Words::Client(words)),
-            Err(error) => Err(error),
-        },
-        Some(("lab", options)) => Ok(Words::Lab {
-            turns: given::required_number(options, NamedOption::LabTurns)?,
-        }),
+        Some(("token", options)) => token_asked(alloc, options),
+        Some(("server", options)) => server_asked(options),
+        Some(("proxy", options)) => proxy_asked(options),
+        Some(("client", options)) => client_asked(alloc, options),
+        Some(("lab", options)) => lab_asked(options),
         _ => unreachable!(),
     }
+}
+
+// What `osc token` asks for with these options.
+fn token_asked(alloc: Global, options: &ArgMatches<'_>) -> Result<Words, WordsError>
+    ensures { IsReadFrom (Some (codes "token", rows_of (found_of options.now))) result }
+{
+    Ok(Words::Token(token_words(alloc, options)?))
+}
+
+// What `osc server` asks for.
+fn server_asked(options: &ArgMatches<'_>) -> Result<Words, WordsError>
+    ensures { IsReadFrom (Some (codes "server", rows_of (found_of options.now))) result }
+{
+    Ok(Words::Server {
+        turns: given::turns(options, NamedOption::ServerTurns)?,
+    })
+}
+
+// What `osc proxy` asks for.
+fn proxy_asked(options: &ArgMatches<'_>) -> Result<Words, WordsError>
+    ensures { IsReadFrom (Some (codes "proxy", rows_of (found_of options.now))) result }
+{
+    Ok(Words::Proxy {
+        turns: given::turns(options, NamedOption::ProxyTurns)?,
+    })
+}
+
+// What `osc client` asks for.
+fn client_asked(alloc: Global, options: &ArgMatches<'_>) -> Result<Words, WordsError>
+    ensures { IsReadFrom (Some (codes "client", rows_of (found_of options.now))) result }
+{
+    Ok(Words::Client(client_words(alloc, options)?))
+}
+
+// What `osc lab` asks for.
+fn lab_asked(options: &ArgMatches<'_>) -> Result<Words, WordsError>
+    ensures { IsReadFrom (Some (codes "lab", rows_of (found_of options.now))) result }
+{
+    Ok(Words::Lab {
+        turns: given::required_number(options, NamedOption::LabTurns)?,
+    })
 }
 
 // The matches of the words, with those of the subcommand that they name.
