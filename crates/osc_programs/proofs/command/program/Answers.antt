@@ -11,6 +11,7 @@ with_asking : App → App
 with_asking app = with_subcommand (with_subcommand app client_app.top) (turns_app (codes "lab") true).top
 
 pub returns : goal.returns
+unfolding with_nodes with_asking
 returns c =
     let nodes = c.in_ok-with_nodes.ensures ∙ ap with_nodes c.in_ok-with_tools.ensures in
     IfOk-weaker c.with_asking.result _ _ (λ _ is. is ∙ ap with_asking nodes) c.with_asking.ensures
