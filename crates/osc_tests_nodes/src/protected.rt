@@ -503,9 +503,13 @@ fn a_token_posted_again(rt: HostRuntime) -> Result<(), Fail> {
 fn is_refused(alloc: Global, server: &mut Server, datagram: &[u8]) -> bool {
     let mut drawn = [0; 32];
     drawn[7] = 2;
-    server
-        .on_datagram::<Ccm<8>>(alloc, Moment::START, CLIENT, datagram, &Draw(drawn))
-        .is_err()
+    match server.on_datagram::<Ccm<8>>(alloc, Moment::START, CLIENT, datagram, &Draw(drawn)) {
+        Ok(step) => {
+            drop(step);
+            false
+        }
+        Err(_) => true,
+    }
 }
 
 /// A post that is refused memory leaves the server as it was: the same datagram then gets its answer.
