@@ -13,7 +13,6 @@ use osc_window::Window;
 use std::marker::Model;
 
 /// A security context of a server, with the rights of the token that made it.
-#[derive(Drop)]
 pub struct ServerContext {
     pub(crate) name: ContextName,
     pub(crate) sender: SenderContext,
@@ -22,6 +21,21 @@ pub struct ServerContext {
     pub(crate) not_before: Option<u64>,
     pub(crate) expires: Option<u64>,
     pub(crate) window: Window,
+}
+
+// Proved once, and not anew at each exit of whoever owns one.
+impl Drop for ServerContext {
+    fn drop(self) {
+        let ServerContext {
+            name: _,
+            sender: _,
+            recipient: _,
+            scope: _,
+            not_before: _,
+            expires: _,
+            window: _,
+        } = self;
+    }
 }
 
 impl Model for ServerContext {

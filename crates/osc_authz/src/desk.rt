@@ -29,11 +29,21 @@ use std::marker::Model;
 /// The desk at authz-info: it judges tokens, and keeps the contexts that they made. For each token id it has at most one
 /// context that a request has opened under, and one of the newest post; at most 64 token ids have one. A look-up goes over
 /// the contexts, at most 128, and takes no memory.
-#[derive(Drop)]
 pub struct ServerDesk {
     key: [u8; 16],
     audience: Audience,
     table: Vec<Holding>,
+}
+
+// Proved once, and not anew at each exit of whoever owns one.
+impl Drop for ServerDesk {
+    fn drop(self) {
+        let ServerDesk {
+            key: _,
+            audience: _,
+            table: _,
+        } = self;
+    }
 }
 
 impl Model for ServerDesk {

@@ -12,7 +12,6 @@ use std::fmt;
 const LONGEST: usize = 64;
 
 /// What a client has been granted: the token, which it can't read, and the input material of its contexts.
-#[derive(Drop)]
 pub struct ClientDesk {
     /// The token's bytes.
     pub token: Bytes,
@@ -25,6 +24,18 @@ pub struct ClientDesk {
     pub ghost secret_size: { IsSecret secret },
     pub ghost salt_size: { IsShort salt },
     pub ghost id_context_size: { ForSome id_context IsShort },
+}
+
+// Proved once, and not anew at each exit of whoever owns one.
+impl Drop for ClientDesk {
+    fn drop(self) {
+        let ClientDesk {
+            token: _,
+            secret: _,
+            salt: _,
+            id_context: _,
+        } = self;
+    }
 }
 
 // The secret isn't printed.

@@ -9,11 +9,21 @@ use crate::context::ServerContext;
 use osc_model::{Bytes, Moment};
 
 /// The contexts of one token id: one that a request has opened under, and one of the newest post.
-#[derive(Drop)]
 pub struct Holding {
     pub id: Bytes,
     pub confirmed: Option<ServerContext>,
     pub pending: Option<ServerContext>,
+}
+
+// Proved once, and not anew at each exit of whoever owns one.
+impl Drop for Holding {
+    fn drop(self) {
+        let Holding {
+            id: _,
+            confirmed: _,
+            pending: _,
+        } = self;
+    }
 }
 
 /// Whether a context is there, and its token is in its time.

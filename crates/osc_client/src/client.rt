@@ -46,7 +46,6 @@ use std::marker::Model;
 const LONGEST_WAIT: u64 = 247_000;
 
 /// A client: what was granted, the way to the server, its security context, what it waits for, and its message layer.
-#[derive(Drop)]
 pub struct Client {
     desk: ClientDesk,
     next_hop: Peer,
@@ -54,6 +53,20 @@ pub struct Client {
     context: Option<ClientContext>,
     waiting: Option<Waiting>,
     endpoint: Endpoint,
+}
+
+// Proved once, and not anew at each exit of whoever owns one.
+impl Drop for Client {
+    fn drop(self) {
+        let Client {
+            desk: _,
+            next_hop: _,
+            origin: _,
+            context: _,
+            waiting: _,
+            endpoint: _,
+        } = self;
+    }
 }
 
 impl Model for Client {

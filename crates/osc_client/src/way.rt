@@ -9,10 +9,17 @@ use std::marker::Model;
 const LONGEST_HOST: usize = 255;
 
 /// The server behind a proxy: the host and the port by which the proxy knows it (RFC 7252 section 5.10.1).
-#[derive(Debug, Drop)]
+#[derive(Debug)]
 pub struct Origin {
     host: Bytes,
     port: u16,
+}
+
+// Proved once, and not anew at each exit of whoever owns one.
+impl Drop for Origin {
+    fn drop(self) {
+        let Origin { host: _, port: _ } = self;
+    }
 }
 
 impl Model for Origin {

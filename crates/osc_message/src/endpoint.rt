@@ -45,12 +45,22 @@ impl QueueFull {
 ///
 /// All the room that it needs for messages, but for their bytes, is taken when it is made: 64 notes, and to each of 64 peers one
 /// message that is outstanding and 16 that wait.
-#[derive(Drop)]
 pub struct Endpoint {
     seen: Duplicates,
     sending: Vec<Open>,
     // The ID of the next message of the node's own, once it has made one.
     next_id: Option<u16>,
+}
+
+// Proved once, and not anew at each exit of whoever owns one.
+impl Drop for Endpoint {
+    fn drop(self) {
+        let Endpoint {
+            seen: _,
+            sending: _,
+            next_id: _,
+        } = self;
+    }
 }
 
 impl Model for Endpoint {

@@ -4,7 +4,7 @@ use crate::bytes::Bytes;
 use std::fmt;
 
 /// What a security context is derived from. Two contexts are the same exactly where their names are equal.
-#[derive(PartialEq, Eq, Clone, Drop)]
+#[derive(PartialEq, Eq, Clone)]
 pub struct ContextName {
     /// The master secret.
     pub secret: Bytes,
@@ -16,6 +16,19 @@ pub struct ContextName {
     pub client_id: Bytes,
     /// The server's sender ID, 0 to 7 bytes.
     pub server_id: Bytes,
+}
+
+// Proved once, and not anew at each exit of whoever owns one.
+impl Drop for ContextName {
+    fn drop(self) {
+        let ContextName {
+            secret: _,
+            salt: _,
+            id_context: _,
+            client_id: _,
+            server_id: _,
+        } = self;
+    }
 }
 
 // The secret isn't printed.

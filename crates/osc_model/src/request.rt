@@ -78,7 +78,7 @@ impl Eq for ETags {
 }
 
 /// A request on one resource (RFC 7252 section 5.8).
-#[derive(Clone, PartialEq, Eq, Drop)]
+#[derive(Clone, PartialEq, Eq)]
 pub struct Request {
     /// The request code, of a method or of none that is known.
     pub code: Code,
@@ -94,6 +94,21 @@ pub struct Request {
     pub if_none_match: bool,
     /// The payload.
     pub payload: Bytes,
+}
+
+// Proved once, and not anew at each exit of whoever owns one.
+impl Drop for Request {
+    fn drop(self) {
+        let Request {
+            code: _,
+            path: _,
+            format: _,
+            accept: _,
+            if_match: _,
+            if_none_match: _,
+            payload: _,
+        } = self;
+    }
 }
 
 // What was asked under a security context isn't printed.

@@ -13,7 +13,7 @@ use std::fmt;
 use std::marker::Model;
 
 /// One use of a key: what was sealed or opened, and under which name.
-#[derive(Clone, PartialEq, Eq, Drop)]
+#[derive(Clone, PartialEq, Eq)]
 pub struct Note {
     /// The name of the security context.
     pub context: ContextName,
@@ -29,6 +29,20 @@ pub struct Note {
     pub plaintext: Bytes,
 }
 
+// Proved once, and not anew at each exit of whoever owns one.
+impl Drop for Note {
+    fn drop(self) {
+        let Note {
+            context: _,
+            side: _,
+            number: _,
+            nonce: _,
+            aad: _,
+            plaintext: _,
+        } = self;
+    }
+}
+
 // What was sealed or opened isn't printed.
 impl fmt::Debug for Note {
     fn fmt<W: fmt::Write>(&self, f: &mut fmt::Formatter<W>) -> fmt::Result {
@@ -37,7 +51,7 @@ impl fmt::Debug for Note {
 }
 
 /// A protected request that was served.
-#[derive(Clone, PartialEq, Eq, Drop)]
+#[derive(Clone, PartialEq, Eq)]
 pub struct Entry {
     /// The name of the context that opened it.
     pub context: ContextName,
@@ -49,6 +63,19 @@ pub struct Entry {
     pub moment: Moment,
     /// What it was answered.
     pub reply: Reply,
+}
+
+// Proved once, and not anew at each exit of whoever owns one.
+impl Drop for Entry {
+    fn drop(self) {
+        let Entry {
+            context: _,
+            number: _,
+            plaintext: _,
+            moment: _,
+            reply: _,
+        } = self;
+    }
 }
 
 // What was opened isn't printed.
@@ -83,9 +110,16 @@ pub struct Datagram {
 }
 
 /// Datagrams in the order in which they are sent; contracts see the list.
-#[derive(Debug, Drop)]
+#[derive(Debug)]
 pub struct Datagrams {
     items: Vec<Datagram>,
+}
+
+// Proved once, and not anew at each exit of whoever owns one.
+impl Drop for Datagrams {
+    fn drop(self) {
+        let Datagrams { items: _ } = self;
+    }
 }
 
 impl Model for Datagrams {

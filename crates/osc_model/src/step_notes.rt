@@ -6,13 +6,26 @@ use crate::step::{ClientResult, Entry, Note};
 use std::marker::Model;
 
 /// What a step sealed, opened, served, learnt and drew: mostly nothing. Contracts see a record of the five.
-#[derive(Debug, Drop)]
+#[derive(Debug)]
 pub struct StepNotes {
     seals: Option<Note>,
     opens: Option<Note>,
     served: Option<Entry>,
     result: Option<ClientResult>,
     drawn: Option<[u8; 8]>,
+}
+
+// Proved once, and not anew at each exit of whoever owns one.
+impl Drop for StepNotes {
+    fn drop(self) {
+        let StepNotes {
+            seals: _,
+            opens: _,
+            served: _,
+            result: _,
+            drawn: _,
+        } = self;
+    }
 }
 
 impl Model for StepNotes {
@@ -38,53 +51,43 @@ impl StepNotes {
     }
 
     /// The same, and this was sealed.
-    pub fn with_seal(self, note: Note) -> StepNotes
+    pub fn with_seal(mut self, note: Note) -> StepNotes
         ensures { result ≡ record self { seals = Some note } }
     {
-        StepNotes {
-            seals: Some(note),
-            ..self
-        }
+        self.seals = Some(note);
+        self
     }
 
     /// The same, and this was opened.
-    pub fn with_open(self, note: Note) -> StepNotes
+    pub fn with_open(mut self, note: Note) -> StepNotes
         ensures { result ≡ record self { opens = Some note } }
     {
-        StepNotes {
-            opens: Some(note),
-            ..self
-        }
+        self.opens = Some(note);
+        self
     }
 
     /// The same, and this was served.
-    pub fn with_entry(self, entry: Entry) -> StepNotes
+    pub fn with_entry(mut self, entry: Entry) -> StepNotes
         ensures { result ≡ record self { served = Some entry } }
     {
-        StepNotes {
-            served: Some(entry),
-            ..self
-        }
+        self.served = Some(entry);
+        self
     }
 
     /// The same, and a client learnt this.
-    pub fn with_result(self, learnt: ClientResult) -> StepNotes
+    pub fn with_result(mut self, learnt: ClientResult) -> StepNotes
         ensures { result ≡ record self { result = Some learnt } }
     {
-        StepNotes {
-            result: Some(learnt),
-            ..self
-        }
+        self.result = Some(learnt);
+        self
     }
 
     /// The same, and an exchange drew this nonce.
-    pub fn with_drawn(self, nonce: [u8; 8]) -> StepNotes
+    pub fn with_drawn(mut self, nonce: [u8; 8]) -> StepNotes
         ensures { result ≡ record self { drawn = Some nonce } }
     {
-        StepNotes {
-            drawn: Some(nonce),
-            ..self
-        }
+        self.drawn = Some(nonce);
+        self
     }
 
     /// What was sealed, if anything was.

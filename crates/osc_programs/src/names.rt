@@ -9,10 +9,19 @@ use std::marker::Model;
 
 /// The clients of a script, in the order of the lines that grant, and its proxies, in the order of the lines that make them first: the
 /// number of each in the world is its place, from 0.
-#[derive(Drop)]
 pub(crate) struct Names {
     clients: Vec<ClientName>,
     proxies: Vec<ProxyName>,
+}
+
+// Proved once, and not anew at each exit of whoever owns one.
+impl Drop for Names {
+    fn drop(self) {
+        let Names {
+            clients: _,
+            proxies: _,
+        } = self;
+    }
 }
 
 impl Model for Names {

@@ -19,13 +19,23 @@ use std::alloc::{AllocError, Global};
 const QUIET_LIMIT: usize = 1000;
 
 /// How far a script has come.
-#[derive(Drop)]
 pub(crate) struct Stage {
     world: World,
     /// The moment of the events that come.
     moment: Moment,
     /// What the last `draw` line gave.
     draws: Option<DrawnBefore>,
+}
+
+// Proved once, and not anew at each exit of whoever owns one.
+impl Drop for Stage {
+    fn drop(self) {
+        let Stage {
+            world: _,
+            moment: _,
+            draws: _,
+        } = self;
+    }
 }
 
 impl Stage {

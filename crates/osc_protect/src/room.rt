@@ -14,13 +14,23 @@ use std::fmt;
 use std::marker::Model;
 
 /// Room for one text of at most so many bytes, and for its associated data. Contracts see that number.
-#[derive(Drop)]
 pub struct TextRoom {
     most: usize,
     /// Empty, with room for the associated data.
     pub(crate) aad: Vec<u8>,
     /// Empty, with room for the text.
     pub(crate) text: Vec<u8>,
+}
+
+// Proved once, and not anew at each exit of whoever owns one.
+impl Drop for TextRoom {
+    fn drop(self) {
+        let TextRoom {
+            most: _,
+            aad: _,
+            text: _,
+        } = self;
+    }
 }
 
 // What was in it isn't printed.
@@ -143,10 +153,16 @@ fn open_text<A: Aead>(
 
 /// The memory of one use of a key and of its note, so that nothing fails once a node has begun to change: it is used up by
 /// one seal or one opening. Contracts see the name of its context, and the most bytes of its text.
-#[derive(Drop)]
 pub struct Room {
     name: ContextName,
     text: TextRoom,
+}
+
+// Proved once, and not anew at each exit of whoever owns one.
+impl Drop for Room {
+    fn drop(self) {
+        let Room { name: _, text: _ } = self;
+    }
 }
 
 // The secret isn't printed.
@@ -220,11 +236,20 @@ impl Room {
 }
 
 /// The memory of opening one request: of the note, and of the right to reply. Contracts see it as a `Room`.
-#[derive(Drop)]
 pub struct RequestRoom {
     room: Room,
     /// The name once more, for the right to reply.
     context: ContextName,
+}
+
+// Proved once, and not anew at each exit of whoever owns one.
+impl Drop for RequestRoom {
+    fn drop(self) {
+        let RequestRoom {
+            room: _,
+            context: _,
+        } = self;
+    }
 }
 
 // The secret isn't printed.

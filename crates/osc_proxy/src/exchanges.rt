@@ -87,9 +87,15 @@ impl FailureRoom {
 
 /// The open exchanges, each under a key; contracts see what stands under each key, and the next key. All the room that they need
 /// is taken when the table is made.
-#[derive(Drop)]
 pub struct Exchanges {
     open: Slab<Exchange>,
+}
+
+// Proved once, and not anew at each exit of whoever owns one.
+impl Drop for Exchanges {
+    fn drop(self) {
+        let Exchanges { open: _ } = self;
+    }
 }
 
 impl Model for Exchanges {

@@ -18,9 +18,16 @@ pub struct Target {
 }
 
 /// Targets; contracts see the list.
-#[derive(Debug, Drop)]
+#[derive(Debug)]
 pub struct Targets {
     items: Vec<Target>,
+}
+
+// Proved once, and not anew at each exit of whoever owns one.
+impl Drop for Targets {
+    fn drop(self) {
+        let Targets { items: _ } = self;
+    }
 }
 
 impl Model for Targets {

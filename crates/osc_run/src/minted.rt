@@ -8,7 +8,6 @@ use std::marker::Model;
 
 /// What the holder of a token may do, and until when (RFC 9200 section 5.8, RFC 8392 section 3.1). Contracts see a record in
 /// which the parts of the input material stand beside the others.
-#[derive(Drop)]
 pub struct Grant {
     /// What the holder's contexts are derived from (RFC 9203 section 3.2.1), with the token's id.
     pub material: InputMaterial,
@@ -20,6 +19,19 @@ pub struct Grant {
     pub expires: Option<u64>,
     /// The number of the client that holds it.
     pub holder: usize,
+}
+
+// Proved once, and not anew at each exit of whoever owns one.
+impl Drop for Grant {
+    fn drop(self) {
+        let Grant {
+            material: _,
+            scope: _,
+            not_before: _,
+            expires: _,
+            holder: _,
+        } = self;
+    }
 }
 
 impl Model for Grant {
@@ -51,12 +63,18 @@ impl fmt::Debug for Grant {
 }
 
 /// A grant, and the text of the claims that were sealed into its token. Contracts see a record of the two.
-#[derive(Drop)]
 pub struct Minted {
     /// The grant.
     pub grant: Grant,
     /// The claims as CBOR: the plaintext of the token (RFC 8392 section 7).
     pub text: Bytes,
+}
+
+// Proved once, and not anew at each exit of whoever owns one.
+impl Drop for Minted {
+    fn drop(self) {
+        let Minted { grant: _, text: _ } = self;
+    }
 }
 
 impl Model for Minted {

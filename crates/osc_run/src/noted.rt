@@ -19,11 +19,22 @@ pub enum Actor {
 
 /// A step as it is noted: whose it was, whether the holder of a client's context sealed what it liked, and what the step sealed,
 /// opened, served, learnt and drew. Contracts see a record of the three.
-#[derive(Debug, Drop)]
+#[derive(Debug)]
 pub struct Noted {
     actor: Actor,
     lied: bool,
     notes: StepNotes,
+}
+
+// Proved once, and not anew at each exit of whoever owns one.
+impl Drop for Noted {
+    fn drop(self) {
+        let Noted {
+            actor: _,
+            lied: _,
+            notes: _,
+        } = self;
+    }
 }
 
 impl Model for Noted {

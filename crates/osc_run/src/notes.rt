@@ -14,10 +14,17 @@ use std::marker::Model;
 
 /// What was noted of each step of a run. Contracts see the list of the steps, the newest first, and the room that was taken for
 /// more.
-#[derive(Debug, Drop)]
+#[derive(Debug)]
 pub struct Notes {
     // The oldest first.
     items: Vec<Noted>,
+}
+
+// Proved once, and not anew at each exit of whoever owns one.
+impl Drop for Notes {
+    fn drop(self) {
+        let Notes { items: _ } = self;
+    }
 }
 
 impl Model for Notes {

@@ -149,9 +149,16 @@ pub enum Line {
 }
 
 /// The lines of a script, which contracts see as the list of them.
-#[derive(Debug, Drop)]
+#[derive(Debug)]
 pub struct Script {
     lines: Vec<Line>,
+}
+
+// Proved once, and not anew at each exit of whoever owns one.
+impl Drop for Script {
+    fn drop(self) {
+        let Script { lines: _ } = self;
+    }
 }
 
 impl Model for Script {

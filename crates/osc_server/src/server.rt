@@ -39,12 +39,23 @@ use std::marker::Model;
 
 /// A server: its resources, the desk at authz-info with the security contexts, the scope of what needs no protection, of which
 /// GETs alone count, and its message layer.
-#[derive(Drop)]
 pub struct Server {
     tree: Tree,
     desk: ServerDesk,
     open_scope: Scope,
     endpoint: Endpoint,
+}
+
+// Proved once, and not anew at each exit of whoever owns one.
+impl Drop for Server {
+    fn drop(self) {
+        let Server {
+            tree: _,
+            desk: _,
+            open_scope: _,
+            endpoint: _,
+        } = self;
+    }
 }
 
 impl Model for Server {

@@ -75,14 +75,14 @@ fn note(rt: &impl Abort, alloc: Global) -> Note {
 }
 
 /// The text of a note.
-fn text_of(note: Note) -> Bytes {
-    note.plaintext
+fn text_of(rt: &impl Abort, note: &Note) -> Bytes {
+    note.plaintext.clone().expect(rt, "memory")
 }
 
 /// The text that the bytes open to, where they are genuine.
 fn opened(rt: &impl Abort, alloc: Global, bytes: &[u8], key: &[u8; 16]) -> Option<Bytes> {
     let note = open_token::<Ccm<8>>(alloc, bytes, key).expect(rt, "memory")?;
-    Some(text_of(note))
+    Some(text_of(rt, &note))
 }
 
 /// Whether the bytes open to a text.

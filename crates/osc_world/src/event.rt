@@ -59,7 +59,6 @@ impl What {
 }
 
 /// An event: what happens, when, and with which random bytes.
-#[derive(Drop)]
 pub struct Event {
     /// When it happens.
     pub moment: Moment,
@@ -67,4 +66,15 @@ pub struct Event {
     pub draw: Draw,
     /// What happens.
     pub what: What,
+}
+
+// Proved once, and not anew at each exit of whoever owns one.
+impl Drop for Event {
+    fn drop(self) {
+        let Event {
+            moment: _,
+            draw: _,
+            what: _,
+        } = self;
+    }
 }

@@ -10,7 +10,6 @@ use std::alloc::{AllocError, Global};
 use std::marker::Model;
 
 /// A datagram that was sent.
-#[derive(Drop)]
 pub struct Sent {
     /// From where.
     pub from: Peer,
@@ -20,6 +19,18 @@ pub struct Sent {
     pub bytes: Bytes,
     /// Whether it was neither delivered nor dropped.
     pub waits: bool,
+}
+
+// Proved once, and not anew at each exit of whoever owns one.
+impl Drop for Sent {
+    fn drop(self) {
+        let Sent {
+            from: _,
+            to: _,
+            bytes: _,
+            waits: _,
+        } = self;
+    }
 }
 
 /// What came of an event: the number of the step that a node took, from 0, where one did; and the numbers of the datagrams that it
@@ -35,13 +46,24 @@ pub struct Record {
 }
 
 /// What is kept of the events: each datagram ever sent, what each step noted, and what came of each event.
-#[derive(Drop)]
 pub(crate) struct Log {
     sent: Vec<Sent>,
     // The number of the first that waits; that of all that were sent, where none does.
     next_waiting: usize,
     notes: Notes,
     records: Vec<Record>,
+}
+
+// Proved once, and not anew at each exit of whoever owns one.
+impl Drop for Log {
+    fn drop(self) {
+        let Log {
+            sent: _,
+            next_waiting: _,
+            notes: _,
+            records: _,
+        } = self;
+    }
 }
 
 impl Model for Log {

@@ -25,7 +25,6 @@ use std::alloc::{AllocError, Global};
 use std::marker::Model;
 
 /// A client, and where it stands.
-#[derive(Drop)]
 pub struct Placed {
     /// Its address.
     pub at: Peer,
@@ -33,13 +32,26 @@ pub struct Placed {
     pub client: Client,
 }
 
+// Proved once, and not anew at each exit of whoever owns one.
+impl Drop for Placed {
+    fn drop(self) {
+        let Placed { at: _, client: _ } = self;
+    }
+}
+
 /// A proxy, and where it stands.
-#[derive(Drop)]
 pub struct PlacedProxy {
     /// Its address.
     pub at: Peer,
     /// The proxy.
     pub proxy: Proxy,
+}
+
+// Proved once, and not anew at each exit of whoever owns one.
+impl Drop for PlacedProxy {
+    fn drop(self) {
+        let PlacedProxy { at: _, proxy: _ } = self;
+    }
 }
 
 /// Whose step an event is.
@@ -67,12 +79,23 @@ pub(crate) struct Taken {
 }
 
 /// The server, where it stands, and the clients and the proxies.
-#[derive(Drop)]
 pub(crate) struct Nodes {
     server_at: Peer,
     server: Server,
     clients: Vec<Placed>,
     proxies: Vec<PlacedProxy>,
+}
+
+// Proved once, and not anew at each exit of whoever owns one.
+impl Drop for Nodes {
+    fn drop(self) {
+        let Nodes {
+            server_at: _,
+            server: _,
+            clients: _,
+            proxies: _,
+        } = self;
+    }
 }
 
 impl Model for Nodes {

@@ -26,12 +26,23 @@ use std::marker::Model;
 ///
 /// Whatever happens in it, there is one history, where what is assumed holds: that whatever opened was sealed before by the other end
 /// of its context, or minted; that no drawn nonce came twice; and that no two grants share a secret. See [`World::premise_holds`].
-#[derive(Drop)]
 pub struct World {
     minted: Vec<Minted>,
     first: Tree,
     nodes: Nodes,
     log: Log,
+}
+
+// Proved once, and not anew at each exit of whoever owns one.
+impl Drop for World {
+    fn drop(self) {
+        let World {
+            minted: _,
+            first: _,
+            nodes: _,
+            log: _,
+        } = self;
+    }
 }
 
 impl Model for World {
