@@ -1,10 +1,11 @@
-//! `osc`: CoAP nodes that are protected by OSCORE. What its subcommands do stands in `osc_programs`.
+//! `osc`: CoAP nodes that are protected by OSCORE. What its subcommands do stands in `osc_programs`, and how they are asked in `osc_words`.
 #![tactic(auto)]
 
 use osc_programs::{
-    Ended, TokenWords, Words, WordsError, ask, ended_by, ended_by_io, fault_line, forward, iv_of,
-    lab, read_words, running_fault, serve, sim, started_by_io, status, token, token_fault,
+    Ended, ask, ended_by, ended_by_io, forward, iv_of, lab, running_fault, serve, sim,
+    started_by_io, status, token, token_fault,
 };
+use osc_words::{TokenWords, Words, WordsError, fault_line, read_words};
 use std::process::ExitCode;
 use std::{env, io};
 

@@ -1,14 +1,1 @@
-pub mod Lines
-pub mod Runs
-pub mod Puts
-pub mod Holders
-pub mod NoHelp
-pub mod Entered
-pub mod Hexadecimal
-pub mod Parts
-pub mod ClientParts
-pub mod Stand
-pub mod Subcommands
-pub mod Printing
-pub mod Segments
 pub mod Talking

@@ -13,9 +13,9 @@ use Rattle.osc_client.specs.Way.{HostAndPort}
 use Rattle.osc_settings.specs.declared.client.ClientSettings.{ClientSettings}
 use Rattle.osc_turn.specs.Nodes.{ClientSteps}
 use Rattle.osc_turn.specs.Ports.{Arrival}
-use Rattle.osc_programs.specs.Records.{learnt_text}
-use Rattle.osc_programs.specs.Simulation.{is_sealing}
-use Rattle.osc_programs.specs.Text.{line}
+use Rattle.osc_simulation.specs.Records.{learnt_text}
+use Rattle.osc_simulation.specs.Simulation.{is_sealing}
+use Rattle.osc_simulation.specs.Text.{line}
 use Rattle.osc_programs.specs.declared.asking.Outcome.{Outcome}
 use Rattle.osc_programs.specs.declared.asking.Outcome.TheVariants.{Told, Open}
 use Rattle.osc_programs.specs.declared.ended.Ended.{Ended}

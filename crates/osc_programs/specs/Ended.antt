@@ -2,6 +2,11 @@
 use Rattle.std.specs.Prelude.{ℕ, List, ◌++◌, Option, Some, None, codes, decimal}
 use Rattle.std.specs.declared.io.ErrorKind.{ErrorKind}
 use Rattle.std.specs.declared.io.ErrorKind.TheVariants as kind
+use Rattle.clap.specs.Words.{kind_of}
+use Rattle.clap.specs.declared.error.kind.ErrorKind.{ErrorKind as WordsKind}
+use Rattle.clap.specs.declared.error.kind.ErrorKind.TheVariants as words_kind
+use Rattle.osc_words.specs.declared.words.WordsError.{WordsError}
+use Rattle.osc_words.specs.declared.words.WordsError.TheVariants.{Clap, Value, Memory}
 use Rattle.osc_programs.specs.declared.ended.Ended.{Ended}
 use Rattle.osc_programs.specs.declared.ended.Ended.TheVariants.{Done, BadCommandLine, BadLine, BadSettings, OutOfMemory, Failed, PortFailed, NotDone}
 
@@ -14,6 +19,18 @@ status_of OutOfMemory = 3
 status_of Failed = 4
 status_of PortFailed = 4
 status_of NotDone = 1
+
+-- how a program ends whose command line has this fault: who asks for help or the version gets it
+abbrev pub ended_by_kind : WordsKind → Ended
+ended_by_kind words_kind.DisplayHelp = Done
+ended_by_kind words_kind.DisplayVersion = Done
+ended_by_kind words_kind.OutOfMemory = OutOfMemory
+ended_by_kind other = BadCommandLine
+
+abbrev pub ended_by : WordsError → Ended
+ended_by (Clap error) = ended_by_kind (kind_of error)
+ended_by (Value option) = BadCommandLine
+ended_by Memory = OutOfMemory
 
 -- want of memory is told apart from other faults of an input or an output
 abbrev pub ended_by_io : ErrorKind → Ended

@@ -9,11 +9,9 @@ ghost use Rattle.osc_settings.specs.declared.client.ClientSettings.{ClientSettin
 ghost use Rattle.osc_programs.specs.Conversation as spec;
 ghost use Rattle.osc_programs.specs.declared.asking.Outcome.{Outcome as AnyOutcome};
 
-use crate::client_words::ClientWords;
 use crate::ended::{Ended, failed};
 use crate::ground::{Ground, ground_of, moment_and_draw};
 use crate::issue::written;
-use crate::record::learnt_text;
 use crate::running::{bound, copy_of, ended_by_settings, ended_by_turn, send, text_of};
 use crate::udp::UdpPort;
 use osc_authz::ClientDesk;
@@ -21,7 +19,9 @@ use osc_ccm::Ccm;
 use osc_client::{Client, Origin, Way};
 use osc_model::{Bytes, ClientResult, Peer, Request, Step};
 use osc_settings::{ClientSettings, read_client_settings};
+use osc_simulation::learnt_text;
 use osc_turn::{Turned, turn};
+use osc_words::ClientWords;
 use std::alloc::{AllocError, Global};
 use std::io::{Eprint, Read, Write};
 use std::net::Net;

@@ -3,6 +3,8 @@ ghost use Rattle.std.specs.IoError.{error_kind};
 ghost use Rattle.std.specs.Prelude.{◌≡◌, ◌≢◌, Some, IfOk, option_map, string_bytes};
 ghost use Rattle.osc_programs.specs.Ended as spec;
 
+use clap::error::ErrorKind as WordsKind;
+use osc_words::WordsError;
 use std::alloc::{AllocError, Global};
 use std::io::{self, ErrorKind};
 
@@ -35,6 +37,27 @@ pub fn status(ended: Ended) -> u8
         Ended::BadCommandLine | Ended::BadLine(_) | Ended::BadSettings => 2,
         Ended::OutOfMemory => 3,
         Ended::Failed | Ended::PortFailed => 4,
+    }
+}
+
+/// How the program ends on a command line with this error.
+pub fn ended_by(error: &WordsError) -> Ended
+    ensures { result ≡ spec.ended_by error.now }
+{
+    match error {
+        WordsError::Clap(error) => ended_by_kind(error.kind()),
+        WordsError::Value(_) => Ended::BadCommandLine,
+        WordsError::Memory => Ended::OutOfMemory,
+    }
+}
+
+fn ended_by_kind(kind: WordsKind) -> Ended
+    ensures { result ≡ spec.ended_by_kind kind }
+{
+    match kind {
+        WordsKind::DisplayHelp | WordsKind::DisplayVersion => Ended::Done,
+        WordsKind::OutOfMemory => Ended::OutOfMemory,
+        _ => Ended::BadCommandLine,
     }
 }
 

@@ -8,9 +8,9 @@ ghost use Rattle.osc_token.specs.Token.{claims_item};
 ghost use Rattle.osc_programs.specs.TokenLine as spec;
 
 use crate::ended::Ended;
-use crate::token_words::TokenWords;
 use osc_ccm::Ccm;
 use osc_token::{MintError, mint};
+use osc_words::TokenWords;
 use rand::rngs::StdRng;
 use rand::{Rng, SeedableRng};
 use std::alloc::Global;

@@ -1,18 +1,16 @@
 //! A lab: what a script's clients ask, over sockets of this machine.
 ghost use Rattle.std.specs.Prelude.{IfOk};
 ghost use Rattle.std.specs.FinMap as map;
-ghost use Rattle.osc_programs.specs.SetUp.{CanPutAll};
+ghost use Rattle.osc_simulation.specs.SetUp.{CanPutAll};
 
 use crate::ended::{Ended, ended_by_io};
 use crate::ground::{Ground, ground_of};
 use crate::lab_nodes::{LabNodes, Round, Task};
-use crate::names::{Names, name_of_number, number_of};
-use crate::record::learnt_text;
-use crate::set_up::start_of;
 use crate::simulate::ended_when_written;
-use crate::trace::end_text;
 use osc_model::ClientResult;
 use osc_script::{ClientName, Line, Script, ScriptError, read_script};
+use osc_simulation::laws::a_script_fits;
+use osc_simulation::{Names, end_text, learnt_text, name_of_number, number_of, start_of};
 use std::alloc::{AllocError, Global};
 use std::io::{Read, Write};
 use std::net::Net;
@@ -72,6 +70,7 @@ fn script_of<I: Read>(alloc: Global, reader: &mut I) -> Result<Script, Ended>
 fn lab_script(alloc: Global, bytes: &[u8]) -> Result<Script, Ended>
     ensures { IfOk result (λ script. CanPutAll map.empty script) }
 {
+    a_script_fits();
     match read_script(alloc, bytes) {
         Ok(script) => match other_line(script.lines()) {
             None => Ok(script),

@@ -1,7 +1,8 @@
 //! `osc token`: what it prints, and the values of its options.
 use crate::broken::BrokenWriter;
 use crate::words::refused;
-use osc_programs::{Ended, TokenWords, Words, drawn_iv, iv_of, read_words, token};
+use osc_programs::{Ended, drawn_iv, iv_of, token};
+use osc_words::{TokenWords, Words, read_words};
 use std::alloc::{AllocError, Global};
 use std::io::Write;
 use std::test::Fail;

@@ -1,7 +1,8 @@
 //! Command lines: what each subcommand is asked for, and what is said of words that aren't heeded.
 use clap::error::ErrorKind::{DisplayHelp, DisplayVersion};
 use osc_model::Request;
-use osc_programs::{Ended, Words, WordsError, ended_by, fault_line, read_words};
+use osc_programs::{Ended, ended_by};
+use osc_words::{Words, WordsError, fault_line, read_words};
 use std::alloc::{AllocError, Global};
 use std::test::Fail;
 

@@ -1,6 +1,6 @@
 use Rattle.std.proofs.Common.{◌∙◌, ◌++◌, ap, sym, subst}
-use Rattle.osc_programs.specs.Simulation.{Simulates}
-use Rattle.osc_programs.specs.Trace.{bad_line_text}
+use Rattle.osc_simulation.specs.Simulation.{Simulates}
+use Rattle.osc_simulation.specs.Trace.{bad_line_text}
 use Rattle.osc_programs.proofs.simulate.run_alone.Goals as goal
 
 pub returns : goal.returns

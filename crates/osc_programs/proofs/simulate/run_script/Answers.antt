@@ -1,7 +1,7 @@
 use Rattle.std.proofs.Common.{◌∙◌, ◌++◌, ap, Err}
 use Rattle.osc_script.specs.declared.read.ScriptError.{ScriptError}
 use Rattle.osc_script.specs.declared.read.ScriptError.TheVariants.{BadLine}
-use Rattle.osc_programs.specs.Trace.{bad_line_text}
+use Rattle.osc_simulation.specs.Trace.{bad_line_text}
 use Rattle.osc_programs.proofs.simulate.run_script.Goals as goal
 
 pub returns-in-Err-BadLine-clause-bad : goal.returns-in-Err-BadLine-clause-bad

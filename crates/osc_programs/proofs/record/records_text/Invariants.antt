@@ -1,8 +1,0 @@
-use Rattle.std.proofs.Common.{◌++◌, List, ℕ, drop}
-use Rattle.osc_programs.specs.Records.{PrintAllRecords}
-use Rattle.osc_programs.proofs.record.records_text.Given as goal
-
--- what the events that are left print goes behind the text so far
-abbrev pub invariant-loop-event : goal.invariant-loop-event
-invariant-loop-event l = (rest : List ℕ) → PrintAllRecords l.with_bytes l.clients l.world (drop l.event-index l.records) rest
-    → PrintAllRecords l.with_bytes l.clients l.world l.records (l.text.items ++ rest)

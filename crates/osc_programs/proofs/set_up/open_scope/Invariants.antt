@@ -1,8 +1,0 @@
-use Rattle.std.proofs.Common.{◌≡◌, drop}
-use Rattle.std.specs.FinSet as set
-use Rattle.osc_programs.specs.Simulation.{scope_from}
-use Rattle.osc_programs.proofs.set_up.open_scope.Given as goal
-
--- what is left makes the same scope
-abbrev pub invariant-loop-line : goal.invariant-loop-line
-invariant-loop-line l = scope_from l.scope (drop l.line-index l.lines) ≡ scope_from set.empty l.lines

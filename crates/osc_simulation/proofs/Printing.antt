@@ -1,0 +1,58 @@
+-- Events and datagrams one after another: what is left prints behind what was printed.
+use Rattle.std.proofs.Common.{◌≡◌, sym, subst, refl, ℕ, ◌+◌, ◌<◌, drop, get_or, length, add-one, List, [], ◌∷◌, ◌++◌, append_assoc, append-nil, Bool, codes}
+use Rattle.std.proofs.Math.Seq.{drop-cons}
+use Rattle.osc_script.specs.declared.client_name.ClientName.{ClientName}
+use Rattle.osc_world.specs.Worlds.{State}
+use Rattle.osc_world.specs.declared.log.Record.{Record}
+use Rattle.osc_world.specs.declared.log.Sent.{Sent}
+use Rattle.osc_simulation.specs.Text.{line}
+use Rattle.osc_simulation.specs.Records.{PrintsSent, PrintAllSent, PrintsRecord, PrintAllRecords}
+
+pub datagrams_more : (with_bytes : Bool) (number : ℕ) (left left-after : List Sent) (d : Sent) (text line : List ℕ) (P : List ℕ → Type 0)
+    → left ≡ d ∷ left-after → PrintsSent with_bytes number d line
+    → ((rest : List ℕ) → PrintAllSent with_bytes number left rest → P (text ++ rest))
+    → (rest : List ℕ) → PrintAllSent with_bytes (number + 1) left-after rest → P ((text ++ line) ++ rest)
+datagrams_more with_bytes number left left-after d text line P e printed h rest more =
+    subst P (sym (append_assoc text line rest))
+    (h (line ++ rest) (subst (λ ds. PrintAllSent with_bytes number ds (line ++ rest)) (sym e) (line, rest, printed, more, refl)))
+
+pub datagrams_end : (with_bytes : Bool) (number : ℕ) (left : List Sent) (text : List ℕ) (P : List ℕ → Type 0)
+    → left ≡ [] → ((rest : List ℕ) → PrintAllSent with_bytes number left rest → P (text ++ rest)) → P text
+datagrams_end with_bytes number left text P e h =
+    subst P (append-nil text) (h [] (subst (λ ds. PrintAllSent with_bytes number ds []) (sym e) refl))
+
+-- what is left at an event, whatever stands for one that isn't there
+pub events_left : (events : List Record) (i : ℕ) (none : Record) → i < length events → drop i events ≡ get_or events i none ∷ drop (i + 1) events
+events_left events i none lt = rw (add-one, drop-cons events i none lt) refl
+
+pub events_more : (with_bytes : Bool) (clients : List ClientName) (world : State) (left left-after : List Record) (event : Record) (text printed : List ℕ) (P : List ℕ → Type 0)
+    → left ≡ event ∷ left-after → PrintsRecord with_bytes clients world event printed
+    → ((rest : List ℕ) → PrintAllRecords with_bytes clients world left rest → P (text ++ rest))
+    → (rest : List ℕ) → PrintAllRecords with_bytes clients world left-after rest → P ((text ++ printed) ++ rest)
+events_more with_bytes clients world left left-after event text printed P e prints h rest more =
+    subst P (sym (append_assoc text printed rest))
+    (h (printed ++ rest) (subst (λ es. PrintAllRecords with_bytes clients world es (printed ++ rest)) (sym e) (printed, rest, prints, more, refl)))
+
+pub events_end : (with_bytes : Bool) (clients : List ClientName) (world : State) (left : List Record) (text : List ℕ) (P : List ℕ → Type 0)
+    → left ≡ [] → ((rest : List ℕ) → PrintAllRecords with_bytes clients world left rest → P (text ++ rest)) → P text
+events_end with_bytes clients world left text P e h =
+    subst P (append-nil text) (h [] (subst (λ es. PrintAllRecords with_bytes clients world es []) (sym e) refl))
+
+-- ---- the pieces of a line, one behind the other
+
+pub datagram_pieces : (n from to message bytes bytes-is : List ℕ) → bytes ≡ bytes-is
+    → codes "sent " ++ (n ++ (codes " " ++ (from ++ (codes ">" ++ (to ++ (codes " " ++ (message ++ (bytes ++ 10 ∷ []))))))))
+    ≡ line (codes "sent " ++ n ++ codes " " ++ from ++ codes ">" ++ to ++ codes " " ++ message ++ bytes-is)
+datagram_pieces n from to message bytes bytes-is e = rw e (simp append_assoc)
+
+pub served_pieces : (holder n code holder-is : List ℕ) → holder ≡ holder-is
+    → codes "served " ++ (holder ++ (codes " " ++ (n ++ (codes " " ++ (code ++ 10 ∷ []))))) ≡ line (codes "served " ++ holder-is ++ codes " " ++ n ++ codes " " ++ code)
+served_pieces holder n code holder-is e = rw e (simp append_assoc)
+
+pub learnt_pieces : (client learnt client-is learnt-is : List ℕ) → client ≡ client-is → learnt ≡ learnt-is
+    → client ++ (codes " " ++ (learnt ++ 10 ∷ [])) ≡ line (client-is ++ codes " " ++ learnt-is)
+learnt_pieces client learnt client-is learnt-is e f = rw (e, f) (simp append_assoc)
+
+pub answer_pieces : (code format payload format-is payload-is : List ℕ) → format ≡ format-is → payload ≡ payload-is
+    → codes "answer " ++ (code ++ (codes " " ++ (format ++ (codes " " ++ payload)))) ≡ codes "answer " ++ code ++ codes " " ++ format-is ++ codes " " ++ payload-is
+answer_pieces code format payload format-is payload-is e f = rw (e, f) (simp append_assoc)

@@ -1,0 +1,9 @@
+pub mod Draw
+pub mod Text
+pub mod Trace
+pub mod Names
+pub mod Copies
+pub mod Events
+pub mod Records
+pub mod Simulation
+pub mod SetUp

@@ -1,0 +1,21 @@
+//! The simulation: a script's world, what each line does to it, and the trace that it prints. Nothing here reads, writes or draws:
+//! a script is bytes, and so is its trace.
+#![tactic(auto)]
+
+mod copies;
+mod draw;
+mod happening;
+pub mod laws;
+mod lying;
+mod names;
+mod record;
+mod set_up;
+mod simulate;
+mod stage;
+mod trace;
+
+pub use names::{Names, name_of_number, number_of};
+pub use record::learnt_text;
+pub use set_up::start_of;
+pub use simulate::trace_script;
+pub use trace::{bad_line_text, end_text};

@@ -1,0 +1,157 @@
+//! The lines of a trace.
+ghost use Rattle.std.specs.Prelude.{◌≡◌, ◌<◌, ◌+◌, ◌^◌, ◌++◌, IfOk, Some, codes, flat_map, length, string_bytes};
+ghost use Rattle.std.specs.FinMap as map;
+ghost use Rattle.std.specs.List.{All};
+ghost use Rattle.osc_simulation.specs.Text as text;
+ghost use Rattle.osc_simulation.specs.Trace as spec;
+
+use osc_coap::MessageRef;
+use osc_model::{Datagram, Path, Resource, Step};
+use osc_options::has_option;
+use osc_options::numbers::OSCORE;
+use osc_script::Node;
+use osc_tree::Tree;
+use std::alloc::{AllocError, Global};
+use std::fmt;
+
+/// The message's type and code, marked where it has an OSCORE option.
+pub(crate) fn message_text(alloc: Global, message: &MessageRef<'_>) -> Result<String, AllocError>
+    ensures { IfOk result (λ part. string_bytes part ≡ spec.message_text message.now) }
+{
+    let kind = message.kind();
+    let code = CodeText(message.code());
+    let mark = if has_option(message, OSCORE) {
+        " oscore"
+    } else {
+        ""
+    };
+    format!(in alloc; "{kind} {code}{mark}")
+}
+
+/// The bytes of a datagram behind a space, where they are wanted.
+pub(crate) fn wanted_bytes_text(
+    alloc: Global,
+    with_bytes: bool,
+    bytes: &[u8],
+) -> Result<String, AllocError>
+    ensures { IfOk result (λ part. string_bytes part ≡ spec.wanted_bytes_text with_bytes bytes.now) }
+{
+    if !with_bytes {
+        return Ok(String::new(alloc));
+    }
+    let digits = hex::encode(alloc, bytes)?;
+    format!(in alloc; " {digits}")
+}
+
+/// A code as the standard writes it, as `2.05`.
+#[derive(Clone, Copy)]
+pub(crate) struct CodeText(pub u8);
+
+impl fmt::Display for CodeText {
+    ghost output = { λ code. Some (text.code_text code.0) };
+
+    fn fmt<W: fmt::Write>(&self, f: &mut fmt::Formatter<W>) -> fmt::Result {
+        let detail = self.0 % 32;
+        write!(f, "{}.{}{}", self.0 / 32, detail / 10, detail % 10)
+    }
+}
+
+/// The end lines: the resources, how many requests are in the history, and whether what is assumed of the run held.
+pub fn end_text(
+    alloc: Global,
+    tree: &Tree,
+    entries: usize,
+    held: bool,
+) -> Result<Vec<u8>, AllocError>
+    ensures { IfOk result (λ text. text.items ≡ spec.end_text tree.now entries held) }
+{
+    let mut text = tree_lines(alloc, tree)?;
+    text.extend_from_slice(history_line(alloc, entries)?.as_bytes())?;
+    text.extend_from_slice(premise_line(held))?;
+    Ok(text)
+}
+
+// `history N`.
+fn history_line(alloc: Global, entries: usize) -> Result<String, AllocError>
+    ensures { IfOk result (λ line. string_bytes line ≡ spec.history_text entries) }
+{
+    format!(in alloc; "history {entries}\n")
+}
+
+fn premise_line(held: bool) -> &'static [u8]
+    ensures { result.now ≡ spec.premise_text held }
+{
+    if held {
+        b"premise: held\n"
+    } else {
+        b"premise: broken\n"
+    }
+}
+
+fn tree_lines(alloc: Global, tree: &Tree) -> Result<Vec<u8>, AllocError>
+    ensures { IfOk result (λ lines. lines.items ≡ flat_map spec.resource_text (map.entries tree.now)) }
+{
+    let mut lines = Vec::new(alloc);
+    for (path, resource) in tree.iter() {
+        lines.extend_from_slice(&resource_line(alloc, path, resource)?)?;
+    }
+    Ok(lines)
+}
+
+// `tree PATH FORMAT BYTES`.
+fn resource_line(alloc: Global, path: &Path, resource: &Resource) -> Result<Vec<u8>, AllocError>
+    ensures { IfOk result (λ line. line.items ≡ spec.resource_text (path.now, resource.now)) }
+{
+    let value = value_text(alloc, resource)?;
+    let mut line = Vec::from_slice(alloc, b"tree ")?;
+    line.extend_from_slice(path.text())?;
+    line.push(b' ')?;
+    line.extend_from_slice(value.as_bytes())?;
+    line.push(b'\n')?;
+    Ok(line)
+}
+
+// A resource's Content-Format and its payload.
+fn value_text(alloc: Global, resource: &Resource) -> Result<String, AllocError>
+    ensures { IfOk result (λ part. string_bytes part ≡ text.format_text resource.now.format ++ codes " " ++ text.short_text resource.now.payload) }
+{
+    let format = format_text(alloc, resource.format)?;
+    let payload = short_text(alloc, resource.payload.as_slice())?;
+    format!(in alloc; "{format} {payload}")
+}
+
+/// A Content-Format, or `none`.
+pub(crate) fn format_text(alloc: Global, format: Option<u16>) -> Result<String, AllocError>
+    ensures { IfOk result (λ part. string_bytes part ≡ text.format_text format) }
+{
+    match format {
+        None => "none".to_string(alloc),
+        Some(format) => format.to_string(alloc),
+    }
+}
+
+/// Bytes in hexadecimal, `-` for none, or only how many there are where they are more than 32.
+pub(crate) fn short_text(alloc: Global, bytes: &[u8]) -> Result<String, AllocError>
+    ensures { IfOk result (λ part. string_bytes part ≡ text.short_text bytes.now) }
+{
+    if bytes.len() > 32 {
+        return format!(in alloc; "bytes={}", bytes.len());
+    }
+    bytes_text(alloc, bytes)
+}
+
+fn bytes_text(alloc: Global, bytes: &[u8]) -> Result<String, AllocError>
+    ensures { IfOk result (λ part. string_bytes part ≡ text.bytes_text bytes.now) }
+{
+    if bytes.is_empty() {
+        return "-".to_string(alloc);
+    }
+    hex::encode(alloc, bytes)
+}
+
+/// `line N: bad`.
+pub fn bad_line_text(alloc: Global, number: u64) -> Result<String, AllocError>
+    ensures { IfOk result (λ line. string_bytes line ≡ spec.bad_line_text number) }
+{
+    format!(in alloc; "line {number}: bad\n")
+}

@@ -1,0 +1,61 @@
+-- What the options of a client say, one by one, and which of them say nothing.
+use Rattle.std.proofs.Common.{◌≡◌, ◌<◌, ℕ, List, Option, Some, None, subst, sym, arith}
+use Rattle.clap.specs.Words.{Row}
+use Rattle.osc_model.specs.Code.{code, method_number}
+use Rattle.osc_model.specs.Path.{IsPath}
+use Rattle.osc_model.specs.declared.code.Code.{Code}
+use Rattle.osc_model.specs.declared.code.Method.{Method as AnyMethod}
+use Rattle.osc_model.specs.declared.code.Method.TheVariants as method
+use Rattle.osc_script.specs.Words.{SpellsNumber}
+use Rattle.osc_words.specs.ClientWords.{AreClientWords, AreRequest, Says, SpellsMethod}
+use Rattle.osc_words.specs.NamedOptions.{value_of}
+use Rattle.osc_words.specs.Reading.{IsClientRefusal, IsRefusalOf}
+use Rattle.osc_words.specs.Values.{IsGiven, SpellsTurns}
+use Rattle.osc_words.specs.declared.client_option.ClientOption.{ClientOption}
+use Rattle.osc_words.specs.declared.client_option.ClientOption.TheVariants.{Turns, Method, Path, Payload, Format}
+use Rattle.osc_words.specs.declared.client_words.ClientWords.{ClientWords}
+use Rattle.osc_words.specs.declared.named_option.NamedOption.{NamedOption}
+use Rattle.osc_words.specs.declared.named_option.NamedOption.TheVariants.{Client}
+use Rattle.osc_words.specs.declared.words.WordsError.{WordsError}
+use Rattle.osc_words.specs.declared.words.WordsError.TheVariants as words_error
+
+pub client_said : (rows : List Row) (words : ClientWords) → IsGiven SpellsNumber (value_of (Client Turns) rows) (Some words.turns) → AreRequest rows words.request
+    → AreClientWords rows words
+client_said rows words turns request = (each, request.1)
+  where
+    each : (option : ClientOption) → Says rows option words
+    each Turns = turns
+    each Method = request.0 Method
+    each Path = request.0 Path
+    each Payload = request.0 Payload
+    each Format = request.0 Format
+
+-- a path that can't be read
+pub path_refused : (rows : List Row) (error : WordsError)
+    → IsRefusalOf (Client Path) (λ path. (value_of (Client Path) rows ≡ Some path) × IsPath path) error → IsClientRefusal rows error
+path_refused rows (words_error.Clap error) h = h
+path_refused rows (words_error.Value option) h =
+    subst (λ refused. IsClientRefusal rows (words_error.Value refused)) (sym h.0) (λ words said. h.1 said.0 (said.1, said.2))
+path_refused rows words_error.Memory h = tt
+
+-- a number of turns that can't be read
+no_turns : (value : Option (List ℕ)) → ((number : Option ℕ) → ¬ IsGiven SpellsNumber value number) → (turns : ℕ) → ¬ SpellsTurns value turns
+no_turns (Some text) h turns said = h (Some turns) said
+no_turns None h turns said = h None tt
+
+pub turns_refused : (option : NamedOption) (value : Option (List ℕ)) (error : WordsError) → IsRefusalOf option (IsGiven SpellsNumber value) error
+    → IsRefusalOf option (SpellsTurns value) error
+turns_refused option value (words_error.Clap error) h = h
+turns_refused option value (words_error.Value refused) h = (h.0, no_turns value h.1)
+turns_refused option value words_error.Memory h = tt
+
+-- the code of a method
+few_methods : (m : AnyMethod) → (0 < (code 0 (method_number m)).0) × ((code 0 (method_number m)).0 < 5)
+few_methods method.Get = (omega arith, omega arith)
+few_methods method.Post = (omega arith, omega arith)
+few_methods method.Put = (omega arith, omega arith)
+few_methods method.Delete = (omega arith, omega arith)
+
+pub code_of_method : (value : Option (List ℕ)) (spelled : Code) → IsGiven SpellsMethod value (Some spelled) → (0 < spelled.0) × (spelled.0 < 5)
+code_of_method (Some text) spelled said = subst (λ (c : Code). (0 < c.0) × (c.0 < 5)) (sym said.2) (few_methods said.0)
+code_of_method None spelled said = absurd said

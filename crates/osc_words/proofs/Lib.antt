@@ -1,0 +1,7 @@
+pub mod NoHelp
+pub mod Entered
+pub mod Hexadecimal
+pub mod Parts
+pub mod ClientParts
+pub mod Stand
+pub mod Subcommands

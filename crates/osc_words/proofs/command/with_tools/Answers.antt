@@ -1,0 +1,12 @@
+use Rattle.std.proofs.Common.{◌∙◌, ap₂}
+use Rattle.std.proofs.lemmas.Result.{IfOk-weaker}
+use Rattle.clap.specs.Words.{with_subcommand}
+use Rattle.osc_words.proofs.Subcommands.{top}
+use Rattle.osc_words.proofs.command.with_tools.Goals as goal
+
+pub returns : goal.returns
+returns c =
+    let with_sim = c.in_ok-subcommand.ensures.shape c.in_ok-sim_command.ensures.local
+    ∙ ap₂ with_subcommand c.bare_program.ensures.app (top c.in_ok-sim_command.ensures.app) in
+    IfOk-weaker c.subcommand-2.result _ _
+    (λ command added. added.shape c.in_ok-token_command.ensures.local ∙ ap₂ with_subcommand with_sim (top c.in_ok-token_command.ensures.app)) c.subcommand-2.ensures

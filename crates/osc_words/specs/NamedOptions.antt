@@ -1,0 +1,26 @@
+-- The options that have a value, of all subcommands.
+use Rattle.std.specs.Prelude.{ℕ, List, ◌++◌, codes, Option}
+use Rattle.clap.specs.Words.{Row, first_of}
+use Rattle.osc_words.specs.ClientOptions as client
+use Rattle.osc_words.specs.Options as token
+use Rattle.osc_words.specs.declared.named_option.NamedOption.{NamedOption}
+use Rattle.osc_words.specs.declared.named_option.NamedOption.TheVariants.{Client, Token}
+
+abbrev pub name_of : NamedOption → List ℕ
+name_of (Client option) = client.name_of option
+name_of (Token option) = token.name_of option
+name_of turns = codes "turns"
+
+-- the value that an option was given
+abbrev pub value_of : NamedOption → List Row → Option (List ℕ)
+value_of option rows = first_of (name_of option) rows
+
+-- what a value has to be
+abbrev pub form_of : NamedOption → List ℕ
+form_of (Client option) = client.form_of option
+form_of (Token option) = token.form_of option
+form_of turns = codes "a number of 64 bits in decimal digits"
+
+-- what is said where it isn't
+abbrev pub refusal_text : NamedOption → List ℕ
+refusal_text option = codes "error: --" ++ name_of option ++ codes " is not " ++ form_of option

@@ -1,0 +1,51 @@
+-- The options of `osc token`.
+use Rattle.std.specs.Prelude.{ℕ, Bool, true, false, List, codes, Option, Some}
+use Rattle.clap.specs.Words.{Row, Rule, first_of, new_rule}
+use Rattle.osc_words.specs.declared.token_option.TokenOption.{TokenOption}
+use Rattle.osc_words.specs.declared.token_option.TokenOption.TheVariants.{Key, Audience, Id, Secret, Salt, Context, Scope, Expires, NotBefore, Iv}
+
+-- --key, --aud, ..
+abbrev pub name_of : TokenOption → List ℕ
+name_of Key = codes "key"
+name_of Audience = codes "aud"
+name_of Id = codes "id"
+name_of Secret = codes "secret"
+name_of Salt = codes "salt"
+name_of Context = codes "context"
+name_of Scope = codes "scope"
+name_of Expires = codes "exp"
+name_of NotBefore = codes "nbf"
+name_of Iv = codes "iv"
+
+-- there is no token without it
+abbrev pub is_required : TokenOption → Bool
+is_required Key = true
+is_required Audience = true
+is_required Id = true
+is_required Secret = true
+is_required Scope = true
+is_required option = false
+
+-- --NAME VALUE
+abbrev pub value_rule : List ℕ → Bool → Rule
+value_rule name required = record (new_rule name) { long = Some name; value_names = 1; required = required }
+
+abbrev pub option_rule : TokenOption → Rule
+option_rule option = value_rule (name_of option) (is_required option)
+
+-- the value that an option was given
+abbrev pub value_of : TokenOption → List Row → Option (List ℕ)
+value_of option rows = first_of (name_of option) rows
+
+-- what a value has to be
+abbrev pub form_of : TokenOption → List ℕ
+form_of Key = codes "16 bytes in hexadecimal"
+form_of Audience = codes "a text"
+form_of Id = codes "0 to 64 bytes in hexadecimal"
+form_of Secret = codes "1 to 64 bytes in hexadecimal"
+form_of Salt = codes "0 to 64 bytes in hexadecimal"
+form_of Context = codes "0 to 64 bytes in hexadecimal"
+form_of Scope = codes "a scope"
+form_of Expires = codes "a number of 64 bits in decimal digits"
+form_of NotBefore = codes "a number of 64 bits in decimal digits"
+form_of Iv = codes "13 bytes in hexadecimal"

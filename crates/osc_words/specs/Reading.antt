@@ -1,0 +1,49 @@
+-- What the reading of words comes to, part by part. No public contract rests on this file.
+use Rattle.std.specs.Prelude.{◌≡◌, ◌||◌, Bool, true, false, List, MatchResult, Option, Result, codes}
+use Rattle.std.specs.Option.{option_map_or}
+use Rattle.std.specs.Str.{bytes_eq}
+use Rattle.clap.specs.Words.{Row, Text}
+use Rattle.osc_words.specs.ClientWords as client
+use Rattle.osc_words.specs.Command.{AreWords, HasNothing}
+use Rattle.osc_words.specs.TokenWords as token
+use Rattle.osc_words.specs.declared.named_option.NamedOption.{NamedOption}
+use Rattle.osc_words.specs.declared.named_option.NamedOption.TheVariants.{Client, Token}
+use Rattle.osc_words.specs.declared.words.Words.{Words}
+use Rattle.osc_words.specs.declared.words.WordsError.{WordsError}
+use Rattle.osc_words.specs.declared.words.WordsError.TheVariants.{Clap, Value, Memory}
+
+-- an option is refused since nothing is such
+abbrev pub IsRefusalOf : {X : Type 0} → NamedOption → (X → Type 0) → WordsError → Type 0
+IsRefusalOf option P (Clap error) = ⊥
+IsRefusalOf {X} option P (Value refused) = (refused ≡ option) × ((x : X) → ¬ P x)
+IsRefusalOf option P Memory = Unit {0}
+
+-- an option of these of `osc token` says nothing
+abbrev pub IsRefusal : List Row → WordsError → Type 0
+IsRefusal rows (Value (Token option)) = token.SaysNothing rows option
+IsRefusal rows Memory = Unit {0}
+IsRefusal rows error = ⊥
+
+-- of these of `osc client`
+abbrev pub IsClientRefusal : List Row → WordsError → Type 0
+IsClientRefusal rows (Value (Client option)) = client.SaysNothing rows option
+IsClientRefusal rows Memory = Unit {0}
+IsClientRefusal rows error = ⊥
+
+abbrev pub IsRefusalIn : Option (Text × List Row) → WordsError → Type 0
+IsRefusalIn entered (Clap error) = ⊥
+IsRefusalIn entered (Value refused) = HasNothing entered refused
+IsRefusalIn entered Memory = Unit {0}
+
+-- the name of a subcommand of the program
+abbrev pub is_subcommand : Text → Bool
+is_subcommand name = bytes_eq name (codes "sim") || bytes_eq name (codes "token") || bytes_eq name (codes "server")
+    || bytes_eq name (codes "proxy") || bytes_eq name (codes "client") || bytes_eq name (codes "lab")
+
+-- a subcommand of the program was entered
+abbrev pub IsKnown : Option (Text × List Row) → Type 0
+IsKnown entered = option_map_or (λ entered. is_subcommand entered.0) entered false ≡ true
+
+-- the subcommand that was entered, with its rows, asks for what was read, or has this refused
+abbrev pub IsReadFrom : Option (Text × List Row) → Result Words WordsError → Type 0
+IsReadFrom entered result = MatchResult result (AreWords entered) (IsRefusalIn entered)

@@ -1,0 +1,304 @@
+//! The words of the command line.
+ghost use Rattle.std.specs.Prelude.{◌≡◌, IfOk, MatchResult, Err, Some, true, false, [], map, option_map, codes};
+ghost use Rattle.clap.specs.Words.{FailsBy, app_of, fault_of, first_of, found_of, rows_of, subcommand_of, subcommand_rows_of, with_rule, with_subcommand};
+ghost use Rattle.clap.specs.declared.builder.command.Command.TheViews.{out-Command};
+ghost use Rattle.osc_words.specs.Command as spec;
+ghost use Rattle.osc_words.specs.NamedOptions.{name_of};
+ghost use Rattle.osc_words.specs.Options.{value_rule};
+ghost use Rattle.osc_words.specs.Reading.{IsKnown, IsReadFrom};
+ghost use Rattle.osc_words.specs.declared.named_option.NamedOption.{NamedOption as AnyOption};
+ghost use Rattle.osc_words.specs.declared.words.Words.{Words as AnyWords};
+
+use crate::client_option::ClientOption;
+use crate::client_words::client_words;
+use crate::given;
+use crate::named_option::NamedOption;
+use crate::token_option::TokenOption;
+use crate::token_words::token_words;
+use crate::words::{Words, WordsError};
+use clap::{Arg, ArgAction, ArgMatches, Command, Error};
+use std::alloc::{AllocError, Global};
+
+const TOKEN_EXAMPLE: &str =
+    "Example: osc token --key 404142434445464748494a4b4c4d4e4f --aud s --id 01 --secret 0123456789abcdef --scope /log:GET+POST";
+
+/// Reads a command line, the program's own name first.
+///
+/// # Errors
+///
+/// `Clap` for a fault of the words and for a wish for help or the version, then `Value` for an option whose value is none
+/// that it may have; `Memory` for want of memory.
+pub fn read_words(alloc: Global, words: &[&str]) -> Result<Words, WordsError>
+    // What is read is what the words stand for ..
+    ensures read { IfOk result (λ read. spec.StandFor (map (λ word. word.now) words.now) read) }
+    // .. and is read only from words without a fault.
+    ensures fault { MatchResult result
+        (λ _. fault_of spec.program (map (λ word. word.now) words.now) ≡ [])
+        (spec.HaveFault (map (λ word. word.now) words.now)) }
+    ensures method { IfOk result spec.AsksByMethod }
+    ensures nothing { (option : AnyOption) → result ≡ Err (WordsError.Value option)
+        → (read : AnyWords) → ¬ spec.StandFor (map (λ word. word.now) words.now) read }
+{
+    let matches = read_matches(alloc, words)?;
+    words_in(alloc, &matches)
+}
+
+// What the subcommand that was entered asks for.
+fn words_in(alloc: Global, matches: &ArgMatches<'_>) -> Result<Words, WordsError>
+    requires { IsKnown (subcommand_rows_of matches.now) }
+    ensures { IsReadFrom (subcommand_rows_of matches.now) result }
+{
+    match matches.subcommand() {
+        Some(("sim", options)) => Ok(Words::Sim {
+            bytes: is_set(options, "bytes"),
+        }),
+        Some(("token", options)) => token_asked(alloc, options),
+        Some(("server", options)) => server_asked(options),
+        Some(("proxy", options)) => proxy_asked(options),
+        Some(("client", options)) => client_asked(alloc, options),
+        Some(("lab", options)) => lab_asked(options),
+        _ => unreachable!(),
+    }
+}
+
+// What `osc token` asks for with these options.
+fn token_asked(alloc: Global, options: &ArgMatches<'_>) -> Result<Words, WordsError>
+    ensures { IsReadFrom (Some (codes "token", rows_of (found_of options.now))) result }
+{
+    Ok(Words::Token(token_words(alloc, options)?))
+}
+
+// What `osc server` asks for.
+fn server_asked(options: &ArgMatches<'_>) -> Result<Words, WordsError>
+    ensures { IsReadFrom (Some (codes "server", rows_of (found_of options.now))) result }
+{
+    Ok(Words::Server {
+        turns: given::turns(options, NamedOption::ServerTurns)?,
+    })
+}
+
+// What `osc proxy` asks for.
+fn proxy_asked(options: &ArgMatches<'_>) -> Result<Words, WordsError>
+    ensures { IsReadFrom (Some (codes "proxy", rows_of (found_of options.now))) result }
+{
+    Ok(Words::Proxy {
+        turns: given::turns(options, NamedOption::ProxyTurns)?,
+    })
+}
+
+// What `osc client` asks for.
+fn client_asked(alloc: Global, options: &ArgMatches<'_>) -> Result<Words, WordsError>
+    ensures { IsReadFrom (Some (codes "client", rows_of (found_of options.now))) result }
+{
+    Ok(Words::Client(client_words(alloc, options)?))
+}
+
+// What `osc lab` asks for.
+fn lab_asked(options: &ArgMatches<'_>) -> Result<Words, WordsError>
+    ensures { IsReadFrom (Some (codes "lab", rows_of (found_of options.now))) result }
+{
+    Ok(Words::Lab {
+        turns: given::required_number(options, NamedOption::LabTurns)?,
+    })
+}
+
+// The matches of the words, with those of the subcommand that they name.
+fn read_matches<'a>(alloc: Global, words: &'a [&'a str]) -> Result<ArgMatches<'a>, Error>
+    ensures entered { IfOk result (λ matches. subcommand_rows_of matches ≡ subcommand_of spec.program (map (λ word. word.now) words.now)) }
+    ensures fault { FailsBy (fault_of spec.program (map (λ word. word.now) words.now)) result }
+{
+    program(alloc)?.try_get_matches_from(words)
+}
+
+// The command line of the program.
+fn program<'a>(alloc: Global) -> Result<Command<'a>, AllocError>
+    ensures { IfOk result (λ command. app_of command ≡ spec.program) }
+{
+    with_asking(alloc, with_nodes(alloc, with_tools(alloc)?)?)
+}
+
+// The program with the subcommands that open no socket.
+fn with_tools<'a>(alloc: Global) -> Result<Command<'a>, AllocError>
+    ensures { IfOk result (λ command. app_of command ≡ with_subcommand (with_subcommand spec.bare_program spec.sim_app.top) spec.token_app.top) }
+{
+    bare_program(alloc)
+        .subcommand(sim_command(alloc)?)?
+        .subcommand(token_command(alloc)?)
+}
+
+// The command with the subcommands of the nodes that are asked.
+fn with_nodes<'a>(alloc: Global, command: Command<'a>) -> Result<Command<'a>, AllocError>
+    ensures { IfOk result (λ more. app_of more
+        ≡ with_subcommand (with_subcommand (app_of command.entry) (spec.turns_app (codes "server") false).top) (spec.turns_app (codes "proxy") false).top) }
+{
+    command
+        .subcommand(server_command(alloc)?)?
+        .subcommand(proxy_command(alloc)?)
+}
+
+// The command with the subcommands that ask.
+fn with_asking<'a>(alloc: Global, command: Command<'a>) -> Result<Command<'a>, AllocError>
+    ensures { IfOk result (λ more. app_of more
+        ≡ with_subcommand (with_subcommand (app_of command.entry) spec.client_app.top) (spec.turns_app (codes "lab") true).top) }
+{
+    command
+        .subcommand(client_command(alloc)?)?
+        .subcommand(lab_command(alloc)?)
+}
+
+// The program without its subcommands.
+fn bare_program<'a>(alloc: Global) -> Command<'a>
+    ensures app { app_of result ≡ spec.bare_program }
+    ensures local { (out-Command result).has_globals ≡ false }
+{
+    Command::new(alloc, "osc")
+        .version("0.1.0")
+        .about("CoAP nodes that are protected by OSCORE, and the tokens that they take")
+        .subcommand_required(true)
+}
+
+// The subcommand that runs a script.
+fn sim_command<'a>(alloc: Global) -> Result<Command<'a>, AllocError>
+    ensures app { IfOk result (λ command. app_of command ≡ spec.sim_app) }
+    ensures local { IfOk result (λ command. (out-Command command).has_globals ≡ false) }
+{
+    let bytes = Arg::new(alloc, "bytes")
+        .long("bytes")
+        .help("Prints the bytes of each datagram")
+        .action(ArgAction::SetTrue);
+    Command::new(alloc, "sim")
+        .about("Runs the script on the standard input, and prints its trace")
+        .after_help("Example: osc sim --bytes < SCRIPT")
+        .arg(bytes)
+}
+
+// The subcommand that mints a token.
+fn token_command<'a>(alloc: Global) -> Result<Command<'a>, AllocError>
+    ensures app { IfOk result (λ command. app_of command ≡ spec.token_app) }
+    ensures local { IfOk result (λ command. (out-Command command).has_globals ≡ false) }
+{
+    let mut command = Command::new(alloc, "token")
+        .about("Prints a token in hexadecimal")
+        .after_help(TOKEN_EXAMPLE);
+    for option in TokenOption::ALL {
+        command = with_option(
+            alloc,
+            command,
+            NamedOption::Token(option),
+            option.is_required(),
+        )?;
+    }
+    Ok(command)
+}
+
+// The subcommand that runs a server.
+fn server_command<'a>(alloc: Global) -> Result<Command<'a>, AllocError>
+    ensures app { IfOk result (λ command. app_of command ≡ spec.turns_app (codes "server") false) }
+    ensures local { IfOk result (λ command. (out-Command command).has_globals ≡ false) }
+{
+    let command = Command::new(alloc, "server")
+        .about("Runs a server on a UDP socket, by the settings on the standard input")
+        .after_help("Example: osc server < SETTINGS");
+    with_option(alloc, command, NamedOption::ServerTurns, false)
+}
+
+// The subcommand that runs a forward proxy.
+fn proxy_command<'a>(alloc: Global) -> Result<Command<'a>, AllocError>
+    ensures app { IfOk result (λ command. app_of command ≡ spec.turns_app (codes "proxy") false) }
+    ensures local { IfOk result (λ command. (out-Command command).has_globals ≡ false) }
+{
+    let command = Command::new(alloc, "proxy")
+        .about("Runs a forward proxy on a UDP socket, by the settings on the standard input")
+        .after_help("Example: osc proxy --turns 1000 < SETTINGS");
+    with_option(alloc, command, NamedOption::ProxyTurns, false)
+}
+
+// The subcommand that asks a server.
+fn client_command<'a>(alloc: Global) -> Result<Command<'a>, AllocError>
+    ensures app { IfOk result (λ command. app_of command ≡ spec.client_app) }
+    ensures local { IfOk result (λ command. (out-Command command).has_globals ≡ false) }
+{
+    let mut command = Command::new(alloc, "client")
+        .about("Posts a token and asks for a resource, by the settings on the standard input")
+        .after_help(
+            "Example: osc client --turns 1000 --method POST --path /log --payload 61 < SETTINGS",
+        );
+    for option in ClientOption::ALL {
+        command = with_option(
+            alloc,
+            command,
+            NamedOption::Client(option),
+            option.is_required(),
+        )?;
+    }
+    Ok(command)
+}
+
+// The subcommand that runs a script over sockets.
+fn lab_command<'a>(alloc: Global) -> Result<Command<'a>, AllocError>
+    ensures app { IfOk result (λ command. app_of command ≡ spec.turns_app (codes "lab") true) }
+    ensures local { IfOk result (λ command. (out-Command command).has_globals ≡ false) }
+{
+    let command = Command::new(alloc, "lab")
+        .about(
+            "Runs the script on the standard input over UDP sockets, and prints what clients get",
+        )
+        .after_help("Example: osc lab --turns 1000000 < SCRIPT");
+    with_option(alloc, command, NamedOption::LabTurns, true)
+}
+
+// An option with one value.
+fn with_option<'a>(
+    alloc: Global,
+    command: Command<'a>,
+    option: NamedOption,
+    is_required: bool,
+) -> Result<Command<'a>, AllocError>
+    ensures app { IfOk result (λ more. app_of more ≡ with_rule (app_of command.entry) (value_rule (name_of option) is_required)) }
+    ensures local { IfOk result (λ more. (out-Command more).has_globals ≡ (out-Command command.entry).has_globals) }
+{
+    with_value(
+        alloc,
+        command,
+        option.name(),
+        option.value_name(),
+        option.help(),
+        is_required,
+    )
+}
+
+fn with_value<'a>(
+    alloc: Global,
+    command: Command<'a>,
+    name: &'a str,
+    value_name: &'a str,
+    help: &'a str,
+    is_required: bool,
+) -> Result<Command<'a>, AllocError>
+    ensures app { IfOk result (λ more. app_of more ≡ with_rule (app_of command.entry) (value_rule name.entry.now is_required)) }
+    ensures local { IfOk result (λ more. (out-Command more).has_globals ≡ (out-Command command.entry).has_globals) }
+{
+    let arg = Arg::new(alloc, name)
+        .long(name)
+        .value_name(value_name)
+        .help(help)
+        .required(is_required);
+    command.arg(arg)
+}
+
+// Whether a flag was given.
+fn is_set(options: &ArgMatches<'_>, flag: &str) -> bool
+    ensures { result ≡ spec.is_set flag.now (rows_of (found_of options.now)) }
+{
+    match text_of(options, flag) {
+        Some(text) => text == "true",
+        None => false,
+    }
+}
+
+/// The first value of an argument.
+pub(crate) fn text_of<'a>(options: &ArgMatches<'a>, id: &str) -> Option<&'a str>
+    ensures { option_map (λ text. text.now) result ≡ first_of id.now (rows_of (found_of options.now)) }
+{
+    options.get_str(id)
+}

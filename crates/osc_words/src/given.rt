@@ -1,0 +1,74 @@
+//! The values that options were given.
+ghost use Rattle.std.specs.Prelude.{◌≡◌, MatchResult, Some, None, option_map};
+ghost use Rattle.clap.specs.Words.{found_of, rows_of};
+ghost use Rattle.osc_script.specs.Words.{SpellsNumber};
+ghost use Rattle.osc_words.specs.NamedOptions.{value_of};
+ghost use Rattle.osc_words.specs.Reading.{IsRefusalOf};
+ghost use Rattle.osc_words.specs.Values.{IsGiven, SpellsTurns};
+
+use crate::command::text_of;
+use crate::named_option::NamedOption;
+use crate::values;
+use crate::words::WordsError;
+use clap::ArgMatches;
+
+/// The value that an option was given.
+pub(crate) fn text<'a>(options: &ArgMatches<'a>, option: NamedOption) -> Option<&'a str>
+    ensures { option_map (λ text. text.now) result ≡ value_of option (rows_of (found_of options.now)) }
+{
+    text_of(options, option.name())
+}
+
+/// The value of an option that has to be given.
+pub(crate) fn required_text<'a>(
+    options: &ArgMatches<'a>,
+    option: NamedOption,
+) -> Result<&'a str, WordsError>
+    ensures { MatchResult result
+        (λ text. value_of option (rows_of (found_of options.now)) ≡ Some text.now)
+        (λ error. (error ≡ WordsError.Value option) × (value_of option (rows_of (found_of options.now)) ≡ None)) }
+{
+    text(options, option).ok_or(WordsError::Value(option))
+}
+
+/// A number, where it is given.
+pub(crate) fn number(
+    options: &ArgMatches<'_>,
+    option: NamedOption,
+) -> Result<Option<u64>, WordsError>
+    ensures { MatchResult result
+        (IsGiven SpellsNumber (value_of option (rows_of (found_of options.now))))
+        (IsRefusalOf option (IsGiven SpellsNumber (value_of option (rows_of (found_of options.now))))) }
+{
+    let Some(text) = text(options, option) else {
+        return Ok(None);
+    };
+    let Some(number) = values::number(text) else {
+        return Err(WordsError::Value(option));
+    };
+    Ok(Some(number))
+}
+
+/// A number that has to be given.
+pub(crate) fn required_number(
+    options: &ArgMatches<'_>,
+    option: NamedOption,
+) -> Result<u64, WordsError>
+    ensures { MatchResult result
+        (λ number. IsGiven SpellsNumber (value_of option (rows_of (found_of options.now))) (Some number))
+        (IsRefusalOf option (λ number. IsGiven SpellsNumber (value_of option (rows_of (found_of options.now))) (Some number))) }
+{
+    let Some(number) = values::number(required_text(options, option)?) else {
+        return Err(WordsError::Value(option));
+    };
+    Ok(number)
+}
+
+/// How many turns are given; where none are, as many as a number of 64 bits counts.
+pub(crate) fn turns(options: &ArgMatches<'_>, option: NamedOption) -> Result<u64, WordsError>
+    ensures { MatchResult result
+        (λ turns. SpellsTurns (value_of option (rows_of (found_of options.now))) turns)
+        (IsRefusalOf option (λ turns. SpellsTurns (value_of option (rows_of (found_of options.now))) turns)) }
+{
+    Ok(number(options, option)?.unwrap_or(u64::MAX))
+}

@@ -1,0 +1,20 @@
+//! The words of the command line: what each subcommand asks for, and why a command line can't be heeded.
+#![tactic(auto)]
+
+mod client_option;
+mod client_words;
+mod command;
+mod given;
+mod named_option;
+mod token_option;
+mod token_words;
+mod values;
+mod words;
+
+pub use client_option::ClientOption;
+pub use client_words::ClientWords;
+pub use command::read_words;
+pub use named_option::NamedOption;
+pub use token_option::TokenOption;
+pub use token_words::TokenWords;
+pub use words::{Words, WordsError, fault_line};

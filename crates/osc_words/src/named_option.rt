@@ -1,0 +1,76 @@
+//! The options that have a value.
+ghost use Rattle.std.specs.Prelude.{◌≡◌, IfOk, string_bytes};
+ghost use Rattle.osc_words.specs.NamedOptions as spec;
+
+use crate::client_option::ClientOption;
+use crate::token_option::TokenOption;
+use std::alloc::{AllocError, Global};
+
+/// An option of a subcommand of `osc` that has a value.
+#[derive(Clone, Copy, Debug, PartialEq, Eq)]
+pub enum NamedOption {
+    /// `--turns` of `osc server`: after how many turns it ends.
+    ServerTurns,
+    /// `--turns` of `osc proxy`: the same.
+    ProxyTurns,
+    /// An option of `osc client`.
+    Client(ClientOption),
+    /// `--turns` of `osc lab`: how many turns follow each exchange and each request at most.
+    LabTurns,
+    /// An option of `osc token`.
+    Token(TokenOption),
+}
+
+impl NamedOption {
+    /// Its name on the command line, without the hyphens.
+    pub fn name(self) -> &'static str
+        ensures { result.now ≡ spec.name_of self }
+    {
+        match self {
+            NamedOption::ServerTurns | NamedOption::ProxyTurns | NamedOption::LabTurns => "turns",
+            NamedOption::Client(option) => option.name(),
+            NamedOption::Token(option) => option.name(),
+        }
+    }
+
+    /// What a value of it has to be.
+    pub fn form(self) -> &'static str
+        ensures { result.now ≡ spec.form_of self }
+    {
+        match self {
+            NamedOption::ServerTurns | NamedOption::ProxyTurns | NamedOption::LabTurns => {
+                "a number of 64 bits in decimal digits"
+            }
+            NamedOption::Client(option) => option.form(),
+            NamedOption::Token(option) => option.form(),
+        }
+    }
+
+    /// The line that says that its value is none.
+    pub(crate) fn refusal(self, alloc: Global) -> Result<String, AllocError>
+        ensures { IfOk result (λ line. string_bytes line ≡ spec.refusal_text self) }
+    {
+        format!(in alloc; "error: --{} is not {}", self.name(), self.form())
+    }
+
+    /// What help calls its value.
+    pub(crate) fn value_name(self) -> &'static str {
+        match self {
+            NamedOption::ServerTurns | NamedOption::ProxyTurns | NamedOption::LabTurns => "N",
+            NamedOption::Client(option) => option.value_name(),
+            NamedOption::Token(option) => option.value_name(),
+        }
+    }
+
+    /// What help says of it.
+    pub(crate) fn help(self) -> &'static str {
+        match self {
+            NamedOption::ServerTurns | NamedOption::ProxyTurns =>
+                "After how many turns it ends, each a datagram or 10 ms without one; it goes on by default",
+            NamedOption::LabTurns =>
+                "The most turns after each exchange and request, each a datagram or 10 ms without one",
+            NamedOption::Client(option) => option.help(),
+            NamedOption::Token(option) => option.help(),
+        }
+    }
+}

@@ -1,0 +1,121 @@
+//! The options of `osc token`.
+ghost use Rattle.std.specs.Prelude.{◌≡◌};
+ghost use Rattle.osc_words.specs.Options as spec;
+
+/// An option of `osc token`. Each has one value.
+#[derive(Clone, Copy, Debug, PartialEq, Eq)]
+pub enum TokenOption {
+    /// `--key`: the key that the token's issuer and the server share.
+    Key,
+    /// `--aud`: the server that the token is for.
+    Audience,
+    /// `--id`: the id of the input material.
+    Id,
+    /// `--secret`: the master secret.
+    Secret,
+    /// `--salt`: the salt that master salts begin with.
+    Salt,
+    /// `--context`: the id context.
+    Context,
+    /// `--scope`: what the holder may do.
+    Scope,
+    /// `--exp`: the second from which on the token counts no more.
+    Expires,
+    /// `--nbf`: the first second at which the token counts.
+    NotBefore,
+    /// `--iv`: the IV under which the token is sealed.
+    Iv,
+}
+
+impl TokenOption {
+    /// All of them, those first that a token needs.
+    pub(crate) const ALL: [TokenOption; 10] = [
+        TokenOption::Key,
+        TokenOption::Audience,
+        TokenOption::Id,
+        TokenOption::Secret,
+        TokenOption::Scope,
+        TokenOption::Salt,
+        TokenOption::Context,
+        TokenOption::Expires,
+        TokenOption::NotBefore,
+        TokenOption::Iv,
+    ];
+
+    /// Its name on the command line, without the hyphens.
+    pub fn name(self) -> &'static str
+        ensures { result.now ≡ spec.name_of self }
+    {
+        match self {
+            TokenOption::Key => "key",
+            TokenOption::Audience => "aud",
+            TokenOption::Id => "id",
+            TokenOption::Secret => "secret",
+            TokenOption::Salt => "salt",
+            TokenOption::Context => "context",
+            TokenOption::Scope => "scope",
+            TokenOption::Expires => "exp",
+            TokenOption::NotBefore => "nbf",
+            TokenOption::Iv => "iv",
+        }
+    }
+
+    /// Whether there is no token without it.
+    pub fn is_required(self) -> bool
+        ensures { result ≡ spec.is_required self }
+    {
+        matches!(
+            self,
+            TokenOption::Key
+                | TokenOption::Audience
+                | TokenOption::Id
+                | TokenOption::Secret
+                | TokenOption::Scope
+        )
+    }
+
+    /// What a value of it has to be.
+    pub fn form(self) -> &'static str
+        ensures { result.now ≡ spec.form_of self }
+    {
+        match self {
+            TokenOption::Key => "16 bytes in hexadecimal",
+            TokenOption::Audience => "a text",
+            TokenOption::Secret => "1 to 64 bytes in hexadecimal",
+            TokenOption::Id | TokenOption::Salt | TokenOption::Context => {
+                "0 to 64 bytes in hexadecimal"
+            }
+            TokenOption::Scope => "a scope",
+            TokenOption::Expires | TokenOption::NotBefore => {
+                "a number of 64 bits in decimal digits"
+            }
+            TokenOption::Iv => "13 bytes in hexadecimal",
+        }
+    }
+
+    /// What help calls its value.
+    pub(crate) fn value_name(self) -> &'static str {
+        match self {
+            TokenOption::Audience | TokenOption::Scope => "TEXT",
+            TokenOption::Expires | TokenOption::NotBefore => "N",
+            _ => "HEX",
+        }
+    }
+
+    /// What help says of it.
+    pub(crate) fn help(self) -> &'static str {
+        match self {
+            TokenOption::Key => "The key that the issuer and the server share: 16 bytes",
+            TokenOption::Audience => "The server that the token is for",
+            TokenOption::Id => "The id of the input material: 0 to 64 bytes",
+            TokenOption::Secret => "The master secret: 1 to 64 bytes",
+            TokenOption::Salt => "The salt that master salts begin with: 0 to 64 bytes",
+            TokenOption::Context => "The id context: 0 to 64 bytes",
+            TokenOption::Scope => "What the holder may do, as /log:GET+POST,/t:GET",
+            TokenOption::Expires => "The second from which on the token counts no more",
+            TokenOption::NotBefore => "The first second at which the token counts",
+            TokenOption::Iv =>
+                "The IV: 13 bytes, of which no other token under the key has the same; random by default",
+        }
+    }
+}

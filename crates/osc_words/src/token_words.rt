@@ -1,0 +1,184 @@
+//! What the options of `osc token` stand for.
+ghost use Rattle.std.specs.Prelude.{◌≡◌, MatchResult, [], unwrap_or};
+ghost use Rattle.clap.specs.Words.{found_of, rows_of};
+ghost use Rattle.osc_script.specs.Words.{SpellsNumber};
+ghost use Rattle.osc_words.specs.Options.{value_of};
+ghost use Rattle.osc_words.specs.Reading.{IsRefusal, IsRefusalOf};
+ghost use Rattle.osc_words.specs.TokenWords as spec;
+ghost use Rattle.osc_words.specs.Values.{IsGiven, SpellsBytes, SpellsScope};
+
+use crate::named_option::NamedOption;
+use crate::token_option::TokenOption;
+use crate::words::WordsError;
+use crate::{given, values};
+use clap::ArgMatches;
+use osc_model::Bytes;
+use osc_token::{Audience, Claims, InputMaterial};
+use std::alloc::Global;
+
+// The most bytes that a part of the input material has.
+const LONGEST: usize = 64;
+
+/// What `osc token` is asked for.
+#[derive(Debug, PartialEq, Eq, Drop)]
+pub struct TokenWords {
+    /// The key that the token's issuer and the server share.
+    pub key: [u8; 16],
+    /// What the token claims.
+    pub claims: Claims,
+    /// The IV under which the token is sealed; one is drawn where there is none.
+    pub iv: Option<[u8; 13]>,
+}
+
+/// What the options say of a token.
+pub(crate) fn token_words(alloc: Global, options: &ArgMatches<'_>) -> Result<TokenWords, WordsError>
+    ensures { MatchResult result (spec.AreTokenWords (rows_of (found_of options.now))) (IsRefusal (rows_of (found_of options.now))) }
+{
+    Ok(TokenWords {
+        key: required_array(options, TokenOption::Key)?,
+        iv: array(options, TokenOption::Iv)?,
+        claims: claims(alloc, options)?,
+    })
+}
+
+fn claims(alloc: Global, options: &ArgMatches<'_>) -> Result<Claims, WordsError>
+    ensures { MatchResult result (spec.AreClaims (rows_of (found_of options.now))) (IsRefusal (rows_of (found_of options.now))) }
+{
+    Ok(Claims {
+        audience: audience(alloc, options)?,
+        not_before: number(options, TokenOption::NotBefore)?,
+        expires: number(options, TokenOption::Expires)?,
+        material: material(alloc, options)?,
+        scope: scope(alloc, options)?,
+    })
+}
+
+fn material(alloc: Global, options: &ArgMatches<'_>) -> Result<InputMaterial, WordsError>
+    ensures { MatchResult result (spec.AreMaterial (rows_of (found_of options.now))) (IsRefusal (rows_of (found_of options.now))) }
+{
+    Ok(InputMaterial {
+        id: required_bytes(alloc, options, TokenOption::Id, 0)?,
+        secret: required_bytes(alloc, options, TokenOption::Secret, 1)?,
+        salt: salt(alloc, options)?,
+        id_context: bytes(alloc, options, TokenOption::Context, 0)?,
+    })
+}
+
+// ---- one option
+
+// So many bytes, which have to be given.
+fn required_array<const N: usize>(
+    options: &ArgMatches<'_>,
+    option: TokenOption,
+) -> Result<[u8; N], WordsError>
+    ensures { MatchResult result
+        (λ bytes. IsGiven (SpellsBytes N N) (value_of option (rows_of (found_of options.now))) (Some bytes))
+        (IsRefusalOf (NamedOption.Token option) (λ bytes. IsGiven (SpellsBytes N N) (value_of option (rows_of (found_of options.now))) (Some bytes))) }
+{
+    let option = NamedOption::Token(option);
+    let Some(bytes) = values::array(given::required_text(options, option)?) else {
+        return Err(WordsError::Value(option));
+    };
+    Ok(bytes)
+}
+
+// So many bytes, where they are given.
+fn array<const N: usize>(
+    options: &ArgMatches<'_>,
+    option: TokenOption,
+) -> Result<Option<[u8; N]>, WordsError>
+    ensures { MatchResult result
+        (IsGiven (SpellsBytes N N) (value_of option (rows_of (found_of options.now))))
+        (IsRefusalOf (NamedOption.Token option) (IsGiven (SpellsBytes N N) (value_of option (rows_of (found_of options.now))))) }
+{
+    let option = NamedOption::Token(option);
+    let Some(text) = given::text(options, option) else {
+        return Ok(None);
+    };
+    let Some(bytes) = values::array(text) else {
+        return Err(WordsError::Value(option));
+    };
+    Ok(Some(bytes))
+}
+
+// From `least` to 64 bytes, which have to be given.
+fn required_bytes(
+    alloc: Global,
+    options: &ArgMatches<'_>,
+    option: TokenOption,
+    least: usize,
+) -> Result<Bytes, WordsError>
+    ensures { MatchResult result
+        (λ bytes. IsGiven (SpellsBytes least 64) (value_of option (rows_of (found_of options.now))) (Some bytes))
+        (IsRefusalOf (NamedOption.Token option) (λ bytes. IsGiven (SpellsBytes least 64) (value_of option (rows_of (found_of options.now))) (Some bytes))) }
+{
+    let option = NamedOption::Token(option);
+    let text = given::required_text(options, option)?;
+    let Some(bytes) = values::bytes(alloc, text, least, LONGEST)? else {
+        return Err(WordsError::Value(option));
+    };
+    Ok(bytes)
+}
+
+// From `least` to 64 bytes, where they are given.
+fn bytes(
+    alloc: Global,
+    options: &ArgMatches<'_>,
+    option: TokenOption,
+    least: usize,
+) -> Result<Option<Bytes>, WordsError>
+    ensures { MatchResult result
+        (IsGiven (SpellsBytes least 64) (value_of option (rows_of (found_of options.now))))
+        (IsRefusalOf (NamedOption.Token option) (IsGiven (SpellsBytes least 64) (value_of option (rows_of (found_of options.now))))) }
+{
+    let option = NamedOption::Token(option);
+    let Some(text) = given::text(options, option) else {
+        return Ok(None);
+    };
+    let Some(bytes) = values::bytes(alloc, text, least, LONGEST)? else {
+        return Err(WordsError::Value(option));
+    };
+    Ok(Some(bytes))
+}
+
+// The salt; an absent one is empty.
+fn salt(alloc: Global, options: &ArgMatches<'_>) -> Result<Bytes, WordsError>
+    ensures { MatchResult result
+        (SpellsBytes 0 64 (unwrap_or (value_of TokenOption.Salt (rows_of (found_of options.now))) []))
+        (IsRefusalOf (NamedOption.Token TokenOption.Salt) (SpellsBytes 0 64 (unwrap_or (value_of TokenOption.Salt (rows_of (found_of options.now))) []))) }
+{
+    let option = NamedOption::Token(TokenOption::Salt);
+    let text = given::text(options, option).unwrap_or("");
+    values::bytes(alloc, text, 0, LONGEST)?.ok_or(WordsError::Value(option))
+}
+
+// A number, where it is given.
+fn number(options: &ArgMatches<'_>, option: TokenOption) -> Result<Option<u64>, WordsError>
+    ensures { MatchResult result
+        (IsGiven SpellsNumber (value_of option (rows_of (found_of options.now))))
+        (IsRefusalOf (NamedOption.Token option) (IsGiven SpellsNumber (value_of option (rows_of (found_of options.now))))) }
+{
+    given::number(options, NamedOption::Token(option))
+}
+
+fn audience(alloc: Global, options: &ArgMatches<'_>) -> Result<Audience, WordsError>
+    ensures { MatchResult result
+        (λ audience. value_of TokenOption.Audience (rows_of (found_of options.now)) ≡ Some audience)
+        (IsRefusalOf (NamedOption.Token TokenOption.Audience) (λ audience. value_of TokenOption.Audience (rows_of (found_of options.now)) ≡ Some audience)) }
+{
+    let text = given::required_text(options, NamedOption::Token(TokenOption::Audience))?;
+    Ok(Audience::new(alloc, text)?)
+}
+
+fn scope(alloc: Global, options: &ArgMatches<'_>) -> Result<Bytes, WordsError>
+    ensures { MatchResult result
+        (λ bytes. IsGiven SpellsScope (value_of TokenOption.Scope (rows_of (found_of options.now))) (Some bytes))
+        (IsRefusalOf (NamedOption.Token TokenOption.Scope) (λ bytes. IsGiven SpellsScope (value_of TokenOption.Scope (rows_of (found_of options.now))) (Some bytes))) }
+{
+    let option = NamedOption::Token(TokenOption::Scope);
+    let text = given::required_text(options, option)?;
+    let Some(bytes) = values::scope(alloc, text)? else {
+        return Err(WordsError::Value(option));
+    };
+    Ok(bytes)
+}

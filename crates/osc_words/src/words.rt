@@ -1,0 +1,93 @@
+//! What a command line asks for, or why it can't be heeded.
+ghost use Rattle.std.specs.Prelude.{◌≡◌, IfOk, string_bytes};
+ghost use Rattle.clap.specs.Words.{kind_of};
+ghost use Rattle.osc_words.specs.Command as spec;
+ghost use Rattle.osc_words.specs.declared.words.WordsError.TheVariants as words_error;
+
+use crate::client_words::ClientWords;
+use crate::named_option::NamedOption;
+use crate::token_words::TokenWords;
+use clap::error::ErrorKind;
+use std::alloc::{AllocError, Global};
+
+/// What a command line asks for: one of the subcommands.
+#[derive(Debug, PartialEq, Eq, Drop)]
+pub enum Words {
+    /// `osc sim [--bytes]`: run a script, and print its datagrams' bytes where `bytes` says so.
+    Sim { bytes: bool },
+    /// `osc token`: print a token.
+    Token(TokenWords),
+    /// `osc server [--turns N]`: run a server for so many turns. Where none are given, there are `u64::MAX`.
+    Server { turns: u64 },
+    /// `osc proxy [--turns N]`: run a forward proxy likewise.
+    Proxy { turns: u64 },
+    /// `osc client`: post a token and send a request.
+    Client(ClientWords),
+    /// `osc lab --turns N`: run a script over sockets, with at most so many turns after each exchange and request.
+    Lab { turns: u64 },
+}
+
+/// Why a command line can't be heeded.
+#[derive(Debug, Drop)]
+pub enum WordsError {
+    /// The words are at fault, or wish for help or the version.
+    Clap(clap::Error),
+    /// The value of this option is none that it may have.
+    Value(NamedOption),
+    /// There was no memory.
+    Memory,
+}
+
+impl From<clap::Error> for WordsError {
+    ghost from_gives = { λ error e. e ≡ spec.told_as (kind_of error) error };
+
+    fn from(error: clap::Error) -> WordsError {
+        match error.kind() {
+            ErrorKind::OutOfMemory => WordsError::Memory,
+            _ => WordsError::Clap(error),
+        }
+    }
+}
+
+impl From<AllocError> for WordsError {
+    ghost from_gives = { λ _ e. e ≡ words_error.Memory };
+
+    fn from(_error: AllocError) -> WordsError {
+        WordsError::Memory
+    }
+}
+
+/// The line that tells why a command line can't be heeded.
+pub fn fault_line(alloc: Global, error: &WordsError) -> Result<String, AllocError>
+    ensures { IfOk result (λ line. spec.IsFaultLine error.now (string_bytes line)) }
+{
+    match error {
+        WordsError::Clap(error) => told(alloc, error.to_string(alloc)?.as_str()),
+        WordsError::Value(option) => option.refusal(alloc),
+        WordsError::Memory => "out of memory".to_string(alloc),
+    }
+}
+
+// What clap tells before the usage, as one line; an empty line of it parts a tip from what is at fault.
+fn told(alloc: Global, text: &str) -> Result<String, AllocError> {
+    let mut line = String::new(alloc);
+    let mut is_apart = false;
+    for part in text.lines() {
+        let part = part.trim();
+        if is_past_the_fault(part) {
+            break;
+        }
+        if !part.is_empty() {
+            if !line.is_empty() {
+                line.push_str(if is_apart { "; " } else { " " })?;
+            }
+            line.push_str(part)?;
+        }
+        is_apart = part.is_empty();
+    }
+    Ok(line)
+}
+
+fn is_past_the_fault(part: &str) -> bool {
+    part.starts_with("Usage:") || part.starts_with("For more information")
+}
