@@ -2,8 +2,8 @@
 #![tactic(auto)]
 
 use osc_programs::{
-    Ended, ask, ended_by, ended_by_io, forward, iv_of, lab, running_fault, serve, sim,
-    started_by_io, status, token, token_fault,
+    Ended, ask, ended_by, forward, issue_token, lab, running_fault, serve, sim, started_by_io,
+    status, token_fault,
 };
 use osc_words::{TokenWords, Words, WordsError, fault_line, read_words};
 use std::process::ExitCode;
@@ -41,10 +41,7 @@ fn run(rt: &HostRuntime) -> io::Result<Ended> {
 
 /// The token goes to the standard output, and the one line of a fault to the standard error.
 fn print_token(rt: &HostRuntime, words: &TokenWords) -> io::Result<Ended> {
-    let ended = match iv_of(rt, words) {
-        Ok(iv) => token(rt.alloc(), words, &iv, &mut io::writer(rt)),
-        Err(error) => ended_by_io(&error),
-    };
+    let ended = issue_token(rt.alloc(), rt, words, &mut io::writer(rt));
     if let Some(line) = token_fault(ended) {
         rt.eprintln(line)?;
     }

@@ -7,7 +7,7 @@ ghost use Rattle.osc_token.specs.Minted.{most_claims};
 ghost use Rattle.osc_token.specs.Token.{claims_item};
 ghost use Rattle.osc_programs.specs.TokenLine as spec;
 
-use crate::ended::Ended;
+use crate::ended::{Ended, ended_by_io};
 use osc_ccm::Ccm;
 use osc_token::{MintError, mint};
 use osc_words::TokenWords;
@@ -26,8 +26,7 @@ pub fn token<W: Write>(alloc: Global, words: &TokenWords, iv: &[u8; 13], writer:
         × Appends (W.contents writer.old) (W.contents writer.new) text }
     ensures too_long { result ≡ Ended.BadCommandLine → (most_claims < length (spelling (claims_item words.now.claims)))
         × Appends (W.contents writer.old) (W.contents writer.new) [] }
-    ensures never_too_long { most_claims < length (spelling (claims_item words.now.claims))
-        → (result ≡ Ended.BadCommandLine) ⊎ (result ≡ Ended.OutOfMemory) }
+    ensures never_too_long { most_claims < length (spelling (claims_item words.now.claims)) → result ≡ Ended.BadCommandLine }
     ensures memory { result ≡ Ended.OutOfMemory → Appends (W.contents writer.old) (W.contents writer.new) [] }
     ensures lines { (n : ℕ) → result ≢ Ended.BadLine n }
 {
@@ -42,6 +41,7 @@ fn token_line(alloc: Global, words: &TokenWords, iv: &[u8; 13]) -> Result<String
     ensures line { IfOk result (λ line. spec.IsTokenLine words.now.claims words.now.key iv.now (string_bytes line)) }
     ensures short { IfOk result (λ _. length (spelling (claims_item words.now.claims)) ≤ most_claims) }
     ensures too_long { result ≡ Err MintError.TooLong → most_claims < length (spelling (claims_item words.now.claims)) }
+    ensures needs_memory { result ≡ Err MintError.Memory → length (spelling (claims_item words.now.claims)) ≤ most_claims }
 {
     let mut bytes = Vec::new(alloc);
     mint::<Ccm<8>>(alloc, &words.claims, &words.key, iv, &mut bytes)?;
@@ -70,6 +70,28 @@ pub fn iv_of<S: RandomSource>(source: &S, words: &TokenWords) -> io::Result<[u8;
     match words.iv {
         Some(iv) => Ok(iv),
         None => drawn_iv(source),
+    }
+}
+
+/// Writes the token that the words ask for, under their IV or one that is drawn, as [`token`] does.
+pub fn issue_token<S: RandomSource, W: Write>(
+    alloc: Global,
+    source: &S,
+    words: &TokenWords,
+    writer: &mut W,
+) -> Ended
+    ensures asked { result ≡ Ended.Done → IfSome words.now.iv (λ iv. (text : List ℕ)
+        × spec.IsTokenLine words.now.claims words.now.key iv text × Appends (W.contents writer.old) (W.contents writer.new) text) }
+    ensures drawn { result ≡ Ended.Done → words.now.iv ≡ None → (seed : List ℕ) × (length seed ≡ 32) × ((text : List ℕ)
+        × spec.IsTokenLine words.now.claims words.now.key (fill_bytes 13 (⟦<StdRng as Rng>⟧.stream (⟦<StdRng as SeedableRng>⟧.of_seed seed))).0 text
+        × Appends (W.contents writer.old) (W.contents writer.new) text) }
+    ensures too_long { result ≡ Ended.BadCommandLine → (most_claims < length (spelling (claims_item words.now.claims)))
+        × Appends (W.contents writer.old) (W.contents writer.new) [] }
+    ensures lines { (n : ℕ) → result ≢ Ended.BadLine n }
+{
+    match iv_of(source, words) {
+        Ok(iv) => token(alloc, words, &iv, writer),
+        Err(error) => ended_by_io(&error),
     }
 }
 

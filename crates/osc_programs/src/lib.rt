@@ -14,7 +14,7 @@ mod udp;
 
 pub use asking::ask;
 pub use ended::{Ended, ended_by, ended_by_io, running_fault, started_by_io, status, token_fault};
-pub use issue::{drawn_iv, iv_of, token};
+pub use issue::{drawn_iv, issue_token, iv_of, token};
 pub use lab_run::lab;
 pub use running::{forward, serve};
 pub use simulate::{run_script, sim};
