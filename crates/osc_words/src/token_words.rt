@@ -15,12 +15,13 @@ use clap::ArgMatches;
 use osc_model::Bytes;
 use osc_token::{Audience, Claims, InputMaterial};
 use std::alloc::Global;
+use std::fmt;
 
 // The most bytes that a part of the input material has.
 const LONGEST: usize = 64;
 
 /// What `osc token` is asked for.
-#[derive(Debug, PartialEq, Eq, Drop)]
+#[derive(PartialEq, Eq, Drop)]
 pub struct TokenWords {
     /// The key that the token's issuer and the server share.
     pub key: [u8; 16],
@@ -28,6 +29,13 @@ pub struct TokenWords {
     pub claims: Claims,
     /// The IV under which the token is sealed; one is drawn where there is none.
     pub iv: Option<[u8; 13]>,
+}
+
+// The key isn't printed.
+impl fmt::Debug for TokenWords {
+    fn fmt<W: fmt::Write>(&self, f: &mut fmt::Formatter<W>) -> fmt::Result {
+        f.write_str("TokenWords")
+    }
 }
 
 /// What the options say of a token.
