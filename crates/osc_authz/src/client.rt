@@ -4,7 +4,8 @@ ghost use Rattle.std.specs.Prelude.{◌≡◌, ◌≢◌, ℕ, ◌≤◌, ◌<�
 ghost use Rattle.osc_model.specs.declared.context.Side.TheVariants.{Client};
 ghost use Rattle.osc_context.specs.Derivation.{taken_of, sender_of, recipient_of};
 ghost use Rattle.osc_context.specs.Nonce.{greatest_number};
-ghost use Rattle.osc_cbor.specs.Spelling.{spelling};
+ghost use Rattle.osc_cbor.specs.Data.{DataItem};
+ghost use Rattle.osc_cbor.specs.Spelling.{IsWhole, spelling};
 ghost use Rattle.osc_cbor.specs.View.{view};
 ghost use Rattle.osc_model.specs.Code.{code as code_of};
 ghost use Rattle.osc_model.specs.Draw.{nonce_drawn};
@@ -171,7 +172,8 @@ impl ClientDesk {
     /// # Errors
     ///
     /// `Fields` where the answer isn't 2.01 with a readable nonce and recipient ID, `EqualIds` where that is the client's
-    /// own. Want of memory alone hands the open exchange back; it is no answer where the code isn't 2.01.
+    /// own. Want of memory alone hands the open exchange back; it is no answer where the code isn't 2.01 or the payload is no whole item
+    /// of CBOR.
     pub fn finish(
         &self,
         alloc: Global,
@@ -180,7 +182,8 @@ impl ClientDesk {
         payload: &[u8],
     ) -> Result<ClientContext, FinishError>
         ensures finished { ((handed : Begun) → result ≢ Err (FinishError.Memory handed)) → Finishes self.now exchange code payload.now result }
-        ensures memory { (handed : Begun) → result ≡ Err (FinishError.Memory handed) → (handed ≡ exchange) × (code ≡ code_of 2 1) }
+        ensures memory { (handed : Begun) → result ≡ Err (FinishError.Memory handed) → (handed ≡ exchange) × (code ≡ code_of 2 1)
+            × ((d : DataItem) × IsWhole payload.now d) }
     {
         match self.outcome_of(alloc, &exchange, code, payload) {
             Ok(made) => made,
@@ -197,7 +200,7 @@ impl ClientDesk {
         payload: &[u8],
     ) -> Result<Result<ClientContext, FinishError>, AllocError>
         ensures finished { IfOk result (λ made. Finishes self.now exchange.now code payload.now made) }
-        ensures memory { IsErr result → code ≡ code_of 2 1 }
+        ensures memory { IsErr result → (code ≡ code_of 2 1) × ((d : DataItem) × IsWhole payload.now d) }
     {
         if code != Code::CREATED {
             return Ok(Err(FinishError::Fields));

@@ -2,6 +2,8 @@
 
 ghost use Rattle.std.specs.Prelude.{◌≡◌, ◌≤◌, ℕ, List, [], length, IfOk, IsErr, IsSome, OnErr, Some, Ok, option_map};
 ghost use Rattle.osc_window.specs.Window.{IsFresh};
+ghost use Rattle.osc_cbor.specs.Data.{DataItem};
+ghost use Rattle.osc_cbor.specs.Spelling.{IsWhole};
 ghost use Rattle.osc_cbor.specs.View.{view};
 ghost use Rattle.osc_token.specs.Claims.{ComesTo};
 ghost use Rattle.osc_authz.specs.Agreement.{Agrees, Answers};
@@ -79,7 +81,7 @@ impl ServerDesk {
     /// the token ids that have no live context have left the table. Its recipient ID is the least byte that no other
     /// context has and that isn't the client's own. Else nothing is changed.
     ///
-    /// Without memory nothing is changed.
+    /// Without memory nothing is changed; that comes only where the payload is one whole item of CBOR.
     pub fn post<A: Aead>(
         &mut self,
         alloc: Global,
@@ -89,6 +91,7 @@ impl ServerDesk {
     ) -> Result<Post, AllocError>
         ensures posted { IfOk result (λ post. Posts A.is_sealing self.old now body.now draw.now post self.new) }
         ensures err { OnErr result (self.new ≡ self.old) }
+        ensures memory { IsErr result → (d : DataItem) × IsWhole body.now d }
         ensures table { IsTable self.new.table }
     {
         let posted = self.post_bytes::<A>(alloc, now, body, draw);
@@ -107,6 +110,7 @@ impl ServerDesk {
     ) -> Result<Post, AllocError>
         ensures posted { IfOk result (λ post. Posts A.is_sealing self.old now body.now draw.now post self.new) }
         ensures err { OnErr result (self.new ≡ self.old) }
+        ensures memory { IsErr result → (d : DataItem) × IsWhole body.now d }
     {
         match read_whole(alloc, body)? {
             Some(item) => self.post_item::<A>(alloc, now, &item, draw),

@@ -71,8 +71,8 @@ impl ClientDesk {
             × (desk.salt ≡ salt) × (desk.id_context ≡ id_context)) }
         ensures lawful { IsOk result ↔ (IsSecret secret × IsShort salt × ForSome id_context IsShort) }
         ensures secret { result ≡ Err GrantError.Secret → ¬ IsSecret secret }
-        ensures salt { result ≡ Err GrantError.Salt → ¬ IsShort salt }
-        ensures id_context { result ≡ Err GrantError.IdContext → ¬ ForSome id_context IsShort }
+        ensures salt { result ≡ Err GrantError.Salt → IsSecret secret × ¬ IsShort salt }
+        ensures id_context { result ≡ Err GrantError.IdContext → IsSecret secret × IsShort salt × ¬ ForSome id_context IsShort }
     {
         if secret.is_empty() || secret.len() > LONGEST {
             return Err(GrantError::Secret);

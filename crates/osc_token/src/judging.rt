@@ -2,8 +2,9 @@
 
 ghost use Rattle.std.specs.Prelude.{◌≡◌, ◌↔◌, ℕ, List, Some, Err, IsTrue, IsFalse, IfOk, IfErr, IsErr, option_copied, option_and_then};
 ghost use Rattle.osc_model.specs.Grant.{HasBegun, IsNotOver};
-ghost use Rattle.osc_cbor.specs.Data.{text_string};
+ghost use Rattle.osc_cbor.specs.Data.{DataItem, text_string};
 ghost use Rattle.osc_cbor.specs.Parts as part;
+ghost use Rattle.osc_cbor.specs.Spelling.{IsWhole};
 ghost use Rattle.osc_cbor.specs.View.{view};
 ghost use Rattle.osc_token.specs.Claims.{ComesTo};
 ghost use Rattle.osc_token.specs.Judging as spec;
@@ -34,14 +35,15 @@ pub(crate) struct Dates {
 ///
 /// The first check that fails, in this order: the text is a map, whose dates are numbers (`BadClaims`); its time has begun
 /// (`NotYet`) and isn't over (`Expired`); it is for the audience (`Audience`); it has input material (`BadClaims`) and a
-/// scope (`BadScope`). The outer error is want of memory.
+/// scope (`BadScope`). The outer error is want of memory, and comes only where the text is one whole item of CBOR.
 pub fn judge(
     alloc: Global,
     text: &[u8],
     audience: &Audience,
     now: Moment,
 ) -> Result<Result<(Claims, Scope), TokenError>, AllocError>
-    ensures { IfOk result (λ outcome. ComesTo text.now audience.now now outcome) }
+    ensures judged { IfOk result (λ outcome. ComesTo text.now audience.now now outcome) }
+    ensures memory { IsErr result → (d : DataItem) × IsWhole text.now d }
 {
     match read_whole(alloc, text)? {
         Some(claims) => judge_claims(alloc, &claims, audience, now),

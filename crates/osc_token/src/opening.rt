@@ -25,7 +25,7 @@ const ENCRYPT0_TAG: u64 = 16;
 /// is the text of the claims; none where the token isn't genuine. A token is a COSE_Encrypt0 object, with or without the
 /// tag 16, and that with or without the tag 61 round it, whose protected header has the algorithm AES-CCM-16-64-128 and
 /// whose IV has 13 bytes, and whose ciphertext is the sealing of a text. Other header parameters are ignored. An error is
-/// want of memory.
+/// want of memory, and comes only where the bytes are one whole item of CBOR.
 pub fn open_token<A: Aead>(
     alloc: Global,
     bytes: &[u8],
@@ -37,6 +37,7 @@ pub fn open_token<A: Aead>(
     // .. and each token opens.
     ensures only { (protected iv text : List ℕ) → IsToken A.is_sealing key.now bytes.now protected iv text
         → IfOk result (λ found. found ≡ Some (token_note key.now protected iv text)) }
+    ensures memory { IsErr result → (d : DataItem) × IsWhole bytes.now d }
 {
     match object_in(alloc, bytes)? {
         Some(object) => open_object::<A>(alloc, &object, key),
@@ -50,6 +51,7 @@ fn object_in(alloc: Global, bytes: &[u8]) -> Result<Option<Encrypt0>, AllocError
         (d : DataItem) × IsWhole bytes.now d × IsObject (unwrapped d) object)) }
     ensures only { (d : DataItem) (object : AnyObject) → IsWhole bytes.now d → IsObject (unwrapped d) object
         → IfOk result (λ found. found ≡ Some object) }
+    ensures memory { IsErr result → (d : DataItem) × IsWhole bytes.now d }
 {
     match read_whole(alloc, bytes)? {
         Some(item) => object_found(object_of(alloc, without_cwt_tag(&item))),

@@ -1,6 +1,8 @@
 //! Reading tokens.
 
-ghost use Rattle.std.specs.Prelude.{◌≡◌, ℕ, List, IfOk, Err};
+ghost use Rattle.std.specs.Prelude.{◌≡◌, ℕ, List, IfOk, IsErr, Err};
+ghost use Rattle.osc_cbor.specs.Data.{DataItem};
+ghost use Rattle.osc_cbor.specs.Spelling.{IsWhole};
 ghost use Rattle.osc_token.specs.Claims.{ComesTo};
 ghost use Rattle.osc_token.specs.Token.{IsToken};
 
@@ -18,7 +20,8 @@ use std::alloc::{AllocError, Global};
 ///
 /// # Errors
 ///
-/// `NotGenuine` where the token doesn't open, else as [`judge`] says. The outer error is want of memory.
+/// `NotGenuine` where the token doesn't open, else as [`judge`] says. The outer error is want of memory, and comes only where the
+/// bytes are one whole item of CBOR.
 pub fn read<A: Aead>(
     alloc: Global,
     bytes: &[u8],
@@ -30,6 +33,7 @@ pub fn read<A: Aead>(
         → IfOk result (λ outcome. ComesTo text audience.now now outcome) }
     ensures not_genuine { ((protected iv text : List ℕ) → ¬ IsToken A.is_sealing key.now bytes.now protected iv text)
         → IfOk result (λ outcome. outcome ≡ Err TokenError.NotGenuine) }
+    ensures memory { IsErr result → (d : DataItem) × IsWhole bytes.now d }
 {
     match open_token::<A>(alloc, bytes, key)? {
         Some(note) => judge(alloc, note.plaintext.as_slice(), audience, now),

@@ -21,11 +21,11 @@ HasScope claims = (entries : List Entry) × IsScope claims.scope entries
 abbrev pub FitAToken : Claims → Type 0
 FitAToken claims = length (spelling (claims_item claims)) ≤ most_claims
 
--- the input material has a part of a length that no token may have (RFC 9203 section 3.2.1)
+-- the first part of the input material that has a length that no token may have (RFC 9203 section 3.2.1)
 abbrev pub IsUngranted : InputMaterial → GrantError → Type 0
 IsUngranted material grant.Secret = ¬ (IsSecret material.secret)
-IsUngranted material grant.Salt = ¬ (IsShort material.salt)
-IsUngranted material grant.IdContext = ¬ (ForSome material.id_context IsShort)
+IsUngranted material grant.Salt = IsSecret material.secret × ¬ (IsShort material.salt)
+IsUngranted material grant.IdContext = IsSecret material.secret × IsShort material.salt × ¬ (ForSome material.id_context IsShort)
 
 -- a client with these claims can be enrolled
 pub record IsLawful (claims : Claims) : Type 0 where

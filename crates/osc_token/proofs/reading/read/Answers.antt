@@ -7,7 +7,7 @@ pub returns-in-Some-clause-judged : goal.returns-in-Some-clause-judged
 returns-in-Some-clause-judged g c = λ protected iv text t.
     let is = same_some _ _ _ c.in-Some.is (c.in_ok-note.ensures.only protected iv text t) in
     let same = c.as_slice.ensures ∙ ap (λ x. x.plaintext) is in
-    subst (λ x. IfOk c.judge.result (λ outcome. ComesTo x c.args.audience.now c.args.now outcome)) same c.judge.ensures
+    subst (λ x. IfOk c.judge.result (λ outcome. ComesTo x c.args.audience.now c.args.now outcome)) same c.judge.ensures.judged
 
 pub returns-in-Some-clause-not_genuine : goal.returns-in-Some-clause-not_genuine
 returns-in-Some-clause-not_genuine g c = λ none.
