@@ -8,11 +8,10 @@ use Rattle.osc_model.specs.declared.step.Step.{Step}
 use Rattle.osc_coap.specs.Message.{Message}
 use Rattle.osc_coap.specs.declared.kind.Kind.{Kind}
 use Rattle.osc_message.specs.Heard.{noted_reply}
-use Rattle.osc_message.specs.Sending.{acknowledgement, reset}
+use Rattle.osc_message.specs.Sending.{acknowledgement, reset, again, datagram, sent_to}
 use Rattle.osc_client.specs.Case.{is_ended}
-use Rattle.osc_client.specs.Sending.{datagram}
 use Rattle.osc_client.specs.State.{State}
-use Rattle.osc_client.specs.Table.{Answers, SendsOne, Settles, again, refusal, sent_to}
+use Rattle.osc_client.specs.Table.{Answers, SendsOne, Settles, refusal}
 use Rattle.osc_client.specs.declared.case.Case.{Case}
 use Rattle.osc_client.specs.declared.case.Case.TheVariants.{Ignored, Reset, Repeated, Empty, Refused, Rejected, Dropped, Counted}
 

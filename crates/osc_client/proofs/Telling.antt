@@ -28,7 +28,7 @@ use Rattle.osc_authz.specs.declared.error.FinishError.TheVariants.{Fields, Equal
 use Rattle.osc_message.specs.Confirmables.{Open}
 use Rattle.osc_message.specs.Heard.{heard, noted_reply}
 use Rattle.osc_message.specs.Received.{Receives}
-use Rattle.osc_message.specs.Sending.{empty_acknowledgement, is_confirmable, reset}
+use Rattle.osc_message.specs.Sending.{empty_acknowledgement, is_confirmable, reset, again, datagram, sent_to}
 use Rattle.osc_message.specs.Ticks.{datagram_of, due_of, dues, tick_sends}
 use Rattle.osc_message.specs.declared.due.Due.{Due}
 use Rattle.osc_message.specs.declared.due.Due.TheVariants.{Keep, Send, GiveUp}
@@ -40,9 +40,9 @@ use Rattle.osc_client.specs.Answering as comes
 use Rattle.osc_client.specs.Case.{case_of, is_ended}
 use Rattle.osc_client.specs.Lying.{LiesUnder, lies}
 use Rattle.osc_client.specs.Lying as lying
-use Rattle.osc_client.specs.Sending.{Asks, asks, datagram, hindered, plain_of, refusing}
+use Rattle.osc_client.specs.Sending.{Asks, asks, hindered, plain_of, refusing}
 use Rattle.osc_client.specs.State.{State}
-use Rattle.osc_client.specs.Table.{Answers, Counts, Settles, again, refusal, sent_to}
+use Rattle.osc_client.specs.Table.{Answers, Counts, Settles, refusal}
 use Rattle.osc_client.specs.Told.{AreTold, IsOpenOf, IsSealOf, IsToldOf, NeedsNoSeal, SealsNothing, needs_none, noted_before, open_before, sealed_now, unprotected}
 use Rattle.osc_client.specs.declared.answering.Outcome.{Outcome}
 use Rattle.osc_client.specs.declared.answering.Outcome.TheVariants as outcome

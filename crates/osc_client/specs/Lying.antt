@@ -11,7 +11,8 @@ use Rattle.osc_coap.specs.declared.kind.Kind.TheVariants.{Confirmable}
 use Rattle.osc_protect.specs.Protection.{IsRequestOf, length_of_request, longest_message}
 use Rattle.osc_authz.specs.Begun.{Made as ClientContext}
 use Rattle.osc_run.specs.ClientKinds.{request_note}
-use Rattle.osc_client.specs.Sending.{datagram, refusing}
+use Rattle.osc_message.specs.Sending.{datagram}
+use Rattle.osc_client.specs.Sending.{refusing}
 use Rattle.osc_client.specs.State.{State}
 use Rattle.osc_client.specs.Way.{HostAndPort, through}
 

@@ -26,15 +26,12 @@ use Rattle.osc_authz.specs.Client.{offered_id}
 use Rattle.osc_authz.specs.Exchange.{post_item}
 use Rattle.osc_authz.specs.declared.granted.ClientDesk.{ClientDesk}
 use Rattle.osc_run.specs.ClientKinds.{request_note}
+use Rattle.osc_message.specs.Sending.{datagram}
 use Rattle.osc_client.specs.State.{State}
 use Rattle.osc_client.specs.Way.{through}
 use Rattle.osc_client.specs.declared.waiting.Awaited.{Awaited}
 use Rattle.osc_client.specs.declared.waiting.Awaited.TheVariants.{Exchange, Ask}
 use Rattle.osc_client.specs.declared.waiting.Waiting.{Waiting}
-
--- the message as a datagram for the peer
-abbrev pub datagram : Peer → Message → Datagram
-datagram peer message = record { to = peer; bytes = spelling message }
 
 -- ---- one thing is opened
 

@@ -15,31 +15,20 @@ use Rattle.osc_coap.specs.declared.kind.Kind.{Kind}
 use Rattle.osc_coap.specs.declared.kind.Kind.TheVariants.{Acknowledgement}
 use Rattle.osc_message.specs.Endpoint.{settled}
 use Rattle.osc_message.specs.Heard.{noted_reply}
-use Rattle.osc_message.specs.Sending.{acknowledgement, reset}
+use Rattle.osc_message.specs.Sending.{acknowledgement, reset, again, datagram, sent_to}
 use Rattle.osc_message.specs.declared.handling.Handling.TheVariants as handling
 use Rattle.osc_message.specs.declared.heard.Heard.TheVariants as heard
 use Rattle.osc_client.specs.Answering.{Comes, context_after, notes_of, waits_after}
 use Rattle.osc_client.specs.Case.{is_ended}
-use Rattle.osc_client.specs.Sending.{datagram}
 use Rattle.osc_client.specs.State.{State}
 use Rattle.osc_client.specs.declared.answering.Outcome.{Outcome}
 use Rattle.osc_client.specs.declared.case.Case.{Case}
 use Rattle.osc_client.specs.declared.case.Case.TheVariants.{Ignored, Reset, Repeated, Empty, Refused, Rejected, Dropped, Counted}
 use Rattle.osc_client.specs.declared.waiting.Waiting.{Waiting}
 
--- the bytes that answered a repeated message go out again, where it was answered
-abbrev pub again : Peer → Option Bytes → List Datagram
-again from None = []
-again from (Some bytes) = (record { to = from; bytes = bytes }) ∷ []
-
 -- 4.02 (Bad Option), in the acknowledgement of the request (RFC 7252 section 5.4.1)
 abbrev pub refusal : Message → Message
 refusal message = bare Acknowledgement (code 4 2).0 message.id message.token
-
--- the message, if there is one
-abbrev pub sent_to : Peer → Option Message → List Datagram
-sent_to peer None = []
-sent_to peer (Some message) = datagram peer message ∷ []
 
 -- one datagram at most, to this peer
 abbrev pub SendsOne : Peer → List Datagram → Type 0

@@ -1,5 +1,5 @@
 //! The client.
-ghost use Rattle.std.specs.Prelude.{◌≡◌, ◌≤◌, ◌<◌, [], ◌∷◌, length, false, true, None, IfOk, IfErr, OnOk, OnErr, Some, option_map};
+ghost use Rattle.std.specs.Prelude.{◌≡◌, ◌≤◌, ◌<◌, [], ◌∷◌, length, false, true, None, IfOk, IfErr, IsErr, IsSome, OnOk, OnErr, Some, option_map};
 ghost use Rattle.osc_coap.specs.Message.{spelling};
 ghost use Rattle.osc_model.specs.StepNotes.{quiet};
 ghost use Rattle.osc_model.specs.declared.node.Moment.{Moment as AnyMoment};
@@ -13,14 +13,15 @@ ghost use Rattle.osc_message.specs.declared.handling.Handling.TheVariants as han
 ghost use Rattle.osc_message.specs.declared.heard.Heard.TheVariants as heard;
 ghost use Rattle.osc_message.specs.declared.received.Received.{Received as AnyReceived};
 ghost use Rattle.osc_model.specs.Step.{sends};
-ghost use Rattle.osc_client.specs.Case.{case_of as case_in, counts as counts_of, is_ended as is_ended_of};
-ghost use Rattle.osc_client.specs.Table.{Answers, Counts, SendsOne, Settles, again, refusal as refusal_of};
+ghost use Rattle.osc_message.specs.Sending.{again, datagram};
+ghost use Rattle.osc_client.specs.Case.{IsAnswered, case_of as case_in, counts as counts_of, is_ended as is_ended_of};
+ghost use Rattle.osc_client.specs.Table.{Answers, Counts, SendsOne, Settles, refusal as refusal_of};
 ghost use Rattle.osc_message.specs.Ticks.{acts};
 ghost use Rattle.osc_run.specs.ClientKinds.{ClientStep, IsSkipped};
 ghost use Rattle.osc_client.specs.State.{core, skipped_to};
 ghost use Rattle.osc_client.specs.Lying.{Lies};
 ghost use Rattle.osc_client.specs.Told.{AreTold, SealsNothing};
-ghost use Rattle.osc_client.specs.Sending.{Asks, Exchanges, IsFree, IsHindered, Ticks, datagram, is_over_by, opened, plain_of, restarted};
+ghost use Rattle.osc_client.specs.Sending.{Asks, Exchanges, IsFree, IsHindered, Ticks, is_over_by, opened, plain_of, restarted};
 ghost use Rattle.osc_client.specs.Bounds.{AsksFor, IsLawful, IsRoomFor, NeedsContext};
 
 use crate::answering::{Learnt, learn, outcome_of};
@@ -29,14 +30,16 @@ use crate::case::{Case, case_of, is_ended};
 use crate::exchanging::post_message;
 use crate::lying::{lie_under, outside};
 use crate::refusing::{BUSY, EXHAUSTED, NO_CONTEXT, TOO_LONG, refused};
-use crate::sending::{acknowledged, noted, refusal, sending, sending_bytes};
+use crate::sending::{acknowledged, refusal};
 use crate::waiting::{Awaited, Waiting};
 use crate::way::{Origin, Way};
 use osc_authz::{ClientContext, ClientDesk};
 use osc_ccm::Aead;
 use osc_coap::{Kind, MessageBuilder, MessageRef};
 use osc_context::NUMBER_LIMIT;
-use osc_message::{Endpoint, Handling, Heard, ReplyRoom, reset};
+use osc_message::{
+    Endpoint, Handling, Heard, ReplyRoom, noted, reset, sending_bytes, sending_message,
+};
 use osc_model::{ClientResult, Code, Datagrams, Draw, Moment, Peer, Request, Step, StepNotes};
 use osc_run::kinds;
 use std::alloc::{AllocError, Global};
@@ -146,6 +149,8 @@ impl Client {
         ensures kind { IfOk result (λ step. ClientStep false (core self.old) step.notes (core self.new)) }
         ensures told { IfOk result (λ step. SealsNothing self.old now step) }
         ensures err { OnErr result (self.new ≡ self.old) }
+        // What is busy is refused without memory.
+        ensures needs_memory { OnErr result (self.old.waiting ≡ None) }
     {
         kinds::exchanges_that_start();
         if self.waiting.is_some() {
@@ -182,6 +187,8 @@ impl Client {
         ensures kind { IfOk result (λ step. ClientStep false (core self.old) step.notes (core self.new)) }
         ensures told { IfOk result (λ step. AreTold A.is_sealing self.old now None step) }
         ensures err { OnErr result (self.new ≡ self.old) }
+        // What hinders a request is told without memory.
+        ensures needs_memory { OnErr result ((context : AnyContext) × IsFree A.is_sealing A.TAG self.old request.now draw.now context) }
     {
         let (plain, room) = match self.prepared::<A>(alloc, request, draw)? {
             Ok(prepared) => prepared,
@@ -215,6 +222,7 @@ impl Client {
         ensures lied { IfOk result (λ step. Lies A.is_sealing A.TAG self.now number text.now draw.now step) }
         ensures kind { IfOk result (λ step. ClientStep true (core self.now) step.notes (core self.now)) }
         ensures told { IfOk result (λ step. (now : AnyMoment) → AreTold A.is_sealing self.now now None step) }
+        ensures needs_memory { IsErr result → IsSome self.now.context }
     {
         match &self.context {
             Some(context) => {
@@ -237,6 +245,7 @@ impl Client {
             × IsFree A.is_sealing A.TAG self.now request.now draw.now context
             × (parts.0 ≡ plain_of self.now draw.now request.now) × IsRoomFor context.name parts.1)) }
         ensures hindered { IfOk result (λ prepared. IfErr prepared (λ number. IsHindered A.is_sealing A.TAG self.now request.now draw.now number)) }
+        ensures needs_memory { IsErr result → (context : AnyContext) × IsFree A.is_sealing A.TAG self.now request.now draw.now context }
     {
         if self.waiting.is_some() {
             return Ok(Err(BUSY));
@@ -300,6 +309,9 @@ impl Client {
         ensures kind { IfOk result (λ step. ClientStep false (core self.old) step.notes (core self.new)) }
         ensures told { IfOk result (λ step. AreTold A.is_sealing self.old now (Some bytes.now) step) }
         ensures err { OnErr result (self.new ≡ self.old) }
+        // What isn't answered takes no memory.
+        ensures needs_memory { OnErr result ((received : AnyReceived) × Receives bytes.now received
+            × IsAnswered (case_in self.old.next_hop from self.old.waiting (heard_as self.old.endpoint.seen now from received))) }
     {
         kinds::exchanges_that_make();
         let heard = self.endpoint.on_datagram(now, from, bytes);
@@ -318,14 +330,15 @@ impl Client {
         requires { AsksFor self.old.next_hop from self.old.waiting case }
         ensures answered { IfOk result (λ step. Answers A.is_sealing self.old now from case.entry step self.new) }
         ensures err { OnErr result (self.new ≡ self.old) }
+        ensures needs_memory { OnErr result (IsAnswered case.entry) }
     {
         match case {
             Case::Ignored => Ok(Step::sending(Datagrams::new(alloc))),
-            Case::Reset(id) => sending(alloc, from, &reset(id)),
+            Case::Reset(id) => sending_message(alloc, from, &reset(id)),
             Case::Repeated(id) => self.repeat(alloc, now, from, id),
             Case::Empty(kind, id) => Ok(self.settle_empty(alloc, now, from, kind, id)),
             Case::Refused(message) => self.refuse(alloc, now, from, message),
-            Case::Rejected(message) => sending(alloc, from, &reset(message.id())),
+            Case::Rejected(message) => sending_message(alloc, from, &reset(message.id())),
             Case::Dropped(message) => Ok(self.ignore(alloc, now, from, message)),
             Case::Counted(message) => self.count::<A>(alloc, now, from, message),
         }

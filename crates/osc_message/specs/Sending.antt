@@ -1,11 +1,12 @@
--- Messages that every node sends (RFC 7252 sections 4.2, 4.3 and 5.2).
-use Rattle.std.specs.Prelude.{ℕ, Bool, true, false, not, if◌then◌else◌, [], Option, Some, None}
-use Rattle.osc_model.specs.Code.{code}
+-- Messages that every node sends (RFC 7252 sections 4.2, 4.3 and 5.2), and their datagrams.
+use Rattle.std.specs.Prelude.{ℕ, Bool, true, false, if◌then◌else◌, List, [], ◌∷◌, Option, Some, None}
+use Rattle.osc_model.specs.declared.bytes.Bytes.{Bytes}
 use Rattle.osc_model.specs.declared.node.Draw.{Draw}
-use Rattle.osc_coap.specs.Code.{is_request_code}
+use Rattle.osc_model.specs.declared.node.Peer.{Peer}
+use Rattle.osc_model.specs.declared.step.Datagram.{Datagram}
 use Rattle.osc_coap.specs.declared.kind.Kind.{Kind}
 use Rattle.osc_coap.specs.declared.kind.Kind.TheVariants.{Confirmable, NonConfirmable, Acknowledgement, Reset as ResetKind}
-use Rattle.osc_coap.specs.Message.{Message}
+use Rattle.osc_coap.specs.Message.{Message, spelling}
 use Rattle.osc_coap.specs.Building.{bare}
 use Rattle.osc_message.specs.Endpoint.{EndpointState, own_id, id_taken}
 
@@ -21,20 +22,9 @@ reset id = bare ResetKind 0 id []
 abbrev pub empty_acknowledgement : ℕ → Message
 empty_acknowledgement id = bare Acknowledgement 0 id []
 
--- a message that the node can't process is rejected, where it is confirmable, and else ignored (sections 4.2 and 4.3)
-abbrev pub rejection : Message → Option Message
-rejection message = if is_confirmable message.kind then Some (reset message.id) else None
-
 -- a response that counts is acknowledged, where it is confirmable (section 5.2.2)
 abbrev pub acknowledgement : Message → Option Message
 acknowledgement message = if is_confirmable message.kind then Some (empty_acknowledgement message.id) else None
-
--- A message with a critical option that the node doesn't recognise (section 5.4.1): a confirmable request is answered by 4.02
--- (Bad Option) in its acknowledgement, a confirmable response is rejected, and all else is ignored.
-abbrev pub bad_option : Message → Option Message
-bad_option message =
-    if not (is_request_code message.code) then rejection message
-    else if is_confirmable message.kind then Some (bare Acknowledgement (code 4 2).0 message.id message.token) else None
 
 -- ---- replies
 
@@ -53,3 +43,19 @@ reply_start draw next_id request code = bare (reply_kind request.kind) code (rep
 -- a message of the node's own takes an ID
 abbrev pub replied : Draw → Message → EndpointState → EndpointState
 replied draw request state = if is_confirmable request.kind then state else id_taken draw state
+
+-- ---- datagrams
+
+-- the message as a datagram for the peer
+abbrev pub datagram : Peer → Message → Datagram
+datagram peer message = record { to = peer; bytes = spelling message }
+
+-- the message, if there is one
+abbrev pub sent_to : Peer → Option Message → List Datagram
+sent_to peer None = []
+sent_to peer (Some message) = datagram peer message ∷ []
+
+-- the bytes that answered a repeated message go out again, where it was answered
+abbrev pub again : Peer → Option Bytes → List Datagram
+again from None = []
+again from (Some bytes) = (record { to = from; bytes = bytes }) ∷ []

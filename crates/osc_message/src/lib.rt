@@ -28,7 +28,7 @@ pub use name::{MessageName, MessageNames};
 pub use outbox::{Buffer, Outbox, ReplyRoom};
 pub use received::{Received, receive};
 pub use sending::{
-    acknowledgement, bad_option, empty_acknowledgement, is_confirmable, rejection, reply_kind,
-    reset,
+    acknowledgement, empty_acknowledgement, is_confirmable, noted, reply_kind, reset,
+    sending_bytes, sending_message,
 };
 pub use tick::Ticked;

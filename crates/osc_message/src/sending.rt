@@ -1,9 +1,13 @@
-//! Messages that every node sends (RFC 7252 sections 4.2, 4.3 and 5.2).
-ghost use Rattle.std.specs.Prelude.{◌≡◌};
-ghost use Rattle.osc_message.specs.Sending.{is_confirmable as is_confirmable_of, reset as reset_message, empty_acknowledgement as empty_acknowledgement_of, rejection as rejection_of, acknowledgement as acknowledgement_of, bad_option as bad_option_of, reply_kind as reply_kind_of};
+//! Messages that every node sends (RFC 7252 sections 4.2, 4.3 and 5.2), and the steps that send one.
+ghost use Rattle.std.specs.Prelude.{◌≡◌, [], ◌∷◌, IfOk};
+ghost use Rattle.osc_coap.specs.Message.{HasSpelling, spelling};
+ghost use Rattle.osc_model.specs.Step.{sends};
+ghost use Rattle.osc_message.specs.Sending.{is_confirmable as is_confirmable_of, reset as reset_message, empty_acknowledgement as empty_acknowledgement_of, acknowledgement as acknowledgement_of, datagram, reply_kind as reply_kind_of};
 
-use osc_coap::{Kind, MessageBuilder, MessageRef, is_request_code};
-use osc_model::Code;
+use crate::outbox::ReplyRoom;
+use osc_coap::{Kind, MessageBuilder, MessageRef};
+use osc_model::{Bytes, Datagram, Datagrams, Peer, Step};
+use std::alloc::{AllocError, Global};
 
 /// Whether the kind is that of a confirmable message.
 pub fn is_confirmable(kind: Kind) -> bool
@@ -29,17 +33,6 @@ pub fn empty_acknowledgement(id: u16) -> MessageBuilder
     MessageBuilder::start(Kind::Acknowledgement, 0, id, &[])
 }
 
-/// What answers a message that the node can't process: a Reset where it is confirmable, else nothing. It is `Dropped`.
-pub fn rejection(message: &MessageRef<'_>) -> Option<MessageBuilder>
-    ensures { result ≡ rejection_of message.now }
-{
-    if is_confirmable(message.kind()) {
-        Some(reset(message.id()))
-    } else {
-        None
-    }
-}
-
 /// What answers a response that counts: an empty acknowledgement where it is confirmable, else nothing. It is `Counted`.
 pub fn acknowledgement(message: &MessageRef<'_>) -> Option<MessageBuilder>
     ensures { result ≡ acknowledgement_of message.now }
@@ -51,21 +44,6 @@ pub fn acknowledgement(message: &MessageRef<'_>) -> Option<MessageBuilder>
     }
 }
 
-/// What answers a message with a critical option that the node doesn't recognise: 4.02 (Bad Option) in the acknowledgement of a
-/// confirmable request, a Reset for a confirmable response, else nothing.
-pub fn bad_option(message: &MessageRef<'_>) -> Option<MessageBuilder>
-    ensures { result ≡ bad_option_of message.now }
-{
-    if !is_request_code(message.code()) {
-        return rejection(message);
-    }
-    if !is_confirmable(message.kind()) {
-        return None;
-    }
-    let code = Code::BAD_OPTION.0;
-    Some(MessageBuilder::start(Kind::Acknowledgement, code, message.id(), message.token()))
-}
-
 /// The kind of the message that carries the reply to a request of this kind.
 pub fn reply_kind(kind: Kind) -> Kind
     ensures { result ≡ reply_kind_of kind }
@@ -75,4 +53,38 @@ pub fn reply_kind(kind: Kind) -> Kind
     } else {
         Kind::NonConfirmable
     }
+}
+
+/// The step that sends these bytes to the peer.
+pub fn sending_bytes(alloc: Global, to: Peer, bytes: Bytes) -> Result<Step, AllocError>
+    ensures { IfOk result (λ step. step ≡ sends ((record { to = to; bytes = bytes }) ∷ [])) }
+{
+    let mut out = Datagrams::new(alloc);
+    out.push(Datagram { to, bytes })?;
+    Ok(Step::sending(out))
+}
+
+/// The step that sends this message to the peer.
+pub fn sending_message(
+    alloc: Global,
+    to: Peer,
+    message: &MessageBuilder,
+) -> Result<Step, AllocError>
+    ensures sent { IfOk result (λ step. step ≡ sends (datagram to message.now ∷ [])) }
+    ensures lawful { IfOk result (λ _. HasSpelling message.now) }
+{
+    sending_bytes(alloc, to, Bytes::from_slice(alloc, message.bytes())?)
+}
+
+/// A message's datagram, and its bytes to be noted.
+pub fn noted(
+    alloc: Global,
+    to: Peer,
+    message: &MessageBuilder,
+) -> Result<(Datagrams, Bytes), AllocError>
+    ensures sent { IfOk result (λ made. made.0 ≡ datagram to message.now ∷ []) }
+    ensures noted { IfOk result (λ made. made.1 ≡ spelling message.now) }
+{
+    let room = ReplyRoom::new(alloc, message.bytes().len())?;
+    Ok(room.fill(to, message.bytes()))
 }

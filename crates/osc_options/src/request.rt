@@ -17,8 +17,8 @@ use osc_coap::{MessageRef, Options, PlaintextRef, is_request_code};
 use osc_model::{Bytes, Code, ETags, Path, Request};
 use std::alloc::{AllocError, Global};
 
-/// A whole number: big-endian, leading zeros don't count (RFC 7252 section 3.2).
-fn uint(bytes: &[u8]) -> u16
+/// The whole number that the value of an option holds: big-endian, leading zeros don't count (RFC 7252 section 3.2).
+pub fn uint(bytes: &[u8]) -> u16
     requires { length bytes.now ≤ 2 }
     ensures { result ≡ number_of bytes.now }
 {

@@ -15,10 +15,10 @@ use Rattle.osc_model.specs.declared.step.Step.{Step}
 use Rattle.osc_coap.specs.Length.{datagram_limit}
 use Rattle.osc_coap.specs.Message.{Message, spelling}
 use Rattle.osc_message.specs.Heard.{noted_reply}
-use Rattle.osc_message.specs.Sending.{acknowledgement}
+use Rattle.osc_message.specs.Sending.{acknowledgement, again, sent_to}
 use Rattle.osc_proxy.specs.Own.{sends_own}
 use Rattle.osc_proxy.specs.State.{State}
-use Rattle.osc_proxy.specs.Table.{Answers, FitsBy, ForwardsBy, IsForwarded, IsRefused, again, answer_to, back_sends, counted, failure, forwarded_by, key_for, named, next_own, sent_to}
+use Rattle.osc_proxy.specs.Table.{Answers, FitsBy, ForwardsBy, IsForwarded, IsRefused, answer_to, back_sends, counted, failure, forwarded_by, key_for, named, next_own}
 use Rattle.osc_proxy.specs.declared.case.Case.{Case}
 use Rattle.osc_proxy.specs.declared.case.Case.TheVariants.{Ignored, Reset, Repeated, Empty, Ended, Refused, Forwarded, Rejected, Dropped, Counted}
 use Rattle.osc_proxy.proofs.Ending.{one_back}

@@ -56,3 +56,10 @@ case_of targets exchanges from named (heard.Reset id) = Reset id
 case_of targets exchanges from named (heard.Repeat id) = Repeated id
 case_of targets exchanges from named (heard.Empty kind id) = ended kind id (first_key (is_named from id) exchanges)
 case_of targets exchanges from named (heard.Message message) = message_case targets exchanges from named message
+
+-- whether anything may be sent
+abbrev pub IsAnswered : Case → Type 0
+IsAnswered Ignored = ⊥
+IsAnswered (Empty kind id) = ⊥
+IsAnswered (Dropped message) = ⊥
+IsAnswered case = Unit {0}

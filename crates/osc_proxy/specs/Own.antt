@@ -11,10 +11,6 @@ use Rattle.osc_message.specs.Confirmables.{has_open, takes, with_open}
 use Rattle.osc_message.specs.Endpoint.{EndpointState, own_id, id_taken}
 use Rattle.osc_message.specs.Timeout.{timeout_of}
 
--- the message as a datagram for the peer
-abbrev pub datagram : Peer → Message → Datagram
-datagram peer message = record { to = peer; bytes = spelling message }
-
 -- a request and its answer travel alike on both sides: confirmable, or not
 abbrev pub kind_of : Bool → Kind
 kind_of true = Confirmable

@@ -15,27 +15,17 @@ use Rattle.osc_coap.specs.Message.{Message, spelling}
 use Rattle.osc_coap.specs.declared.kind.Kind.TheVariants.{Reset as ResetKind}
 use Rattle.osc_message.specs.Endpoint.{EndpointState, own_id, settled}
 use Rattle.osc_message.specs.Heard.{noted_reply}
-use Rattle.osc_message.specs.Sending.{acknowledgement, is_confirmable, replied, reply_start, reset}
+use Rattle.osc_message.specs.Sending.{acknowledgement, is_confirmable, replied, reply_start, reset, again, datagram, sent_to}
 use Rattle.osc_message.specs.declared.handling.Handling.TheVariants as handling
 use Rattle.osc_message.specs.declared.heard.Heard.TheVariants as heard
 use Rattle.osc_proxy.specs.Exchanges.{Changes, Table, count, free_key, get}
 use Rattle.osc_proxy.specs.Forwarding.{answer, forwarded, forwarded_token}
-use Rattle.osc_proxy.specs.Own.{datagram, goes_now, has_room, kind_of, sends_own, with_own}
+use Rattle.osc_proxy.specs.Own.{goes_now, has_room, kind_of, sends_own, with_own}
 use Rattle.osc_proxy.specs.State.{State}
 use Rattle.osc_proxy.specs.UnsafeOptions.{has_unrecognised_unsafe}
 use Rattle.osc_proxy.specs.declared.case.Case.{Case}
 use Rattle.osc_proxy.specs.declared.case.Case.TheVariants.{Ignored, Reset, Repeated, Empty, Ended, Refused, Forwarded, Rejected, Dropped, Counted}
 use Rattle.osc_proxy.specs.declared.exchanges.Exchange.{Exchange}
-
--- the bytes that answered a repeated message go out again, where it was answered
-abbrev pub again : Peer → Option Bytes → List Datagram
-again from None = []
-again from (Some bytes) = (record { to = from; bytes = bytes }) ∷ []
-
--- the message, if there is one
-abbrev pub sent_to : Peer → Option Message → List Datagram
-sent_to peer None = []
-sent_to peer (Some message) = datagram peer message ∷ []
 
 -- ---- a request isn't forwarded
 

@@ -6,17 +6,17 @@ ghost use Rattle.osc_model.specs.StepNotes.{quiet};
 ghost use Rattle.osc_message.specs.Endpoint.{fresh, settled};
 ghost use Rattle.osc_message.specs.Heard.{heard as heard_as, noted_reply as noted_reply_of};
 ghost use Rattle.osc_message.specs.Received.{Receives};
-ghost use Rattle.osc_message.specs.Sending.{acknowledgement as acknowledgement_of, is_confirmable as is_confirmable_of};
+ghost use Rattle.osc_message.specs.Sending.{acknowledgement as acknowledgement_of, is_confirmable as is_confirmable_of, again, sent_to};
 ghost use Rattle.osc_message.specs.declared.handling.Handling.TheVariants as handling;
 ghost use Rattle.osc_message.specs.declared.heard.Heard.TheVariants as heard;
 ghost use Rattle.osc_message.specs.declared.received.Received.{Received as AnyReceived};
 ghost use Rattle.osc_proxy.specs.Bounds.{AsksFor, CanCount, IsOpen};
-ghost use Rattle.osc_proxy.specs.Case.{NamesIn, case_of as case_in};
+ghost use Rattle.osc_proxy.specs.Case.{IsAnswered, NamesIn, case_of as case_in};
 ghost use Rattle.osc_proxy.specs.Exchanges.{count, none_open};
 ghost use Rattle.osc_proxy.specs.Going.{CanClose, IsOwn};
 ghost use Rattle.osc_proxy.specs.ProxyUri.{HostAndPort};
 ghost use Rattle.osc_proxy.specs.State.{restarted};
-ghost use Rattle.osc_proxy.specs.Table.{Answers, Counts, Ends, ForwardsBy, IsForwarded, IsRefused, again, forwarded_by, key_for as key_for_of, sent_to};
+ghost use Rattle.osc_proxy.specs.Table.{Answers, Counts, Ends, ForwardsBy, IsForwarded, IsRefused, forwarded_by, key_for as key_for_of};
 ghost use Rattle.osc_proxy.specs.Ticks.{Ticks};
 
 use crate::answering::{answer_back, failing};
@@ -24,14 +24,14 @@ use crate::case::{Case, case_of};
 use crate::exchanges::{Exchanges, FailureRoom};
 use crate::forwarding::{forwarded_message, forwarded_token};
 use crate::opening::{gone_out, waiting};
-use crate::sending::{
-    Own, acknowledged, has_room, noted, send_back, send_own, sending, sending_bytes,
-};
+use crate::sending::{Own, acknowledged, has_room, send_back, send_own};
 use crate::targets::Targets;
 use crate::ticking::{finish, room_for};
 use osc_coap::{Kind, MessageBuilder, MessageRef};
 use osc_message::laws::ticks_send_few;
-use osc_message::{Endpoint, Handling, Heard, Outbox, is_confirmable, reset};
+use osc_message::{
+    Endpoint, Handling, Heard, Outbox, is_confirmable, noted, reset, sending_bytes, sending_message,
+};
 use osc_model::{Bytes, Code, Datagrams, Draw, Moment, Peer, Step};
 use std::alloc::{AllocError, Global};
 use std::marker::Model;
@@ -106,6 +106,10 @@ impl Proxy {
         ensures few { IfOk result (λ step. length step.out ≤ 2) }
         ensures nothing_sealed { IfOk result (λ step. step.notes ≡ quiet) }
         ensures err { OnErr result (self.new ≡ self.old) }
+        // What isn't answered takes no memory.
+        ensures needs_memory { OnErr result ((received : AnyReceived) × Receives bytes.now received
+            × ((named : Option HostAndPort) × NamesIn (heard_as self.old.endpoint.seen now from received) named
+            × IsAnswered (case_in self.old.targets self.old.exchanges from named (heard_as self.old.endpoint.seen now from received)))) }
     {
         let heard = self.endpoint.on_datagram(now, from, bytes);
         let case = case_of(&self.targets, &self.exchanges, from, heard);
@@ -124,17 +128,18 @@ impl Proxy {
         requires { AsksFor self.old.exchanges from case }
         ensures answered { IfOk result (λ step. Answers self.old now from draw.now case.entry step self.new) }
         ensures err { OnErr result (self.new ≡ self.old) }
+        ensures needs_memory { OnErr result (IsAnswered case.entry) }
     {
         match case {
             Case::Ignored => Ok(Step::sending(Datagrams::new(alloc))),
-            Case::Reset(id) => sending(alloc, from, &reset(id)),
+            Case::Reset(id) => sending_message(alloc, from, &reset(id)),
             Case::Repeated(id) => self.repeat(alloc, now, from, id),
             Case::Empty(kind, id) => Ok(self.settle_empty(alloc, now, from, kind, id)),
             Case::Ended(id, key) => self.end(alloc, now, from, draw, id, key),
             Case::Refused(message, why) => self.refuse(alloc, now, from, draw, message, why),
             Case::Forwarded(message, to) => self.forward(alloc, now, from, draw, message, to),
             Case::Counted(message, key) => self.count(alloc, now, from, draw, message, key),
-            Case::Rejected(message) => sending(alloc, from, &reset(message.id())),
+            Case::Rejected(message) => sending_message(alloc, from, &reset(message.id())),
             Case::Dropped(message) => Ok(self.ignore(alloc, now, from, message)),
         }
     }

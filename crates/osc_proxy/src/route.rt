@@ -1,7 +1,7 @@
 //! Where a request goes (RFC 7252 sections 5.7.2 and 5.10.2).
-ghost use Rattle.std.specs.Prelude.{◌≡◌, ◌≤◌, Option, length, option_map};
+ghost use Rattle.std.specs.Prelude.{◌≡◌, Option, option_map};
 ghost use Rattle.osc_options.specs.Recognised.{recognised};
-ghost use Rattle.osc_options.specs.Requests.{uint as uint_of, value as value_in};
+ghost use Rattle.osc_options.specs.Requests.{value as value_in};
 ghost use Rattle.osc_proxy.specs.ProxyUri.{HostAndPort};
 ghost use Rattle.osc_proxy.specs.Route as spec;
 
@@ -11,7 +11,7 @@ use crate::unsafe_options::has_unrecognised_unsafe;
 use osc_coap::MessageRef;
 use osc_model::Peer;
 use osc_options::numbers::{PROXY_SCHEME, PROXY_URI, URI_HOST, URI_PORT};
-use osc_options::value_of;
+use osc_options::{uint, value_of};
 
 /// Where a request goes.
 #[derive(Clone, Copy, Debug, PartialEq, Eq)]
@@ -25,18 +25,6 @@ pub enum Route {
     NotSupported,
     /// To this peer.
     To(Peer),
-}
-
-/// A whole number: big-endian, leading zeros don't count (RFC 7252 section 3.2).
-fn uint(bytes: &[u8]) -> u16
-    requires { length bytes.now ≤ 2 }
-    ensures { result ≡ uint_of bytes.now }
-{
-    match bytes {
-        [] => 0,
-        [low] => *low as u16,
-        [high, low, ..] => 256 * *high as u16 + *low as u16,
-    }
 }
 
 /// The port that Uri-Port names, or that of the scheme.

@@ -1,45 +1,14 @@
 //! What a proxy sends.
 ghost use Rattle.std.specs.Prelude.{◌≡◌, ◌<◌, ◌≤◌, ◌+◌, ◌++◌, ◌∷◌, [], true, IfOk, option_map};
 ghost use Rattle.osc_coap.specs.Message.{spelling};
-ghost use Rattle.osc_message.specs.Sending.{acknowledgement as acknowledgement_of};
-ghost use Rattle.osc_model.specs.Step.{sends};
-ghost use Rattle.osc_proxy.specs.Own.{datagram, goes_now, has_room, sends_own, with_own};
+ghost use Rattle.osc_message.specs.Sending.{acknowledgement as acknowledgement_of, sent_to};
+ghost use Rattle.osc_proxy.specs.Own.{goes_now, has_room, sends_own, with_own};
 ghost use Rattle.osc_proxy.specs.Going.{IsOwn, back_kept_by, back_sends_by};
-ghost use Rattle.osc_proxy.specs.Table.{sent_to};
 
 use osc_coap::{MessageBuilder, MessageRef};
-use osc_message::{Endpoint, Outbox, ReplyRoom, acknowledgement};
-use osc_model::{Bytes, Datagram, Datagrams, Draw, Moment, Peer, Step};
+use osc_message::{Endpoint, Outbox, acknowledgement};
+use osc_model::{Bytes, Draw, Moment, Peer};
 use std::alloc::{AllocError, Global};
-
-/// The step that sends these bytes to the peer.
-pub(crate) fn sending_bytes(alloc: Global, to: Peer, bytes: Bytes) -> Result<Step, AllocError>
-    ensures { IfOk result (λ step. step ≡ sends ((record { to = to; bytes = bytes }) ∷ [])) }
-{
-    let mut out = Datagrams::new(alloc);
-    out.push(Datagram { to, bytes })?;
-    Ok(Step::sending(out))
-}
-
-/// The step that sends this message to the peer.
-pub(crate) fn sending(alloc: Global, to: Peer, message: &MessageBuilder) -> Result<Step, AllocError>
-    ensures { IfOk result (λ step. step ≡ sends (datagram to message.now ∷ [])) }
-{
-    sending_bytes(alloc, to, Bytes::from_slice(alloc, message.bytes())?)
-}
-
-/// A message's datagram, and its bytes to be noted.
-pub(crate) fn noted(
-    alloc: Global,
-    to: Peer,
-    message: &MessageBuilder,
-) -> Result<(Datagrams, Bytes), AllocError>
-    ensures sent { IfOk result (λ made. made.0 ≡ datagram to message.now ∷ []) }
-    ensures noted { IfOk result (λ made. made.1 ≡ spelling message.now) }
-{
-    let room = ReplyRoom::new(alloc, message.bytes().len())?;
-    Ok(room.fill(to, message.bytes()))
-}
 
 /// Room for two datagrams, the acknowledgement of a confirmable message in the first of them, and its bytes to be noted.
 pub(crate) fn acknowledged(

@@ -11,9 +11,10 @@ use Rattle.osc_authz.specs.Table.{accepted}
 use Rattle.osc_protect.specs.Protection.{SealedRequest}
 use Rattle.osc_run.specs.ServerKinds.{Replies as AppliesTo}
 use Rattle.osc_run.specs.Texts.{read_request}
+use Rattle.osc_message.specs.Sending.{datagram}
 use Rattle.osc_server.specs.Parts.{IsServedAs}
 use Rattle.osc_server.specs.State.{State}
-use Rattle.osc_server.specs.Table.{Serves, answered, datagram}
+use Rattle.osc_server.specs.Table.{Serves, answered}
 use Rattle.osc_server.specs.declared.serving.Served.{Served}
 
 pub serves : (is_sealing : List ℕ → List ℕ → List ℕ → List ℕ → List ℕ → Type 0)

@@ -17,7 +17,7 @@ use Rattle.osc_model.specs.declared.step.Step.{Step}
 use Rattle.osc_coap.specs.Message.{Message}
 use Rattle.osc_context.specs.Derivation.{key_of}
 use Rattle.osc_message.specs.Heard.{noted_reply}
-use Rattle.osc_message.specs.Sending.{reply_start, reset}
+use Rattle.osc_message.specs.Sending.{reply_start, reset, again, datagram}
 use Rattle.osc_options.specs.Replies.{etag_option, format_option, max_age_option, with_reply}
 use Rattle.osc_options.specs.Split.{has_oscore}
 use Rattle.osc_protect.specs.Aad.{aad_of}
@@ -25,7 +25,7 @@ use Rattle.osc_protect.specs.Protection.{plain_bytes, request_nonce}
 use Rattle.osc_run.specs.ServerKinds.{reply_note}
 use Rattle.osc_run.specs.Texts.{reply_text}
 use Rattle.osc_server.specs.State.{State}
-use Rattle.osc_server.specs.Table.{Answers, AnswersProtected, Serves, again, datagram, notes_of_post, post_reply, refusal_age, reply_to, refused, served}
+use Rattle.osc_server.specs.Table.{Answers, AnswersProtected, Serves, notes_of_post, post_reply, refusal_age, reply_to, refused, served}
 use Rattle.osc_server.specs.Told.{AreTold, IsSealOf, IsToldOf, sealed_now, sent_before, unprotected}
 use Rattle.osc_server.specs.declared.case.Case.{Case}
 use Rattle.osc_server.specs.declared.case.Case.TheVariants as case

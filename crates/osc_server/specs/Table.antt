@@ -23,7 +23,7 @@ use Rattle.osc_message.specs.declared.heard.Heard.TheVariants as heard
 use Rattle.osc_message.specs.declared.handling.Handling.TheVariants.{Dropped, Answered}
 use Rattle.osc_message.specs.Heard.{noted_reply}
 use Rattle.osc_message.specs.Endpoint.{EndpointState, settled}
-use Rattle.osc_message.specs.Sending.{reset, reply_start, replied}
+use Rattle.osc_message.specs.Sending.{reset, reply_start, replied, again, datagram}
 use Rattle.osc_context.specs.Derivation.{key_of}
 use Rattle.osc_window.specs.Window.{IsFresh}
 use Rattle.osc_protect.specs.Aad.{aad_of}
@@ -43,10 +43,6 @@ use Rattle.osc_server.specs.declared.case.Case.{Case}
 use Rattle.osc_server.specs.declared.case.Case.TheVariants.{Ignored, Reset, Repeated, Empty, BadOption, ProxyAsked, Protected, Posted, NotPosted, OpenGet, Unauthorised}
 use Rattle.osc_server.specs.declared.refusal.Refusal.{Refusal}
 use Rattle.osc_server.specs.declared.refusal.Refusal.TheVariants.{Malformed, NoContext, Replayed, NotGenuine}
-
--- the message as a datagram for the peer
-abbrev pub datagram : Peer → Message → Datagram
-datagram peer message = record { to = peer; bytes = spelling message }
 
 -- ---- answers to a new request
 
@@ -76,11 +72,6 @@ pub record AnswersGet (old : State) (now : Moment) (from : Peer) (draw : Draw) (
   pub reply : Reply
   pub may : MayReply (apply old.tree old.open_scope request) reply
   pub replies : Replies old now from draw message reply step new
-
--- the bytes that answered a repeated message go out again, where it was answered
-abbrev pub again : Peer → Option Bytes → List Datagram
-again from None = []
-again from (Some bytes) = (record { to = from; bytes = bytes }) ∷ []
 
 -- ---- posts to authz-info
 

@@ -1,17 +1,14 @@
-//! The messages and the datagrams that answer.
-ghost use Rattle.std.specs.Prelude.{◌≡◌, [], ◌∷◌, IfOk};
-ghost use Rattle.osc_coap.specs.Message.{HasSpelling, spelling};
-ghost use Rattle.osc_model.specs.Step.{sends};
+//! The messages that answer.
+ghost use Rattle.std.specs.Prelude.{◌≡◌};
 ghost use Rattle.osc_server.specs.Parts.{IsShort};
-ghost use Rattle.osc_server.specs.Table.{datagram, reply_to as reply_to_of, refusal_to as refusal_to_of};
+ghost use Rattle.osc_server.specs.Table.{reply_to as reply_to_of, refusal_to as refusal_to_of};
 
 use crate::refusal::Refusal;
 use osc_coap::laws::length_of_spelling;
 use osc_coap::{MessageBuilder, MessageRef};
 use osc_message::{Endpoint, reply_kind};
-use osc_model::{Bytes, Datagram, Datagrams, Draw, Peer, Reply, Step};
+use osc_model::{Draw, Reply};
 use osc_options::{error_message, reply_message};
-use std::alloc::{AllocError, Global};
 
 /// The message that carries the reply: the acknowledgement of a confirmable request (RFC 7252 section 5.2.1), and a message
 /// of the server's own for another (section 5.2.3).
@@ -51,22 +48,4 @@ pub fn refusal_to(
         refusal.text(),
     )
     .unwrap()
-}
-
-/// The step that sends these bytes to the peer.
-pub fn sending_bytes(alloc: Global, to: Peer, bytes: Bytes) -> Result<Step, AllocError>
-    ensures { IfOk result (λ step. step ≡ sends ((record { to = to; bytes = bytes }) ∷ [])) }
-{
-    let mut out = Datagrams::new(alloc);
-    out.push(Datagram { to, bytes })?;
-    Ok(Step::sending(out))
-}
-
-/// The step that sends this message to the peer.
-pub fn sending(alloc: Global, to: Peer, message: &MessageBuilder) -> Result<Step, AllocError>
-    ensures sent { IfOk result (λ step. step ≡ sends (datagram to message.now ∷ [])) }
-    ensures lawful { IfOk result (λ _. HasSpelling message.now) }
-{
-    let bytes = Bytes::from_slice(alloc, message.bytes())?;
-    sending_bytes(alloc, to, bytes)
 }

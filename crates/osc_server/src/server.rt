@@ -14,13 +14,14 @@ ghost use Rattle.osc_model.specs.Step.{sends};
 ghost use Rattle.osc_model.specs.StepNotes.{quiet};
 ghost use Rattle.osc_model.specs.declared.node.Moment.{Moment as AnyMoment};
 ghost use Rattle.osc_run.specs.ServerKinds.{ServerStep};
+ghost use Rattle.osc_message.specs.Sending.{again, datagram};
 ghost use Rattle.osc_server.specs.Case.{IsAnswered, case_of as case_in};
 ghost use Rattle.osc_server.specs.Parts.{AsksGet, IsShort, SendsTo};
 ghost use Rattle.osc_server.specs.State.{core};
 ghost use Rattle.osc_server.specs.Told.{AreTold};
-ghost use Rattle.osc_server.specs.Table.{Answers, AnswersGet, AnswersPost, AnswersProtected, Replies, Sends, again, answered, datagram, refusal_to as refusal_to_of};
+ghost use Rattle.osc_server.specs.Table.{Answers, AnswersGet, AnswersPost, AnswersProtected, Replies, Sends, answered, refusal_to as refusal_to_of};
 
-use crate::answer::{refusal_to, reply_to, sending, sending_bytes};
+use crate::answer::{refusal_to, reply_to};
 use crate::case::{Case, case_of};
 use crate::posting::{POST_ANSWER, POST_PAYLOAD, notes_of, post_answer};
 use crate::refusal::Refusal;
@@ -28,7 +29,9 @@ use crate::serving::{Served, serve};
 use osc_authz::{Post, ServerDesk};
 use osc_ccm::Aead;
 use osc_coap::{Kind, MessageBuilder, MessageRef};
-use osc_message::{Buffer, Endpoint, Handling, Heard, ReplyRoom, reset};
+use osc_message::{
+    Buffer, Endpoint, Handling, Heard, ReplyRoom, reset, sending_bytes, sending_message,
+};
 use osc_model::{Code, Datagrams, Draw, Moment, Peer, Reply, Request, Step, StepNotes};
 use osc_protect::read_request;
 use osc_run::kinds;
@@ -161,7 +164,7 @@ impl Server {
     {
         match case {
             Case::Ignored => Ok(Step::sending(Datagrams::new(alloc))),
-            Case::Reset(id) => sending(alloc, from, &reset(id)),
+            Case::Reset(id) => sending_message(alloc, from, &reset(id)),
             Case::Repeated(id) => self.repeat(alloc, now, from, id),
             Case::Empty(kind, id) => {
                 self.settle_empty(now, from, kind, id);

@@ -4,8 +4,8 @@ use Rattle.osc_model.specs.declared.step.Datagram.{Datagram}
 use Rattle.osc_model.specs.declared.step.Note.{Note}
 use Rattle.osc_protect.specs.Protection.{IsRequestOf, RoomOf, length_of_request, longest_message}
 use Rattle.osc_run.specs.ClientKinds.{request_note}
+use Rattle.osc_message.specs.Sending.{datagram}
 use Rattle.osc_client.specs.Lying.{lies}
-use Rattle.osc_client.specs.Sending.{datagram}
 use Rattle.osc_client.proofs.lying.lie_under.Goals as goal
 
 pub returns-in-Ok : goal.returns-in-Ok

@@ -1,11 +1,12 @@
 use Rattle.std.proofs.Common.{rules, ◌≡◌, false, Some, refl, ap, ap₂, sym, ◌∙◌, ◌+◌, [], ◌∷◌, List, subst}
 use Rattle.osc_coap.specs.Message.{Message}
+use Rattle.osc_message.specs.Sending.{datagram}
 use Rattle.osc_client.specs.declared.waiting.OpenAsk.{OpenAsk}
 use Rattle.osc_client.specs.declared.waiting.Awaited.TheVariants.{Ask}
 use Rattle.osc_authz.specs.Begun.{Made}
 use Rattle.std.proofs.lemmas.Option.{same_Some}
 use Rattle.osc_client.specs.State.{State, core}
-use Rattle.osc_client.specs.Sending.{IsHindered, hindered, asks, datagram, opened, plain_of}
+use Rattle.osc_client.specs.Sending.{IsHindered, hindered, asks, opened, plain_of}
 use Rattle.osc_model.specs.StepNotes.{StepNotes, quiet}
 use Rattle.osc_model.specs.declared.step.Datagram.{Datagram}
 use Rattle.osc_model.specs.declared.step.Note.{Note}

@@ -3,7 +3,7 @@ use Rattle.osc_model.specs.StepNotes.{StepNotes, quiet}
 use Rattle.osc_model.specs.declared.step.Datagram.{Datagram}
 use Rattle.osc_coap.specs.Message.{Message}
 use Rattle.osc_options.specs.Split.{has_oscore}
-use Rattle.osc_client.specs.Sending.{datagram}
+use Rattle.osc_message.specs.Sending.{datagram}
 use Rattle.osc_client.specs.Told.{SealsNothing}
 use Rattle.osc_client.proofs.Telling.{begins_silently}
 use Rattle.osc_client.proofs.Through.{post_unprotected}

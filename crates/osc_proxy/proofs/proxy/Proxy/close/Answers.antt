@@ -1,14 +1,14 @@
 use Rattle.std.proofs.Common.{◌≡◌, ◌+◌, ◌++◌, ap, ◌∙◌, subst, Some, None}
 use Rattle.std.specs.Prelude.{OnSome}
 use Rattle.osc_message.specs.Endpoint.{EndpointState, settled}
-use Rattle.osc_message.specs.Sending.{acknowledgement}
+use Rattle.osc_message.specs.Sending.{acknowledgement, sent_to}
 use Rattle.osc_message.specs.declared.handling.Handling.TheVariants as handling
 use Rattle.osc_message.specs.declared.heard.Heard.TheVariants as heard
 use Rattle.osc_model.specs.Step.{sends}
 use Rattle.osc_proxy.specs.Exchanges.{Changes, count, get}
 use Rattle.osc_proxy.specs.Going.{back_sends_by}
 use Rattle.osc_proxy.specs.State.{State}
-use Rattle.osc_proxy.specs.Table.{answer_to, back_kept, back_sends, counted, next_own, sent_to}
+use Rattle.osc_proxy.specs.Table.{answer_to, back_kept, back_sends, counted, next_own}
 use Rattle.osc_proxy.proofs.Goes.{back_kept_is, back_sends_is}
 use Rattle.osc_proxy.proofs.proxy.Proxy.close.Goals as goal
 

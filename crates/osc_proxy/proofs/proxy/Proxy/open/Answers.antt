@@ -1,14 +1,14 @@
 use Rattle.std.proofs.Common.{◌≡◌, ◌+◌, ◌++◌, sym, ap, ◌∙◌, subst, Some, false}
 use Rattle.osc_coap.specs.Message.{spelling}
 use Rattle.osc_message.specs.Endpoint.{EndpointState, settled}
-use Rattle.osc_message.specs.Sending.{acknowledgement, is_confirmable}
+use Rattle.osc_message.specs.Sending.{acknowledgement, is_confirmable, sent_to}
 use Rattle.osc_message.specs.declared.handling.Handling.TheVariants as handling
 use Rattle.osc_message.specs.declared.heard.Heard.TheVariants as heard
 use Rattle.osc_model.specs.Step.{sends}
 use Rattle.osc_proxy.specs.Exchanges.{Changes, count, get}
 use Rattle.osc_proxy.specs.Own.{goes_now, sends_own, with_own}
 use Rattle.osc_proxy.specs.State.{State}
-use Rattle.osc_proxy.specs.Table.{exchange_of, forwarded_by, next_own, sent_to, sent_when, taken_up}
+use Rattle.osc_proxy.specs.Table.{exchange_of, forwarded_by, next_own, sent_when, taken_up}
 use Rattle.osc_proxy.specs.declared.exchanges.Exchange.{Exchange}
 use Rattle.osc_proxy.proofs.Goes.{made_is, sent_is}
 use Rattle.osc_proxy.proofs.Keys.{next_is}
