@@ -9,6 +9,10 @@ most_text = 65535
 abbrev pub most_aad : ℕ
 most_aad = 65279
 
+-- the most bytes of a tag (RFC 3610 section 2)
+abbrev pub most_tag : ℕ
+most_tag = 16
+
 -- a text and associated data of these lengths can be sealed
 abbrev pub IsInRange : ℕ → ℕ → Type 0
 IsInRange text_length aad_length = (text_length ≤ most_text) × (aad_length ≤ most_aad)

@@ -1,8 +1,7 @@
 //! Authenticated encryption with associated data, as a trait with a law.
 
 ghost use Rattle.std.specs.Prelude.{◌≡◌, ◌↔◌, ℕ, ◌+◌, ◌-◌, ◌<◌, ◌≤◌, IfOk, OnErr, List, length, take, drop};
-ghost use Rattle.osc_ccm.specs.declared.aead.TheConstants.{TAG_LIMIT};
-ghost use Rattle.osc_ccm.specs.Limits.{IsInRange, IsTooLong};
+ghost use Rattle.osc_ccm.specs.Limits.{IsInRange, IsTooLong, most_tag};
 
 use crate::error::{OpenError, SealError};
 
@@ -108,5 +107,5 @@ pub trait Aead: Drop {
         is_sealing key nonce aad text sealed → IsInRange (length text) (length aad) };
 
     // So a sealing's length doesn't overflow.
-    ghost short_tag: { TAG ≤ TAG_LIMIT };
+    ghost short_tag: { TAG ≤ most_tag };
 }
