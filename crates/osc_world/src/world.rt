@@ -86,6 +86,7 @@ impl World {
         one_history();
         own_nonces();
         let done = self.happens::<A>(alloc, event);
+        // The clauses of runs are the world's invariant after it.
         let _ = &self.minted;
         done
     }
@@ -116,6 +117,7 @@ impl World {
         one_history();
         own_nonces();
         let done = self.happen::<A>(alloc, events);
+        // The clauses of runs are the world's invariant after it.
         let _ = &self.minted;
         done
     }
@@ -146,6 +148,7 @@ impl World {
         one_history();
         own_nonces();
         let done = self.rounds::<A, D>(alloc, now, draws, limit);
+        // The clauses of runs are the world's invariant after it.
         let _ = &self.minted;
         done
     }
@@ -230,6 +233,7 @@ impl World {
         ensures one_history { HasOneHistory self.now }
     {
         one_history();
+        // The clauses of runs are the world's invariant after it.
         let _ = &self.minted;
         self.nodes.server().tree()
     }
@@ -302,6 +306,7 @@ impl World {
         one_history();
         own_nonces();
         self.skips(client, number);
+        // The clauses of runs are the world's invariant after it.
         let _ = &self.minted;
     }
 
