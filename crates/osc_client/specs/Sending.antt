@@ -8,7 +8,6 @@ use Rattle.osc_model.specs.declared.node.Moment.{Moment}
 use Rattle.osc_model.specs.declared.node.Peer.{Peer}
 use Rattle.osc_model.specs.declared.request.Request.{Request}
 use Rattle.osc_model.specs.declared.step.ClientResult.TheVariants.{Refused, TimedOut}
-use Rattle.osc_model.specs.declared.step.Datagram.{Datagram}
 use Rattle.osc_model.specs.declared.step.Step.{Step}
 use Rattle.osc_cbor.specs.Spelling.{spelling as item_spelling}
 use Rattle.osc_coap.specs.Building.{bare, payload_of}

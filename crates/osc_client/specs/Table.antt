@@ -1,9 +1,8 @@
 -- What a client sends in each case, and what it keeps after it.
-use Rattle.std.specs.Prelude.{◌≡◌, ℕ, Bool, true, false, List, [], ◌∷◌, Option, Some, None, option_map}
+use Rattle.std.specs.Prelude.{◌≡◌, ℕ, Bool, true, false, List, [], ◌∷◌, Some, None, option_map}
 use Rattle.osc_model.specs.Code.{code}
 use Rattle.osc_model.specs.Step.{sends}
 use Rattle.osc_model.specs.StepNotes.{quiet}
-use Rattle.osc_model.specs.declared.bytes.Bytes.{Bytes}
 use Rattle.osc_model.specs.declared.node.Moment.{Moment}
 use Rattle.osc_model.specs.declared.node.Peer.{Peer}
 use Rattle.osc_model.specs.declared.step.ClientResult.TheVariants.{Unverified}

@@ -1,5 +1,5 @@
 //! A client that runs on a socket: one exchange, and one protected request.
-ghost use Rattle.std.specs.Prelude.{◌≡◌, ◌≢◌, ◌⊎◌, IfOk, IfSome, None, option_map, string_bytes};
+ghost use Rattle.std.specs.Prelude.{◌≡◌, ◌⊎◌, IfOk, IfSome, None, option_map, string_bytes};
 ghost use Rattle.std.specs.Io.KnownBytes.{Appends};
 ghost use Rattle.osc_client.specs.State.{State as AnyClient};
 ghost use Rattle.osc_client.specs.Way.{HostAndPort};

@@ -1,5 +1,5 @@
 //! What a proxy sends.
-ghost use Rattle.std.specs.Prelude.{◌≡◌, ◌<◌, ◌≤◌, ◌+◌, ◌++◌, ◌∷◌, [], true, IfOk, option_map};
+ghost use Rattle.std.specs.Prelude.{◌≡◌, ◌<◌, ◌≤◌, ◌+◌, ◌++◌, true, IfOk, option_map};
 ghost use Rattle.osc_coap.specs.Message.{spelling};
 ghost use Rattle.osc_message.specs.Sending.{acknowledgement as acknowledgement_of, sent_to};
 ghost use Rattle.osc_proxy.specs.Own.{goes_now, has_room, sends_own, with_own};

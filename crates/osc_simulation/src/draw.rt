@@ -1,6 +1,5 @@
 //! The draws of a simulation's events.
-ghost use Rattle.std.specs.Prelude.{◌≡◌, ◌*◌, ◌%◌, ◌+◌, ℕ};
-ghost use Rattle.osc_model.specs.declared.node.Draw.{Draw as AnyDraw};
+ghost use Rattle.std.specs.Prelude.{◌≡◌, ◌*◌, ◌%◌, ◌+◌};
 ghost use Rattle.osc_simulation.specs.Draw as spec;
 
 use osc_model::Draw;

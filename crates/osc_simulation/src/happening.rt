@@ -1,5 +1,5 @@
 //! What happens by a line of a script.
-ghost use Rattle.std.specs.Prelude.{◌≡◌, IfOk, Some, option_map, slice_get};
+ghost use Rattle.std.specs.Prelude.{◌≡◌, IfOk, Some, option_map};
 ghost use Rattle.osc_simulation.specs.Events as spec;
 
 use crate::copies::{altered, grafted};

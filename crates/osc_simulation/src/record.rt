@@ -1,5 +1,5 @@
 //! What an event of a world prints.
-ghost use Rattle.std.specs.Prelude.{◌≡◌, ◌<◌, ◌+◌, ◌++◌, ◌^◌, IfOk, codes, length, option_map, reverse, string_bytes};
+ghost use Rattle.std.specs.Prelude.{◌≡◌, ◌<◌, ◌+◌, ◌^◌, IfOk, length, option_map, reverse, string_bytes};
 ghost use Rattle.osc_model.specs.declared.step.ClientResult.TheVariants.{Answer, Unverified};
 ghost use Rattle.osc_simulation.specs.Records as spec;
 ghost use Rattle.osc_simulation.specs.Records.{NamesPeer, PrintAllRecords, PrintAllSent, PrintsRecord, PrintsSent, TellsMessage};
