@@ -6,7 +6,8 @@ context off the wire: both nonces, and both ids.
     unprotect.py SECRET LISTEN_PORT SERVER_PORT
 
 It passes datagrams on between one client and the server until nothing came for two seconds, and then prints a line for each: who sent it, its code,
-and for a protected message the code, the request's Partial IV and the plaintext, each in hexadecimal."""
+and for a protected message the code, the request's Partial IV and the plaintext, each in hexadecimal. A line behind them has the context: both ids and the
+master salt."""
 import select
 import socket
 import sys
@@ -109,6 +110,7 @@ class Context:
 class Wire:
     def __init__(self, secret):
         self.secret, self.asked, self.requests, self.context = secret, None, {}, None
+        self.told = "no context"
 
     def line(self, sender, datagram):
         message = Message(datagram)
@@ -132,7 +134,9 @@ class Wire:
     def exchange(self, answer):
         """Both nonces make the master salt (RFC 9203 section 4.3), and each end says by which id it wants to be addressed."""
         salt = cbor(b"") + cbor(self.asked[NONCE1]) + cbor(answer[NONCE2])
-        self.context = Context(self.secret, salt, answer[SERVER_RECIPIENT_ID], self.asked[CLIENT_RECIPIENT_ID])
+        client_id, server_id = answer[SERVER_RECIPIENT_ID], self.asked[CLIENT_RECIPIENT_ID]
+        self.context = Context(self.secret, salt, client_id, server_id)
+        self.told = f"context {client_id.hex()} {server_id.hex()} {salt.hex()}"
 
 
 def main():
@@ -153,7 +157,7 @@ def main():
             else:
                 lines.append(wire.line("server", datagram))
                 inner.sendto(datagram, client)
-    print("\n".join(lines))
+    print("\n".join([*lines, wire.told]))
 
 
 main()
