@@ -1,7 +1,7 @@
 //! `osc token`: what it prints, and the values of its options.
 use crate::broken::BrokenWriter;
 use crate::words::refused;
-use osc_programs::{Ended, drawn_iv, iv_of, token};
+use osc_programs::{Ended, drawn_iv, issue_token, token};
 use osc_words::{TokenWords, Words, read_words};
 use std::alloc::{AllocError, Global};
 use std::io::Write;
@@ -100,7 +100,7 @@ const WITHOUT_IV: [&str; 12] = [
 // What `osc token` writes for the words, under an IV of its own.
 fn drawn_token(rt: &HostRuntime, words: &TokenWords) -> Result<Vec<u8>, Fail> {
     let mut written = Vec::new(rt.alloc());
-    match token(rt.alloc(), words, &iv_of(rt, words)?, &mut written) {
+    match issue_token(rt.alloc(), rt, words, &mut written) {
         Ended::Done => Ok(written),
         _ => Err("no token".into()),
     }
