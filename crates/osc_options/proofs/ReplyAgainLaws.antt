@@ -9,10 +9,9 @@ use Rattle.osc_coap.specs.Message.{NumberAndValue, Message, AreOptions}
 use Rattle.osc_coap.specs.Plaintext.{HasPlaintextSpelling}
 use Rattle.osc_options.specs.Split.{inner_options, plaintext_of}
 use Rattle.osc_coap.specs.Building.{payload_of}
-use Rattle.osc_options.specs.Recognised.{recognised}
+use Rattle.osc_options.specs.Recognised.{recognised, unrecognised_critical}
 use Rattle.osc_options.specs.Requests.{uint, value}
 use Rattle.osc_options.specs.Replies.{uint_bytes, etag_option, format_option, reply_options, with_reply}
-use Rattle.osc_options.specs.PlaintextRequests.{unheeded}
 use Rattle.osc_options.specs.PlaintextReplies.{reply_plaintext, etag_in, reply_in}
 
 le_test : (m n : ℕ) → m ≤ n → nat_le m n ≡ true
@@ -46,8 +45,8 @@ payload_again (b ∷ bytes) = refl
 
 -- ---- the options of a reply
 
--- none of them is refused
-pub reply_heeded : (etag : Option (List ℕ)) (format : Option ℕ) → unheeded 0 (etag_option etag ++ format_option format) ≡ None
+-- none of them is critical
+pub reply_heeded : (etag : Option (List ℕ)) (format : Option ℕ) → unrecognised_critical 0 (etag_option etag ++ format_option format) ≡ None
 reply_heeded None None = refl
 reply_heeded None (Some n) = refl
 reply_heeded (Some tag) None = refl

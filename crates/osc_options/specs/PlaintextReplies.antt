@@ -6,10 +6,9 @@ use Rattle.osc_coap.specs.Plaintext.{Plaintext}
 use Rattle.osc_coap.specs.Building.{payload_of}
 use Rattle.osc_options.specs.declared.error.PlaintextError.{PlaintextError}
 use Rattle.osc_options.specs.declared.error.PlaintextError.TheVariants.{Format, BadOption}
-use Rattle.osc_options.specs.Recognised.{recognised}
+use Rattle.osc_options.specs.Recognised.{recognised, unrecognised_critical}
 use Rattle.osc_options.specs.Requests.{uint, value}
 use Rattle.osc_options.specs.Replies.{reply_options}
-use Rattle.osc_options.specs.PlaintextRequests.{unheeded}
 
 -- ---- written
 
@@ -38,9 +37,10 @@ abbrev pub heeded_reply : Option ℕ → Reply → Result Reply PlaintextError
 heeded_reply None reply = Ok reply
 heeded_reply (Some number) reply = Err (BadOption number)
 
--- the reply that a plaintext is, or the first reason why it is none
+-- The reply that a plaintext is, or the first reason why it is none. An option of class U is left out like any other that is
+-- recognised.
 abbrev pub reply_of_plaintext : Plaintext → Result Reply PlaintextError
-reply_of_plaintext p = if is_response_code p.code then heeded_reply (unheeded 0 p.options) (reply_with p) else Err Format
+reply_of_plaintext p = if is_response_code p.code then heeded_reply (unrecognised_critical 0 p.options) (reply_with p) else Err Format
 
 abbrev pub if_reply : Result Reply PlaintextError → Option Reply
 if_reply (Ok reply) = Some reply

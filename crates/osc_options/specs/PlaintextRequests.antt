@@ -12,7 +12,7 @@ use Rattle.osc_options.specs.Recognised.{is_recognised}
 use Rattle.osc_options.specs.Split.{same_class}
 use Rattle.osc_options.specs.Requests.{request_in}
 
--- The first option that must not stand inside, by its number: one of class U, recognised or not, or a critical one that
+-- The first option that must not stand inside a request, by its number: one of class U, recognised or not, or a critical one that
 -- isn't recognised. `before` is the number of the option before these.
 abbrev pub unheeded : ℕ → List NumberAndValue → Option ℕ
 unheeded before [] = None

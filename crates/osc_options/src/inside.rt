@@ -1,4 +1,4 @@
-//! What must not stand in a plaintext (RFC 7252 section 5.4.1, RFC 8613 section 4.1).
+//! What must not stand in the plaintext of a request (RFC 7252 section 5.4.1, RFC 8613 section 4.1).
 ghost use Rattle.std.specs.Prelude.{◌≡◌};
 ghost use Rattle.osc_options.specs.PlaintextRequests.{unheeded as unheeded_in};
 

@@ -25,19 +25,26 @@ pub fn is_recognised(before: u16, number: u16, value: &[u8]) -> bool
     }
 }
 
-/// The first critical option that isn't recognised, by its number: a message with one is refused (RFC 7252
-/// section 5.4.1).
-pub fn unrecognised_critical(message: &MessageRef<'_>) -> Option<u16>
-    ensures { result ≡ spec.unrecognised_critical 0 message.now.options }
+/// The first critical option that isn't recognised, by its number.
+pub(crate) fn unrecognised_among(options: Options<'_>) -> Option<u16>
+    ensures { result ≡ spec.unrecognised_critical 0 options.entry }
 {
     let mut before = 0;
-    for (number, value) in message.options() {
+    for (number, value) in options {
         if is_critical(number) && !is_recognised(before, number, value) {
             return Some(number);
         }
         before = number;
     }
     None
+}
+
+/// The first critical option of a message that isn't recognised, by its number: a message with one is refused (RFC 7252
+/// section 5.4.1).
+pub fn unrecognised_critical(message: &MessageRef<'_>) -> Option<u16>
+    ensures { result ≡ spec.unrecognised_critical 0 message.now.options }
+{
+    unrecognised_among(message.options())
 }
 
 /// Whether an option of this number stands in the message, recognised or not.

@@ -11,9 +11,8 @@ ghost use Rattle.osc_options.specs.PlaintextRequests.{IsMemoryAside};
 ghost use Rattle.osc_options.specs.PlaintextReplies as spec;
 
 use crate::error::PlaintextError;
-use crate::inside::unheeded;
 use crate::numbers::{CONTENT_FORMAT, ETAG, MAX_AGE};
-use crate::recognised::{RecognisedOptions, first_value, recognised_options};
+use crate::recognised::{RecognisedOptions, first_value, recognised_options, unrecognised_among};
 use crate::request::uint_of;
 use arrayvec::ArrayVec;
 use osc_coap::laws::length_of_spelling;
@@ -115,15 +114,15 @@ fn heeded(alloc: Global, plaintext: &PlaintextRef<'_>) -> Result<Reply, Plaintex
     if !is_response_code(plaintext.code()) {
         return Err(PlaintextError::Format);
     }
-    if let Some(number) = unheeded(plaintext) {
+    if let Some(number) = unrecognised_among(plaintext.options()) {
         return Err(PlaintextError::BadOption(number));
     }
     reply_with(alloc, plaintext).map_err(|_| PlaintextError::Memory)
 }
 
 /// The reply that these bytes are as a plaintext (RFC 8613 section 5.3). The error is `Format` where they are no
-/// plaintext or its code is none of a response, and else `BadOption` where an option of class U, or a critical one that
-/// isn't recognised, stands in it. An ETag of another length than 8 is left out.
+/// plaintext or its code is none of a response, and else `BadOption` where a critical option that isn't recognised stands
+/// in it. What else isn't part of a reply is left out: an option of class U, and an ETag of another length than 8.
 pub fn reply_of(alloc: Global, plaintext: &[u8]) -> Result<Reply, PlaintextError>
     ensures plain { (p : Plaintext) → SpellsPlaintext plaintext.now p
         → IsMemoryAside PlaintextError.Memory (spec.reply_of_plaintext p) result }

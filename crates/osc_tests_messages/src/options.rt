@@ -352,14 +352,21 @@ fn the_plaintext_of_a_reply(rt: HostRuntime) {
     assert!(rt; plaintext.bytes() == REPLY);
 }
 
+/// The same with the options of class U inside, which don't matter: Uri-Host, Uri-Port, OSCORE, Proxy-Uri, Proxy-Scheme.
+const REPLY_WITH_CLASS_U: &[u8] =
+    b"\x45\x31h\x18abcdefgh\x31\x07\x20\x31\x2a\xd1\x0au\x44coap\xffhi";
+
 /// Plaintexts that are no reply, and the error of each; one with an ETag of another length, which is left out, is a reply.
-const NO_REPLIES: [(&[u8], Option<PlaintextError>); 6] = [
+/// An option of class U that isn't recognised is critical: a Uri-Host without a byte, a second Proxy-Scheme.
+const NO_REPLIES: [(&[u8], Option<PlaintextError>); 8] = [
     (b"\x45\x41a", None),
     (b"\x01", Some(PlaintextError::Format)),
     (b"\x3f", Some(PlaintextError::Format)),
     (b"\xc0", Some(PlaintextError::Format)),
     (b"\x45\xff", Some(PlaintextError::Format)),
     (b"\x45\xd0\x00", Some(PlaintextError::BadOption(13))),
+    (b"\x45\x30", Some(PlaintextError::BadOption(3))),
+    (b"\x45\xd1\x1ac\x01c", Some(PlaintextError::BadOption(39))),
 ];
 
 /// The ETag of the reply that the plaintext is.
@@ -375,6 +382,7 @@ fn is_the_reply(alloc: Global, plaintext: &[u8]) -> Result<bool, AllocError> {
 #[test]
 fn an_encrypted_reply(rt: HostRuntime) {
     assert!(rt; is_the_reply(rt.alloc(), REPLY).ok() == Some(true));
+    assert!(rt; is_the_reply(rt.alloc(), REPLY_WITH_CLASS_U).ok() == Some(true));
     assert!(rt; etag_in(rt.alloc(), b"\x45\x41a").is_none());
     for (plaintext, error) in NO_REPLIES {
         assert!(rt;

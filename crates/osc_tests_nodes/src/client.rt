@@ -2,9 +2,12 @@
 ghost use Rattle.std.specs.Prelude.{◌≡◌, ◌<◌, IfOk};
 
 use osc_authz::{ClientDesk, ServerDesk};
-use osc_ccm::Ccm;
+use osc_ccm::{Aead, Ccm};
 use osc_client::{Client, Way};
-use osc_model::{Bytes, ClientResult, Code, Draw, ETags, Moment, Path, Peer, Request, Step};
+use osc_context::{derive, nonce_for};
+use osc_model::{
+    Bytes, ClientResult, Code, ContextName, Draw, ETags, Moment, Path, Peer, Request, Side, Step,
+};
 use osc_scope::Scope;
 use osc_server::Server;
 use osc_token::{Audience, Claims, InputMaterial, MintError, mint};
@@ -251,6 +254,81 @@ fn an_exchange_and_three_requests(rt: HostRuntime) -> Result<(), Fail> {
     drop(server);
     drop(client);
     served
+}
+
+/// The acknowledgement of a client's message that answers it, with this code and what stands behind the token.
+fn answering(alloc: Global, code: u8, message: &[u8], rest: &[u8]) -> Result<Vec<u8>, Fail> {
+    let mut answer = Vec::from_slice(alloc, &[0x68, code])?;
+    answer.extend_from_slice(message.get(2..12).ok_or("a short message")?)?;
+    answer.extend_from_slice(rest)?;
+    Ok(answer)
+}
+
+/// An answer to a post: a nonce of twos, and the ID 01.
+const AGREED: &[u8] =
+    b"\xc1\x13\xff\xa2\x18\x2a\x48\x02\x02\x02\x02\x02\x02\x02\x02\x18\x2c\x41\x01";
+
+/// The name of the context that this answer makes of a post with a nonce of ones (RFC 9203 section 4.3).
+fn agreed_name(alloc: Global) -> Result<ContextName, AllocError> {
+    let salt = b"\x40\x48\x01\x01\x01\x01\x01\x01\x01\x01\x48\x02\x02\x02\x02\x02\x02\x02\x02";
+    let secret = Bytes::from_slice(alloc, &SECRET)?;
+    let salt = Bytes::from_slice(alloc, salt)?;
+    let client_id = Bytes::from_slice(alloc, b"\x01")?;
+    let server_id = Bytes::from_slice(alloc, b"\x00")?;
+    Ok(ContextName {
+        secret,
+        salt,
+        id_context: None,
+        client_id,
+        server_id,
+    })
+}
+
+/// The associated data of the request of number 0 under it, and of its response (RFC 8613 section 5.4).
+const AAD: &[u8] = b"\x83\x68Encrypt0\x40\x49\x85\x01\x81\x0a\x41\x01\x41\x00\x40";
+
+/// The protected response to that request in which a server seals this text.
+fn responding(alloc: Global, message: &[u8], text: &[u8]) -> Result<Vec<u8>, Fail> {
+    let name = agreed_name(alloc)?;
+    let (sender, _) = derive(alloc, &name, Side::Server)?;
+    let nonce = nonce_for(sender.common_iv(), b"\x01", 0);
+    let mut sealed = [0; 64];
+    let count = Ccm::<8>::from_key(sender.key()).seal(&nonce, AAD, text, &mut sealed)?;
+    drop(sender);
+    drop(name);
+    let mut rest = Vec::from_slice(alloc, b"\x90\xff")?;
+    rest.extend_from_slice(sealed.get(..count).ok_or("a long text")?)?;
+    answering(alloc, 0x44, message, &rest)
+}
+
+/// Texts that a server may seal, and how each goes on at the client: one with an unrecognised critical option, as 13 or an empty
+/// Uri-Host, is no answer, and one with recognised options of class U (Uri-Host, Proxy-Uri, Proxy-Scheme) is.
+const RESPONSES: [(&[u8], u8); 3] = [
+    (b"\x45\xd0\x00\xffhi", 0),
+    (b"\x45\x30\xffhi", 0),
+    (b"\x45\x31h\xd1\x13u\x44coap\xffhi", 69),
+];
+
+fn takes_answers(rt: &impl Abort, alloc: Global, client: &mut Client) -> Result<(), Fail> {
+    let get = request(alloc, 1, b"")?;
+    let post = begun(alloc, client, 1);
+    let agreed = answering(alloc, 0x41, &post, AGREED)?;
+    assert!(rt; heard(alloc, client, &agreed) == 1);
+    let protected = asked(alloc, client, &get, 2);
+    for (text, told) in RESPONSES {
+        let response = responding(alloc, &protected, text)?;
+        assert!(rt; heard(alloc, client, &response) == told, "at {text:?}");
+    }
+    drop(get);
+    Ok(())
+}
+
+#[test]
+fn an_answer_with_options_of_class_u(rt: HostRuntime) -> Result<(), Fail> {
+    let mut client = client(rt.alloc())?;
+    let taken = takes_answers(&rt, rt.alloc(), &mut client);
+    drop(client);
+    taken
 }
 
 /// What a client seals at a number that it hasn't taken yet is served, and the request that takes the number is a replay. After the

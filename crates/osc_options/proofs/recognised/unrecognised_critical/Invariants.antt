@@ -1,6 +1,0 @@
-use Rattle.std.proofs.Common.{◌≡◌}
-use Rattle.osc_options.specs.Recognised.{unrecognised_critical}
-use Rattle.osc_options.proofs.recognised.unrecognised_critical.Given as goal
-
-abbrev pub invariant-loop-number : goal.invariant-loop-number
-invariant-loop-number l = unrecognised_critical l.before l.number-iterator ≡ unrecognised_critical 0 l.message.options
