@@ -73,6 +73,36 @@ none_from test (Some exchange ∷ rest) base e =
 pub none_is_there : (test : Exchange → Bool) (table : Table) → count table ≡ 0 → first_key test table ≡ None
 none_is_there test table e = none_from test table.slots 0 e
 
+first_fails : (test : Exchange → Bool) (first : Exchange) (base : ℕ) (rest : List (Option Exchange))
+    → key_of (cond (test first) (Some (base, first)) (first_from test (base + 1) rest)) ≡ None
+    → (test first ≡ false) × (key_of (first_from test (base + 1) rest) ≡ None)
+first_fails test first base rest none =
+    elim (cases_Bool (test first)) [
+      | inl passes ↦
+          let wrong : Some base ≡ None = rw passes at none in
+          absurd (cc)
+      | inr fails ↦ (fails, rw fails at none)
+    ]
+
+none_at : (test : Exchange → Bool) (slots : List (Option Exchange)) (base : ℕ) → key_of (first_from test base slots) ≡ None
+    → (key : ℕ) (exchange : Exchange) → slice_index_or slots key None ≡ Some exchange → test exchange ≡ false
+none_at test [] base none key exchange is = absurd (cc)
+none_at test (None ∷ rest) base none zero exchange is = absurd (cc)
+none_at test (None ∷ rest) base none (suc key) exchange is = none_at test rest (base + 1) none key exchange is
+none_at test (Some first ∷ rest) base none key exchange is =
+    behind (first_fails test first base rest none) (none_at test rest (base + 1)) key is
+  where
+    behind : (test first ≡ false) × (key_of (first_from test (base + 1) rest) ≡ None)
+        → (key_of (first_from test (base + 1) rest) ≡ None → (k : ℕ) (e : Exchange) → slice_index_or rest k None ≡ Some e → test e ≡ false)
+        → (k : ℕ) → slice_index_or (Some first ∷ rest) k None ≡ Some exchange → test exchange ≡ false
+    behind fails later zero here = ap test (sym (same_Some first exchange here)) ∙ fails.0
+    behind fails later (suc k) there = later fails.1 k exchange there
+
+-- where no key is found, no exchange passes
+pub none_passes : (test : Exchange → Bool) (table : Table) → first_key test table ≡ None → (key : ℕ) (exchange : Exchange) → get table key ≡ Some exchange
+    → test exchange ≡ false
+none_passes test table none key exchange is = none_at test table.slots 0 none key exchange is
+
 one_key : (room full : Bool) (next key : ℕ) → (if room then (if full then None else Some next) else None) ≡ Some key → next ≡ key
 one_key true true next key e = absurd (cc)
 one_key true false next key e = same_Some next key e

@@ -5,4 +5,6 @@ mod OptionLaws
 mod Keys
 mod Goes
 mod Ending
+mod Ends
+mod Marks
 mod Steps

@@ -1,8 +1,11 @@
 -- What a case tells of what it names, for the step that answers it; no public contract rests on it.
-use Rattle.std.specs.Prelude.{◌≡◌, ◌<◌, ◌≤◌, ℕ, true, length, Some}
+use Rattle.std.specs.Prelude.{◌≡◌, ◌<◌, ◌≤◌, ℕ, Bool, true, false, length, Some}
 use Rattle.osc_model.specs.declared.node.Peer.{Peer}
+use Rattle.osc_coap.specs.Code.{is_request_code}
 use Rattle.osc_coap.specs.Length.{datagram_limit}
 use Rattle.osc_coap.specs.Message.{Message as CoapMessage, spelling}
+use Rattle.osc_coap.specs.declared.kind.Kind.{Kind}
+use Rattle.osc_coap.specs.declared.kind.Kind.TheVariants.{Acknowledgement, Reset as ResetKind}
 use Rattle.osc_message.specs.declared.heard.Heard.{Heard}
 use Rattle.osc_message.specs.declared.heard.Heard.TheVariants.{Message}
 use Rattle.osc_proxy.specs.Exchanges.{Table, answers, get}
@@ -14,6 +17,17 @@ use Rattle.osc_proxy.specs.declared.exchanges.Exchange.{Exchange}
 abbrev pub IsShort : Heard → Type 0
 IsShort (Message message) = length (spelling message) ≤ datagram_limit
 IsShort heard = Unit {0}
+
+-- acknowledgements and Resets name a message by their message ID
+abbrev pub names_one : Kind → Bool
+names_one Acknowledgement = true
+names_one ResetKind = true
+names_one kind = false
+
+-- they carry no request
+abbrev pub IsApart : Heard → Type 0
+IsApart (Message message) = is_request_code message.code ≡ true → names_one message.kind ≡ false
+IsApart heard = Unit {0}
 
 -- there is an exchange of this key
 pub record IsOpen (exchanges : Table) (key : ℕ) : Type 0 where
@@ -30,7 +44,7 @@ pub record CanCount (exchanges : Table) (from : Peer) (message : CoapMessage) (k
 
 abbrev pub AsksFor : Table → Peer → Case → Type 0
 AsksFor exchanges from (Ended id key) = IsOpen exchanges key
-AsksFor exchanges from (Refused message why) = 0 < why.0
-AsksFor exchanges from (Forwarded message to) = 0 < message.code
+AsksFor exchanges from (Refused message why) = (0 < why.0) × (names_one message.kind ≡ false)
+AsksFor exchanges from (Forwarded message to) = (0 < message.code) × (names_one message.kind ≡ false)
 AsksFor exchanges from (Counted message key) = CanCount exchanges from message key
 AsksFor exchanges from case = Unit {0}

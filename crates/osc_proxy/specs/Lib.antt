@@ -10,6 +10,7 @@ pub mod Exchanges
 pub mod Bounds
 pub mod Case
 pub mod State
+pub mod Ends
 pub mod Own
 pub mod Going
 pub mod Table

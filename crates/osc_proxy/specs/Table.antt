@@ -17,7 +17,7 @@ use Rattle.osc_message.specs.Heard.{noted_reply}
 use Rattle.osc_message.specs.Sending.{acknowledgement, is_confirmable, replied, reply_start, reset, again, datagram, sent_to}
 use Rattle.osc_message.specs.declared.handling.Handling.TheVariants as handling
 use Rattle.osc_message.specs.declared.heard.Heard.TheVariants as heard
-use Rattle.osc_proxy.specs.Exchanges.{Changes, Table, count, free_key, get}
+use Rattle.osc_proxy.specs.Exchanges.{Changes, Table, all_left, count, free_key, get, left_by}
 use Rattle.osc_proxy.specs.Forwarding.{answer, forwarded, forwarded_token}
 use Rattle.osc_proxy.specs.Own.{goes_now, has_room, kind_of, sends_own, with_own}
 use Rattle.osc_proxy.specs.State.{State}
@@ -134,9 +134,15 @@ abbrev pub counted : State → Moment → Peer → Message → Exchange → Endp
 counted old now from message exchange =
     settled old.endpoint now from (heard.Message message) (handling.Counted exchange.id (option_map spelling (acknowledgement message)))
 
+-- the exchanges that are left then
+abbrev pub left_counted : Moment → Peer → Message → Exchange → Table → Table
+left_counted now from message exchange table = all_left now from exchange.id (left_by now from message.kind message.id table)
+
 pub record Counts (key : ℕ) (old : State) (now : Moment) (from : Peer) (draw : Draw) (message : Message) (step : Step) (new : State) : Type 0 where
   pub exchange : Exchange
-  pub closes : Closes key exchange old.exchanges new.exchanges
+  pub closed : Table
+  pub closes : Closes key exchange old.exchanges closed
+  pub others : new.exchanges ≡ left_counted now from message exchange closed
   pub told : step
       ≡ sends (sent_to from (acknowledgement message)
       ++ back_sends (counted old now from message exchange) exchange (answer_to (next_own old draw) exchange message))
@@ -151,7 +157,9 @@ named old now from id = settled old.endpoint now from (heard.Empty ResetKind id)
 -- the forwarded message was rejected by a Reset: 5.02 (Bad Gateway)
 pub record Ends (key id : ℕ) (old : State) (now : Moment) (from : Peer) (draw : Draw) (step : Step) (new : State) : Type 0 where
   pub exchange : Exchange
-  pub closes : Closes key exchange old.exchanges new.exchanges
+  pub closed : Table
+  pub closes : Closes key exchange old.exchanges closed
+  pub others : new.exchanges ≡ all_left now from id closed
   pub told : step ≡ sends (back_sends (named old now from id) exchange (failure (code 5 2) (next_own old draw) exchange))
   pub targets : new.targets ≡ old.targets
   pub endpoint : new.endpoint ≡ back_kept (named old now from id) now draw exchange (failure (code 5 2) (next_own old draw) exchange)
@@ -163,11 +171,21 @@ Answers old now from draw Ignored step new = (step ≡ sends []) × (new ≡ old
 Answers old now from draw (Reset id) step new = (step ≡ sends (datagram from (reset id) ∷ [])) × (new ≡ old)
 Answers old now from draw (Repeated id) step new = (step ≡ sends (again from (noted_reply old.endpoint.seen now from id))) × (new ≡ old)
 Answers old now from draw (Empty kind id) step new =
-    (step ≡ sends []) × (new ≡ record old { endpoint = settled old.endpoint now from (heard.Empty kind id) handling.Dropped })
+    (step ≡ sends [])
+    × (new
+    ≡ record old {
+      exchanges = all_left now from id old.exchanges;
+      endpoint = settled old.endpoint now from (heard.Empty kind id) handling.Dropped;
+    })
 Answers old now from draw (Ended id key) step new = Ends key id old now from draw step new
 Answers old now from draw (Refused message why) step new = IsRefused why old now from draw message step new
 Answers old now from draw (Forwarded message to) step new = ForwardsBy (key_for old message to) old now from draw message to step new
 Answers old now from draw (Counted message key) step new = Counts key old now from draw message step new
 Answers old now from draw (Rejected message) step new = (step ≡ sends (datagram from (reset message.id) ∷ [])) × (new ≡ old)
 Answers old now from draw (Dropped message) step new =
-    (step ≡ sends []) × (new ≡ record old { endpoint = settled old.endpoint now from (heard.Message message) handling.Dropped })
+    (step ≡ sends [])
+    × (new
+    ≡ record old {
+      exchanges = left_by now from message.kind message.id old.exchanges;
+      endpoint = settled old.endpoint now from (heard.Message message) handling.Dropped;
+    })

@@ -18,7 +18,7 @@ use Rattle.osc_proxy.specs.declared.exchanges.Exchange.{Exchange}
 
 -- ---- what waited goes out
 
--- from now on its exchange has an end
+-- the end of its exchange is counted from now
 abbrev pub Starts : Moment → Option ℕ → Table → Table → Type 0
 Starts now None old new = new ≡ old
 Starts now (Some key) old new = Changes old new key (option_map (gone_out now) (get old key)) × (count new ≡ count old)
@@ -31,7 +31,7 @@ AllStart now (name ∷ names) old new =
 
 -- ---- what got no answer ends
 
--- its message was given up without an acknowledgement, or went out too long ago
+-- its message was given up without an acknowledgement, or its end was counted from a moment too long ago
 abbrev pub is_given_up : List MessageName → Exchange → Bool
 is_given_up names exchange = list_any (λ name. is_named name.peer name.id exchange) names
 

@@ -1,9 +1,10 @@
 //! Which case a datagram is to a proxy.
-ghost use Rattle.std.specs.Prelude.{◌≡◌, ◌<◌, ◌≤◌, Option, length};
+ghost use Rattle.std.specs.Prelude.{◌≡◌, ◌<◌, ◌≤◌, Option, length, true, false};
+ghost use Rattle.osc_coap.specs.Code.{is_request_code as is_request_code_of};
 ghost use Rattle.osc_coap.specs.Length.{datagram_limit};
 ghost use Rattle.osc_coap.specs.Message.{spelling};
 ghost use Rattle.osc_model.specs.declared.node.Peer.{Peer as AnyPeer};
-ghost use Rattle.osc_proxy.specs.Bounds.{AsksFor, IsShort};
+ghost use Rattle.osc_proxy.specs.Bounds.{AsksFor, IsApart, IsShort, names_one};
 ghost use Rattle.osc_proxy.specs.Case as spec;
 ghost use Rattle.osc_proxy.specs.Exchanges.{Table, answers, first_key, is_named};
 ghost use Rattle.osc_proxy.specs.ProxyUri.{HostAndPort};
@@ -55,7 +56,8 @@ fn unused<'a>(message: MessageRef<'a>) -> Case<'a>
 
 /// A request that goes here.
 fn routed<'a>(message: MessageRef<'a>, route: Route) -> Case<'a>
-    requires { 0 < message.code }
+    requires code { 0 < message.code }
+    requires kind { names_one message.kind ≡ false }
     ensures case { result ≡ spec.routed message.entry route }
     ensures asks { (exchanges : Table) (from : AnyPeer) → AsksFor exchanges from result }
 {
@@ -86,7 +88,8 @@ fn message_case<'a>(
     from: Peer,
     message: MessageRef<'a>,
 ) -> Case<'a>
-    requires { length (spelling message) ≤ datagram_limit }
+    requires short { length (spelling message) ≤ datagram_limit }
+    requires apart { is_request_code_of message.code ≡ true → names_one message.kind ≡ false }
     ensures case { (named : Option HostAndPort) × Names message.entry.options named
         × (result ≡ spec.message_case targets.now exchanges.now from named message.entry) }
     ensures asks { AsksFor exchanges.now from result }
@@ -119,7 +122,8 @@ pub(crate) fn case_of<'a>(
     from: Peer,
     heard: Heard<'a>,
 ) -> Case<'a>
-    requires { IsShort heard }
+    requires short { IsShort heard }
+    requires apart { IsApart heard }
     ensures case { (named : Option HostAndPort) × spec.NamesIn heard.entry named
         × (result ≡ spec.case_of targets.now exchanges.now from named heard.entry) }
     ensures asks { AsksFor exchanges.now from result }

@@ -1,5 +1,5 @@
 //! The exchanges that a proxy has open (RFC 7252 section 5.7.2).
-ghost use Rattle.std.specs.Prelude.{◌≡◌, ◌+◌, ◌≤◌, length, None, Some, IfOk, OnSome, IfNone, IsSome, option_map, option_copied};
+ghost use Rattle.std.specs.Prelude.{◌≡◌, ◌+◌, ◌≤◌, length, None, Some, IfOk, OnSome, IfNone, IsSome, option_map, option_copied, slice_set};
 ghost use Rattle.osc_message.specs.Confirmables.{same_peer as same_peer_of};
 ghost use Rattle.osc_proxy.specs.Exchanges as spec;
 ghost use Rattle.osc_proxy.specs.Ticks.{is_given_up as is_given_up_of, is_over as is_over_by};
@@ -37,7 +37,8 @@ pub struct Exchange {
     pub id: u16,
     /// The token of the forwarded message.
     pub token: [u8; 8],
-    /// When the forwarded message went out for the first time; none while it waits for its turn.
+    /// When the forwarded message went out for the first time, or left the queue without going out; none while it waits for its
+    /// turn.
     pub sent: Option<Moment>,
     /// Room for the answer that says that none came.
     pub room: FailureRoom,
@@ -168,6 +169,22 @@ fn is_over(now: Moment, given_up: &[MessageName], exchange: &Exchange) -> bool
     is_given_up(given_up, exchange) || is_overdue(now, exchange)
 }
 
+/// Whether the forwarded message waits for its turn.
+fn waits(exchange: &Exchange) -> bool
+    ensures { result ≡ spec.waits exchange.now }
+{
+    exchange.sent.is_none()
+}
+
+/// The end of the exchange is counted from now, where its forwarded message is so named and waits.
+fn leave_queue(exchange: &mut Exchange, now: Moment, from: Peer, id: u16)
+    ensures { exchange.new ≡ spec.left_queue now from id exchange.old }
+{
+    if is_named(from, id, exchange) && waits(exchange) {
+        exchange.sent = Some(now);
+    }
+}
+
 impl Exchanges {
     /// None is open. Refused only for want of memory.
     pub fn new(alloc: Global) -> Result<Exchanges, AllocError>
@@ -246,8 +263,8 @@ impl Exchanges {
         None
     }
 
-    /// The lowest key of an exchange that is over: its forwarded message was given up, being among these, or went out 247 seconds ago
-    /// or earlier.
+    /// The lowest key of an exchange that is over: its forwarded message was given up, being among these, or went out, or left the queue
+    /// without going out, 247 seconds ago or earlier.
     pub fn find_over(&self, now: Moment, given_up: &[MessageName]) -> Option<usize>
         ensures { result ≡ spec.first_key (is_over_by now given_up.now) self.now }
     {
@@ -267,6 +284,42 @@ impl Exchanges {
     {
         if let Some(exchange) = self.open.get_mut(key) {
             exchange.sent = Some(now);
+        }
+    }
+
+    /// Each key is below this one.
+    fn key_end(&self) -> usize
+        ensures { length self.now.slots ≤ result }
+    {
+        self.open.capacity()
+    }
+
+    /// The same as `leave`, of the exchange of this key alone, if one is open.
+    fn leave_at(&mut self, key: usize, now: Moment, from: Peer, id: u16)
+        ensures { self.new ≡ record self.old { slots = slice_set self.old.slots key (option_map (spec.left_queue now from id) (spec.get self.old key)) } }
+    {
+        if let Some(exchange) = self.open.get_mut(key) {
+            leave_queue(exchange, now, from, id);
+        }
+    }
+
+    /// The forwarded messages that this peer and this message ID name leave the queue: the exchanges of those that wait have their
+    /// end counted from now. Takes no memory.
+    pub fn leave(&mut self, now: Moment, from: Peer, id: u16)
+        ensures { self.new ≡ spec.all_left now from id self.old }
+    {
+        for key in 0..self.key_end() {
+            self.leave_at(key, now, from, id);
+        }
+    }
+
+    /// The same of what a message of this kind and this ID names: an acknowledgement or a Reset names a message, any other none.
+    pub fn leave_by(&mut self, now: Moment, from: Peer, kind: Kind, id: u16)
+        ensures { self.new ≡ spec.left_by now from kind id self.old }
+    {
+        match kind {
+            Kind::Acknowledgement | Kind::Reset => self.leave(now, from, id),
+            _ => {}
         }
     }
 

@@ -7,6 +7,7 @@ mod answering;
 mod case;
 mod exchanges;
 mod forwarding;
+pub mod laws;
 mod opening;
 mod proxy;
 mod proxy_uri;

@@ -1,5 +1,5 @@
 //! The proxy.
-ghost use Rattle.std.specs.Prelude.{◌≡◌, ◌≤◌, ◌<◌, ◌+◌, [], length, Some, IfOk, OnErr, Option, option_map};
+ghost use Rattle.std.specs.Prelude.{◌≡◌, ◌≤◌, ◌<◌, ◌+◌, [], length, false, Some, IfOk, OnErr, Option, option_map};
 ghost use Rattle.osc_coap.specs.Message.{spelling};
 ghost use Rattle.osc_model.specs.Step.{sends};
 ghost use Rattle.osc_model.specs.StepNotes.{quiet};
@@ -10,9 +10,10 @@ ghost use Rattle.osc_message.specs.Sending.{acknowledgement as acknowledgement_o
 ghost use Rattle.osc_message.specs.declared.handling.Handling.TheVariants as handling;
 ghost use Rattle.osc_message.specs.declared.heard.Heard.TheVariants as heard;
 ghost use Rattle.osc_message.specs.declared.received.Received.{Received as AnyReceived};
-ghost use Rattle.osc_proxy.specs.Bounds.{AsksFor, CanCount, IsOpen};
+ghost use Rattle.osc_proxy.specs.Bounds.{AsksFor, CanCount, IsOpen, names_one};
 ghost use Rattle.osc_proxy.specs.Case.{IsAnswered, NamesIn, case_of as case_in};
-ghost use Rattle.osc_proxy.specs.Exchanges.{count, none_open};
+ghost use Rattle.osc_proxy.specs.Ends.{EachHasAnEnd};
+ghost use Rattle.osc_proxy.specs.Exchanges.{all_left, count, left_by, none_open};
 ghost use Rattle.osc_proxy.specs.Going.{CanClose, IsOwn};
 ghost use Rattle.osc_proxy.specs.ProxyUri.{HostAndPort};
 ghost use Rattle.osc_proxy.specs.State.{restarted};
@@ -55,11 +56,14 @@ impl Drop for Proxy {
 }
 
 impl Model for Proxy {
+    ghost use Rattle.osc_proxy.specs.Ends.{EachHasAnEnd};
     ghost use Rattle.osc_proxy.specs.State.{State};
 
     ghost Value = { State };
 
     ghost view = { λ p. record { targets = p.targets; exchanges = p.exchanges; endpoint = p.endpoint } };
+
+    ghost invariant = { λ p. EachHasAnEnd p.exchanges p.endpoint };
 }
 
 impl Proxy {
@@ -78,8 +82,11 @@ impl Proxy {
 
     /// How many exchanges are open: at most 64.
     pub fn open_exchanges(&self) -> usize
-        ensures { result ≡ count self.now.exchanges }
+        ensures value { result ≡ count self.now.exchanges }
+        ensures ends { EachHasAnEnd self.now.exchanges self.now.endpoint }
     {
+        // For the proof alone: it tells what always holds of a proxy.
+        let _endpoint = &self.endpoint;
         self.exchanges.count()
     }
 
@@ -106,6 +113,8 @@ impl Proxy {
         ensures few { IfOk result (λ step. length step.out ≤ 2) }
         ensures nothing_sealed { IfOk result (λ step. step.notes ≡ quiet) }
         ensures err { OnErr result (self.new ≡ self.old) }
+        // Each exchange that is open has its end counted, or its forwarded message is open still.
+        ensures ends { EachHasAnEnd self.new.exchanges self.new.endpoint }
         // What isn't answered takes no memory.
         ensures needs_memory { OnErr result ((received : AnyReceived) × Receives bytes.now received
             × ((named : Option HostAndPort) × NamesIn (heard_as self.old.endpoint.seen now from received) named
@@ -113,7 +122,10 @@ impl Proxy {
     {
         let heard = self.endpoint.on_datagram(now, from, bytes);
         let case = case_of(&self.targets, &self.exchanges, from, heard);
-        self.answer(alloc, now, from, draw, case)
+        let step = self.answer(alloc, now, from, draw, case);
+        // For the proof alone: the call tells that each exchange has an end.
+        let _open = self.open_exchanges();
+        step
     }
 
     /// What is sent in this case, and what is kept after it.
@@ -157,20 +169,24 @@ impl Proxy {
     /// Settles what an empty acknowledgement or Reset names.
     fn settle_empty(&mut self, alloc: Global, now: Moment, from: Peer, kind: Kind, id: u16) -> Step
         ensures step { result ≡ sends [] }
-        ensures kept { self.new ≡ record self.old { endpoint = settled self.old.endpoint now from (heard.Empty kind id) handling.Dropped } }
+        ensures kept { self.new ≡ record self.old { exchanges = all_left now from id self.old.exchanges; endpoint = settled self.old.endpoint now from (heard.Empty kind id) handling.Dropped } }
     {
         self.endpoint
             .settle(now, from, &Heard::Empty(kind, id), Handling::Dropped);
+        self.exchanges.leave(now, from, id);
         Step::sending(Datagrams::new(alloc))
     }
 
     /// Ignores a message; an acknowledgement acknowledges all the same.
     fn ignore(&mut self, alloc: Global, now: Moment, from: Peer, message: MessageRef<'_>) -> Step
         ensures step { result ≡ sends [] }
-        ensures kept { self.new ≡ record self.old { endpoint = settled self.old.endpoint now from (heard.Message message.entry) handling.Dropped } }
+        ensures kept { self.new ≡ record self.old { exchanges = left_by now from message.entry.kind message.entry.id self.old.exchanges; endpoint = settled self.old.endpoint now from (heard.Message message.entry) handling.Dropped } }
     {
+        let kind = message.kind();
+        let id = message.id();
         self.endpoint
             .settle(now, from, &Heard::Message(message), Handling::Dropped);
+        self.exchanges.leave_by(now, from, kind, id);
         Step::sending(Datagrams::new(alloc))
     }
 
@@ -184,7 +200,8 @@ impl Proxy {
         message: MessageRef<'_>,
         why: Code,
     ) -> Result<Step, AllocError>
-        requires { 0 < why.0 }
+        requires why { 0 < why.0 }
+        requires kind { names_one message.kind ≡ false }
         ensures refused { IfOk result (λ step. IsRefused why self.old now from draw.now message.entry step self.new) }
         ensures err { OnErr result (self.new ≡ self.old) }
     {
@@ -221,7 +238,8 @@ impl Proxy {
         message: MessageRef<'_>,
         to: Peer,
     ) -> Result<Step, AllocError>
-        requires { 0 < message.code }
+        requires code { 0 < message.code }
+        requires kind { names_one message.kind ≡ false }
         ensures forwarded { IfOk result (λ step. ForwardsBy (key_for_of self.old message.entry to) self.old now from draw.now message.entry to step self.new) }
         ensures err { OnErr result (self.new ≡ self.old) }
     {
@@ -259,6 +277,7 @@ impl Proxy {
         forwarded: &MessageBuilder,
     ) -> Result<Step, AllocError>
         requires key { key_for_of self.old message to ≡ Some key }
+        requires kind { names_one message.kind ≡ false }
         requires forwarded { forwarded.now ≡ forwarded_by self.old draw.now key message }
         ensures forwarded { IfOk result (λ step. IsForwarded key self.old now from draw.now message.entry to step self.new) }
         ensures err { OnErr result (self.new ≡ self.old) }
@@ -283,6 +302,7 @@ impl Proxy {
         room: FailureRoom,
     ) -> Step
         requires key { key_for_of self.old message own.to ≡ Some key }
+        requires kind { names_one message.kind ≡ false }
         requires own { IsOwn own.to (is_confirmable_of message.kind) (spelling (forwarded_by self.old draw.now key message)) own }
         requires sent { out.sent ≡ sent_to from (acknowledgement_of message) }
         requires place { 0 < out.places }
@@ -345,6 +365,8 @@ impl Proxy {
         ensures { Counts key self.old now from draw.now message.entry result self.new }
     {
         let mut out = out;
+        let kind = message.kind();
+        let id = message.id();
         self.endpoint.settle(
             now,
             from,
@@ -352,6 +374,8 @@ impl Proxy {
             Handling::Counted(named, reply),
         );
         let _closed = self.exchanges.close(key).unwrap();
+        self.exchanges.leave_by(now, from, kind, id);
+        self.exchanges.leave(now, from, named);
         send_back(&mut self.endpoint, &mut out, now, draw, own);
         Step::sending(out.into_datagrams())
     }
@@ -373,17 +397,19 @@ impl Proxy {
         let mut out = Outbox::new(alloc, 1)?;
         self.endpoint.settle(now, from, &Heard::Empty(Kind::Reset, id), Handling::Dropped);
         let exchange = self.exchanges.close(key).unwrap();
+        self.exchanges.leave(now, from, id);
         let own = failing(exchange, self.endpoint.own_id(draw), Code::BAD_GATEWAY);
         send_back(&mut self.endpoint, &mut out, now, draw, own);
         Ok(Step::sending(out.into_datagrams()))
     }
 
-    /// Sends what is due at this moment, and answers by 5.04 those whose forwarded message was given up, or went out 247 seconds ago.
-    /// Without memory an `AllocError`; then nothing has changed.
+    /// Sends what is due at this moment, and answers by 5.04 those whose forwarded message was given up, or went out, or left the queue
+    /// without going out, 247 seconds ago. Without memory an `AllocError`; then nothing has changed.
     pub fn on_tick(&mut self, alloc: Global, now: Moment, draw: &Draw) -> Result<Step, AllocError>
         ensures ticked { IfOk result (λ step. Ticks self.old now draw.now step self.new) }
         ensures few { IfOk result (λ step. length step.out ≤ length self.old.endpoint.sending + count self.old.exchanges) }
         ensures nothing_sealed { IfOk result (λ step. step.notes ≡ quiet) }
+        ensures ends { EachHasAnEnd self.new.exchanges self.new.endpoint }
         ensures err { OnErr result (self.new ≡ self.old) }
     {
         ticks_send_few();

@@ -1,14 +1,15 @@
-use Rattle.std.proofs.Common.{◌≡◌, ◌+◌, ◌++◌, ap, ◌∙◌, subst, Some, None}
+use Rattle.std.proofs.Common.{◌≡◌, ◌+◌, ◌++◌, ap, ap₂, sym, ◌∙◌, subst, Some, None}
 use Rattle.std.specs.Prelude.{OnSome}
-use Rattle.osc_message.specs.Endpoint.{EndpointState, settled}
+use Rattle.osc_message.specs.Endpoint.{EndpointState, acknowledged_by, settled}
 use Rattle.osc_message.specs.Sending.{acknowledgement, sent_to}
 use Rattle.osc_message.specs.declared.handling.Handling.TheVariants as handling
 use Rattle.osc_message.specs.declared.heard.Heard.TheVariants as heard
 use Rattle.osc_model.specs.Step.{sends}
-use Rattle.osc_proxy.specs.Exchanges.{Changes, count, get}
+use Rattle.osc_proxy.specs.Exchanges.{Changes, all_left, count, get, left_by}
 use Rattle.osc_proxy.specs.Going.{back_sends_by}
 use Rattle.osc_proxy.specs.State.{State}
 use Rattle.osc_proxy.specs.Table.{answer_to, back_kept, back_sends, counted, next_own}
+use Rattle.osc_proxy.proofs.Ends.{Each, each_at, each_closed, each_left, each_left_by, each_more, grows_back}
 use Rattle.osc_proxy.proofs.Goes.{back_kept_is, back_sends_is}
 use Rattle.osc_proxy.proofs.proxy.Proxy.close.Goals as goal
 
@@ -36,11 +37,16 @@ returns c =
     subst (λ r. OnSome r (count c.close.new.self + 1 ≡ count inside.exchanges)) (c.close.ensures.value ∙ here) c.close.ensures.count in
     record {
       exchange = exchange;
+      closed = c.close.new.self;
       closes = record {
         was = asked.is;
         closed = subst (λ (s : State). Changes s.exchanges c.close.new.self key None) view c.close.ensures.closed;
         fewer = fewer ∙ ap (λ (s : State). count s.exchanges) view;
       };
+      others = c.leave.ensures
+          ∙ ap (all_left now from c.args.named)
+          (c.leave_by.ensures ∙ ap₂ (λ kind id. left_by now from kind id c.close.new.self) c.kind-kind.ensures c.id-id.ensures)
+          ∙ ap (λ i. all_left now from i (left_by now from message.kind message.id c.close.new.self)) asked.named;
       told = c.sending.ensures
           ∙ ap sends
           (c.into_datagrams.ensures
@@ -52,3 +58,23 @@ returns c =
       endpoint = c.send_back.ensures.made ∙ back_kept_is exchange answer own c.settle.new.self now draw asked.answer
           ∙ ap (λ (e : EndpointState). back_kept e now draw exchange answer) heard_by;
     }
+
+pub invariant_of-self : goal.invariant_of-self
+invariant_of-self c =
+    let inside = c.self.inside in
+    let now = c.args.now in
+    let from = c.args.from in
+    let message = c.args.message in
+    let named = c.args.named in
+    let own = c.args.own in
+    let table = c.close.new.self in
+    let by = left_by now from message.kind message.id table in
+    let left = all_left now from named by in
+    let closed = each_closed inside.exchanges table c.args.key inside.endpoint.sending c.close.ensures.closed c.self.invariant in
+    let each = each_left now from named by (acknowledged_by from message.kind message.id inside.endpoint.sending)
+    (each_left_by now from message.kind message.id table inside.endpoint.sending closed) in
+    let marked : c.leave.new.self ≡ left =
+    c.leave.ensures ∙ ap (all_left now from named) (c.leave_by.ensures ∙ ap₂ (λ kind id. left_by now from kind id table) c.kind-kind.ensures c.id-id.ensures) in
+    each_at c.leave.new.self left c.send_back.new.endpoint _ marked c.send_back.ensures.made
+    (each_more left c.settle.new.self.sending _ (grows_back own.confirmable c.settle.new.self now c.args.draw.now own.to own.kept)
+    (subst (λ (e : EndpointState). Each left e.sending) (sym c.settle.ensures) each))

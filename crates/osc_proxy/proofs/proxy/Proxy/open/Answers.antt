@@ -1,15 +1,18 @@
-use Rattle.std.proofs.Common.{◌≡◌, ◌+◌, ◌++◌, sym, ap, ◌∙◌, subst, Some, false}
+use Rattle.std.proofs.Common.{◌≡◌, ◌+◌, ◌++◌, refl, sym, ap, ◌∙◌, subst, Some, true, false}
+use Rattle.std.proofs.lemmas.Option.{same_Some}
 use Rattle.osc_coap.specs.Message.{spelling}
-use Rattle.osc_message.specs.Endpoint.{EndpointState, settled}
+use Rattle.osc_message.specs.Endpoint.{EndpointState, own_id, settled}
 use Rattle.osc_message.specs.Sending.{acknowledgement, is_confirmable, sent_to}
 use Rattle.osc_message.specs.declared.handling.Handling.TheVariants as handling
 use Rattle.osc_message.specs.declared.heard.Heard.TheVariants as heard
 use Rattle.osc_model.specs.Step.{sends}
+use Rattle.osc_proxy.specs.Ends.{has_end}
 use Rattle.osc_proxy.specs.Exchanges.{Changes, count, get}
 use Rattle.osc_proxy.specs.Own.{goes_now, sends_own, with_own}
 use Rattle.osc_proxy.specs.State.{State}
 use Rattle.osc_proxy.specs.Table.{exchange_of, forwarded_by, next_own, sent_when, taken_up}
 use Rattle.osc_proxy.specs.declared.exchanges.Exchange.{Exchange}
+use Rattle.osc_proxy.proofs.Ends.{Each, each_at, each_changed, each_more, grows_own, none_named, own_has_end}
 use Rattle.osc_proxy.proofs.Goes.{made_is, sent_is}
 use Rattle.osc_proxy.proofs.Keys.{next_is}
 use Rattle.osc_proxy.proofs.proxy.Proxy.open.Goals as goal
@@ -60,3 +63,34 @@ returns c =
           (subst (λ (e : Exchange). Changes inside.exchanges c.open.new.self inside.exchanges.next (Some e)) exchange c.open.ensures.opened));
       more = c.open.ensures.count ∙ ap (λ (s : State). count s.exchanges + 1) view;
     }
+
+pub invariant_of-self : goal.invariant_of-self
+invariant_of-self c =
+    let inside = c.self.inside in
+    let now = c.args.now in
+    let from = c.args.from in
+    let draw = c.args.draw.now in
+    let message = c.args.message in
+    let own = c.args.own in
+    let to = own.to in
+    let went = c.send_own-goes.result in
+    let before = c.settle.new.self in
+    let made = with_own own.confirmable before now draw to own.kept in
+    let exchange = c.gone_out.result in
+    let is : exchange ≡ exchange_of c.args.key c.own_id-id.result now from draw message to went =
+    c.gone_out.ensures ∙ ap (λ (e : Exchange). record e { sent = sent_when went now }) c.waiting-exchange.ensures in
+    let same : before.sending ≡ inside.endpoint.sending =
+    ap (λ (e : EndpointState). e.sending) c.settle.ensures ∙ none_named from message.kind message.id inside.endpoint.sending c.requires.kind in
+    let id : exchange.id ≡ own_id draw before.next_id =
+    ap (λ (e : Exchange). e.id) is ∙ c.own_id-id.ensures ∙ sym (ap (λ (e : EndpointState). own_id draw e.next_id) c.settle.ensures) in
+    let has : has_end made.sending exchange ≡ true =
+    own_has_end own.confirmable before now draw to own.kept exchange
+    (ap (λ (e : Exchange). e.confirmable) is ∙ sym c.requires.own.kind)
+    (ap (λ (e : Exchange). e.target) is) id
+    (ap (λ (e : Exchange). e.sent) is ∙ ap (λ g. sent_when g now) c.send_own-goes.ensures.goes) in
+    let others : Each inside.exchanges made.sending =
+    each_more inside.exchanges before.sending made.sending (grows_own own.confirmable before now draw to own.kept)
+    (subst (λ s. Each inside.exchanges s) (sym same) c.self.invariant) in
+    each_at c.open.new.self c.open.new.self c.send_own-goes.new.endpoint made refl c.send_own-goes.ensures.made
+    (each_changed inside.exchanges c.open.new.self inside.exchanges.next (Some exchange) made.sending c.open.ensures.opened
+    (λ other at. subst (λ (e : Exchange). has_end made.sending e ≡ true) (same_Some exchange other at) has) others)

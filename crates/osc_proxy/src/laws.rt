@@ -1,0 +1,20 @@
+//! Laws of the definitions, for the crates above. These functions do nothing: whoever calls one has its clauses for a proof.
+ghost use Rattle.std.specs.Prelude.{◌≡◌, ◌<◌, ◌+◌, ◌⊎◌, ℕ, true, false, Some, IsSomeAnd};
+ghost use Rattle.osc_model.specs.declared.node.Draw.{Draw as AnyDraw};
+ghost use Rattle.osc_model.specs.declared.node.Moment.{Moment as AnyMoment};
+ghost use Rattle.osc_model.specs.declared.step.Step.{Step as AnyStep};
+ghost use Rattle.osc_proxy.specs.Ends.{EachHasAnEnd, is_open};
+ghost use Rattle.osc_proxy.specs.Exchanges.{get, is_overdue, lifetime};
+ghost use Rattle.osc_proxy.specs.State.{State};
+ghost use Rattle.osc_proxy.specs.Ticks.{Ticks};
+ghost use Rattle.osc_proxy.specs.declared.exchanges.Exchange.{Exchange as AnyExchange};
+
+/// A tick leaves no exchange that is over: of each that is left the forwarded message is open still, or the end is less than 247 seconds
+/// away.
+pub fn none_is_over()
+    ensures over { (old new : State) (now : AnyMoment) (draw : AnyDraw) (step : AnyStep) → Ticks old now draw step new
+        → (key : ℕ) (exchange : AnyExchange) → get new.exchanges key ≡ Some exchange → is_overdue now exchange ≡ false }
+    ensures ends { (old new : State) (now : AnyMoment) (draw : AnyDraw) (step : AnyStep) → Ticks old now draw step new
+        → EachHasAnEnd new.exchanges new.endpoint → (key : ℕ) (exchange : AnyExchange) → get new.exchanges key ≡ Some exchange
+        → (is_open new.endpoint.sending exchange ≡ true) ⊎ IsSomeAnd exchange.sent (λ sent. now.ms < sent.ms + lifetime) }
+{}
