@@ -8,3 +8,4 @@ mod TextLemmas
 mod SameScope
 mod LookupLemmas
 mod Spelled
+mod SharedPaths

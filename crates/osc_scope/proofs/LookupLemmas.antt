@@ -27,7 +27,7 @@ says (pair ∷ pairs) path method verdict =
 abbrev has_pair : List (List ℕ × ℕ) → List ℕ → Option Method → Bool
 has_pair pairs path method = list_any (λ pair. bytes_eq path pair.0 && grants pair.1 method) pairs
 
-abbrev has_path : List (List ℕ × ℕ) → List ℕ → Bool
+abbrev pub has_path : List (List ℕ × ℕ) → List ℕ → Bool
 has_path pairs path = list_any (λ pair. bytes_eq path pair.0) pairs
 
 says_is : (pairs : List (List ℕ × ℕ)) (path : List ℕ) (method : Option Method) (verdict : Verdict)
@@ -81,7 +81,7 @@ some_bit mask some known = go (has mask Get) (has mask Post) (has mask Put) (has
         let d = not_one (mask / 8 % 2) ed in
         absurd (omega arith)
 
-or_true : (b : Bool) → (b || true) ≡ true
+pub or_true : (b : Bool) → (b || true) ≡ true
 or_true true = refl
 or_true false = refl
 
@@ -107,7 +107,7 @@ some_of (pair ∷ pairs) path h =
 
 -- ---- the scope of the entries
 
-any-map : {X Y : Type 0} (p : Y → Bool) (f : X → Y) (xs : List X) → list_any p (map f xs) ≡ list_any (λ x. p (f x)) xs
+pub any-map : {X Y : Type 0} (p : Y → Bool) (f : X → Y) (xs : List X) → list_any p (map f xs) ≡ list_any (λ x. p (f x)) xs
 any-map p f [] = refl
 any-map p f (x ∷ xs) = ap (λ b. p (f x) || b) (any-map p f xs)
 
@@ -129,7 +129,7 @@ module _ (scope_has : (entries : List Entry) (path : List ℕ) (method : Method)
   allows_is pairs path None = none_of pairs path
   allows_is pairs path (Some method) = contains_is pairs path method
 
-  names_is : (pairs : List (List ℕ × ℕ)) (path : List ℕ) → All HasMethods pairs → names (scope_of (map entry_with pairs)) path ≡ has_path pairs path
+  pub names_is : (pairs : List (List ℕ × ℕ)) (path : List ℕ) → All HasMethods pairs → names (scope_of (map entry_with pairs)) path ≡ has_path pairs path
   names_is pairs path h =
       (λ i. contains_is pairs path Get i || contains_is pairs path Post i || contains_is pairs path Put i || contains_is pairs path Delete i)
       ∙ some_of pairs path h

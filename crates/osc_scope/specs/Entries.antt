@@ -1,6 +1,6 @@
 -- Scopes as bytes: authorization information in the form of RFC 9237, an array of pairs of a path and a set of methods.
-use Rattle.std.specs.Prelude.{ℕ, ◌/◌, ◌%◌, ◌≤◌, ◌==◌, Bool, List, [], ◌∷◌, map, filter, flat_map}
-use Rattle.std.specs.List.{All}
+use Rattle.std.specs.Prelude.{ℕ, ◌/◌, ◌%◌, ◌≤◌, ◌==◌, Bool, List, [], ◌∷◌, map, filter, flat_map, bytes_eq}
+use Rattle.std.specs.List.{All, list_any}
 use Rattle.std.specs.FinSet as set
 use Rattle.osc_model.specs.Path.{IsPath}
 use Rattle.osc_model.specs.Scope.{Scope}
@@ -34,6 +34,10 @@ permissions entry = map (λ method. (entry.path, method)) (filter (has entry.mas
 -- the scope has the pairs of all entries: those of one path are joined
 abbrev pub scope_of : List Entry → Scope
 scope_of entries = set.from_list (flat_map permissions entries)
+
+-- whether an entry of the one list has the path of an entry of the other
+abbrev pub share_a_path : List Entry → List Entry → Bool
+share_a_path entries others = list_any (λ entry. list_any (λ other. bytes_eq entry.path other.path) others) entries
 
 -- a path, and one method or more of the four
 pub record IsLawful (entry : Entry) : Type 0 where
