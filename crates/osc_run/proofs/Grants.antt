@@ -28,6 +28,7 @@ use Rattle.osc_run.specs.History.{history}
 use Rattle.osc_run.proofs.LawsBelow.{Laws}
 use Rattle.osc_run.proofs.Lists.{all_of, collected_push}
 use Rattle.osc_run.proofs.Parts.{ServerPart}
+use Rattle.osc_run.proofs.Separate.{each_differs}
 use Rattle.osc_run.proofs.ServerSteps.{added_of, entry_of}
 
 -- ---- the grant of a secret
@@ -36,8 +37,8 @@ use Rattle.osc_run.proofs.ServerSteps.{added_of, entry_of}
 pub one_minted : (minted : List Minted) (m n : Minted) → HasOwnSecrets minted → In m minted → In n minted → m.grant.secret ≡ n.grant.secret → m ≡ n
 one_minted [] m n own i j e = absurd i
 one_minted (x ∷ others) m n own (inl a) (inl b) e = a ∙ sym b
-one_minted (x ∷ others) m n own (inl a) (inr b) e = absurd (own.0 n b (sym e ∙ ap (λ (y : Minted). y.grant.secret) a))
-one_minted (x ∷ others) m n own (inr a) (inl b) e = absurd (own.0 m a (e ∙ ap (λ (y : Minted). y.grant.secret) b))
+one_minted (x ∷ others) m n own (inl a) (inr b) e = absurd (each_differs x.grant.secret others own.0 n b (sym e ∙ ap (λ (y : Minted). y.grant.secret) a))
+one_minted (x ∷ others) m n own (inr a) (inl b) e = absurd (each_differs x.grant.secret others own.0 m a (e ∙ ap (λ (y : Minted). y.grant.secret) b))
 one_minted (x ∷ others) m n own (inr a) (inr b) e = one_minted others m n own.1 a b e
 
 grant_found : (minted : List Minted) (m : Minted) (name : ContextName) → HasOwnSecrets minted → In m minted → m.grant.secret ≡ name.secret → grant_of (grants_of minted) name ≡ Some m.grant
@@ -47,7 +48,7 @@ grant_found (x ∷ others) m name own i e = by (bytes_eq x.grant.secret name.sec
     by : (b : Bool) → bytes_eq x.grant.secret name.secret ≡ b → In m (x ∷ others) → (In m others → grant_of (grants_of others) name ≡ Some m.grant) → grant_of (grants_of (x ∷ others)) name ≡ Some m.grant
     by true same (inl is) later = rw same (ap (λ (y : Minted). Some y.grant) (sym is))
     by false same (inl is) later = absurd (cc (same, (bytes_eq-Decides x.grant.secret name.secret).1 (ap (λ (y : Minted). y.grant.secret) (sym is) ∙ e)))
-    by true same (inr there) later = absurd (own.0 m there (e ∙ sym ((bytes_eq-Decides x.grant.secret name.secret).0 same)))
+    by true same (inr there) later = absurd (each_differs x.grant.secret others own.0 m there (e ∙ sym ((bytes_eq-Decides x.grant.secret name.secret).0 same)))
     by false same (inr there) later = rw same (later there)
 
 -- ---- the rights of a held context

@@ -10,6 +10,7 @@ mod ServerSteps
 mod ClientSteps
 mod Seals
 mod FreshRuns
+mod Separate
 mod Grants
 mod Replied
 mod GenuineRuns
@@ -18,3 +19,4 @@ mod OneRound
 mod ServerDoes
 mod ClientDoes
 mod Read
+mod Plaintexts

@@ -6,6 +6,7 @@ use Rattle.osc_run.specs.Notes.{Noted}
 use Rattle.osc_run.specs.States.{Minted}
 use Rattle.osc_run.specs.Premise.{IsVouched, IsGenuineOpening, IsGenuine, IsDrawn, HasFreshDraws, HasOwnSecrets}
 use Rattle.osc_run.proofs.Members.{Has, has_at, none_more, none_of_all, has_of_reverse, has_in_reverse, up_to, from_on, next_first, next_of_rest}
+use Rattle.osc_run.proofs.Separate.{all_differ, each_differs}
 
 -- what is sealed at one end and opened at the other
 abbrev pub IsSealedFor : Note → Note → Type 0
@@ -94,8 +95,9 @@ fresh_at steps i s lt is f =
 
 pub own_secrets_more : (minted : List Minted) (i : ℕ) (m : Minted) → i < length minted → m ≡ get_or minted i m → HasOwnSecrets (drop (i + 1) minted)
     → ((other : Minted) → In other (drop (i + 1) minted) → other.grant.secret ≢ m.grant.secret) → HasOwnSecrets (drop i minted)
-own_secrets_more minted i m lt is rest here = subst HasOwnSecrets (sym (next_of_rest minted i m lt is)) (here, rest)
+own_secrets_more minted i m lt is rest here = subst HasOwnSecrets (sym (next_of_rest minted i m lt is)) (all_differ m.grant.secret (drop (i + 1) minted) here, rest)
 
 pub shared_secret : (minted : List Minted) (i : ℕ) (m : Minted) → i < length minted → m ≡ get_or minted i m → HasOwnSecrets minted
     → (other : Minted) → In other (drop (i + 1) minted) → other.grant.secret ≢ m.grant.secret
-shared_secret minted i m lt is own = (subst HasOwnSecrets (next_of_rest minted i m lt is) (from_on HasOwnSecrets (λ x xs p. p.1) minted i own)).0
+shared_secret minted i m lt is own =
+    each_differs m.grant.secret (drop (i + 1) minted) (subst HasOwnSecrets (next_of_rest minted i m lt is) (from_on HasOwnSecrets (λ x xs p. p.1) minted i own)).0

@@ -347,4 +347,4 @@ module _ (key text audience : List ℕ) (now : Moment) (claims : Claims) (lawful
   )
 
   pub premise : Premise after.minted after.notes
-  premise = record { genuine = genuine; fresh = fresh; separate = ((λ o i. absurd i), tt) }
+  premise = record { genuine = genuine; fresh = fresh; separate = (tt, tt) }

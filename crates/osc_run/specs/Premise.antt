@@ -1,11 +1,12 @@
 -- What is assumed of a run: what opens was sealed by the other end, no drawn nonce comes twice, and no two grants share a secret.
 use Rattle.std.specs.Prelude.{◌≡◌, ◌≢◌, ⊤, ℕ, List, [], ◌∷◌, Some}
+use Rattle.osc_model.specs.Isolation.{HaveOwnSecrets}
 use Rattle.osc_model.specs.declared.context.Side.TheVariants.{Server}
 use Rattle.osc_model.specs.declared.step.Note.{Note}
 use Rattle.osc_token.specs.Token.{token_name}
 use Rattle.osc_authz.specs.Members.{In}
 use Rattle.osc_run.specs.Notes.{Noted}
-use Rattle.osc_run.specs.States.{Minted}
+use Rattle.osc_run.specs.States.{Minted, grants_of}
 
 -- ---- genuine: what opens was sealed
 
@@ -55,8 +56,7 @@ HasFreshDraws (step ∷ earlier) = ((nonce : List ℕ) → step.notes.drawn ≡ 
 
 -- each grant has a secret of its own, and by its holder one holder
 abbrev pub HasOwnSecrets : List Minted → Type 0
-HasOwnSecrets [] = ⊤
-HasOwnSecrets (m ∷ others) = ((other : Minted) → In other others → other.grant.secret ≢ m.grant.secret) × HasOwnSecrets others
+HasOwnSecrets minted = HaveOwnSecrets (grants_of minted)
 
 -- all three, of what was minted and of the notes of the steps
 pub record Premise (minted : List Minted) (notes : List Noted) : Type 0 where

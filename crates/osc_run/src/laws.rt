@@ -1,13 +1,19 @@
 //! Laws of the definitions, for the crates above. These functions do nothing: whoever calls one has its clauses for a proof.
 
-ghost use Rattle.std.specs.Prelude.{◌≡◌, List, length};
+ghost use Rattle.std.specs.Prelude.{◌≡◌, ◌≤◌, ◌<◌, ℕ, List, length};
+ghost use Rattle.osc_model.specs.Apply.{apply_read};
 ghost use Rattle.osc_model.specs.Grant.{HasBegun, IsNotOver};
+ghost use Rattle.osc_model.specs.Isolation.{HaveOwnPaths, IsIsolated};
+ghost use Rattle.osc_model.specs.Scope.{Scope};
 ghost use Rattle.osc_model.specs.Tree.{Tree};
 ghost use Rattle.osc_model.specs.declared.node.Moment.{Moment as AnyMoment};
+ghost use Rattle.osc_model.specs.declared.reply.Reply.{Reply as AnyReply};
 ghost use Rattle.osc_scope.specs.Entries.{Entry, IsScope};
 ghost use Rattle.osc_token.specs.Minted.{HasLawfulParts};
 ghost use Rattle.osc_token.specs.declared.claims.Claims.{Claims as AnyClaims};
-ghost use Rattle.osc_run.specs.States.{WorldState};
+ghost use Rattle.osc_run.specs.States.{WorldState, grants_of};
+ghost use Rattle.osc_run.specs.ServerKinds.{Replies};
+ghost use Rattle.osc_run.specs.Texts.{read_request};
 ghost use Rattle.osc_run.specs.Runs.{IsReached};
 ghost use Rattle.osc_run.specs.Premise.{Premise, HasFreshDraws};
 ghost use Rattle.osc_run.specs.History.{history, acceptances};
@@ -16,7 +22,7 @@ ghost use Rattle.osc_run.specs.OwnNonces.{HasOwnNonces};
 
 use osc_coap::laws::one_plaintext;
 use osc_context::laws::{nonces_of_a_key, nonces_of_a_salt, one_master_salt};
-use osc_model::laws::{never_out_of_memory, one_more_entry, replies_are_responses};
+use osc_model::laws::{isolation, never_out_of_memory, one_more_entry, replies_are_responses};
 use osc_options::laws::{a_reply_is_read_again, a_written_reply};
 use osc_protect::laws::aad_tells_the_number;
 use osc_token::laws::{minted_claims, minted_texts};
@@ -41,6 +47,16 @@ pub fn one_history()
     aad_tells_the_number();
 }
 
+/// In each of these runs in which no two grants name a common path, each client's entries are answered as if they alone followed
+/// the first tree, up to the first that is for want of memory or of room; what other holders meet doesn't matter.
+pub fn own_answers()
+    ensures { (w : WorldState) → IsReached w → Premise w.minted w.notes → HaveOwnPaths (grants_of w.minted)
+        → IsIsolated read_request (grants_of w.minted) w.first (history w.notes) }
+{
+    one_history();
+    isolation();
+}
+
 /// In every run in which no drawn nonce comes twice, no two seals under one key share a nonce, those of lies aside (RFC 8613
 /// section 5.2).
 pub fn own_nonces()
@@ -57,6 +73,16 @@ pub fn own_nonces()
     nonces_of_a_salt();
     fresh_after();
     aad_tells_the_number();
+}
+
+/// What answers a plaintext has the code of a response (RFC 7252 section 12.1.2).
+pub fn codes_of_replies()
+    ensures least { (old new : Tree) (scope : Scope) (text : List ℕ) (reply : AnyReply)
+        → Replies old (apply_read old scope (read_request text)) reply new → 64 ≤ reply.code.0 }
+    ensures most { (old new : Tree) (scope : Scope) (text : List ℕ) (reply : AnyReply)
+        → Replies old (apply_read old scope (read_request text)) reply new → reply.code.0 < 192 }
+{
+    replies_are_responses();
 }
 
 /// There are such runs: with whatever claims that are in their time, and from whatever tree, one in which a request is served and

@@ -9,8 +9,10 @@ mod noted;
 mod notes;
 mod premise;
 mod readers;
+mod reading;
 
 pub use minted::{Grant, Minted};
 pub use noted::{Actor, Noted};
 pub use notes::Notes;
 pub use readers::{Acceptance, Question};
+pub use reading::request_in;
