@@ -1,5 +1,7 @@
 -- A post that is answered 2.01, and the name that both ends have by it.
-use Rattle.std.proofs.Common.{◌≡◌, ◌≢◌, ℕ, ◌<◌, ◌≤◌, ◌^◌, List, [], ◌∷◌, length, Result, Ok, Err, refl, sym, ap, ◌∙◌, subst, arith, length-take}
+use Rattle.std.proofs.Common.{◌≡◌, ◌≢◌, ℕ, ◌<◌, ◌≤◌, ◌^◌, List, [], ◌∷◌, length, Option, Some, None, Result, Ok, Err, refl, sym, ap, ◌∙◌, subst, arith, length-take}
+use Rattle.std.specs.Prelude.{IfSome}
+use Rattle.std.specs.Option.{ForSome}
 use Rattle.osc_model.specs.Code.{code}
 use Rattle.osc_model.specs.Draw.{nonce_drawn}
 use Rattle.osc_model.specs.Scope.{Scope}
@@ -11,7 +13,7 @@ use Rattle.osc_context.specs.MasterSalt.{master_salt}
 use Rattle.osc_cose.specs.Encrypt0.{enc_structure, object_item}
 use Rattle.osc_scope.specs.Entries.{Entry, IsScope, scope_of}
 use Rattle.osc_token.specs.Claims.{ComesTo}
-use Rattle.osc_token.specs.Minted.{FitTheirTypes}
+use Rattle.osc_token.specs.Minted.{FitTheirTypes, HasLawfulParts}
 use Rattle.osc_token.specs.Token.{IsToken, algorithm_header, claims_item, token_object}
 use Rattle.osc_token.specs.declared.claims.Claims.{Claims}
 use Rattle.osc_authz.specs.Agreed.{IsAgreed}
@@ -25,7 +27,7 @@ use Rattle.osc_authz.specs.Held.{Held}
 use Rattle.osc_authz.specs.HoldsToken.{HoldsToken}
 use Rattle.osc_authz.specs.Members.{In}
 use Rattle.osc_authz.specs.Post.{Posts}
-use Rattle.osc_authz.specs.Table.{alive, contexts, with_pending}
+use Rattle.osc_authz.specs.Table.{alive, contexts, with_pending, IsLawfulContext}
 use Rattle.osc_authz.specs.declared.error.FinishError.{FinishError}
 use Rattle.osc_authz.specs.declared.error.PostError.{PostError}
 use Rattle.osc_authz.specs.declared.granted.ClientDesk.{ClientDesk}
@@ -79,6 +81,10 @@ agreed_post IsSealing before after now body draw post answer (Posts.opened nonce
 same_name : (a b : ContextName) → a.secret ≡ b.secret → a.salt ≡ b.salt → a.id_context ≡ b.id_context → a.client_id ≡ b.client_id → a.server_id ≡ b.server_id → a ≡ b
 same_name a b secret salt id_context client_id server_id =
     λ i. record { secret = secret i; salt = salt i; id_context = id_context i; client_id = client_id i; server_id = server_id i }
+
+if_short : (context : Option (List ℕ)) → ForSome context (λ bytes. length bytes ≤ 64) → IfSome context (λ bytes. length bytes ≤ 64)
+if_short None short = tt
+if_short (Some bytes) short = short bytes refl
 
 same_salt : (a b n m p q : List ℕ) → a ≡ b → n ≡ m → p ≡ q → master_salt a n p ≡ master_salt b m q
 same_salt a b n m p q salt one two = λ i. master_salt (salt i) (one i) (two i)
@@ -171,6 +177,8 @@ module _ (IsSealing : List ℕ → List ℕ → List ℕ → List ℕ → List �
       → (its : Held) × In its (contexts after.table) × (its.scope ≡ scope_of entries)
       × (its.not_before ≡ claims.not_before) × (its.expires ≡ claims.expires)
       × (finished ≡ Ok (record { name = its.name; next = 0 }))
+      × (its.window ≡ []) × IsLawfulContext its
+      × (HasLawfulParts claims → IfSome its.name.id_context (λ bytes. length bytes ≤ 64))
   one_name finishes = (
     its,
     held,
@@ -178,4 +186,7 @@ module _ (IsSealing : List ℕ → List ℕ → List ℕ → List ℕ → List �
     ap (λ (c : Claims). c.not_before) granted.0,
     ap (λ (c : Claims). c.expires) granted.0,
     by finishes,
+    refl,
+    record { byte = answer.recipient_id; one_byte = refl; apart = λ same. a.agrees.free.free (0, omega arith, sym same) },
+    λ lawful. subst (λ (c : Claims). IfSome c.material.id_context (λ bytes. length bytes ≤ 64)) (sym granted.0) (if_short claims.material.id_context lawful.id_context),
   )

@@ -15,3 +15,4 @@ pub mod Members
 pub mod Contexts
 pub mod Agreed
 pub mod HoldsToken
+pub mod Welcome

@@ -1,12 +1,14 @@
 //! Laws of the definitions, for the crates above. These functions do nothing: whoever calls one has its clauses for a proof.
 
-ghost use Rattle.std.specs.Prelude.{◌≡◌, ◌↔◌, ◌≤◌, ◌<◌, ◌^◌, ℕ, List, [], ◌∷◌, length, true, Option, Some, Ok, Result};
+ghost use Rattle.std.specs.Prelude.{◌≡◌, ◌↔◌, ◌≤◌, ◌<◌, ◌^◌, ℕ, List, [], ◌∷◌, length, true, Option, Some, Ok, Result, IfSome};
 ghost use Rattle.osc_cbor.specs.Spelling.{spelling};
 ghost use Rattle.osc_model.specs.Code.{code};
+ghost use Rattle.osc_model.specs.Draw.{nonce_drawn};
 ghost use Rattle.osc_model.specs.Grant.{HasBegun, IsNotOver};
 ghost use Rattle.osc_model.specs.declared.node.Moment.{Moment as AnyMoment};
 ghost use Rattle.osc_model.specs.declared.node.Draw.{Draw as AnyDraw};
 ghost use Rattle.osc_scope.specs.Entries.{Entry, scope_of};
+ghost use Rattle.osc_token.specs.Minted.{HasLawfulParts};
 ghost use Rattle.osc_token.specs.declared.claims.Claims.{Claims as AnyClaims};
 ghost use Rattle.osc_authz.specs.Agreed.{IsAgreed};
 ghost use Rattle.osc_authz.specs.Begun.{Begun, Made};
@@ -18,7 +20,8 @@ ghost use Rattle.osc_authz.specs.Held.{Held};
 ghost use Rattle.osc_authz.specs.HoldsToken.{HoldsToken};
 ghost use Rattle.osc_authz.specs.Members.{In};
 ghost use Rattle.osc_authz.specs.Post.{Posts};
-ghost use Rattle.osc_authz.specs.Table.{IsTable, accepted, alive, contexts, is_live, meant, with_pending};
+ghost use Rattle.osc_authz.specs.Table.{IsLawfulContext, IsTable, accepted, alive, contexts, is_live, meant, with_pending};
+ghost use Rattle.osc_authz.specs.Welcome.{IsWelcome};
 ghost use Rattle.osc_authz.specs.declared.error.FinishError.{FinishError as AnyFinishError};
 ghost use Rattle.osc_authz.specs.declared.granted.ClientDesk.{ClientDesk as AnyClient};
 ghost use Rattle.osc_authz.specs.declared.holding.Holding.{Holding};
@@ -51,6 +54,11 @@ pub fn one_payload()
     osc_cbor::laws::one_item();
 }
 
+/// How many bytes the payload of an answer has, where its nonce has 8 and its recipient ID one.
+pub fn lengths_of_answers()
+    ensures { (nonce2 : List ℕ) (id : ℕ) → length nonce2 ≡ 8 → length (spelling (answer_item nonce2 (id ∷ []))) ≡ 16 }
+{}
+
 /// A context is live exactly in the time of its token.
 pub fn live_in_its_time()
     ensures { (held : Held) (now : AnyMoment)
@@ -74,6 +82,16 @@ pub fn one_context()
         → IsTable table → In context (of_tokens table) → In other (of_tokens table)
         → context.held.name.client_id ≡ other.held.name.client_id → context ≡ other }
 {}
+
+/// A live context of a table is the one that a request means by its recipient ID and its id context.
+pub fn held_contexts_are_meant()
+    ensures { (now : AnyMoment) (table : List Holding) (held : Held)
+        → IsTable table → In held (contexts table) → IsLive now held
+        → meant now held.name.client_id held.name.id_context table ≡ Some held }
+{
+    one_context();
+    live_in_its_time();
+}
 
 /// Where the token ids without a live context leave the table, no context comes, and each that lives stays.
 pub fn live_contexts()
@@ -104,8 +122,23 @@ pub fn posts_that_agree<A: Aead>()
         → IsAgreed A.is_sealing before now body draw post answer after }
 {}
 
+/// A post with a token that is welcome is answered 2.01, with the nonce of the draw.
+pub fn welcome_posts<A: Aead>()
+    ensures { (before after : DeskState) (now : AnyMoment) (draw : AnyDraw) (post : AnyPost) (claims : AnyClaims) (entries : List Entry)
+        (client : AnyClient) (nonce1 : List ℕ) (id : ℕ)
+        → IsWelcome A.is_sealing before now claims entries client → length nonce1 ≡ 8
+        → Posts A.is_sealing before now (spelling (post_item client.token nonce1 (id ∷ []))) draw post after
+        → (answer : AnyAnswer) × (post.answer ≡ Ok answer) × (answer.nonce2 ≡ nonce_drawn draw) }
+{
+    what_is_written();
+    one_payload();
+    osc_token::laws::minted_tokens::<A>();
+    osc_token::laws::what_was_minted::<A>();
+}
+
 /// What a client that holds a token posts, and the server answers 2.01, gives one name at both ends: however the exchange
-/// finishes by that answer, it makes a context with the name of one that the server holds.
+/// finishes by that answer, it makes a context with the name of one that the server holds. That one has accepted no number yet,
+/// and its IDs are lawful; where the claims are, its id context has at most 64 bytes.
 pub fn one_name<A: Aead>()
     ensures { (before after : DeskState) (now : AnyMoment) (draw : AnyDraw) (post : AnyPost) (answer : AnyAnswer)
         (claims : AnyClaims) (entries : List Entry) (client : AnyClient) (begun : Begun) (finished : Result Made AnyFinishError)
@@ -115,7 +148,9 @@ pub fn one_name<A: Aead>()
         → Finishes client begun (code 2 1) (spelling (answer_item answer.nonce2 (answer.recipient_id ∷ []))) finished
         → (held : Held) × In held (contexts after.table) × (held.scope ≡ scope_of entries)
         × (held.not_before ≡ claims.not_before) × (held.expires ≡ claims.expires)
-        × (finished ≡ Ok (record { name = held.name; next = 0 })) }
+        × (finished ≡ Ok (record { name = held.name; next = 0 }))
+        × (held.window ≡ []) × IsLawfulContext held
+        × (HasLawfulParts claims → IfSome held.name.id_context (λ bytes. length bytes ≤ 64)) }
 {
     posts_that_agree::<A>();
     what_is_written();

@@ -6,4 +6,5 @@ pub mod Told
 pub mod Answering
 pub mod Case
 pub mod Table
+pub mod Hearing
 pub mod Bounds

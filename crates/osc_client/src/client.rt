@@ -1,5 +1,5 @@
 //! The client.
-ghost use Rattle.std.specs.Prelude.{◌≡◌, ◌≤◌, ◌<◌, [], ◌∷◌, length, false, true, None, IfOk, IfErr, IsErr, IsSome, OnOk, OnErr, Some, option_map};
+ghost use Rattle.std.specs.Prelude.{◌≡◌, ◌≤◌, ◌<◌, [], ◌∷◌, length, false, true, None, IfOk, IfErr, IsErr, IsSome, OnOk, OnErr, Some, is_some, option_map};
 ghost use Rattle.osc_coap.specs.Message.{spelling};
 ghost use Rattle.osc_model.specs.StepNotes.{quiet};
 ghost use Rattle.osc_model.specs.declared.node.Moment.{Moment as AnyMoment};
@@ -133,6 +133,13 @@ impl Client {
         if let Some(context) = &mut self.context {
             context.skip_to(number);
         }
+    }
+
+    /// Whether an exchange or a request waits for its answer.
+    pub fn is_waiting(&self) -> bool
+        ensures { result ≡ is_some self.now.waiting }
+    {
+        self.waiting.is_some()
     }
 
     /// How many messages of its own are open: outstanding, or waiting.

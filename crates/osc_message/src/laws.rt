@@ -5,7 +5,7 @@ ghost use Rattle.std.specs.Option.{option_to_list};
 ghost use Rattle.osc_model.specs.declared.bytes.Bytes.{Bytes as AnyBytes};
 ghost use Rattle.osc_model.specs.declared.node.Moment.{Moment as AnyMoment};
 ghost use Rattle.osc_model.specs.declared.node.Peer.{Peer as AnyPeer};
-ghost use Rattle.osc_message.specs.Confirmables.{Sent as AnySent, Open as AnyOpen, takes, with_open, acknowledged};
+ghost use Rattle.osc_message.specs.Confirmables.{Sent as AnySent, Open as AnyOpen, same_peer, takes, with_open, acknowledged};
 ghost use Rattle.osc_message.specs.Limits.{IsWithinLimits};
 ghost use Rattle.osc_message.specs.Received.{Receives};
 ghost use Rattle.osc_message.specs.Schedule.{done_over, done_among, schedule, is_sending};
@@ -21,6 +21,12 @@ pub fn one_reception()
     one_message();
     one_spelling();
 }
+
+/// Two peers are told apart by their addresses and ports.
+pub fn one_peer()
+    ensures same { (a b : AnyPeer) → same_peer a b ≡ true → a ≡ b }
+    ensures itself { (a : AnyPeer) → same_peer a a ≡ true }
+{}
 
 /// Whatever happens to them, the open messages stay within their limits.
 pub fn within_limits()

@@ -1,15 +1,15 @@
 //! Laws of the definitions, for the crates above. These functions do nothing: whoever calls one has its clauses for
 //! a proof.
-ghost use Rattle.std.specs.Prelude.{◌≡◌, ◌<◌, ◌≤◌, ◌+◌, ◌++◌, ℕ, List, Some, None, Ok, IfSome, false, true, length};
+ghost use Rattle.std.specs.Prelude.{◌≡◌, ◌<◌, ◌≤◌, ◌+◌, ◌++◌, ℕ, List, [], Some, None, Ok, IfSome, false, true, length};
 ghost use Rattle.osc_model.specs.declared.reply.Reply.{Reply};
 ghost use Rattle.osc_model.specs.declared.request.Request.{Request as AnyRequest};
 ghost use Rattle.osc_coap.specs.Code.{is_request_code};
 ghost use Rattle.osc_coap.specs.Message.{NumberAndValue, Message, AreOptions, HasSpelling, spelling};
 ghost use Rattle.osc_coap.specs.Plaintext.{Plaintext, HasPlaintextSpelling, plaintext_spelling};
 ghost use Rattle.osc_coap.specs.Length.{options_length};
-ghost use Rattle.osc_options.specs.Split.{AreInOrder, of_number, inner_options, merge, plaintext_of, protected, unprotected, has_oscore};
+ghost use Rattle.osc_options.specs.Split.{AreInOrder, of_number, inner_options, outer_options, merge, plaintext_of, protected, unprotected, has_oscore};
 ghost use Rattle.osc_options.specs.Recognised.{unrecognised_critical};
-ghost use Rattle.osc_options.specs.Requests.{IsWithinTable, request_of, request_options, with_request};
+ghost use Rattle.osc_options.specs.Requests.{IsWithinTable, request_of, request_options, value as value_in, with_request};
 ghost use Rattle.osc_options.specs.PlaintextRequests.{request_of_plaintext};
 ghost use Rattle.osc_options.specs.Replies.{with_reply};
 ghost use Rattle.osc_options.specs.PlaintextReplies.{reply_plaintext, reply_in};
@@ -41,6 +41,12 @@ pub fn splitting_what_is_lawful()
 {
     fewer_options();
 }
+
+/// Option 9 of a protected message is the value that was written.
+pub fn option_of_a_protected_message()
+    ensures { (m : Message) (code : ℕ) (bytes payload : List ℕ)
+        → value_in 9 (protected m code bytes payload).options ≡ Some bytes }
+{}
 
 /// Two lists of options in one: in the order of their numbers, and of each number the outer ones and then the inner ones,
 /// which determines the list. They are options, and take no more bytes than each alone.
@@ -129,3 +135,8 @@ pub fn a_request_is_read_again()
 {
     paths_are_cut_at_slashes();
 }
+
+/// A request is encrypted whole: none of its options stays outside.
+pub fn requests_are_encrypted()
+    ensures { (request : AnyRequest) → outer_options (request_options request) ≡ [] }
+{}

@@ -1,46 +1,17 @@
 -- What a protected message says is what it was made of.
-use Rattle.std.proofs.Common.{◌≡◌, ℕ, ◌+◌, ◌<◌, ◌≤◌, false, List, [], ◌∷◌, length, Option, Some, None, refl, ap, ◌∙◌, arith, inl, inr}
-use Rattle.std.specs.Prelude.{filter, IfSome, not, nat_lt, ◌==◌}
-use Rattle.std.proofs.lemmas.Bool.{cases_Bool}
+use Rattle.std.proofs.Common.{◌≡◌, ℕ, ◌+◌, ◌<◌, ◌≤◌, List, [], ◌∷◌, length, Option, Some, None, refl, ap, ◌∙◌, arith}
+use Rattle.std.specs.Prelude.{IfSome}
 use Rattle.osc_model.specs.declared.context.ContextName.{ContextName}
 use Rattle.osc_model.specs.declared.context.Side.TheVariants.{Client, Server}
-use Rattle.osc_coap.specs.Message.{NumberAndValue, Message}
+use Rattle.osc_coap.specs.Message.{Message}
 use Rattle.osc_coap.specs.Plaintext.{Plaintext, plaintext_spelling}
 use Rattle.osc_coap.specs.Building.{payload_of}
 use Rattle.osc_options.specs.Requests.{value}
-use Rattle.osc_options.specs.Split.{outer_options, of_class, merge, plaintext_of}
-use Rattle.osc_options.specs.declared.table.Class.TheVariants.{U}
+use Rattle.osc_options.specs.Split.{plaintext_of, protected}
 use Rattle.osc_context.specs.Derivation.{key_of}
 use Rattle.osc_context.specs.Nonce.{greatest_number}
 use Rattle.osc_protect.specs.Aad.{aad_of}
 use Rattle.osc_protect.specs.Protection.{HasShortContext, plain_bytes, request_nonce, response_nonce, request_value, response_value, IsProtectedRequest, IsProtectedResponse, SealedRequest, IsRequest, IsFor, SealedResponse, IsResponse}
-
--- ---- option 9
-
--- none of these is OSCORE's own
-abbrev NoneIsOwn : List NumberAndValue → Type 0
-NoneIsOwn [] = Unit {0}
-NoneIsOwn (option ∷ options) = ((option.0 == 9) ≡ false) × NoneIsOwn options
-
-none_is_own : (options : List NumberAndValue) → NoneIsOwn (filter (λ option. not (option.0 == 9)) options)
-none_is_own [] = tt
-none_is_own (option ∷ options) =
-    elim (cases_Bool (option.0 == 9)) [
-      | inl own ↦ rw own (none_is_own options)
-      | inr other ↦ rw other (other, none_is_own options)
-    ]
-
-value_among : (outer : List NumberAndValue) (bytes : List ℕ) → NoneIsOwn outer → value 9 (merge outer ((9, bytes) ∷ [])) ≡ Some bytes
-value_among [] bytes others = refl
-value_among (option ∷ outer) bytes others =
-    elim (cases_Bool (nat_lt 9 option.0)) [
-      | inl larger ↦ rw larger refl
-      | inr other ↦ rw (other, others.0) (value_among outer bytes others.1)
-    ]
-
--- option 9 is the value that was written
-value_written : (options : List NumberAndValue) (bytes : List ℕ) → value 9 (merge (outer_options options) ((9, bytes) ∷ [])) ≡ Some bytes
-value_written options bytes = value_among (outer_options options) bytes (none_is_own (of_class U options))
 
 -- ---- the payload
 
@@ -60,7 +31,8 @@ context_fits (Some bytes) short = omega arith
 
 module _ (is_sealing : List ℕ → List ℕ → List ℕ → List ℕ → List ℕ → Type 0) (tag : ℕ)
     (one_text : (key nonce aad text other sealed : List ℕ) → is_sealing key nonce aad text sealed → is_sealing key nonce aad other sealed → text ≡ other)
-    (sealed_length : (key nonce aad text sealed : List ℕ) → is_sealing key nonce aad text sealed → length sealed ≡ length text + tag) where
+    (sealed_length : (key nonce aad text sealed : List ℕ) → is_sealing key nonce aad text sealed → length sealed ≡ length text + tag)
+    (option_nine : (m : Message) (code : ℕ) (bytes payload : List ℕ) → value 9 (protected m code bytes payload).options ≡ Some bytes) where
   pub request_says : (name : ContextName) (number : ℕ) (m p : Message) → HasShortContext name → number ≤ greatest_number → IsProtectedRequest is_sealing name number m p
       → (request : SealedRequest) × IsRequest p request × (request.number ≡ number) × IsFor name request
       × ((text : List ℕ) → is_sealing (key_of name Client) (request_nonce name number) (aad_of name number) text request.sealed → text ≡ plain_bytes m)
@@ -69,7 +41,7 @@ module _ (is_sealing : List ℕ → List ℕ → List ℕ → List ℕ → List 
       let some : 0 < length made.sealed = omega (arith, sealed_length _ _ _ _ _ made.is_sealed, plaintext-some (plaintext_of m)) in
       let says : IsRequest p request = record {
         bytes = request_value name number;
-        option = ap (λ (q : Message). value 9 q.options) made.whole ∙ value_written m.options (request_value name number);
+        option = ap (λ (q : Message). value 9 q.options) made.whole ∙ option_nine m 2 (request_value name number) made.sealed;
         spelled = record { lawful = record { number = fits; kid_context = context_fits name.id_context short }; whole = refl };
         payload = ap (λ (q : Message). q.payload) made.whole ∙ payload_written made.sealed some;
       } in
@@ -85,7 +57,7 @@ module _ (is_sealing : List ℕ → List ℕ → List ℕ → List ℕ → List 
         bytes = response_value own;
         kid_context = None;
         kid = None;
-        option = ap (λ (q : Message). value 9 q.options) made.whole ∙ value_written m.options (response_value own);
+        option = ap (λ (q : Message). value 9 q.options) made.whole ∙ option_nine m 68 (response_value own) made.sealed;
         spelled = record { lawful = record { number = fits; kid_context = tt }; whole = refl };
         payload = ap (λ (q : Message). q.payload) made.whole ∙ payload_written made.sealed some;
       } in

@@ -1,6 +1,6 @@
 //! Laws of the definitions, for the crates above. These functions do nothing: whoever calls one has its clauses for a proof.
 
-ghost use Rattle.std.specs.Prelude.{◌≡◌, ◌≤◌, ℕ, List, Option, IfSome, length, false};
+ghost use Rattle.std.specs.Prelude.{◌≡◌, ◌≤◌, ℕ, List, Option, None, IfSome, length, false};
 ghost use Rattle.osc_model.specs.declared.context.ContextName.{ContextName as AnyName};
 ghost use Rattle.osc_coap.specs.Message.{Message, HasSpelling};
 ghost use Rattle.osc_coap.specs.Plaintext.{SpellsPlaintext};
@@ -9,11 +9,14 @@ ghost use Rattle.osc_model.specs.declared.context.Side.TheVariants.{Client, Serv
 ghost use Rattle.osc_context.specs.Derivation.{key_of};
 ghost use Rattle.osc_context.specs.Nonce.{longest_id, greatest_number};
 ghost use Rattle.osc_protect.specs.Aad.{aad_of};
-ghost use Rattle.osc_protect.specs.Protection.{HasShortContext, plain_bytes, request_nonce, response_nonce, IsProtectedRequest, IsProtectedResponse, SealedRequest, IsRequest, SealedResponse, IsResponse, IsFor};
+ghost use Rattle.osc_protect.specs.Value.{Compressed, SpellsValue};
+ghost use Rattle.osc_protect.specs.Protection.{HasShortContext, plain_bytes, request_nonce, request_value, response_nonce, response_value, IsProtectedRequest, IsProtectedResponse, SealedRequest, IsRequest, SealedResponse, IsResponse, IsFor};
 
 use osc_ccm::Aead;
 use osc_coap::laws::one_plaintext;
-use osc_options::laws::{merging_what_was_split, splitting_what_is_lawful};
+use osc_options::laws::{
+    merging_what_was_split, option_of_a_protected_message, splitting_what_is_lawful,
+};
 
 /// Associated data tells the request's number.
 pub fn aad_tells_the_number()
@@ -21,6 +24,32 @@ pub fn aad_tells_the_number()
         → length name.client_id ≤ longest_id → m ≤ greatest_number → n ≤ greatest_number
         → aad_of name m ≡ aad_of name n → m ≡ n }
 {}
+
+/// Bytes are the value of option 9 for one list of parameters at most.
+pub fn one_value()
+    ensures { (bytes : List ℕ) (c d : Compressed) → SpellsValue bytes c → SpellsValue bytes d → c ≡ d }
+{}
+
+/// How many bytes the value of option 9 has at most.
+pub fn lengths_of_values()
+    ensures request { (name : AnyName) (number : ℕ) → HasShortContext name → length name.client_id ≤ longest_id
+        → length (request_value name number) ≤ 255 }
+    ensures response { length (response_value None) ≤ 255 }
+{}
+
+/// A message is one protected request at most.
+pub fn one_request()
+    ensures { (m : Message) (a b : SealedRequest) → IsRequest m a → IsRequest m b → a ≡ b }
+{
+    one_value();
+}
+
+/// The same of a protected response.
+pub fn one_response()
+    ensures { (m : Message) (a b : SealedResponse) → IsResponse m a → IsResponse m b → a ≡ b }
+{
+    one_value();
+}
 
 /// A protected request is read as what it was made of: it is a request of this number for this context; whatever opens under
 /// this context's key, nonce and associated data is the plaintext of the message that was protected; and with it the message
@@ -35,6 +64,7 @@ pub fn unprotecting_a_protected_request<A: Aead>()
         → SpellsPlaintext (plain_bytes m) (plaintext_of m) × (unprotected p (plaintext_of m) ≡ m) }
 {
     one_plaintext();
+    option_of_a_protected_message();
     splitting_what_is_lawful();
     merging_what_was_split();
 }
@@ -50,6 +80,7 @@ pub fn unprotecting_a_protected_response<A: Aead>()
         → SpellsPlaintext (plain_bytes m) (plaintext_of m) × (unprotected p (plaintext_of m) ≡ m) }
 {
     one_plaintext();
+    option_of_a_protected_message();
     splitting_what_is_lawful();
     merging_what_was_split();
 }

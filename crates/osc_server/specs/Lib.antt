@@ -1,5 +1,6 @@
 pub mod State
 pub mod Case
 pub mod Table
+pub mod Hearing
 pub mod Told
 pub mod Parts

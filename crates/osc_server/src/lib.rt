@@ -4,6 +4,7 @@
 
 mod answer;
 mod case;
+pub mod laws;
 mod posting;
 mod refusal;
 mod server;

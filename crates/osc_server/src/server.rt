@@ -1,6 +1,7 @@
 //! The server.
 ghost use Rattle.std.specs.Prelude.{◌≡◌, ◌≤◌, ◌<◌, [], ◌∷◌, length, IsOk, IfOk, OnErr};
 ghost use Rattle.std.specs.List.{All};
+ghost use Rattle.osc_authz.specs.Table.{IsTable};
 ghost use Rattle.osc_coap.specs.Message.{Message, Spells, spelling};
 ghost use Rattle.osc_message.specs.declared.handling.Handling.TheVariants.{Dropped};
 ghost use Rattle.osc_message.specs.declared.heard.Heard.TheVariants as heard;
@@ -102,6 +103,15 @@ impl Server {
         ensures { result.now ≡ self.now.tree }
     {
         &self.tree
+    }
+
+    /// The desk, which finds the security context that a request means ([`ServerDesk::find`]).
+    pub fn desk(&self) -> &ServerDesk
+        ensures desk { result.now ≡ self.now.desk }
+        ensures table { IsTable self.now.desk.table }
+    {
+        self.desk.has_a_table();
+        &self.desk
     }
 
     /// These bytes came from this peer at this moment as one datagram: the step that answers them. What is sent is at most

@@ -16,18 +16,17 @@ use crate::refusal::Refusal;
 use osc_authz::laws::meant_contexts;
 use osc_authz::{ServerContext, ServerDesk};
 use osc_ccm::Aead;
-use osc_coap::laws::{length_of_plaintext, length_of_spelling, reading};
+use osc_coap::laws::{length_of_plaintext, length_of_spelling};
 use osc_coap::{MessageBuilder, MessageRef};
 use osc_message::{Endpoint, ReplyRoom};
 use osc_model::{
     Bytes, Code, ContextName, Draw, Entry, Moment, Note, Path, Reply, Request, StepNotes,
 };
-use osc_options::{PlaintextError, request_of};
 use osc_protect::{
     OpenedRequest, ProtectedResponse, ReplyRight, RequestRoom, SealedRequestRef, TextRoom,
     open_request, protect_reply,
 };
-use osc_run::kinds;
+use osc_run::{kinds, request_in};
 use osc_scope::Scope;
 use osc_tree::Tree;
 use std::alloc::{AllocError, Global};
@@ -82,20 +81,6 @@ fn fresh_context<'a, A: Aead>(
         return Err(Refusal::Replayed);
     }
     Ok(context)
-}
-
-/// The request that an opened text is, or the code that answers it.
-fn read(alloc: Global, text: &[u8]) -> Result<Result<Request, Code>, AllocError>
-    ensures read { IfOk result (λ read. read ≡ read_request text.now) }
-    ensures error { IfOk result (λ read. IfErr read (λ code. 0 < code.0)) }
-{
-    reading();
-    match request_of(alloc, text) {
-        Ok(request) => Ok(Ok(request)),
-        Err(PlaintextError::Format) => Ok(Err(Code::BAD_REQUEST)),
-        Err(PlaintextError::BadOption(_)) => Ok(Err(Code::BAD_OPTION)),
-        Err(PlaintextError::Memory) => Err(AllocError),
-    }
 }
 
 /// The most bytes of payload that the reply has.
@@ -170,7 +155,7 @@ fn take<A: Aead>(alloc: Global, tree: &Tree, note: &Note) -> Result<Taken, Alloc
     ensures reply { IfOk result (λ taken. taken.reply ≡ 28 + reply_length tree.now taken.read + A.TAG) }
     ensures limit { IfOk result (λ taken. reply_length tree.now taken.read ≤ 512) }
 {
-    let read = read(alloc, note.plaintext.as_slice())?;
+    let read = request_in(alloc, note.plaintext.as_slice())?;
     let most = PLAINTEXT_BESIDE_PAYLOAD + most_payload(tree, &read);
     Ok(Taken {
         read,

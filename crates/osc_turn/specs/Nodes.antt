@@ -13,14 +13,12 @@ use Rattle.osc_message.specs.Received.{Receives}
 use Rattle.osc_message.specs.declared.received.Received.{Received}
 use Rattle.osc_run.specs.ClientKinds.{ClientStep}
 use Rattle.osc_run.specs.ServerKinds.{ServerStep}
-use Rattle.osc_server.specs.Case.{case_of as server_case}
+use Rattle.osc_server.specs.Hearing.{Hears as HeardByServer}
 use Rattle.osc_server.specs.State.{State as Server, core as core_of_server}
-use Rattle.osc_server.specs.Table.{Answers as ServerAnswers}
 use Rattle.osc_server.specs.Told.{AreTold as AreToldByServer}
-use Rattle.osc_client.specs.Case.{case_of as client_case}
+use Rattle.osc_client.specs.Hearing.{Hears as HeardByClient}
 use Rattle.osc_client.specs.Sending.{Ticks as ClientTicks}
 use Rattle.osc_client.specs.State.{State as Client, core as core_of_client}
-use Rattle.osc_client.specs.Table.{Answers as ClientAnswers}
 use Rattle.osc_client.specs.Told.{AreTold as AreToldByClient, SealsNothing}
 use Rattle.osc_proxy.specs.Case.{NamesIn, case_of as proxy_case}
 use Rattle.osc_proxy.specs.ProxyUri.{HostAndPort}
@@ -59,9 +57,7 @@ pub record ServerTicks (old : Server) (now : Moment) (step : Step) (new : Server
 module _ (is_sealing : List ℕ → List ℕ → List ℕ → List ℕ → List ℕ → Type 0) where
   -- these bytes came from this peer, and what was sealed for the answer is noted
   pub record ServerHears (old : Server) (now : Moment) (draw : Draw) (from : Peer) (bytes : List ℕ) (step : Step) (new : Server) : Type 0 where
-    pub received : Received
-    pub receives : Receives bytes received
-    pub answers : ServerAnswers is_sealing old now from draw (server_case old.open_scope (heard old.endpoint.seen now from received)) step new
+    pub hears : HeardByServer is_sealing old now draw from bytes step new
     pub told : AreToldByServer is_sealing old now from step
 
   abbrev pub ServerMakes : Server → Moment → Draw → Option Arrival → Step → Server → Type 0
@@ -75,9 +71,7 @@ module _ (is_sealing : List ℕ → List ℕ → List ℕ → List ℕ → List 
 
   -- these bytes came from this peer, and what was opened of them is noted
   pub record ClientHears (old : Client) (now : Moment) (from : Peer) (bytes : List ℕ) (step : Step) (new : Client) : Type 0 where
-    pub received : Received
-    pub receives : Receives bytes received
-    pub answers : ClientAnswers is_sealing old now from (client_case old.next_hop from old.waiting (heard old.endpoint.seen now from received)) step new
+    pub hears : HeardByClient is_sealing old now from bytes step new
     pub told : AreToldByClient is_sealing old now (Some bytes) step
 
   -- what is due goes out, and what is over ends

@@ -1,0 +1,100 @@
+use Rattle.std.proofs.Common.{◌≡◌, ◌∙◌, sym, ap, subst, ℕ, ◌<◌, ◌≤◌, ◌^◌, List, [], ◌∷◌, length, Result, Ok, Err, arith}
+use Rattle.osc_model.specs.Draw.{nonce_drawn}
+use Rattle.osc_model.specs.Grant.{HasBegun, IsNotOver}
+use Rattle.osc_model.specs.Scope.{Scope}
+use Rattle.osc_model.specs.declared.node.Draw.{Draw}
+use Rattle.osc_model.specs.declared.node.Moment.{Moment}
+use Rattle.osc_cbor.specs.Spelling.{spelling}
+use Rattle.osc_cose.specs.Encrypt0.{enc_structure, object_item}
+use Rattle.osc_scope.specs.Entries.{Entry, IsScope, scope_of}
+use Rattle.osc_token.specs.Claims.{ComesTo}
+use Rattle.osc_token.specs.Minted.{HasLawfulParts}
+use Rattle.osc_token.specs.Token.{IsToken, algorithm_header, claims_item, token_object}
+use Rattle.osc_token.specs.declared.claims.Claims.{Claims}
+use Rattle.osc_token.specs.declared.error.TokenError.{TokenError}
+use Rattle.osc_authz.specs.Agreement.{Answers, refused, full, agreed}
+use Rattle.osc_authz.specs.Desk.{DeskState}
+use Rattle.osc_authz.specs.Exchange.{IsPost, post_item}
+use Rattle.osc_authz.specs.Post.{IsOpened, Posts}
+use Rattle.osc_authz.specs.Table.{IsFull, alive}
+use Rattle.osc_authz.specs.declared.granted.ClientDesk.{ClientDesk}
+use Rattle.osc_authz.specs.declared.post.Post.{Post}
+use Rattle.osc_authz.specs.declared.post.PostAnswer.{PostAnswer}
+use Rattle.osc_authz.specs.Welcome.{IsWelcome}
+use Rattle.osc_authz.proofs.laws.welcome_posts.Goals as goal
+
+abbrev granted : Claims → Scope → Result (Claims × Scope) TokenError
+granted claims scope = Ok (claims, scope)
+
+abbrev refusal : TokenError → Result (Claims × Scope) TokenError
+refusal error = Err error
+
+never : (error : TokenError) (claims : Claims) (scope : Scope) → refusal error ≡ granted claims scope → ⊥
+never error claims scope e = cc
+
+same_claims : (a b : Claims) (x y : Scope) → granted a x ≡ granted b y → a ≡ b
+same_claims a b x y e = ap (λ (p : Claims × Scope). p.0) (by (a, x) (b, y) e)
+  where
+    by : (p q : Claims × Scope) → (let o : Result (Claims × Scope) TokenError = Ok p in o) ≡ Ok q → p ≡ q
+    by p q e = cc
+
+module _ (is_sealing : List ℕ → List ℕ → List ℕ → List ℕ → List ℕ → Type 0)
+    (written : (token nonce1 client_id : List ℕ) → length token < 2 ^ 64 → 1 ≤ length nonce1 → length nonce1 ≤ 64 → length client_id ≤ 7
+    → IsPost (spelling (post_item token nonce1 client_id)) token nonce1 client_id)
+    (one : (body token nonce1 client_id others nonces ids : List ℕ) → IsPost body token nonce1 client_id → IsPost body others nonces ids
+    → (token ≡ others) × (nonce1 ≡ nonces) × (client_id ≡ ids))
+    (tokens : (key iv text ciphertext : List ℕ) → length iv ≡ 13 → length ciphertext < 2 ^ 64
+    → is_sealing key iv (enc_structure algorithm_header []) text ciphertext
+    → IsToken is_sealing key (spelling (object_item (token_object iv ciphertext))) algorithm_header iv text)
+    (minted : (key iv ciphertext protected ivs text : List ℕ) (claims : Claims) (entries : List Entry) (now : Moment) (outcome : Result (Claims × Scope) TokenError)
+    → length iv ≡ 13 → length ciphertext < 2 ^ 64
+    → is_sealing key iv (enc_structure algorithm_header []) (spelling (claims_item claims)) ciphertext
+    → HasLawfulParts claims → IsScope claims.scope entries
+    → HasBegun claims.not_before now → IsNotOver claims.expires now
+    → IsToken is_sealing key (spelling (object_item (token_object iv ciphertext))) protected ivs text
+    → ComesTo text claims.audience now outcome
+    → outcome ≡ Ok (claims, scope_of entries))
+    (before after : DeskState) (now : Moment) (draw : Draw) (post : Post) (claims : Claims) (entries : List Entry) (holder : ClientDesk) (posted : List ℕ) (id : ℕ)
+    (welcome : IsWelcome is_sealing before now claims entries holder) (size : length posted ≡ 8) where
+  abbrev body : List ℕ
+  body = spelling (post_item holder.token posted (id ∷ []))
+
+  is_post : IsPost body holder.token posted (id ∷ [])
+  is_post = written holder.token posted (id ∷ []) welcome.holds.token_size (omega (arith, size)) (omega (arith, size)) (omega arith)
+
+  is_token : IsToken is_sealing before.key holder.token algorithm_header welcome.holds.iv (spelling (claims_item claims))
+  is_token =
+      subst (λ (t : List ℕ). IsToken is_sealing before.key t algorithm_header welcome.holds.iv (spelling (claims_item claims))) (sym welcome.holds.token)
+      (tokens before.key welcome.holds.iv (spelling (claims_item claims)) welcome.holds.ciphertext welcome.holds.iv_size welcome.holds.short welcome.holds.sealed)
+
+  comes_to : (nonce1 client_id protected iv text : List ℕ) (outcome : Result (Claims × Scope) TokenError)
+      → IsOpened is_sealing before.key body nonce1 client_id protected iv text → ComesTo text before.audience now outcome → outcome ≡ granted claims (scope_of entries)
+  comes_to nonce1 client_id protected iv text outcome its comes =
+      let token_is : its.token ≡ spelling (object_item (token_object welcome.holds.iv welcome.holds.ciphertext)) =
+      (one body its.token nonce1 client_id holder.token posted (id ∷ []) its.is_post is_post).0 ∙ welcome.holds.token in
+      minted before.key welcome.holds.iv welcome.holds.ciphertext protected iv text claims entries now outcome
+      welcome.holds.iv_size welcome.holds.short welcome.holds.sealed welcome.lawful welcome.holds.is_scope welcome.begun welcome.not_over
+      (subst (λ (t : List ℕ). IsToken is_sealing before.key t protected iv text) token_is its.is_token)
+      (subst (λ (a : List ℕ). ComesTo text a now outcome) (sym welcome.audience) comes)
+
+  is_agreed : Posts is_sealing before now body draw post after → (answer : PostAnswer) × (post.answer ≡ Ok answer) × (answer.nonce2 ≡ nonce_drawn draw)
+  is_agreed (Posts.no_post none is same) = absurd (none holder.token posted (id ∷ []) is_post)
+  is_agreed (Posts.not_genuine token nonce1 client_id its none is same) =
+      let token_is : holder.token ≡ token = (one body holder.token posted (id ∷ []) token nonce1 client_id is_post its).0 in
+      absurd (none algorithm_header welcome.holds.iv (spelling (claims_item claims))
+      (subst (λ (t : List ℕ). IsToken is_sealing before.key t algorithm_header welcome.holds.iv (spelling (claims_item claims))) token_is is_token))
+  is_agreed (Posts.opened nonce1 client_id protected iv text answer its answers is) = by answers
+    where
+      by : Answers before now nonce1 client_id text draw answer after → (answer : PostAnswer) × (post.answer ≡ Ok answer) × (answer.nonce2 ≡ nonce_drawn draw)
+      by (refused error comes is_err same) =
+          absurd (never error claims (scope_of entries) (comes_to nonce1 client_id protected iv text (refusal error) its comes))
+      by (full others scope comes is_full is_err same) =
+          let same_as : others ≡ claims = same_claims others claims scope (scope_of entries) (comes_to nonce1 client_id protected iv text (granted others scope) its comes) in
+          absurd (welcome.room (subst (λ (k : Claims). IsFull k.material.id (alive now before.table)) same_as is_full))
+      by (agreed others scope made comes not_full agrees answer_is) =
+          (made, ap (λ (p : Post). p.answer) is ∙ answer_is, agrees.drawn)
+
+pub returns : goal.returns
+returns g c = λ before after now draw post claims entries holder posted id welcome size posts.
+    is_agreed g.A.Aead.is_sealing c.what_is_written.ensures.post c.one_payload.ensures.post c.minted_tokens.ensures c.what_was_minted.ensures
+    before after now draw post claims entries holder posted id welcome size posts
