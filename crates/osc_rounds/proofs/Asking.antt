@@ -1,0 +1,250 @@
+-- A protected request is served, and its reply is accepted.
+use Rattle.std.proofs.Common.{◌≡◌, ◌∙◌, sym, ap, subst, refl, ℕ, ◌<◌, ◌≤◌, List, [], ◌∷◌, length, Option, Some, None, arith}
+use Rattle.std.specs.Prelude.{IfSome}
+use Rattle.std.proofs.lemmas.Bool.{le-leb}
+use Rattle.std.proofs.lemmas.Option.{same_Some}
+use Rattle.osc_model.specs.Apply.{apply_read}
+use Rattle.osc_model.specs.Scope.{Scope}
+use Rattle.osc_model.specs.declared.context.ContextName.{ContextName}
+use Rattle.osc_model.specs.declared.context.Side.TheVariants as side
+use Rattle.osc_model.specs.declared.node.Draw.{Draw}
+use Rattle.osc_model.specs.declared.node.Moment.{Moment}
+use Rattle.osc_model.specs.declared.node.Peer.{Peer}
+use Rattle.osc_model.specs.declared.reply.Reply.{Reply}
+use Rattle.osc_model.specs.declared.step.Step.{Step}
+use Rattle.osc_coap.specs.Building.{payload_of}
+use Rattle.osc_coap.specs.Message.{Message, NumberAndValue, spelling}
+use Rattle.osc_coap.specs.declared.kind.Kind.TheVariants.{Confirmable}
+use Rattle.osc_options.specs.Recognised.{unrecognised_critical}
+use Rattle.osc_options.specs.Requests.{value}
+use Rattle.osc_options.specs.Split.{outer_options, protected, merge}
+use Rattle.osc_dedup.specs.Table.{Entry, looked}
+use Rattle.osc_message.specs.Heard.{heard}
+use Rattle.osc_message.specs.Received.{Receives}
+use Rattle.osc_message.specs.declared.heard.Heard.TheVariants as heard_as
+use Rattle.osc_message.specs.declared.received.Received.{Received}
+use Rattle.osc_message.specs.declared.received.Received.TheVariants as received
+use Rattle.osc_context.specs.Derivation.{key_of}
+use Rattle.osc_context.specs.Nonce.{greatest_number, longest_id}
+use Rattle.osc_window.specs.Window.{IsFresh}
+use Rattle.osc_protect.specs.Aad.{aad_of}
+use Rattle.osc_protect.specs.Protection.{HasShortContext, IsFor, IsProtectedRequest, IsProtectedResponse, IsRequest, SealedRequest, plain_bytes, request_nonce, request_value}
+use Rattle.osc_protect.specs.Value.{Compressed, SpellsValue}
+use Rattle.osc_authz.specs.Held.{Held}
+use Rattle.osc_authz.specs.Table.{meant, accepted}
+use Rattle.osc_run.specs.ServerKinds.{Replies as AppliesTo}
+use Rattle.osc_run.specs.Texts.{read_request, IsWithinRanges}
+use Rattle.osc_server.specs.Case.{case_of as server_case}
+use Rattle.osc_server.specs.State.{State as Server}
+use Rattle.osc_server.specs.Table.{Answers as ServerAnswers, AnswersProtected, IsMeant, IsRefused, IsSealed, Sends, Serves, notes_of_request, refused, reply_to, served}
+use Rattle.osc_server.specs.declared.case.Case.{Case}
+use Rattle.osc_server.specs.declared.case.Case.TheVariants.{Protected}
+use Rattle.osc_server.specs.declared.refusal.Refusal.{Refusal}
+use Rattle.osc_server.specs.declared.refusal.Refusal.TheVariants.{Malformed, NoContext, Replayed, NotGenuine}
+use Rattle.osc_rounds.specs.Asked.{AwaitsRequest, IsDirect, IsServed}
+use Rattle.osc_rounds.specs.Sendable.{IsSendable}
+use Rattle.osc_server.specs.Hearing.{Hears as ServerHears}
+
+-- ---- what the floors below say
+
+module _ (is_sealing : List ℕ → List ℕ → List ℕ → List ℕ → List ℕ → Type 0) where
+  pub record RequestLaws : Type 0 where
+    pub one_reception : (bytes : List ℕ) (a b : Received) → Receives bytes a → Receives bytes b → a ≡ b
+    pub one_value : (bytes : List ℕ) (c d : Compressed) → SpellsValue bytes c → SpellsValue bytes d → c ≡ d
+    pub option_nine : (m : Message) (code : ℕ) (bytes payload : List ℕ) → value 9 (protected m code bytes payload).options ≡ Some bytes
+    pub value_short : (name : ContextName) (number : ℕ) → HasShortContext name → length name.client_id ≤ longest_id → length (request_value name number) ≤ 255
+    pub says : (name : ContextName) (number : ℕ) (m p : Message) → HasShortContext name → number ≤ greatest_number
+        → IsProtectedRequest is_sealing name number m p
+        → (request : SealedRequest) × IsRequest p request × (request.number ≡ number) × IsFor name request
+        × ((text : List ℕ) → is_sealing (key_of name side.Client) (request_nonce name number) (aad_of name number) text request.sealed → text ≡ plain_bytes m)
+
+-- ---- what is received
+
+-- a message that is sent is received as itself
+pub received_as : ((bytes : List ℕ) (a b : Received) → Receives bytes a → Receives bytes b → a ≡ b)
+    → (message : Message) (it : Received) → IsSendable message → Receives (spelling message) it → it ≡ received.Message message
+received_as one message it sendable is =
+    one (spelling message) it (received.Message message) is (sendable.short, record { lawful = sendable.lawful; whole = refl })
+
+-- ---- a protected request is one to the server
+
+pub one_option : (v : List ℕ) → length v ≤ 255 → unrecognised_critical 0 ((9, v) ∷ []) ≡ None
+one_option v short = rw (le-leb 0 (length v) (omega arith), le-leb (length v) 255 short) refl
+
+-- the protected message in place of m, by its parts
+abbrev pub in_place : Message → ℕ → List NumberAndValue → List ℕ → Message
+in_place m code options sealed = record m { code = code; options = options; payload = payload_of sealed }
+
+case_by_options : (open_scope : Scope) (m : Message) (v sealed : List ℕ) → length v ≤ 255
+    → server_case open_scope (heard_as.Message (in_place m 2 ((9, v) ∷ []) sealed)) ≡ Protected (in_place m 2 ((9, v) ∷ []) sealed)
+case_by_options open_scope m v sealed short = rw (one_option v short) refl
+
+heard_by_kind : (seen : List Entry) (now : Moment) (from : Peer) (m : Message) (options : List NumberAndValue) (sealed : List ℕ)
+    → m.kind ≡ Confirmable → looked now from m.id seen ≡ None
+    → heard seen now from (received.Message (in_place m 2 options sealed)) ≡ heard_as.Message (in_place m 2 options sealed)
+heard_by_kind seen now from m options sealed kind unheard = rw (kind, unheard) refl
+
+protected_case : (open_scope : Scope) (seen : List Entry) (now : Moment) (from : Peer) (m : Message) (v sealed : List ℕ)
+    → IsDirect m → length v ≤ 255 → looked now from m.id seen ≡ None
+    → server_case open_scope (heard seen now from (received.Message (protected m 2 v sealed))) ≡ Protected (protected m 2 v sealed)
+protected_case open_scope seen now from m v sealed direct short unheard =
+    let options : merge (outer_options m.options) ((9, v) ∷ []) ≡ (9, v) ∷ [] = ap (λ (outer : List NumberAndValue). merge outer ((9, v) ∷ [])) direct.inside in
+    rw options (ap (server_case open_scope) (heard_by_kind seen now from m ((9, v) ∷ []) sealed direct.kind unheard) ∙ case_by_options open_scope m v sealed short)
+
+-- ---- what it says
+
+pub payload_is : (sealed bytes : List ℕ) → payload_of sealed ≡ Some bytes → bytes ≡ sealed
+payload_is [] bytes e = absurd (cc)
+payload_is (b ∷ sealed) bytes e = sym (same_Some (b ∷ sealed) bytes e)
+
+module _ (is_sealing : List ℕ → List ℕ → List ℕ → List ℕ → List ℕ → Type 0) (laws : RequestLaws is_sealing)
+    (name : ContextName) (number : ℕ) (m p : Message) (short : HasShortContext name) (few : length name.client_id ≤ longest_id) (lawful : number ≤ greatest_number)
+    (made : IsProtectedRequest is_sealing name number m p) where
+  -- all that it says
+  abbrev pub said : SealedRequest
+  said = record { number = number; kid = name.client_id; kid_context = name.id_context; sealed = made.sealed }
+
+  value_is : value 9 p.options ≡ Some (request_value name number)
+  value_is = ap (λ (q : Message). value 9 q.options) made.whole ∙ laws.option_nine m 2 (request_value name number) made.sealed
+
+  context_fits : (context : Option (List ℕ)) → IfSome context (λ bytes. length bytes ≤ 64) → IfSome context (λ bytes. length bytes < 256)
+  context_fits None h = tt
+  context_fits (Some bytes) h = omega arith
+
+  abbrev value_of : SealedRequest → Compressed
+  value_of r = record { partial_iv = Some r.number; kid_context = r.kid_context; kid = Some r.kid }
+
+  spelled : SpellsValue (request_value name number) (value_of said)
+  spelled = record { lawful = record { number = lawful; kid_context = context_fits name.id_context short }; whole = refl }
+
+  -- whatever is read of it is that
+  pub reads_as : (request : SealedRequest) → IsRequest p request → request ≡ said
+  reads_as request is =
+      let bytes : is.bytes ≡ request_value name number = same_Some is.bytes (request_value name number) (sym is.option ∙ value_is) in
+      let same : value_of request ≡ value_of said = laws.one_value (request_value name number) (value_of request) (value_of said)
+      (subst (λ (b : List ℕ). SpellsValue b (value_of request)) bytes is.spelled) spelled in
+      let payload : request.sealed ≡ made.sealed = payload_is made.sealed request.sealed (sym (ap (λ (q : Message). q.payload) made.whole) ∙ is.payload) in
+      by request (same_Some request.number number (ap (λ (c : Compressed). c.partial_iv) same))
+      (same_Some request.kid name.client_id (ap (λ (c : Compressed). c.kid) same))
+      (ap (λ (c : Compressed). c.kid_context) same) payload
+    where
+      by : (r : SealedRequest) → r.number ≡ number → r.kid ≡ name.client_id → r.kid_context ≡ name.id_context → r.sealed ≡ made.sealed → r ≡ said
+      by r a b c d =
+          ap (λ (n : ℕ). let it : SealedRequest = record { number = n; kid = r.kid; kid_context = r.kid_context; sealed = r.sealed } in it) a
+          ∙ ap (λ (k : List ℕ). let it : SealedRequest = record { number = number; kid = k; kid_context = r.kid_context; sealed = r.sealed } in it) b
+          ∙ ap (λ (k : Option (List ℕ)). let it : SealedRequest = record { number = number; kid = name.client_id; kid_context = k; sealed = r.sealed } in it) c
+          ∙ ap (λ (s : List ℕ). let it : SealedRequest = record { number = number; kid = name.client_id; kid_context = name.id_context; sealed = s } in it) d
+
+  -- and it is read
+  pub reads : IsRequest p said
+  reads =
+      let it = laws.says name number m p short lawful made in
+      subst (IsRequest p) (reads_as it.0 it.1) it.1
+
+  -- it opens to the plaintext of the message in whose place it is
+  pub opens : is_sealing (key_of name side.Client) (request_nonce name number) (aad_of name number) (plain_bytes m) made.sealed
+  opens = made.is_sealed
+
+  -- and to nothing else
+  pub opens_once : (text : List ℕ) → is_sealing (key_of name side.Client) (request_nonce name number) (aad_of name number) text made.sealed → text ≡ plain_bytes m
+  opens_once text is =
+      let it = laws.says name number m p short lawful made in
+      let same : it.0.sealed ≡ made.sealed = ap (λ (r : SealedRequest). r.sealed) (reads_as it.0 it.1) in
+      it.4 text (subst (λ (s : List ℕ). is_sealing (key_of name side.Client) (request_nonce name number) (aad_of name number) text s) (sym same) is)
+
+-- ---- it is served
+
+module _ (is_sealing : List ℕ → List ℕ → List ℕ → List ℕ → List ℕ → Type 0) (laws : RequestLaws is_sealing)
+    (old : Server) (now : Moment) (from : Peer) (draw : Draw) (held : Held) (number : ℕ) (m p : Message) (step : Step) (new : Server)
+    (awaits : AwaitsRequest old now from held number m.id) (direct : IsDirect m)
+    (made : IsProtectedRequest is_sealing held.name number m p) where
+  abbrev name : ContextName
+  name = held.name
+
+  abbrev what : SealedRequest
+  what = said is_sealing laws name number m p awaits.lawful.context awaits.lawful.client_id awaits.number_lawful made
+
+  whatever : (request : SealedRequest) → IsRequest p request → request ≡ what
+  whatever = reads_as is_sealing laws name number m p awaits.lawful.context awaits.lawful.client_id awaits.number_lawful made
+
+  is_read : IsRequest p what
+  is_read = reads is_sealing laws name number m p awaits.lawful.context awaits.lawful.client_id awaits.number_lawful made
+
+  once : (text : List ℕ) → is_sealing (key_of name side.Client) (request_nonce name number) (aad_of name number) text made.sealed → text ≡ plain_bytes m
+  once = opens_once is_sealing laws name number m p awaits.lawful.context awaits.lawful.client_id awaits.number_lawful made
+
+  -- which context it means
+  same_held : (request : SealedRequest) (other : Held) → IsMeant old.desk now p request other → held ≡ other
+  same_held request other is =
+      same_Some held other
+      (sym awaits.means ∙ ap (λ (r : SealedRequest). meant now r.kid r.kid_context old.desk.table) (sym (whatever request is.is_request)) ∙ is.is_meant)
+
+  -- none of the reasons stands
+  not_refused : (refusal : Refusal) → IsRefused is_sealing old.desk now p refusal → ⊥
+  not_refused Malformed is = is what is_read
+  not_refused NoContext is =
+      let none : Some held ≡ None = sym awaits.means ∙ ap (λ (r : SealedRequest). meant now r.kid r.kid_context old.desk.table) (sym (whatever is.0 is.1)) ∙ is.2 in cc
+  not_refused Replayed is =
+      let number_is : number ≡ is.0.number = ap (λ (r : SealedRequest). r.number) (sym (whatever is.0 is.2.is_request)) in
+      is.3 (subst (IsFresh is.1.window) number_is (subst (λ (h : Held). IsFresh h.window number) (same_held is.0 is.1 is.2) awaits.fresh))
+  not_refused NotGenuine is =
+      is.4 (plain_bytes m)
+      (subst (λ (h : Held). IsSealed is_sealing h is.0 (plain_bytes m)) (same_held is.0 is.1 is.2)
+      (subst (λ (r : SealedRequest). IsSealed is_sealing held r (plain_bytes m)) (sym (whatever is.0 is.2.is_request)) made.is_sealed))
+
+  -- what is known of a request that is served, by what it says, its context and its text
+  record AreServed (h : Held) (request : SealedRequest) (text : List ℕ) : Type 0 where
+    opens : IsSealed is_sealing h request text
+    reply : Reply
+    within : IsWithinRanges reply
+    applied : AppliesTo old.tree (apply_read old.tree h.scope (read_request text)) reply new.tree
+    answer : Message
+    protects : IsProtectedResponse is_sealing h.name request.number None (reply_to old.endpoint draw p reply) answer
+    sends : Sends old now from draw p answer (notes_of_request now h request.number text reply) new.tree
+        (record old.desk { table = accepted request.kid request.number old.desk.table }) step new
+
+  are_served : (s : Serves is_sealing old now from draw p step new) → AreServed s.held s.request s.text
+  are_served s = record {
+    opens = s.opened.opens;
+    reply = s.reply;
+    within = s.within;
+    applied = s.applied;
+    answer = s.answer;
+    protects = s.protected;
+    sends = s.sent;
+  }
+
+  is_served : Serves is_sealing old now from draw p step new → IsServed is_sealing old now from draw p held number (plain_bytes m) step new
+  is_served s =
+      let request_is : s.request ≡ what = whatever s.request s.opened.meant.is_request in
+      let held_is : s.held ≡ held = sym (same_held s.request s.held s.opened.meant) in
+      let read : AreServed s.held what s.text = subst (λ (r : SealedRequest). AreServed s.held r s.text) request_is (are_served s) in
+      let under : AreServed held what s.text = subst (λ (h : Held). AreServed h what s.text) held_is read in
+      by (subst (λ (t : List ℕ). AreServed held what t) (once s.text under.opens) under)
+    where
+      by : AreServed held what (plain_bytes m) → IsServed is_sealing old now from draw p held number (plain_bytes m) step new
+      by it = record {
+        reply = it.reply;
+        within = it.within;
+        applied = it.applied;
+        answer = it.answer;
+        protected = it.protects;
+        told = it.sends.sent;
+        kept = it.sends.kept;
+      }
+
+  answered_so : AnswersProtected is_sealing old now from draw p step new → IsServed is_sealing old now from draw p held number (plain_bytes m) step new
+  answered_so (refused refusal is sends) = absurd (not_refused refusal is)
+  answered_so (served s) = is_served s
+
+  -- it comes to the server, which serves it
+  pub request_served : IsSendable p → ServerHears is_sealing old now draw from (spelling p) step new → IsServed is_sealing old now from draw p held number (plain_bytes m) step new
+  request_served sendable hears =
+      let v = request_value name number in
+      let as_it : hears.received ≡ received.Message (protected m 2 v made.sealed) =
+      received_as laws.one_reception p hears.received sendable hears.receives ∙ ap received.Message made.whole in
+      let case_is : server_case old.open_scope (heard old.endpoint.seen now from hears.received) ≡ Protected p =
+      ap (λ (r : Received). server_case old.open_scope (heard old.endpoint.seen now from r)) as_it
+      ∙ protected_case old.open_scope old.endpoint.seen now from m v made.sealed direct (laws.value_short name number awaits.lawful.context awaits.lawful.client_id) awaits.unheard
+      ∙ ap Protected (sym made.whole) in
+      answered_so (subst (λ (c : Case). ServerAnswers is_sealing old now from draw c step new) case_is hears.answers)

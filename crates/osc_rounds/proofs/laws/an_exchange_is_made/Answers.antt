@@ -1,0 +1,15 @@
+use Rattle.osc_rounds.proofs.ExchangeRound.{ExchangeLaws, is_begun}
+use Rattle.osc_rounds.proofs.laws.an_exchange_is_made.Goals as goal
+
+pub returns : goal.returns
+returns g c =
+    let laws : ExchangeLaws g.A.Aead.is_sealing = record {
+      itself = c.one_peer.ensures.itself;
+      one_reception = c.one_reception.ensures;
+      spelled_length = c.length_of_spelling.ensures.exact;
+      answer_length = c.lengths_of_answers.ensures;
+      welcome = c.welcome_posts.ensures;
+      one_name = c.one_name.ensures;
+    } in
+    λ client begun server asked_at now draw at server_at claims entries first may fits is.
+    is_begun g.A.Aead.is_sealing laws client server asked_at now draw at server_at claims entries first begun may fits is

@@ -1,0 +1,70 @@
+-- An exchange that goes straight to the server: how both ends stand before, and what comes of it.
+use Rattle.std.specs.Prelude.{◌≡◌, ℕ, ◌<◌, ◌^◌, List, [], ◌∷◌, length, Some, None}
+use Rattle.osc_model.specs.Draw.{nonce_drawn}
+use Rattle.osc_model.specs.StepNotes.{quiet}
+use Rattle.osc_model.specs.declared.node.Draw.{Draw}
+use Rattle.osc_model.specs.declared.node.Moment.{Moment}
+use Rattle.osc_model.specs.declared.node.Peer.{Peer}
+use Rattle.osc_model.specs.declared.step.ClientResult.TheVariants as result
+use Rattle.osc_model.specs.declared.step.Step.{Step}
+use Rattle.osc_coap.specs.Message.{Message, spelling}
+use Rattle.osc_dedup.specs.Table.{looked}
+use Rattle.osc_message.specs.Endpoint.{own_id}
+use Rattle.osc_message.specs.Sending.{datagram}
+use Rattle.osc_protect.specs.Protection.{HasShortContext}
+use Rattle.osc_scope.specs.Entries.{Entry, scope_of}
+use Rattle.osc_token.specs.declared.claims.Claims.{Claims}
+use Rattle.osc_authz.specs.Contexts.{IsLive}
+use Rattle.osc_authz.specs.Held.{Held}
+use Rattle.osc_authz.specs.Members.{In}
+use Rattle.osc_authz.specs.Table.{contexts}
+use Rattle.osc_authz.specs.Welcome.{IsWelcome}
+use Rattle.osc_server.specs.State.{State as Server}
+use Rattle.osc_client.specs.State.{State as Client}
+use Rattle.osc_client.specs.Hearing.{Hears as ClientHears}
+use Rattle.osc_server.specs.Hearing.{Hears as ServerHears}
+
+-- the client's end of an exchange, once it is over: nothing goes out, nothing waits, and it has this context
+pub record IsMade (held : Held) (step : Step) (new : Client) : Type 0 where
+  pub told : step ≡ record { out = []; notes = record quiet { result = Some result.Made } }
+  pub context : new.context ≡ Some (record { name = held.name; next = 0 })
+  pub waiting : new.waiting ≡ None
+
+-- the server holds a live context with this scope, which has accepted no number yet, and whose id context is no longer than one may be
+pub record IsHeld (server : Server) (now : Moment) (entries : List Entry) (held : Held) : Type 0 where
+  pub here : In held (contexts server.desk.table)
+  pub live : IsLive now held
+  pub scope : held.scope ≡ scope_of entries
+  pub window : held.window ≡ []
+  pub short : HasShortContext held.name
+
+-- `is_sealing key nonce aad text sealed` is the cipher's relation
+module _ (is_sealing : List ℕ → List ℕ → List ℕ → List ℕ → List ℕ → Type 0) where
+  -- The client, which has this address, waits for nothing, sends straight to the server, which has that one, and holds a token that
+  -- is welcome there. The message ID that the client takes wasn't heard at the server.
+  pub record MayExchange (client : Client) (server : Server) (now : Moment) (draw : Draw) (at server_at : Peer) (claims : Claims) (entries : List Entry) : Type 0 where
+    pub direct : client.origin ≡ None
+    pub next_hop : client.next_hop ≡ server_at
+    pub idle : client.waiting ≡ None
+    pub unheard : looked now at (own_id draw client.endpoint.next_id) server.endpoint.seen ≡ None
+    pub welcome : IsWelcome is_sealing server.desk now claims entries client.desk
+    -- what the types of a message ID and of a draw say
+    pub id : own_id draw client.endpoint.next_id < 2 ^ 16
+    pub draw_size : length draw.0 ≡ 32
+
+  -- The server sends one datagram; and where that comes to the client, both have a context of one name, the server's with the scope
+  -- of these entries.
+  pub record IsAgreedAndMade (begun : Client) (now : Moment) (at server_at : Peer) (entries : List Entry) (second : Step) (agreed : Server) : Type 0 where
+    pub answer : Message
+    pub out : second.out ≡ datagram at answer ∷ []
+    pub made : (third : Step) (after : Client) → ClientHears is_sealing begun now server_at (spelling answer) third after
+        → (held : Held) × IsHeld agreed now entries held × IsMade held third after
+
+  -- One datagram goes to the server; and where that comes there, it is agreed, and a context is made.
+  pub record IsBegunAndMade (client : Client) (server : Server) (now : Moment) (draw : Draw) (at server_at : Peer) (entries : List Entry) (first : Step) (begun : Client) : Type 0 where
+    pub message : Message
+    pub out : first.out ≡ datagram client.next_hop message ∷ []
+    pub drawn : first.notes.drawn ≡ Some (nonce_drawn draw)
+    pub agreed : (server_draw : Draw) (second : Step) (after : Server) → length server_draw.0 ≡ 32
+        → ServerHears is_sealing server now server_draw at (spelling message) second after
+        → IsAgreedAndMade begun now at server_at entries second after
