@@ -4,3 +4,7 @@ pub mod Enrolling
 pub mod Sending
 pub mod Taking
 mod Waiting
+mod Rest
+mod OneDelivery
+mod AskWorld
+mod ExchangeWorld

@@ -15,14 +15,12 @@ use Rattle.osc_run.specs.ClientKinds.{ClientStep, IsSkipped}
 use Rattle.osc_run.specs.Notes.{by_server, by_client, by_proxy}
 use Rattle.osc_run.specs.ProxyKinds.{ProxyStep}
 use Rattle.osc_run.specs.ServerKinds.{ServerStep}
-use Rattle.osc_server.specs.Case.{case_of as server_case}
+use Rattle.osc_server.specs.Hearing.{Hears as ServerHears}
 use Rattle.osc_server.specs.State.{State as Server, core as core_of_server}
-use Rattle.osc_server.specs.Table.{Answers as ServerAnswers}
-use Rattle.osc_client.specs.Case.{case_of as client_case}
+use Rattle.osc_client.specs.Hearing.{Hears as ClientHears}
 use Rattle.osc_client.specs.Lying.{Lies}
 use Rattle.osc_client.specs.Sending.{Asks, Exchanges, Ticks as ClientTicks, restarted}
 use Rattle.osc_client.specs.State.{State as Client, core as core_of_client}
-use Rattle.osc_client.specs.Table.{Answers as ClientAnswers}
 use Rattle.osc_proxy.specs.Case.{NamesIn, case_of as proxy_case}
 use Rattle.osc_proxy.specs.Exchanges.{count}
 use Rattle.osc_proxy.specs.ProxyUri.{HostAndPort}
@@ -136,26 +134,14 @@ TakesOfProxy old number (Some placed) sent event taken new = ProxyTakes old numb
 
 -- `is_sealing key nonce aad text sealed` is the cipher's relation, and `tag` how long its tag is
 module _ (is_sealing : List ℕ → List ℕ → List ℕ → List ℕ → List ℕ → Type 0) (tag : ℕ) where
-  -- these bytes come to the server from this address
-  pub record ServerHears (old : Server) (now : Moment) (draw : Draw) (from : Peer) (bytes : List ℕ) (step : Step) (new : Server) : Type 0 where
-    pub received : Received
-    pub receives : Receives bytes received
-    pub answers : ServerAnswers is_sealing old now from draw (server_case old.open_scope (heard old.endpoint.seen now from received)) step new
-
-  -- and to a client
-  pub record ClientHears (old : Client) (now : Moment) (from : Peer) (bytes : List ℕ) (step : Step) (new : Client) : Type 0 where
-    pub received : Received
-    pub receives : Receives bytes received
-    pub answers : ClientAnswers is_sealing old now from (client_case old.next_hop from old.waiting (heard old.endpoint.seen now from received)) step new
-
   -- a datagram that was sent comes to the server; what was never sent doesn't come
   abbrev pub ServerGets : Server → Moment → Draw → Option Sent → Step → Server → Type 0
   ServerGets old now draw None step new = Idles old step new
-  ServerGets old now draw (Some datagram) step new = ServerHears old now draw datagram.from datagram.bytes step new
+  ServerGets old now draw (Some datagram) step new = ServerHears is_sealing old now draw datagram.from datagram.bytes step new
 
   abbrev pub ClientGets : Client → Moment → Option Sent → Step → Client → Type 0
   ClientGets old now None step new = Idles old step new
-  ClientGets old now (Some datagram) step new = ClientHears old now datagram.from datagram.bytes step new
+  ClientGets old now (Some datagram) step new = ClientHears is_sealing old now datagram.from datagram.bytes step new
 
   -- what the server does, where the event is its own
   abbrev pub ServerDoes : Server → Moment → Draw → List Sent → What → Step → Server → Type 0
@@ -165,7 +151,7 @@ module _ (is_sealing : List ℕ → List ℕ → List ℕ → List ℕ → List 
   ServerDoes old now draw sent (Tick node) step new = ServerTicks old now step new
   ServerDoes old now draw sent (Restart node) step new = StartsAgain (server_again old) step new
   ServerDoes old now draw sent (Deliver datagram) step new = ServerGets old now draw (slice_get sent datagram) step new
-  ServerDoes old now draw sent (Inject from to bytes) step new = ServerHears old now draw from bytes step new
+  ServerDoes old now draw sent (Inject from to bytes) step new = ServerHears is_sealing old now draw from bytes step new
 
   -- a request is asked; one with the code 0.00 is none
   pub data AsksFor (old : Client) (now : Moment) (draw : Draw) (request : Request) (step : Step) (new : Client) : Type 0 where
@@ -185,7 +171,7 @@ module _ (is_sealing : List ℕ → List ℕ → List ℕ → List ℕ → List 
   ClientDoes old now draw sent (Tick node) step new = ClientTicks old now step new
   ClientDoes old now draw sent (Restart node) step new = StartsAgain (restarted old) step new
   ClientDoes old now draw sent (Deliver datagram) step new = ClientGets old now (slice_get sent datagram) step new
-  ClientDoes old now draw sent (Inject from to bytes) step new = ClientHears old now from bytes step new
+  ClientDoes old now draw sent (Inject from to bytes) step new = ClientHears is_sealing old now from bytes step new
 
   -- ---- one node takes a step, or none does
 

@@ -5,6 +5,8 @@
 mod draws;
 mod error;
 mod event;
+mod isolation;
+pub mod laws;
 mod log;
 mod nodes;
 mod start;

@@ -9,7 +9,10 @@ ghost use Rattle.osc_run.specs.ServerKinds.{ServerStep};
 ghost use Rattle.osc_server.specs.State.{core as core_of_server};
 ghost use Rattle.osc_world.specs.Log.{sent_by};
 ghost use Rattle.osc_world.specs.Nodes.{client_at, found, node_at, node_of, proxy_at, skipped, whose_step};
-ghost use Rattle.osc_world.specs.Steps.{AsksFor, ClientDoes, ClientGets, ClientHears, IsStep, ProxyDoes, ProxyGets, ProxyHears, ServerDoes, ServerGets, ServerHears, ServerTakes, Takes, TakesOf, TakesOfProxy, IsSkip, LiesAt, is_lie, most_of, most_of_placed, most_of_proxy, most_sent, one_or};
+ghost use Rattle.osc_rounds.specs.AskRound.{IsLawfulServer};
+ghost use Rattle.osc_server.specs.Hearing.{Hears as ServerHears};
+ghost use Rattle.osc_client.specs.Hearing.{Hears as ClientHears};
+ghost use Rattle.osc_world.specs.Steps.{AsksFor, ClientDoes, ClientGets, IsStep, ProxyDoes, ProxyGets, ProxyHears, ServerDoes, ServerGets, ServerTakes, Takes, TakesOf, TakesOfProxy, IsSkip, LiesAt, is_lie, most_of, most_of_placed, most_of_proxy, most_sent, one_or};
 
 use crate::event::{Event, What};
 use crate::log::Sent;
@@ -227,7 +230,7 @@ fn server_hears<A: Aead>(
     from: Peer,
     bytes: &[u8],
 ) -> Result<Step, AllocError>
-    ensures hears { IfOk result (λ step. ServerHears A.is_sealing A.TAG server.old now draw.now from bytes.now step server.new) }
+    ensures hears { IfOk result (λ step. ServerHears A.is_sealing server.old now draw.now from bytes.now step server.new) }
     ensures kind { IfOk result (λ step. ServerStep (core_of_server server.old) now step.notes (core_of_server server.new)) }
     ensures few { IfOk result (λ step. length step.out ≤ 1) }
     ensures err { OnErr result (server.new ≡ server.old) }
@@ -363,6 +366,21 @@ impl Nodes {
         ensures { result.now ≡ self.now.server }
     {
         &self.server
+    }
+
+    /// The client of this number, if there is one.
+    pub fn client(&self, number: usize) -> Option<&Placed>
+        ensures { option_map (λ placed. placed.now) result ≡ slice_get self.now.clients number }
+    {
+        self.clients.get(number)
+    }
+
+    /// For proofs: what is true of each server. Does nothing.
+    pub fn has_a_lawful_server(&self)
+        ensures { IsLawfulServer self.now.server }
+    {
+        let _resources = self.server.tree().len();
+        let _desk = self.server.desk();
     }
 
     /// Who stands there.
@@ -602,7 +620,7 @@ fn client_hears<A: Aead>(
     from: Peer,
     bytes: &[u8],
 ) -> Result<Step, AllocError>
-    ensures hears { IfOk result (λ step. ClientHears A.is_sealing A.TAG client.old now from bytes.now step client.new) }
+    ensures hears { IfOk result (λ step. ClientHears A.is_sealing client.old now from bytes.now step client.new) }
     ensures kind { IfOk result (λ step. ClientStep false (core_of_client client.old) step.notes (core_of_client client.new)) }
     ensures few { IfOk result (λ step. length step.out ≤ 1) }
     ensures err { OnErr result (client.new ≡ client.old) }

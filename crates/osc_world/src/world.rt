@@ -1,23 +1,31 @@
 //! The world.
-ghost use Rattle.std.specs.Prelude.{◌≡◌, ◌↔◌, ◌++◌, [], IfOk, IsTrue, List, OnErr, OnOk, map, position, reverse};
+ghost use Rattle.std.specs.Prelude.{◌≡◌, ◌↔◌, ◌++◌, [], IfOk, IsTrue, List, OnErr, OnOk, map, option_map, position, reverse, slice_get};
+ghost use Rattle.osc_model.specs.Isolation.{Agree, HaveOwnPaths, alone as answers_alone, answered};
 ghost use Rattle.osc_run.specs.History.{acceptances, history as history_of, questions};
+ghost use Rattle.osc_run.specs.States.{grants_of};
+ghost use Rattle.osc_run.specs.Texts.{read_request};
 ghost use Rattle.osc_run.specs.Premise.{Premise};
-ghost use Rattle.osc_world.specs.Claims.{HasOneHistory, KeepsItsNonces};
+ghost use Rattle.osc_rounds.specs.AskRound.{IsLawfulServer};
+ghost use Rattle.osc_world.specs.Claims.{HasOneHistory, HasOwnAnswers, KeepsItsNonces};
 ghost use Rattle.osc_world.specs.Log.{settled, waiting};
 ghost use Rattle.osc_world.specs.Nodes.{skipped};
 ghost use Rattle.osc_run.specs.Runs.{IsStart};
 ghost use Rattle.osc_world.specs.Quiet.{Rounds, delivery};
+ghost use Rattle.osc_world.specs.Ready.{AnswersWhatWasAsked, MakesWhatWasBegun};
 ghost use Rattle.osc_world.specs.Worlds.{Happen, Happens, run_with};
 ghost use Rattle.osc_world.specs.declared.event.Event.{Event as AnyEvent};
 
 use crate::draws::Draws;
 use crate::event::{Event, What};
+use crate::isolation::alone;
+use crate::laws::{an_asked_round, an_exchanged_round};
 use crate::log::{Log, Record, Sent};
-use crate::nodes::Nodes;
+use crate::nodes::{Nodes, Placed};
 use osc_ccm::Aead;
-use osc_model::{Draw, Entry, Moment};
-use osc_run::laws::{one_history, own_nonces};
+use osc_model::{Draw, Entry, Moment, Reply};
+use osc_run::laws::{one_history, own_answers, own_nonces};
 use osc_run::{Acceptance, Minted, Noted, Question};
+use osc_server::Server;
 use osc_tree::Tree;
 use std::alloc::{AllocError, Global};
 use std::marker::Model;
@@ -48,6 +56,7 @@ impl Drop for World {
 impl Model for World {
     ghost use Rattle.osc_run.specs.Runs.{IsReached};
     ghost use Rattle.osc_world.specs.Quiet.{Rounds, delivery};
+    ghost use Rattle.osc_world.specs.Ready.{AnswersWhatWasAsked, MakesWhatWasBegun};
     ghost use Rattle.osc_world.specs.Worlds.{State, run_of, world_of};
     ghost use Rattle.std.specs.Coded.{codes};
     ghost use Rattle.osc_model.specs.Scope.{coded_scope};
@@ -81,10 +90,12 @@ impl World {
         ensures happens { OnOk result (Happens A.is_sealing A.TAG self.old event.now self.new) }
         ensures one_history { HasOneHistory self.new }
         ensures own_nonces { KeepsItsNonces self.new }
+        ensures own_answers { HasOwnAnswers self.new }
         ensures err { OnErr result (self.new ≡ self.old) }
     {
         one_history();
         own_nonces();
+        own_answers();
         let done = self.happens::<A>(alloc, event);
         // The clauses of runs are the world's invariant after it.
         let _ = &self.minted;
@@ -108,14 +119,19 @@ impl World {
     /// Where what is assumed holds ([`World::premise_holds`]), there is one history after them: no two entries share context and
     /// number, each was asked by its client and is answered by its token's scope and the tree, their effects give the server's tree,
     /// and each reply that a client accepted is that of its request.
+    ///
+    /// Where, besides, no two grants name a common path, each client's entries are answered as if they alone followed the first
+    /// resources, up to the first that is for want of memory or of room ([`World::alone`]).
     pub fn run<A: Aead>(&mut self, alloc: Global, events: &[Event]) -> Result<(), AllocError>
         ensures happen { (done rest : List AnyEvent) × (events.now ≡ done ++ rest) × Happen A.is_sealing A.TAG self.old done self.new
             × OnOk result (rest ≡ []) }
         ensures one_history { HasOneHistory self.new }
         ensures own_nonces { KeepsItsNonces self.new }
+        ensures own_answers { HasOwnAnswers self.new }
     {
         one_history();
         own_nonces();
+        own_answers();
         let done = self.happen::<A>(alloc, events);
         // The clauses of runs are the world's invariant after it.
         let _ = &self.minted;
@@ -134,6 +150,10 @@ impl World {
 
     /// A quiet round: each datagram that was neither delivered nor dropped is delivered, in order of sending, until none is left, or so
     /// many were. Whether none is left; for want of memory an `AllocError`, and the deliveries before it stand.
+    ///
+    /// Behind an exchange or a request that goes straight to the server, in a world that was at rest before, two deliveries are the whole
+    /// round: the exchange makes a context of one name at both ends, with the token's scope; and the request is served once, by what the
+    /// machine makes of it, or by 5.00 where the server lacks memory for that, and what it is answered is what the client learns.
     pub fn quiet<A: Aead, D: Draws>(
         &mut self,
         alloc: Global,
@@ -142,15 +162,29 @@ impl World {
         limit: usize,
     ) -> Result<bool, AllocError>
         ensures rounds { IfOk result (λ quiet. Rounds A.is_sealing A.TAG (D.drawn draws.now) now limit self.old quiet self.new) }
+        ensures begun { IfOk result (λ quiet. MakesWhatWasBegun A.is_sealing A.TAG (D.drawn draws.now) now limit self.old quiet self.new) }
+        ensures asked { IfOk result (λ quiet. AnswersWhatWasAsked A.is_sealing A.TAG now limit self.old quiet self.new) }
         ensures one_history { HasOneHistory self.new }
         ensures own_nonces { KeepsItsNonces self.new }
+        ensures own_answers { HasOwnAnswers self.new }
     {
         one_history();
         own_nonces();
+        own_answers();
+        an_exchanged_round::<A>();
+        an_asked_round::<A>();
+        self.has_a_lawful_server();
         let done = self.rounds::<A, D>(alloc, now, draws, limit);
         // The clauses of runs are the world's invariant after it.
         let _ = &self.minted;
         done
+    }
+
+    // For proofs: what is true of each server. Does nothing.
+    fn has_a_lawful_server(&self)
+        ensures { IsLawfulServer self.now.nodes.server }
+    {
+        self.nodes.has_a_lawful_server();
     }
 
     fn rounds<A: Aead, D: Draws>(
@@ -195,9 +229,29 @@ impl World {
     pub fn history(&self, alloc: Global) -> Result<Vec<&Entry>, AllocError>
         ensures history { IfOk result (λ all. map (λ entry. entry.now) all.items ≡ history_of self.now.steps) }
         ensures one_history { HasOneHistory self.now }
+        ensures own_answers { HasOwnAnswers self.now }
     {
         one_history();
+        own_answers();
         self.log.notes().history(alloc)
+    }
+
+    /// What a client's entries are answered where they alone follow the first resources, each with its number, in the history's
+    /// order. Without memory there is no list.
+    ///
+    /// Where what is assumed holds and no two grants name a common path, the history has the same answers, up to the first that is for
+    /// want of memory or of room.
+    pub fn alone(&self, alloc: Global, client: usize) -> Result<Vec<(u64, Reply)>, AllocError>
+        ensures alone { IfOk result (λ answers. answers.items
+            ≡ answers_alone read_request (grants_of self.now.minted) client self.now.first (history_of self.now.steps)) }
+        ensures isolated { IfOk result (λ answers. Premise self.now.minted self.now.steps → HaveOwnPaths (grants_of self.now.minted)
+            → Agree (answered (grants_of self.now.minted) client (history_of self.now.steps)) answers.items) }
+    {
+        own_answers();
+        let entries = self.history(alloc)?;
+        // The clauses of runs are the world's invariant after it.
+        let _ = &self.minted;
+        alone(alloc, &self.minted, client, &self.first, &entries)
     }
 
     /// The requests that clients sealed, or their holders in a lie, the oldest first. Without memory there is no list.
@@ -236,6 +290,20 @@ impl World {
         // The clauses of runs are the world's invariant after it.
         let _ = &self.minted;
         self.nodes.server().tree()
+    }
+
+    /// The server.
+    pub fn server(&self) -> &Server
+        ensures { result.now ≡ self.now.nodes.server }
+    {
+        self.nodes.server()
+    }
+
+    /// The client of this number, and where it stands, if there is one.
+    pub fn client(&self, number: usize) -> Option<&Placed>
+        ensures { option_map (λ placed. placed.now) result ≡ slice_get self.now.nodes.clients number }
+    {
+        self.nodes.client(number)
     }
 
     /// The resources that the world began with.
@@ -302,9 +370,11 @@ impl World {
         ensures skipped { self.new ≡ record self.old { nodes = skipped client number self.old.nodes } }
         ensures one_history { HasOneHistory self.new }
         ensures own_nonces { KeepsItsNonces self.new }
+        ensures own_answers { HasOwnAnswers self.new }
     {
         one_history();
         own_nonces();
+        own_answers();
         self.skips(client, number);
         // The clauses of runs are the world's invariant after it.
         let _ = &self.minted;

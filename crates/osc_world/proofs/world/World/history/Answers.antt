@@ -5,3 +5,6 @@ use Rattle.osc_world.proofs.world.World.history.Goals as goal
 
 pub returns-clause-one_history : goal.returns-clause-one_history
 returns-clause-one_history c = c.one_history.ensures (run_of c.args.self.now) (subst (λ w. IsReached (run_of w)) c.self.view_is c.self.invariant)
+
+pub returns-clause-own_answers : goal.returns-clause-own_answers
+returns-clause-own_answers c = c.own_answers.ensures (run_of c.args.self.now) (subst (λ w. IsReached (run_of w)) c.self.view_is c.self.invariant)

@@ -8,3 +8,6 @@ returns-clause-one_history c = c.one_history.ensures (run_of c.skips.new.self) (
 
 pub returns-clause-own_nonces : goal.returns-clause-own_nonces
 returns-clause-own_nonces c = c.own_nonces.ensures (run_of c.skips.new.self) (subst (λ w. IsReached (run_of w)) c.self.view_is c.self.invariant)
+
+pub returns-clause-own_answers : goal.returns-clause-own_answers
+returns-clause-own_answers c = c.own_answers.ensures (run_of c.skips.new.self) (subst (λ w. IsReached (run_of w)) c.self.view_is c.self.invariant)

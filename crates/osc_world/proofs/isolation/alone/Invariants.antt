@@ -1,0 +1,12 @@
+use Rattle.std.proofs.Common.{◌≡◌, ◌++◌, map, drop}
+use Rattle.osc_model.specs.Isolation.{entries_under, held_by, machine_answers}
+use Rattle.osc_run.specs.States.{grants_of}
+use Rattle.osc_run.specs.Texts.{read_request}
+use Rattle.osc_world.proofs.isolation.alone.Given as goal
+
+-- what was answered so far, and what is answered to the rest
+abbrev pub invariant-loop-entry : goal.invariant-loop-entry
+invariant-loop-entry l =
+    let own = held_by l.client (grants_of l.minted) in
+    l.answers.items ++ machine_answers read_request own l.tree (entries_under own (map (λ entry. entry.now) (drop l.entry-index l.entries)))
+    ≡ machine_answers read_request own l.first (entries_under own (map (λ entry. entry.now) l.entries))
