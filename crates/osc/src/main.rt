@@ -23,7 +23,13 @@ fn run(rt: &HostRuntime) -> io::Result<Ended> {
     let arguments: Vec<String> = env::args(rt)?.collect(alloc)?;
     let words: Vec<&str> = arguments.iter().map(|word| word.as_str()).collect(alloc)?;
     match read_words(alloc, &words) {
-        Ok(Words::Sim { bytes }) => Ok(sim(alloc, &mut rt.reader(), &mut io::writer(rt), bytes)),
+        Ok(Words::Sim { bytes, only }) => Ok(sim(
+            alloc,
+            &mut rt.reader(),
+            &mut io::writer(rt),
+            bytes,
+            only,
+        )),
         Ok(Words::Token(words)) => print_token(rt, &words),
         Ok(Words::Server { turns }) => tell(rt, serve(alloc, rt, &mut rt.reader(), turns)),
         Ok(Words::Proxy { turns }) => tell(rt, forward(alloc, rt, &mut rt.reader(), turns)),

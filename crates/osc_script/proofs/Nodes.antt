@@ -1,6 +1,6 @@
 -- A word names a client, a node or a method exactly where one is read, and it is that one.
 use Rattle.std.proofs.Common.{◌≡◌, ◌≢◌, ℕ, ◌+◌, ◌-◌, ◌<◌, ◌≤◌, ◌==◌, ◌&&◌, Bool, true, false, List, [], ◌∷◌, length, get_or, Option, Some, None, ◌⊎◌, nat_le, refl, sym, ap, ◌∙◌, arith, inl, inr, bytes_eq, eqb-true, leb-true, le-leb}
-use Rattle.std.specs.Prelude.{IfSome, IsSome, ◌↔◌}
+use Rattle.std.specs.Prelude.{IfNone, IfSome, IsSome, ◌↔◌}
 use Rattle.std.proofs.Props.{props}
 use Rattle.std.proofs.lemmas.Bool.{and_parts}
 use Rattle.std.proofs.lemmas.Slice.Eq.{bytes_eq-Decides}
@@ -68,6 +68,14 @@ unfolding client_in
 client_again client =
     let digit : 48 + client.digit - 48 ≡ client.digit = omega arith in
     ap client_with digit ∙ with_again client
+
+pub client_named : (word : List ℕ) (found : Option ClientName) → found ≡ client_in word → IfSome found (λ client. word ≡ client_name client)
+client_named word (Some client) e = client_found word client (sym e)
+client_named word None e = tt
+
+pub client_unnamed : (word : List ℕ) (found : Option ClientName) → found ≡ client_in word → IfNone found ((client : ClientName) → ¬ (word ≡ client_name client))
+client_unnamed word (Some client) e = tt
+client_unnamed word None e = λ client is. let no : None ≡ Some client = e ∙ ap client_in is ∙ client_again client in absurd cc
 
 -- ---- proxies
 

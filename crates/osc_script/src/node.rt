@@ -6,9 +6,18 @@ ghost use Rattle.osc_script.specs.declared.proxy_name.ProxyName.{ProxyName as An
 
 use crate::client_name::ClientName;
 use crate::proxy_name::ProxyName;
+use crate::words;
 use osc_model::Peer;
 
 impl ClientName {
+    /// The client of this name.
+    pub fn named(text: &str) -> Option<ClientName>
+        ensures some { IfSome result (λ client. text.now ≡ spec.client_name client) }
+        ensures none { IfNone result ((client : AnyClient) → ¬ (text.now ≡ spec.client_name client)) }
+    {
+        words::client(text.as_bytes())
+    }
+
     /// Its name in a script and in a trace.
     pub fn name(self) -> &'static str
         ensures { result.now ≡ spec.client_name self }

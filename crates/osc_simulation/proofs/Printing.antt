@@ -49,6 +49,10 @@ pub served_pieces : (holder n code holder-is : List ℕ) → holder ≡ holder-i
     → codes "served " ++ (holder ++ (codes " " ++ (n ++ (codes " " ++ (code ++ 10 ∷ []))))) ≡ line (codes "served " ++ holder-is ++ codes " " ++ n ++ codes " " ++ code)
 served_pieces holder n code holder-is e = rw e (simp append_assoc)
 
+pub alone_pieces : (client n code client-is : List ℕ) → client ≡ client-is
+    → codes "alone " ++ (client ++ (codes " " ++ (n ++ (codes " " ++ (code ++ 10 ∷ []))))) ≡ line (codes "alone " ++ client-is ++ codes " " ++ n ++ codes " " ++ code)
+alone_pieces client n code client-is e = rw e (simp append_assoc)
+
 pub learnt_pieces : (client learnt client-is learnt-is : List ℕ) → client ≡ client-is → learnt ≡ learnt-is
     → client ++ (codes " " ++ (learnt ++ 10 ∷ [])) ≡ line (client-is ++ codes " " ++ learnt-is)
 learnt_pieces client learnt client-is learnt-is e f = rw (e, f) (simp append_assoc)

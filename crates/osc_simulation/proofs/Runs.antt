@@ -40,3 +40,15 @@ appends_kept None b c xs h k = h
 appends_kept (Some x) None c xs h k = absurd h
 appends_kept (Some x) (Some y) None xs h k = k
 appends_kept (Some x) (Some y) (Some z) xs h k = k ∙ h
+
+-- what goes behind a text in three parts
+pub three_behind : (before events end alone : List ℕ) {one two three : List ℕ} → one ≡ before ++ events → two ≡ one ++ end → three ≡ two ++ alone
+    → three ≡ before ++ (events ++ end ++ alone)
+three_behind before events end alone e f g = g ∙ (ap (λ bytes. bytes ++ alone) (f ∙ ap (λ bytes. bytes ++ end) e) ∙ assoc)
+  where
+    assoc : before ++ events ++ end ++ alone ≡ before ++ (events ++ end ++ alone)
+    assoc = simp append_assoc
+
+-- what goes behind a text is of the same thing by another name
+pub behind_by : {A : Type 0} (f : A → List ℕ) (before : List ℕ) {a b : A} {after : List ℕ} → a ≡ b → after ≡ before ++ f a → after ≡ before ++ f b
+behind_by f before {a} {b} {after} same e = subst (λ x. after ≡ before ++ f x) same e

@@ -2,6 +2,7 @@
 use Rattle.std.specs.Prelude.{◌≡◌, ◌↔◌, ℕ, ◌+◌, ◌==◌, if◌then◌else◌, Bool, true, false, IsTrue, List, [], ◌∷◌, ◌++◌, drop, length, Option, Some, None, codes}
 use Rattle.std.specs.FinMap as map
 use Rattle.std.specs.FinSet as set
+use Rattle.osc_model.specs.Isolation.{Answer, alone}
 use Rattle.osc_model.specs.Tree.{Tree}
 use Rattle.osc_model.specs.Scope.{Scope}
 use Rattle.osc_model.specs.declared.code.Method.TheVariants.{Get}
@@ -11,6 +12,8 @@ use Rattle.osc_client.specs.declared.way.Way.{Way}
 use Rattle.osc_proxy.specs.declared.targets.Target.{Target}
 use Rattle.osc_run.specs.History.{history}
 use Rattle.osc_run.specs.Premise.{Premise}
+use Rattle.osc_run.specs.States.{grants_of}
+use Rattle.osc_run.specs.Texts.{read_request}
 use Rattle.osc_world.specs.Log.{settled}
 use Rattle.osc_world.specs.Nodes.{skipped}
 use Rattle.osc_world.specs.Quiet.{Rounds}
@@ -19,7 +22,7 @@ use Rattle.osc_world.specs.Worlds.{State, Happens}
 use Rattle.osc_world.specs.declared.event.What.{What}
 use Rattle.osc_world.specs.declared.start.Holder.{Holder}
 use Rattle.osc_script.specs.Grants.{claims_of, iv_of, token_key}
-use Rattle.osc_script.specs.Node.{address_of}
+use Rattle.osc_script.specs.Node.{address_of, client_name}
 use Rattle.osc_script.specs.Script.{IsScript}
 use Rattle.osc_script.specs.declared.client_name.ClientName.{ClientName}
 use Rattle.osc_script.specs.declared.line.Line.{Line}
@@ -31,7 +34,7 @@ use Rattle.osc_simulation.specs.Events.{datagram_number, what_of}
 use Rattle.osc_simulation.specs.Names.{Names, made, names_in, number_of}
 use Rattle.osc_simulation.specs.Records.{PrintAllRecords}
 use Rattle.osc_simulation.specs.Text.{line as line_text}
-use Rattle.osc_simulation.specs.Trace.{end_text}
+use Rattle.osc_simulation.specs.Trace.{alone_text, end_text}
 use Rattle.osc_simulation.specs.declared.stage.Stage.{Stage}
 
 -- ---- the world before the first event
@@ -194,12 +197,21 @@ pub record IsEnd (world : State) (text : List ℕ) : Type 0 where
   pub tells : IsTrue held ↔ Premise world.minted world.steps
   pub whole : text ≡ end_text world.nodes.server.tree (length (history world.steps)) held
 
--- the trace of a script: what its events print, and the end lines
-abbrev pub IsTrace : Bool → List Line → List ℕ → Type 0
-IsTrace with_bytes lines text =
+-- what the entries of a client are answered where they alone follow the first resources; one that no line grants to has none
+abbrev pub alone_in : Names → State → ClientName → List Answer
+alone_in names world client = alone read_request (grants_of world.minted) (number_of names.clients client) world.first (history world.steps)
+
+-- the lines of that, if a client is wanted
+abbrev pub only_text : Names → State → Option ClientName → List ℕ
+only_text names world None = []
+only_text names world (Some client) = alone_text (client_name client) (alone_in names world client)
+
+-- the trace of a script: what its events print, the end lines, and what the wanted client's entries are answered alone
+abbrev pub IsTrace : Bool → Option ClientName → List Line → List ℕ → Type 0
+IsTrace with_bytes only lines text =
     (events end : List ℕ) × (first last : Stage) × Begins lines first.world × IsFirst first × Prints with_bytes (names_in lines) first lines events last
-    × IsEnd last.world end × (text ≡ events ++ end)
+    × IsEnd last.world end × (text ≡ events ++ end ++ only_text (names_in lines) last.world only)
 
 -- what a script's text prints
-abbrev pub Simulates : Bool → List ℕ → List ℕ → Type 0
-Simulates with_bytes script text = (lines : List Line) × IsScript script lines × IsTrace with_bytes lines text
+abbrev pub Simulates : Bool → Option ClientName → List ℕ → List ℕ → Type 0
+Simulates with_bytes only script text = (lines : List Line) × IsScript script lines × IsTrace with_bytes only lines text

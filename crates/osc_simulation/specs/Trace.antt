@@ -5,6 +5,7 @@ use Rattle.std.specs.List.{list_any}
 use Rattle.hex.specs.Hex.{encode_lower}
 use Rattle.osc_coap.specs.Kind.{kind_name}
 use Rattle.osc_coap.specs.Message.{Message}
+use Rattle.osc_model.specs.Isolation.{Answer}
 use Rattle.osc_model.specs.Tree.{Tree}
 use Rattle.osc_model.specs.declared.resource.Resource.{Resource}
 use Rattle.osc_simulation.specs.Text.{line, code_text, format_text, short_text}
@@ -39,6 +40,14 @@ premise_text false = line (codes "premise: broken")
 -- At the end: each resource in the order of its path's text, and these two lines.
 abbrev pub end_text : Tree → ℕ → Bool → List ℕ
 end_text tree entries held = flat_map resource_text (map.entries tree) ++ history_text entries ++ premise_text held
+
+-- alone CLIENT NUMBER CODE
+abbrev pub alone_line : List ℕ → Answer → List ℕ
+alone_line client answer = line (codes "alone " ++ client ++ codes " " ++ decimal answer.0 ++ codes " " ++ code_text answer.1.code.0)
+
+-- what a client's entries are answered alone, a line for each
+abbrev pub alone_text : List ℕ → List Answer → List ℕ
+alone_text client answers = flat_map (alone_line client) answers
 
 -- line N: bad
 abbrev pub bad_line_text : ℕ → List ℕ

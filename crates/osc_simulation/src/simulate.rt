@@ -8,18 +8,18 @@ ghost use Rattle.osc_simulation.specs.Records.{PrintAllRecords};
 ghost use Rattle.osc_simulation.specs.Simulation as spec;
 ghost use Rattle.osc_simulation.specs.Simulation.{Simulates};
 
-use crate::names::Names;
+use crate::names::{Names, number_of};
 use crate::record::records_text;
 use crate::set_up::first_world;
 use crate::stage::Stage;
-use crate::trace::end_text;
-use osc_script::{Line, ScriptError, read_script};
+use crate::trace::{alone_text, end_text};
+use osc_script::{ClientName, Line, ScriptError, read_script};
 use osc_world::{Record, World};
 use std::alloc::{AllocError, Global};
 use std::cmp::min;
 
 /// Puts the trace of the script of these bytes behind what `text` has: each event's lines, with the bytes of its datagrams where
-/// `with_bytes` says so, and then the end lines.
+/// `with_bytes` says so, then the end lines, and then what the entries of the client of `only` are answered alone, if there is one.
 ///
 /// # Errors
 ///
@@ -29,13 +29,14 @@ pub fn trace_script(
     alloc: Global,
     script: &[u8],
     with_bytes: bool,
+    only: Option<ClientName>,
     text: &mut Vec<u8>,
 ) -> Result<(), ScriptError>
-    ensures done { OnOk result ((printed : List ℕ) × Simulates with_bytes script.now printed × (text.new.items ≡ text.old.items ++ printed)) }
+    ensures done { OnOk result ((printed : List ℕ) × Simulates with_bytes only script.now printed × (text.new.items ≡ text.old.items ++ printed)) }
     ensures bad { (n : ℕ) → result ≡ Err (ScriptError.BadLine n) → IsFirstBad script.now n × (text.new.items ≡ text.old.items) }
 {
     let script = read_script(alloc, script)?;
-    trace_said(alloc, script.lines(), with_bytes, text)
+    trace_said(alloc, script.lines(), with_bytes, only, text)
 }
 
 // The trace of these lines.
@@ -43,46 +44,51 @@ fn trace_said(
     alloc: Global,
     lines: &[Line],
     with_bytes: bool,
+    only: Option<ClientName>,
     text: &mut Vec<u8>,
 ) -> Result<(), ScriptError>
     requires { CanPutAll map.empty lines.now }
-    ensures done { OnOk result ((printed : List ℕ) × spec.IsTrace with_bytes lines.now printed × (text.new.items ≡ text.old.items ++ printed)) }
+    ensures done { OnOk result ((printed : List ℕ) × spec.IsTrace with_bytes only lines.now printed × (text.new.items ≡ text.old.items ++ printed)) }
     ensures bad { (n : ℕ) → result ≢ Err (ScriptError.BadLine n) }
 {
-    Ok(trace_lines(alloc, lines, with_bytes, text)?)
+    Ok(trace_lines(alloc, lines, with_bytes, only, text)?)
 }
 
 fn trace_lines(
     alloc: Global,
     lines: &[Line],
     with_bytes: bool,
+    only: Option<ClientName>,
     text: &mut Vec<u8>,
 ) -> Result<(), AllocError>
     requires { CanPutAll map.empty lines.now }
-    ensures { OnOk result ((printed : List ℕ) × spec.IsTrace with_bytes lines.now printed × (text.new.items ≡ text.old.items ++ printed)) }
+    ensures { OnOk result ((printed : List ℕ) × spec.IsTrace with_bytes only lines.now printed × (text.new.items ≡ text.old.items ++ printed)) }
 {
     let names = Names::of(alloc, lines)?;
     let world = first_world(alloc, &names, lines)?;
     let mut stage = Stage::first(world);
-    let traced = trace_from(alloc, &mut stage, &names, lines, with_bytes, text);
+    let traced = trace_from(alloc, &mut stage, &names, lines, with_bytes, only, text);
     drop(stage);
     traced
 }
 
-// The events of a run that begins, and its end lines.
+// The events of a run that begins, its end lines, and what is wanted of one client.
 fn trace_from(
     alloc: Global,
     stage: &mut Stage,
     names: &Names,
     lines: &[Line],
     with_bytes: bool,
+    only: Option<ClientName>,
     text: &mut Vec<u8>,
 ) -> Result<(), AllocError>
     ensures { OnOk result ((printed end : List ℕ) × spec.Prints with_bytes names.now stage.old lines.now printed stage.new
-        × spec.IsEnd stage.new.world end × (text.new.items ≡ text.old.items ++ (printed ++ end))) }
+        × spec.IsEnd stage.new.world end
+        × (text.new.items ≡ text.old.items ++ (printed ++ end ++ spec.only_text names.now stage.new.world only))) }
 {
     trace_events(alloc, stage, names, lines, with_bytes, text)?;
-    trace_end(alloc, stage.world(), text)
+    trace_end(alloc, stage.world(), text)?;
+    trace_alone(alloc, stage.world(), names, only, text)
 }
 
 // Does what the lines say.
@@ -171,6 +177,24 @@ fn trace_end(alloc: Global, world: &World, text: &mut Vec<u8>) -> Result<(), All
     let entries = count_entries(alloc, world)?;
     let held = world.premise_holds();
     let lines = end_text(alloc, world.tree(), entries, held)?;
+    Ok(text.extend_from_slice(&lines)?)
+}
+
+// What the entries of the wanted client are answered alone, if one is wanted.
+fn trace_alone(
+    alloc: Global,
+    world: &World,
+    names: &Names,
+    only: Option<ClientName>,
+    text: &mut Vec<u8>,
+) -> Result<(), AllocError>
+    ensures { OnOk result (text.new.items ≡ text.old.items ++ spec.only_text names.now world.now only) }
+{
+    let Some(client) = only else {
+        return Ok(());
+    };
+    let answers = world.alone(alloc, number_of(names.clients(), client))?;
+    let lines = alone_text(alloc, client, &answers)?;
     Ok(text.extend_from_slice(&lines)?)
 }
 

@@ -1,14 +1,15 @@
 //! The lines of a trace.
 ghost use Rattle.std.specs.Prelude.{◌≡◌, ◌<◌, ◌+◌, ◌++◌, IfOk, Some, codes, flat_map, string_bytes};
 ghost use Rattle.std.specs.FinMap as map;
+ghost use Rattle.osc_script.specs.Node.{client_name};
 ghost use Rattle.osc_simulation.specs.Text as text;
 ghost use Rattle.osc_simulation.specs.Trace as spec;
 
 use osc_coap::MessageRef;
-use osc_model::{Datagram, Path, Resource, Step};
+use osc_model::{Datagram, Path, Reply, Resource, Step};
 use osc_options::has_option;
 use osc_options::numbers::OSCORE;
-use osc_script::Node;
+use osc_script::{ClientName, Node};
 use osc_tree::Tree;
 use std::alloc::{AllocError, Global};
 use std::fmt;
@@ -146,6 +147,33 @@ fn bytes_text(alloc: Global, bytes: &[u8]) -> Result<String, AllocError>
         return "-".to_string(alloc);
     }
     hex::encode(alloc, bytes)
+}
+
+/// What a client's entries are answered alone: `alone CLIENT NUMBER CODE` for each.
+pub(crate) fn alone_text(
+    alloc: Global,
+    client: ClientName,
+    answers: &[(u64, Reply)],
+) -> Result<Vec<u8>, AllocError>
+    ensures { IfOk result (λ lines. lines.items ≡ spec.alone_text (client_name client) answers.now) }
+{
+    let mut lines = Vec::new(alloc);
+    for answer in answers {
+        lines.extend_from_slice(alone_line(alloc, client, answer)?.as_bytes())?;
+    }
+    Ok(lines)
+}
+
+fn alone_line(
+    alloc: Global,
+    client: ClientName,
+    answer: &(u64, Reply),
+) -> Result<String, AllocError>
+    ensures { IfOk result (λ line. string_bytes line ≡ spec.alone_line (client_name client) answer.now) }
+{
+    let client = client.name();
+    let code = CodeText(answer.1.code.0);
+    format!(in alloc; "alone {client} {} {code}\n", answer.0)
 }
 
 /// `line N: bad`.

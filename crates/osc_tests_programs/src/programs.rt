@@ -1,6 +1,7 @@
 //! Whole scripts with the traces that are wanted of them, and inputs and outputs that fail.
 use crate::broken::{BrokenReader, BrokenWriter};
 use osc_programs::{Ended, run_script, sim, status};
+use osc_script::ClientName;
 use std::alloc::Global;
 use std::test::Fail;
 
@@ -45,7 +46,7 @@ const LONG_TRACE: &str =
 fn run(alloc: Global, script: &str, with_bytes: bool) -> (Ended, Vec<u8>) {
     let mut reader = script.as_bytes();
     let mut writer = Vec::new(alloc);
-    let ended = sim(alloc, &mut reader, &mut writer, with_bytes);
+    let ended = sim(alloc, &mut reader, &mut writer, with_bytes, None);
     (ended, writer)
 }
 
@@ -78,9 +79,40 @@ fn scripts_have_their_traces(rt: HostRuntime) -> Result<(), Fail> {
 #[test]
 fn a_trace_goes_behind_other_bytes(rt: HostRuntime) -> Result<(), Fail> {
     let mut text = Vec::from_slice(rt.alloc(), b"> ")?;
-    let ended = run_script(rt.alloc(), b"at 1\n", false, &mut text);
+    let ended = run_script(rt.alloc(), b"at 1\n", false, None, &mut text);
     assert_eq!(rt; ended, Ended::Done);
     assert_eq!(rt; text.as_slice(), b"> history 0\npremise: held\n".as_slice());
+    Ok(())
+}
+
+// Two clients put at one path. Alone, the other's value isn't there to be changed.
+const SHARED: &str =
+    "grant c1 /a:PUT\ngrant c2 /a:PUT\nexchange c1\nexchange c2\nquiet\nask c1 PUT /a 61\nquiet\nask c2 PUT /a 62\nquiet\n";
+
+// Whether these lines stand behind the premise line, where this client is wanted.
+fn is_alone(alloc: Global, script: &str, digit: u8, lines: &str) -> bool {
+    let mut text = Vec::new(alloc);
+    let client = ClientName::new(digit);
+    let ended = run_script(alloc, script.as_bytes(), false, client, &mut text);
+    ended == Ended::Done && behind_premise(text.as_slice()) == Some(lines.as_bytes())
+}
+
+fn behind_premise(text: &[u8]) -> Option<&[u8]> {
+    let line = b"premise: held\n".as_slice();
+    let place = text.windows(line.len()).position(|part| part == line)?;
+    text.get(place + line.len()..)
+}
+
+#[test]
+fn a_client_is_answered_alone(rt: HostRuntime) -> Result<(), Fail> {
+    for (digit, lines) in [
+        (0, ""),
+        (1, "alone c1 0 2.01\n"),
+        (2, "alone c2 0 2.01\n"),
+        (3, ""),
+    ] {
+        assert!(rt; is_alone(rt.alloc(), SHARED, digit, lines), "{lines}");
+    }
     Ok(())
 }
 
@@ -168,12 +200,15 @@ fn a_broken_input_or_output_fails(rt: HostRuntime) -> Result<(), Fail> {
         bytes: FIRST_RUN.as_bytes(),
     };
     let mut written = Vec::new(alloc);
-    assert_eq!(rt; sim(alloc, &mut reader, &mut written, true), Ended::Failed);
+    assert_eq!(rt;
+        sim(alloc, &mut reader, &mut written, true, None),
+        Ended::Failed
+    );
     assert_eq!(rt; written.len(), 0);
     for (writes, ended) in [(0, Ended::Failed), (1, Ended::Done)] {
         let mut script = FIRST_RUN.as_bytes();
         let mut writer = BrokenWriter { writes };
-        assert_eq!(rt; sim(alloc, &mut script, &mut writer, true), ended);
+        assert_eq!(rt; sim(alloc, &mut script, &mut writer, true, None), ended);
     }
     Ok(())
 }

@@ -2,27 +2,40 @@
 use clap::error::ErrorKind::{DisplayHelp, DisplayVersion};
 use osc_model::Request;
 use osc_programs::{Ended, ended_by};
+use osc_script::ClientName;
 use osc_words::{Words, WordsError, fault_line, read_words};
 use std::alloc::{AllocError, Global};
 use std::test::Fail;
 
-// The value of the flag, where the words are those of `osc sim`.
-fn sim_asked(alloc: Global, words: &[&str]) -> Option<bool> {
+// The value of the flag and the digit of the wanted client, or 0, where the words are those of `osc sim`.
+fn sim_asked(alloc: Global, words: &[&str]) -> Option<(bool, u8)> {
     match read_words(alloc, words) {
-        Ok(Words::Sim { bytes }) => Some(bytes),
+        Ok(Words::Sim { bytes, only }) => Some((bytes, digit_of(only))),
         _ => None,
+    }
+}
+
+fn digit_of(client: Option<ClientName>) -> u8 {
+    match client {
+        Some(client) => client.digit,
+        None => 0,
     }
 }
 
 #[test]
 fn a_script_is_run(rt: HostRuntime) {
-    for (words, bytes) in [
-        (&["osc", "sim"].as_slice(), Some(false)),
-        (&["osc", "sim", "--bytes"].as_slice(), Some(true)),
+    for (words, asked) in [
+        (&["osc", "sim"].as_slice(), Some((false, 0))),
+        (&["osc", "sim", "--bytes"].as_slice(), Some((true, 0))),
+        (&["osc", "sim", "--only", "c3"].as_slice(), Some((false, 3))),
+        (
+            &["osc", "sim", "--only=c9", "--bytes"].as_slice(),
+            Some((true, 9)),
+        ),
         (&["osc", "sim", "script"].as_slice(), None),
         (&["osc", "server"].as_slice(), None),
     ] {
-        assert_eq!(rt; sim_asked(rt.alloc(), words), bytes);
+        assert_eq!(rt; sim_asked(rt.alloc(), words), asked);
     }
 }
 
@@ -291,7 +304,7 @@ fn is_told(alloc: Global, words: &[&str], line: &str) -> Result<bool, AllocError
     }
 }
 
-const WRONG: [(&[&str], &str); 15] = [
+const WRONG: [(&[&str], &str); 20] = [
     (
         &["osc"],
         "error: 'osc' requires a subcommand but one was not provided [subcommands: sim, token, server, proxy, client, lab, help]",
@@ -316,6 +329,26 @@ const WRONG: [(&[&str], &str); 15] = [
     (
         &["osc", "sim", "script"],
         "error: unexpected argument 'script' found",
+    ),
+    (
+        &["osc", "sim", "--only", "x"],
+        "error: --only is not a client, c1 to c9",
+    ),
+    (
+        &["osc", "sim", "--only", "c0"],
+        "error: --only is not a client, c1 to c9",
+    ),
+    (
+        &["osc", "sim", "--only", "c10"],
+        "error: --only is not a client, c1 to c9",
+    ),
+    (
+        &["osc", "sim", "--only"],
+        "error: a value is required for '--only <CLIENT>' but none was supplied",
+    ),
+    (
+        &["osc", "sim", "--only", "c1", "--only", "c2"],
+        "error: the argument '--only <CLIENT>' cannot be used multiple times",
     ),
     (
         &["osc", "sim", "--version"],
@@ -367,7 +400,7 @@ fn shows(alloc: Global, words: &[&str], part: &str) -> Result<bool, AllocError> 
     }
 }
 
-const SHOWN: [(&[&str], &str); 16] = [
+const SHOWN: [(&[&str], &str); 17] = [
     (&["osc", "--version"], "osc 0.1.0\n"),
     (&["osc", "-V"], "osc 0.1.0\n"),
     (&["osc", "help"], "\n  sim     Runs the script"),
@@ -377,6 +410,7 @@ const SHOWN: [(&[&str], &str); 16] = [
     (&["osc", "--help"], "\n  client  Posts a token"),
     (&["osc", "--help"], "\n  lab     Runs the script"),
     (&["osc", "help", "sim"], "\nExample: osc sim"),
+    (&["osc", "sim", "--help"], "      --only <CLIENT>"),
     (&["osc", "help", "token"], "      --nbf <N>"),
     (&["osc", "token", "--help"], "\nExample: osc token --key"),
     (&["osc", "server", "--help"], "\nExample: osc server"),

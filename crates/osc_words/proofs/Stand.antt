@@ -14,7 +14,7 @@ use Rattle.osc_words.proofs.ClientParts.{code_of_method}
 
 asked_by_method : (entered : Option (Text × List Row)) (read : Words) → AreWords entered read → AsksByMethod read
 asked_by_method None read s = absurd s
-asked_by_method (Some entered) (Sim bytes) s = tt
+asked_by_method (Some entered) (Sim bytes only) s = tt
 asked_by_method (Some entered) (Token words) s = tt
 asked_by_method (Some entered) (Server turns) s = tt
 asked_by_method (Some entered) (Proxy turns) s = tt

@@ -8,12 +8,13 @@ use Rattle.clap.specs.declared.error.Error.{Error}
 use Rattle.clap.specs.declared.error.kind.ErrorKind.{ErrorKind}
 use Rattle.clap.specs.declared.error.kind.ErrorKind.TheVariants as kind
 use Rattle.osc_script.specs.Words.{SpellsNumber}
+use Rattle.osc_script.specs.declared.client_name.ClientName.{ClientName}
 use Rattle.osc_words.specs.ClientOptions as of_client
 use Rattle.osc_words.specs.ClientWords as client
 use Rattle.osc_words.specs.NamedOptions.{refusal_text, value_of}
 use Rattle.osc_words.specs.Options.{option_rule, value_rule}
 use Rattle.osc_words.specs.TokenWords as token
-use Rattle.osc_words.specs.Values.{IsGiven, SpellsTurns}
+use Rattle.osc_words.specs.Values.{IsGiven, SpellsClient, SpellsTurns}
 use Rattle.osc_words.specs.declared.client_option.ClientOption.{ClientOption}
 use Rattle.osc_words.specs.declared.client_option.ClientOption.TheVariants as client_option
 use Rattle.osc_words.specs.declared.named_option.NamedOption.{NamedOption}
@@ -28,9 +29,9 @@ use Rattle.osc_words.specs.declared.words.WordsError.TheVariants.{Clap, Value, M
 abbrev pub bytes_rule : Rule
 bytes_rule = record (new_rule (codes "bytes")) { long = Some (codes "bytes"); action = Some SetTrue }
 
--- osc sim [--bytes]
+-- osc sim [--bytes] [--only CLIENT]
 abbrev pub sim_app : App
-sim_app = with_rule (new_app (codes "sim")) bytes_rule
+sim_app = with_rule (with_rule (new_app (codes "sim")) bytes_rule) (value_rule (codes "only") false)
 
 abbrev pub token_options : List TokenOption
 token_options = Key ∷ Audience ∷ Id ∷ Secret ∷ Scope ∷ Salt ∷ Context ∷ Expires ∷ NotBefore ∷ Iv ∷ []
@@ -65,7 +66,8 @@ is_set flag rows = option_map_or (λ text. bytes_eq text (codes "true")) (first_
 -- the subcommand that was entered, with its rows, asks for this
 abbrev pub AreWords : Option (Text × List Row) → Words → Type 0
 AreWords None words = ⊥
-AreWords (Some entered) (Sim bytes) = (entered.0 ≡ codes "sim") × (bytes ≡ is_set (codes "bytes") entered.1)
+AreWords (Some entered) (Sim bytes only) =
+    (entered.0 ≡ codes "sim") × (bytes ≡ is_set (codes "bytes") entered.1) × IsGiven SpellsClient (value_of option.SimOnly entered.1) only
 AreWords (Some entered) (Token words) = (entered.0 ≡ codes "token") × token.AreTokenWords entered.1 words
 AreWords (Some entered) (Server turns) = (entered.0 ≡ codes "server") × SpellsTurns (value_of option.ServerTurns entered.1) turns
 AreWords (Some entered) (Proxy turns) = (entered.0 ≡ codes "proxy") × SpellsTurns (value_of option.ProxyTurns entered.1) turns
@@ -75,6 +77,7 @@ AreWords (Some entered) (Lab turns) = (entered.0 ≡ codes "lab") × IsGiven Spe
 -- an option of the subcommand that was entered says nothing
 abbrev pub HasNothing : Option (Text × List Row) → NamedOption → Type 0
 HasNothing None option = ⊥
+HasNothing (Some entered) option.SimOnly = (entered.0 ≡ codes "sim") × ((only : Option ClientName) → ¬ IsGiven SpellsClient (value_of option.SimOnly entered.1) only)
 HasNothing (Some entered) option.ServerTurns = (entered.0 ≡ codes "server") × ((turns : ℕ) → ¬ SpellsTurns (value_of option.ServerTurns entered.1) turns)
 HasNothing (Some entered) option.ProxyTurns = (entered.0 ≡ codes "proxy") × ((turns : ℕ) → ¬ SpellsTurns (value_of option.ProxyTurns entered.1) turns)
 HasNothing (Some entered) (option.Client refused) = (entered.0 ≡ codes "client") × client.SaysNothing entered.1 refused

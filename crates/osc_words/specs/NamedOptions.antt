@@ -4,9 +4,10 @@ use Rattle.clap.specs.Words.{Row, first_of}
 use Rattle.osc_words.specs.ClientOptions as client
 use Rattle.osc_words.specs.Options as token
 use Rattle.osc_words.specs.declared.named_option.NamedOption.{NamedOption}
-use Rattle.osc_words.specs.declared.named_option.NamedOption.TheVariants.{Client, Token}
+use Rattle.osc_words.specs.declared.named_option.NamedOption.TheVariants.{SimOnly, Client, Token}
 
 abbrev pub name_of : NamedOption → List ℕ
+name_of SimOnly = codes "only"
 name_of (Client option) = client.name_of option
 name_of (Token option) = token.name_of option
 name_of turns = codes "turns"
@@ -17,6 +18,7 @@ value_of option rows = first_of (name_of option) rows
 
 -- what a value has to be
 abbrev pub form_of : NamedOption → List ℕ
+form_of SimOnly = codes "a client, c1 to c9"
 form_of (Client option) = client.form_of option
 form_of (Token option) = token.form_of option
 form_of turns = codes "a number of 64 bits in decimal digits"

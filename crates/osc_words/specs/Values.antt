@@ -5,7 +5,9 @@ use Rattle.osc_cbor.specs.Data.{array}
 use Rattle.osc_cbor.specs.Spelling.{spelling}
 use Rattle.osc_scope.specs.Entries.{entry_items}
 use Rattle.osc_scope.specs.Text.{Written, IsScopeText, entry_of}
+use Rattle.osc_script.specs.Node.{client_name}
 use Rattle.osc_script.specs.Words.{SpellsNumber}
+use Rattle.osc_script.specs.declared.client_name.ClientName.{ClientName}
 
 -- pairs of hexadecimal digits in either case, for a number of bytes in these bounds
 pub record SpellsBytes (least most : ℕ) (text bytes : List ℕ) : Type 0 where
@@ -25,6 +27,10 @@ SpellsShortNumber text number = SpellsNumber text number × (number < 2 ^ 16)
 abbrev pub SpellsTurns : Option (List ℕ) → ℕ → Type 0
 SpellsTurns (Some text) turns = SpellsNumber text turns
 SpellsTurns None turns = turns ≡ 2 ^ 64 - 1
+
+-- the client of this name, c1 to c9
+abbrev pub SpellsClient : List ℕ → ClientName → Type 0
+SpellsClient text client = text ≡ client_name client
 
 -- the bytes of the scope that a text says
 pub record SpellsScope (text bytes : List ℕ) : Type 0 where

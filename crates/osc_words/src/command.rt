@@ -49,9 +49,7 @@ fn words_in(alloc: Global, matches: &ArgMatches<'_>) -> Result<Words, WordsError
     ensures { IsReadFrom (subcommand_rows_of matches.now) result }
 {
     match matches.subcommand() {
-        Some(("sim", options)) => Ok(Words::Sim {
-            bytes: is_set(options, "bytes"),
-        }),
+        Some(("sim", options)) => sim_asked(options),
         Some(("token", options)) => token_asked(alloc, options),
         Some(("server", options)) => server_asked(options),
         Some(("proxy", options)) => proxy_asked(options),
@@ -61,7 +59,17 @@ fn words_in(alloc: Global, matches: &ArgMatches<'_>) -> Result<Words, WordsError
     }
 }
 
-// What `osc token` asks for with these options.
+// What `osc sim` asks for with these options.
+fn sim_asked(options: &ArgMatches<'_>) -> Result<Words, WordsError>
+    ensures { IsReadFrom (Some (codes "sim", rows_of (found_of options.now))) result }
+{
+    Ok(Words::Sim {
+        bytes: is_set(options, "bytes"),
+        only: given::client(options, NamedOption::SimOnly)?,
+    })
+}
+
+// What `osc token` asks for.
 fn token_asked(alloc: Global, options: &ArgMatches<'_>) -> Result<Words, WordsError>
     ensures { IsReadFrom (Some (codes "token", rows_of (found_of options.now))) result }
 {
@@ -166,10 +174,11 @@ fn sim_command<'a>(alloc: Global) -> Result<Command<'a>, AllocError>
         .long("bytes")
         .help("Prints the bytes of each datagram")
         .action(ArgAction::SetTrue);
-    Command::new(alloc, "sim")
+    let command = Command::new(alloc, "sim")
         .about("Runs the script on the standard input, and prints its trace")
-        .after_help("Example: osc sim --bytes < SCRIPT")
-        .arg(bytes)
+        .after_help("Example: osc sim --bytes --only c1 < SCRIPT")
+        .arg(bytes)?;
+    with_option(alloc, command, NamedOption::SimOnly, false)
 }
 
 // The subcommand that mints a token.

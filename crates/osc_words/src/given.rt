@@ -4,13 +4,14 @@ ghost use Rattle.clap.specs.Words.{found_of, rows_of};
 ghost use Rattle.osc_script.specs.Words.{SpellsNumber};
 ghost use Rattle.osc_words.specs.NamedOptions.{value_of};
 ghost use Rattle.osc_words.specs.Reading.{IsRefusalOf};
-ghost use Rattle.osc_words.specs.Values.{IsGiven, SpellsTurns};
+ghost use Rattle.osc_words.specs.Values.{IsGiven, SpellsClient, SpellsTurns};
 
 use crate::command::text_of;
 use crate::named_option::NamedOption;
 use crate::values;
 use crate::words::WordsError;
 use clap::ArgMatches;
+use osc_script::ClientName;
 
 /// The value that an option was given.
 pub(crate) fn text<'a>(options: &ArgMatches<'a>, option: NamedOption) -> Option<&'a str>
@@ -47,6 +48,24 @@ pub(crate) fn number(
         return Err(WordsError::Value(option));
     };
     Ok(Some(number))
+}
+
+/// A client, where it is given.
+pub(crate) fn client(
+    options: &ArgMatches<'_>,
+    option: NamedOption,
+) -> Result<Option<ClientName>, WordsError>
+    ensures { MatchResult result
+        (IsGiven SpellsClient (value_of option (rows_of (found_of options.now))))
+        (IsRefusalOf option (IsGiven SpellsClient (value_of option (rows_of (found_of options.now))))) }
+{
+    let Some(text) = text(options, option) else {
+        return Ok(None);
+    };
+    let Some(client) = values::client(text) else {
+        return Err(WordsError::Value(option));
+    };
+    Ok(Some(client))
 }
 
 /// A number that has to be given.

@@ -9,6 +9,8 @@ use std::alloc::{AllocError, Global};
 /// An option of a subcommand of `osc` that has a value.
 #[derive(Clone, Copy, Debug, PartialEq, Eq)]
 pub enum NamedOption {
+    /// `--only` of `osc sim`: the client whose entries are answered alone too.
+    SimOnly,
     /// `--turns` of `osc server`: after how many turns it ends.
     ServerTurns,
     /// `--turns` of `osc proxy`: the same.
@@ -28,6 +30,7 @@ impl NamedOption {
     {
         match self {
             NamedOption::ServerTurns | NamedOption::ProxyTurns | NamedOption::LabTurns => "turns",
+            NamedOption::SimOnly => "only",
             NamedOption::Client(option) => option.name(),
             NamedOption::Token(option) => option.name(),
         }
@@ -41,6 +44,7 @@ impl NamedOption {
             NamedOption::ServerTurns | NamedOption::ProxyTurns | NamedOption::LabTurns => {
                 "a number of 64 bits in decimal digits"
             }
+            NamedOption::SimOnly => "a client, c1 to c9",
             NamedOption::Client(option) => option.form(),
             NamedOption::Token(option) => option.form(),
         }
@@ -57,6 +61,7 @@ impl NamedOption {
     pub(crate) fn value_name(self) -> &'static str {
         match self {
             NamedOption::ServerTurns | NamedOption::ProxyTurns | NamedOption::LabTurns => "N",
+            NamedOption::SimOnly => "CLIENT",
             NamedOption::Client(option) => option.value_name(),
             NamedOption::Token(option) => option.value_name(),
         }
@@ -69,6 +74,8 @@ impl NamedOption {
                 "After how many turns it ends, each a datagram or 10 ms without one; it goes on by default",
             NamedOption::LabTurns =>
                 "The most turns after each exchange and request, each a datagram or 10 ms without one",
+            NamedOption::SimOnly =>
+                "Prints how each entry of this client, c1 to c9, is answered where no other client asks",
             NamedOption::Client(option) => option.help(),
             NamedOption::Token(option) => option.help(),
         }

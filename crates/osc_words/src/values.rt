@@ -2,11 +2,12 @@
 ghost use Rattle.std.specs.Prelude.{◌≡◌, IfOk};
 ghost use Rattle.osc_script.specs.Reading.{Reads};
 ghost use Rattle.osc_script.specs.Words.{SpellsNumber, method_name};
-ghost use Rattle.osc_words.specs.Values.{IsWithin, SpellsAnyBytes, SpellsBytes, SpellsScope, SpellsShortNumber};
+ghost use Rattle.osc_words.specs.Values.{IsWithin, SpellsAnyBytes, SpellsBytes, SpellsClient, SpellsScope, SpellsShortNumber};
 
 use hex::{FromHex, FromHexError};
 use osc_model::{Bytes, Method};
 use osc_scope::{ScopeError, text_to_cbor};
+use osc_script::ClientName;
 use std::alloc::{AllocError, Global};
 
 /// So many bytes in hexadecimal.
@@ -80,6 +81,13 @@ pub(crate) fn method(text: &str) -> Option<Method>
         "DELETE" => Some(Method::Delete),
         _ => None,
     }
+}
+
+/// The client of this name.
+pub(crate) fn client(text: &str) -> Option<ClientName>
+    ensures { Reads (SpellsClient text.now) result }
+{
+    ClientName::named(text)
 }
 
 /// The bytes of a scope that is written as text.

@@ -8,23 +8,34 @@ use crate::client_words::ClientWords;
 use crate::named_option::NamedOption;
 use crate::token_words::TokenWords;
 use clap::error::ErrorKind;
+use osc_script::ClientName;
 use std::alloc::{AllocError, Global};
 
 /// What a command line asks for: one of the subcommands.
 #[derive(Debug, PartialEq, Eq, Drop)]
 pub enum Words {
-    /// `osc sim [--bytes]`: run a script, and print its datagrams' bytes where `bytes` says so.
-    Sim { bytes: bool },
+    /// `osc sim [--bytes] [--only CLIENT]`: run a script, print its datagrams' bytes where `bytes` says so, and what the entries of the
+    /// client of `only` are answered alone.
+    Sim {
+        bytes: bool,
+        only: Option<ClientName>,
+    },
     /// `osc token`: print a token.
     Token(TokenWords),
     /// `osc server [--turns N]`: run a server for so many turns. Where none are given, there are `u64::MAX`.
-    Server { turns: u64 },
+    Server {
+        turns: u64,
+    },
     /// `osc proxy [--turns N]`: run a forward proxy likewise.
-    Proxy { turns: u64 },
+    Proxy {
+        turns: u64,
+    },
     /// `osc client`: post a token and send a request.
     Client(ClientWords),
     /// `osc lab --turns N`: run a script over sockets, with at most so many turns after each exchange and request.
-    Lab { turns: u64 },
+    Lab {
+        turns: u64,
+    },
 }
 
 /// Why a command line can't be heeded.

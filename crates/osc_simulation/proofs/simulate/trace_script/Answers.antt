@@ -12,5 +12,5 @@ trace_said-requires c = subst (CanPutAll map.empty) (sym c.lines.ensures) (a_scr
 pub returns-clause-done : goal.returns-clause-done
 returns-clause-done c =
     IfOk-weaker c.trace_said.result _ _
-    (λ _ t. (t.0, (c.in_ok-script.script, c.in_ok-script.ensures.read, subst (λ lines. IsTrace c.args.with_bytes lines t.0) c.lines.ensures t.1), t.2))
+    (λ _ t. (t.0, (c.in_ok-script.script, c.in_ok-script.ensures.read, subst (λ lines. IsTrace c.args.with_bytes c.args.only lines t.0) c.lines.ensures t.1), t.2))
     c.trace_said.ensures.done
