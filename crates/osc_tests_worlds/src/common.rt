@@ -27,6 +27,10 @@ pub(crate) const GET: u8 = 1;
 
 pub(crate) const POST: u8 = 2;
 
+pub(crate) const PUT: u8 = 3;
+
+pub(crate) const DELETE: u8 = 4;
+
 pub(crate) fn material(alloc: Global) -> Result<InputMaterial, AllocError> {
     Ok(InputMaterial {
         id: Bytes::from_slice(alloc, &[1])?,
@@ -81,9 +85,19 @@ pub(crate) fn world(alloc: Global) -> Result<World, Fail> {
 
 /// A request of this code on `/log`.
 pub(crate) fn request(alloc: Global, code: u8, payload: &[u8]) -> Result<Request, AllocError> {
+    request_on(alloc, b"/log", code, payload)
+}
+
+/// A request of this code on this path.
+pub(crate) fn request_on(
+    alloc: Global,
+    path: &[u8],
+    code: u8,
+    payload: &[u8],
+) -> Result<Request, AllocError> {
     Ok(Request {
         code: Code(code),
-        path: Path::from_text(alloc, b"/log")?,
+        path: Path::from_text(alloc, path)?,
         format: None,
         accept: None,
         if_match: ETags::new(alloc),

@@ -8,8 +8,14 @@ mod conditions;
 #[cfg(test)]
 mod enrolling;
 #[cfg(test)]
+mod isolation;
+#[cfg(test)]
+mod owners;
+#[cfg(test)]
 mod proxies;
 #[cfg(test)]
 mod quiet;
+#[cfg(test)]
+mod ready;
 #[cfg(test)]
 mod world;
