@@ -1,6 +1,7 @@
 pub mod Few
 pub mod Idle
 pub mod Limits
+pub mod Notes
 pub mod Peers
 pub mod Places
 pub mod Schedule

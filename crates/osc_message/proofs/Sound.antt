@@ -9,7 +9,9 @@ use Rattle.osc_model.specs.declared.node.Peer.{Peer}
 use Rattle.osc_message.specs.declared.due.Due.{Due}
 use Rattle.osc_message.specs.declared.due.Due.TheVariants.{Keep, Send, GiveUp}
 use Rattle.osc_message.specs.Confirmables.{Sent, Open, has_open, takes, sent_at, with_open}
-use Rattle.osc_message.specs.Ticks.{due_at, due_of, dues, dues_of, sent_again, after, ticked}
+use Rattle.osc_model.specs.declared.step.Datagram.{Datagram}
+use Rattle.osc_message.specs.Sending.{FitsDatagram, AreSendable}
+use Rattle.osc_message.specs.Ticks.{datagram_of, tick_sends, due_at, due_of, dues, dues_of, sent_again, after, ticked}
 use Rattle.osc_message.specs.Bounds.{most_open, IsBoundedSent, IsBounded, IsSound}
 use Rattle.osc_message.proofs.Limits.{limits_nil, limits_filter, limits_push, limits_ticked, most_messages}
 
@@ -70,23 +72,59 @@ bounded_sent_at : (now : Moment) (waits : Bool) → IsBoundedSent (sent_at now w
 bounded_sent_at now true = tt
 bounded_sent_at now false = omega arith
 
+-- ---- lengths
+
+abbrev HasShortBytes : Open → Type 0
+HasShortBytes message = FitsDatagram message.bytes
+
+short_after : (now : Moment) (message : Open) (due : Due) (later : List Open) → HasShortBytes message → All HasShortBytes later
+    → All HasShortBytes (cons_option (after now (message, due)) later)
+short_after now message Keep later short rest = All-cons HasShortBytes message later short rest
+short_after now message Send later short rest = All-cons HasShortBytes (record message { sent = Some (sent_again now message.sent) }) later short rest
+short_after now message GiveUp later short rest = rest
+
+short_ticked : (now : Moment) (all earlier later : List Open) → All HasShortBytes later → All HasShortBytes (filter_map (after now) (dues now all earlier later))
+short_ticked now all earlier [] short = All-nil HasShortBytes
+short_ticked now all earlier (message ∷ later) short =
+    short_after now message (due_of now all earlier message message.sent) _ (All-head HasShortBytes message later short)
+    (short_ticked now all (earlier ++ message ∷ []) later (All-tail HasShortBytes message later short))
+
+abbrev Fits : Datagram → Type 0
+Fits sent = FitsDatagram sent.bytes
+
+fits_due : (message : Open) (due : Due) (later : List Datagram) → HasShortBytes message → All Fits later → All Fits (cons_option (datagram_of (message, due)) later)
+fits_due message Keep later short rest = rest
+fits_due message Send later short rest = All-cons Fits (record { to = message.to; bytes = message.bytes }) later short rest
+fits_due message GiveUp later short rest = rest
+
+fits_sent : (now : Moment) (all earlier later : List Open) → All HasShortBytes later → All Fits (filter_map datagram_of (dues now all earlier later))
+fits_sent now all earlier [] short = All-nil Fits
+fits_sent now all earlier (message ∷ later) short =
+    fits_due message (due_of now all earlier message message.sent) _ (All-head HasShortBytes message later short)
+    (fits_sent now all (earlier ++ message ∷ []) later (All-tail HasShortBytes message later short))
+
+-- what a tick sends can be sent
+pub ticks_fit : (now : Moment) (all : List Open) → IsSound all → AreSendable (tick_sends now all)
+ticks_fit now all sound = fits_sent now all [] all sound.short
+
 -- ---- what holds at all times
 
 pub sound_nil : IsSound []
-sound_nil = record { bounded = All-nil IsBounded; limits = limits_nil }
+sound_nil = record { bounded = All-nil IsBounded; limits = limits_nil; short = All-nil HasShortBytes }
 
 pub sound_filter : (p : Open → Bool) (all : List Open) → IsSound all → IsSound (filter p all)
-sound_filter p all sound = record { bounded = All-filter p IsBounded all sound.bounded; limits = limits_filter p all sound.limits }
+sound_filter p all sound = record { bounded = All-filter p IsBounded all sound.bounded; limits = limits_filter p all sound.limits; short = All-filter p HasShortBytes all sound.short }
 
-pub sound_push : (now : Moment) (to : Peer) (id timeout : ℕ) (bytes : Bytes) (all : List Open) → timeout ≤ 3000 → takes to all ≡ true → IsSound all
+pub sound_push : (now : Moment) (to : Peer) (id timeout : ℕ) (bytes : Bytes) (all : List Open) → timeout ≤ 3000 → FitsDatagram bytes → takes to all ≡ true → IsSound all
     → IsSound (with_open now to id timeout bytes all)
-sound_push now to id timeout bytes all bound taken sound = record {
+sound_push now to id timeout bytes all bound short taken sound = record {
   bounded = All-push IsBounded all _ sound.bounded (bound, bounded_sent_at now (has_open to all));
   limits = limits_push now to id timeout bytes all taken sound.limits;
+  short = All-push HasShortBytes all _ sound.short short;
 }
 
 pub sound_ticked : (now : Moment) (all : List Open) → IsSound all → IsSound (ticked now all)
-sound_ticked now all sound = record { bounded = bounded_ticked now all [] all sound.bounded; limits = limits_ticked now all sound.limits }
+sound_ticked now all sound = record { bounded = bounded_ticked now all [] all sound.bounded; limits = limits_ticked now all sound.limits; short = short_ticked now all [] all sound.short }
 
 -- one more that is taken has room
 pub room_for_one : (to : Peer) (all : List Open) → takes to all ≡ true → IsSound all → length all < most_open

@@ -4,6 +4,8 @@ use Rattle.std.specs.List.{All}
 use Rattle.osc_model.specs.declared.node.Moment.{Moment}
 use Rattle.osc_message.specs.Confirmables.{Sent, Open}
 use Rattle.osc_message.specs.Limits.{IsWithinLimits}
+use Rattle.osc_dedup.specs.Table.{Entry}
+use Rattle.osc_message.specs.Sending.{FitsDatagram, IsSendableReply}
 use Rattle.osc_message.specs.Ticks.{most_repeats}
 
 -- how many messages are open at most: to each of 64 peers one that is outstanding and 16 that wait
@@ -21,6 +23,11 @@ IsBounded message = (message.timeout ≤ 3000) × IsBoundedSent message.sent
 pub record IsSound (all : List Open) : Type 0 where
   pub bounded : All IsBounded all
   pub limits : IsWithinLimits all
+  pub short : All (λ message. FitsDatagram message.bytes) all
+
+-- what answered each message that is noted can be sent again
+abbrev pub AreShort : List Entry → Type 0
+AreShort seen = All (λ entry. IsSendableReply entry.noted.reply) seen
 
 -- whether a deadline is reached
 abbrev pub is_reached : Moment → Option ℕ → Bool

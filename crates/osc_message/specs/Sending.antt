@@ -1,5 +1,6 @@
 -- Messages that every node sends (RFC 7252 sections 4.2, 4.3 and 5.2), and their datagrams.
-use Rattle.std.specs.Prelude.{ℕ, Bool, true, false, if◌then◌else◌, List, [], ◌∷◌, Option, Some, None}
+use Rattle.std.specs.Prelude.{ℕ, ◌≤◌, Bool, true, false, if◌then◌else◌, List, [], ◌∷◌, length, Option, Some, None, IfSome}
+use Rattle.std.specs.List.{All}
 use Rattle.osc_model.specs.declared.bytes.Bytes.{Bytes}
 use Rattle.osc_model.specs.declared.node.Draw.{Draw}
 use Rattle.osc_model.specs.declared.node.Peer.{Peer}
@@ -8,7 +9,10 @@ use Rattle.osc_coap.specs.declared.kind.Kind.{Kind}
 use Rattle.osc_coap.specs.declared.kind.Kind.TheVariants.{Confirmable, NonConfirmable, Acknowledgement, Reset as ResetKind}
 use Rattle.osc_coap.specs.Message.{Message, spelling}
 use Rattle.osc_coap.specs.Building.{bare}
+use Rattle.osc_coap.specs.Length.{datagram_limit}
 use Rattle.osc_message.specs.Endpoint.{EndpointState, own_id, id_taken}
+use Rattle.osc_message.specs.declared.handling.Handling.{Handling}
+use Rattle.osc_message.specs.declared.handling.Handling.TheVariants.{Dropped, Answered, Counted}
 
 abbrev pub is_confirmable : Kind → Bool
 is_confirmable Confirmable = true
@@ -59,3 +63,23 @@ sent_to peer (Some message) = datagram peer message ∷ []
 abbrev pub again : Peer → Option Bytes → List Datagram
 again from None = []
 again from (Some bytes) = (record { to = from; bytes = bytes }) ∷ []
+
+-- ---- how long they are
+
+-- a datagram carries so many bytes (section 4.6)
+abbrev pub FitsDatagram : Bytes → Type 0
+FitsDatagram bytes = length bytes ≤ datagram_limit
+
+-- each of these can be sent
+abbrev pub AreSendable : List Datagram → Type 0
+AreSendable out = All (λ sent. FitsDatagram sent.bytes) out
+
+-- the bytes that answered a message, if any did, can be sent again
+abbrev pub IsSendableReply : Option Bytes → Type 0
+IsSendableReply reply = IfSome reply FitsDatagram
+
+-- what a node made of a message is noted with such bytes
+abbrev pub IsSendableHandling : Handling → Type 0
+IsSendableHandling Dropped = Unit {0}
+IsSendableHandling (Answered reply) = IsSendableReply reply
+IsSendableHandling (Counted request reply) = IsSendableReply reply

@@ -8,7 +8,7 @@ ghost use Rattle.osc_message.specs.Confirmables.{has_open as has_open_of, takes 
 ghost use Rattle.osc_message.specs.Ticks.{tick_sends, tick_starts, tick_gives_up, acts};
 ghost use Rattle.osc_message.specs.Timeout.{timeout_of};
 ghost use Rattle.osc_message.specs.Endpoint.{fresh, own_id as own_id_of, id_taken, settled, after_tick};
-ghost use Rattle.osc_message.specs.Sending.{reply_start as reply_start_of, reply_id as reply_id_of, replied};
+ghost use Rattle.osc_message.specs.Sending.{AreSendable, FitsDatagram, IsSendableHandling, IsSendableReply, reply_start as reply_start_of, reply_id as reply_id_of, replied};
 ghost use Rattle.osc_message.specs.Limits.{IsWithinLimits};
 ghost use Rattle.osc_message.specs.declared.received.Received.{Received as AnyReceived};
 
@@ -66,13 +66,13 @@ impl Drop for Endpoint {
 impl Model for Endpoint {
     ghost use Rattle.std.specs.Prelude.{◌≤◌, vec_capacity};
     ghost use Rattle.osc_message.specs.Endpoint.{EndpointState};
-    ghost use Rattle.osc_message.specs.Bounds.{IsSound, most_open};
+    ghost use Rattle.osc_message.specs.Bounds.{AreShort, IsSound, most_open};
 
     ghost Value = { EndpointState };
 
     ghost view = { λ e. record { seen = e.seen; sending = e.sending.items; next_id = e.next_id } };
 
-    ghost invariant = { λ e. (most_open ≤ vec_capacity e.sending) × IsSound e.sending.items };
+    ghost invariant = { λ e. (most_open ≤ vec_capacity e.sending) × IsSound e.sending.items × AreShort e.seen };
 }
 
 impl Endpoint {
@@ -105,15 +105,18 @@ impl Endpoint {
 
     /// The bytes that answered the message of this ID, where it was noted with some and its lifetime hasn't ended.
     pub fn noted_reply(&self, now: Moment, from: Peer, id: u16) -> Option<&Bytes>
-        ensures { option_copied result ≡ reply_noted self.now.seen now from id }
+        ensures noted { option_copied result ≡ reply_noted self.now.seen now from id }
+        ensures short { IsSendableReply (option_copied result) }
     {
         self.seen.look(now, from, id)?.reply.as_ref()
     }
 
-    /// Makes the changes of what was heard: a message is noted, a confirmable one acknowledged. Takes no memory.
+    /// Makes the changes of what was heard: a message is noted, a confirmable one acknowledged. It was answered by at most 1,152
+    /// bytes. Takes no memory.
     ///
     /// An acknowledgement acknowledges whatever the node makes of the response in it, also where it is dropped.
     pub fn settle(&mut self, now: Moment, from: Peer, heard: &Heard<'_>, handling: Handling)
+        requires { IsSendableHandling handling }
         ensures { self.new ≡ settled self.old now from heard.now handling }
     {
         match heard {
@@ -203,8 +206,8 @@ impl Endpoint {
         takes(&self.sending, to)
     }
 
-    /// Takes a confirmable message, and answers whether it goes out now; else it waits for its turn. Its initial timeout is the
-    /// draw's. Takes no memory.
+    /// Takes a confirmable message, of at most 1,152 bytes, and answers whether it goes out now; else it waits for its turn. Its
+    /// initial timeout is the draw's. Takes no memory.
     ///
     /// The work grows with the square of the number of open messages.
     ///
@@ -220,6 +223,7 @@ impl Endpoint {
         draw: &Draw,
         bytes: Bytes,
     ) -> Result<bool, QueueFull>
+        requires { FitsDatagram bytes }
         ensures taken { IsOk result ↔ (takes_of to self.old.sending ≡ true) }
         ensures goes { IfOk result (λ goes. goes ≡ not (has_open_of to self.old.sending)) }
         ensures ok { OnOk result (self.new ≡ record self.old { sending = with_open now to id (timeout_of draw.now) bytes self.old.sending }) }
@@ -239,6 +243,7 @@ impl Endpoint {
     /// The work grows with the square of the number of open messages.
     pub fn on_tick(&mut self, alloc: Global, now: Moment) -> Result<Ticked, AllocError>
         ensures sent { IfOk result (λ done. done.out ≡ tick_sends now self.old.sending) }
+        ensures fits { IfOk result (λ done. AreSendable done.out) }
         ensures started { IfOk result (λ done. done.started ≡ tick_starts now self.old.sending) }
         ensures given_up { IfOk result (λ done. done.given_up ≡ tick_gives_up now self.old.sending) }
         ensures ok { OnOk result (self.new ≡ after_tick now self.old) }

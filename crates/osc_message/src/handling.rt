@@ -1,7 +1,8 @@
 //! What a node made of a message, and what that changes.
 ghost use Rattle.std.specs.Prelude.{◌≡◌, ◌≤◌, vec_capacity};
-ghost use Rattle.osc_message.specs.Bounds.{IsSound};
+ghost use Rattle.osc_message.specs.Bounds.{AreShort, IsSound};
 ghost use Rattle.osc_message.specs.Endpoint.{lifetime as lifetime_of, noted, acknowledged_by, handled_seen, handled_sending};
+ghost use Rattle.osc_message.specs.Sending.{IsSendableHandling, IsSendableReply};
 
 use crate::confirmable::{Open, acknowledge};
 use osc_coap::Kind;
@@ -33,7 +34,8 @@ fn lifetime(kind: Kind) -> u64
 
 /// Notes a message that can be repeated, with what answered it.
 fn note(seen: &mut Duplicates, now: Moment, from: Peer, kind: Kind, id: u16, reply: Option<Bytes>)
-    ensures { seen.new ≡ noted now from kind id reply seen.old }
+    ensures noted { seen.new ≡ noted now from kind id reply seen.old }
+    ensures short { IsSendableReply reply → AreShort seen.old → AreShort seen.new }
 {
     match kind {
         Kind::Acknowledgement | Kind::Reset => {}
@@ -72,6 +74,7 @@ pub(crate) fn handle(
     handling: Handling,
 )
     ensures seen { seen.new ≡ handled_seen now from kind id handling seen.old }
+    ensures short { IsSendableHandling handling → AreShort seen.old → AreShort seen.new }
     ensures items { sending.new.items ≡ handled_sending from handling sending.old.items }
     ensures sound { IsSound sending.old.items → IsSound sending.new.items }
     ensures capacity { vec_capacity sending.new ≡ vec_capacity sending.old }

@@ -1,18 +1,22 @@
 //! Laws of the definitions, for the crates above. These functions do nothing: whoever calls one has its clauses for a proof.
-ghost use Rattle.std.specs.Prelude.{◌≡◌, ◌≤◌, ◌∷◌, ◌++◌, ℕ, true, [], List, length, filter, map, Some};
+ghost use Rattle.std.specs.Prelude.{◌≡◌, ◌≤◌, ◌<◌, ◌^◌, ◌∷◌, ◌++◌, ℕ, true, [], List, length, filter, map, Option, Some};
 ghost use Rattle.std.specs.List.{filter_map};
 ghost use Rattle.std.specs.Option.{option_to_list};
 ghost use Rattle.osc_model.specs.declared.bytes.Bytes.{Bytes as AnyBytes};
+ghost use Rattle.osc_model.specs.declared.node.Draw.{Draw as AnyDraw};
 ghost use Rattle.osc_model.specs.declared.node.Moment.{Moment as AnyMoment};
 ghost use Rattle.osc_model.specs.declared.node.Peer.{Peer as AnyPeer};
+ghost use Rattle.osc_coap.specs.Length.{datagram_limit};
+ghost use Rattle.osc_coap.specs.Message.{HasSpelling, Message, spelling};
 ghost use Rattle.osc_message.specs.Confirmables.{Sent as AnySent, Open as AnyOpen, same_peer, takes, with_open, acknowledged};
 ghost use Rattle.osc_message.specs.Limits.{IsWithinLimits};
 ghost use Rattle.osc_message.specs.Received.{Receives};
 ghost use Rattle.osc_message.specs.Schedule.{done_over, done_among, schedule, is_sending};
+ghost use Rattle.osc_message.specs.Sending.{empty_acknowledgement, reply_id, reply_start, reset};
 ghost use Rattle.osc_message.specs.Ticks.{outstanding_due, dues, dues_of, after, ticked, tick_sends};
 ghost use Rattle.osc_message.specs.declared.received.Received.{Received as AnyReceived};
 
-use osc_coap::laws::{one_message, one_spelling};
+use osc_coap::laws::{growing, length_of_growing, one_message, one_spelling};
 
 /// No datagram is received in two ways.
 pub fn one_reception()
@@ -20,6 +24,19 @@ pub fn one_reception()
 {
     one_message();
     one_spelling();
+}
+
+/// What a node sends of its own has a spelling, by which it is read again: a Reset, an empty acknowledgement, and a reply as far as
+/// its token.
+pub fn what_nodes_send()
+    ensures reset { (id : ℕ) → id < 2 ^ 16 → HasSpelling (reset id) }
+    ensures acknowledgement { (id : ℕ) → id < 2 ^ 16 → HasSpelling (empty_acknowledgement id) }
+    ensures short { (id : ℕ) → (length (spelling (reset id)) ≤ datagram_limit) × (length (spelling (empty_acknowledgement id)) ≤ datagram_limit) }
+    ensures reply { (draw : AnyDraw) (next_id : Option ℕ) (request : Message) (code : ℕ) → HasSpelling request → reply_id draw next_id request < 2 ^ 16 → 0 < code
+        → HasSpelling (reply_start draw next_id request code) }
+{
+    growing();
+    length_of_growing();
 }
 
 /// Two peers are told apart by their addresses and ports.

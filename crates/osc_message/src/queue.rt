@@ -1,6 +1,7 @@
 //! What a list of open messages holds for a peer, and whether it takes one more (RFC 7252 section 4.7).
 ghost use Rattle.std.specs.Prelude.{◌≡◌, ◌≤◌, ◌&&◌, true, not, length, vec_capacity};
 ghost use Rattle.osc_message.specs.Bounds.{IsSound, most_open};
+ghost use Rattle.osc_message.specs.Sending.{FitsDatagram};
 ghost use Rattle.osc_message.specs.Timeout.{timeout_of};
 ghost use Rattle.osc_message.specs.Confirmables.{is_to as is_to_of, is_outstanding, has_open as has_open_of, has_outstanding as has_outstanding_of, waiting, peers_of, takes as takes_of, sent_at, with_open};
 
@@ -108,6 +109,7 @@ pub(crate) fn push(
     requires sound { IsSound sending.old.items }
     requires room { most_open ≤ vec_capacity sending.old }
     requires taken { takes_of to sending.old.items ≡ true }
+    requires short { FitsDatagram bytes }
     requires waits { waits ≡ has_open_of to sending.old.items }
     ensures items { sending.new.items ≡ with_open now to id (timeout_of draw.now) bytes sending.old.items }
     ensures sound { IsSound sending.new.items }

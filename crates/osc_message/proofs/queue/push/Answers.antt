@@ -12,4 +12,4 @@ returns-clause-sound c =
     let added : c.push_reserved.new.self.items ≡ with_open c.args.now c.args.to c.args.id (timeout_of c.args.draw.now) c.args.bytes c.args.sending.now.items =
     cc (c.push_reserved.ensures.items, c.first_sent.ensures, c.initial_timeout.ensures.value, c.requires.waits)
     in
-    rw added (sound_push c.args.now c.args.to c.args.id (timeout_of c.args.draw.now) c.args.bytes c.args.sending.now.items (omega arith) c.requires.taken c.requires.sound)
+    rw added (sound_push c.args.now c.args.to c.args.id (timeout_of c.args.draw.now) c.args.bytes c.args.sending.now.items (omega arith) c.requires.short c.requires.taken c.requires.sound)
