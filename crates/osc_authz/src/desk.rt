@@ -5,7 +5,9 @@ ghost use Rattle.osc_window.specs.Window.{IsFresh};
 ghost use Rattle.osc_cbor.specs.Data.{DataItem};
 ghost use Rattle.osc_cbor.specs.Spelling.{IsWhole};
 ghost use Rattle.osc_cbor.specs.View.{view};
+ghost use Rattle.osc_model.specs.Scope.{Scope as AnyScope};
 ghost use Rattle.osc_token.specs.Claims.{ComesTo};
+ghost use Rattle.osc_token.specs.declared.claims.Claims.{Claims as AnyClaims};
 ghost use Rattle.osc_authz.specs.Agreement.{Agrees, Answers};
 ghost use Rattle.osc_authz.specs.Held.{Held};
 ghost use Rattle.osc_authz.specs.Payload.{post_fields as fields_of};
@@ -146,7 +148,8 @@ impl ServerDesk {
         }
     }
 
-    /// What is answered to a post whose token opened to this text. Without memory nothing is changed.
+    /// What is answered to a post whose token opened to this text. Without memory nothing is changed; once the text is judged, that
+    /// comes only where nothing is refused.
     fn answer(
         &mut self,
         alloc: Global,
@@ -160,7 +163,27 @@ impl ServerDesk {
             Answers self.old now fields.now.nonce1.now fields.now.client_id.now text.now draw.now answer self.new) }
         ensures err { OnErr result (self.new ≡ self.old) }
     {
-        match judge(alloc, text, &self.audience, now)? {
+        let verdict = judge(alloc, text, &self.audience, now)?;
+        self.answer_to(alloc, now, fields, verdict, draw)
+    }
+
+    /// What is answered to a post whose token was judged so. Without memory nothing is changed; what is refused takes none.
+    fn answer_to(
+        &mut self,
+        alloc: Global,
+        now: Moment,
+        fields: &PostFields<'_>,
+        verdict: Result<(Claims, Scope), TokenError>,
+        draw: &Draw,
+    ) -> Result<Result<PostAnswer, PostError>, AllocError>
+        requires { length fields.now.client_id.now ≤ 7 }
+        ensures answers { (text : List ℕ) → ComesTo text self.old.audience now verdict
+            → IfOk result (λ answer. Answers self.old now fields.now.nonce1.now fields.now.client_id.now text draw.now answer self.new) }
+        ensures memory { IsErr result → (claims : AnyClaims) × (scope : AnyScope) × (verdict ≡ Ok (claims, scope))
+            × (¬ IsFull claims.material.id (alive now self.old.table)) }
+        ensures err { OnErr result (self.new ≡ self.old) }
+    {
+        match verdict {
             Ok((claims, scope)) => self.agree_unless_full(alloc, now, fields, claims, scope, draw),
             Err(error) => Ok(Err(PostError::Token(error))),
         }
