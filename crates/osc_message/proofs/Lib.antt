@@ -1,3 +1,4 @@
+pub mod Came
 pub mod Few
 pub mod Idle
 pub mod Limits

@@ -1,9 +1,9 @@
 -- What answered each message that is noted can be sent again.
-use Rattle.std.proofs.Common.{◌≡◌, ℕ, ◌+◌, ◌-◌, Bool, true, false, cond, List, [], ◌∷◌, length, find, drop, Option, Some, None, refl, ap, subst}
+use Rattle.std.proofs.Common.{◌≡◌, ℕ, ◌+◌, ◌-◌, Bool, true, false, cond, List, [], ◌∷◌, length, find, drop, Option, Some, None, ap, subst}
 use Rattle.std.specs.Prelude.{not, ◌&&◌, option_and_then}
 use Rattle.std.specs.List.{All}
 use Rattle.std.specs.Option.{option_map}
-use Rattle.std.proofs.lemmas.List.Elements.{All-head, All-tail, All-push, All-filter, All-drop}
+use Rattle.std.proofs.lemmas.List.Elements.{All-nil, All-head, All-tail, All-push, All-filter, All-drop}
 use Rattle.osc_coap.specs.declared.kind.Kind.{Kind}
 use Rattle.osc_coap.specs.declared.kind.Kind.TheVariants.{Confirmable, NonConfirmable, Acknowledgement, Reset}
 use Rattle.osc_dedup.specs.declared.table.Noted.{Noted}
@@ -11,10 +11,11 @@ use Rattle.osc_dedup.specs.Table.{most_entries, Entry, is_alive, is_of, staying,
 use Rattle.osc_model.specs.declared.bytes.Bytes.{Bytes}
 use Rattle.osc_model.specs.declared.node.Moment.{Moment}
 use Rattle.osc_model.specs.declared.node.Peer.{Peer}
+use Rattle.osc_model.specs.declared.step.Datagram.{Datagram}
 use Rattle.osc_message.specs.Bounds.{AreShort}
 use Rattle.osc_message.specs.Endpoint.{noted}
 use Rattle.osc_message.specs.Heard.{noted_reply}
-use Rattle.osc_message.specs.Sending.{IsSendableReply}
+use Rattle.osc_message.specs.Sending.{AreSendable, FitsDatagram, IsSendableReply}
 
 abbrev IsShort : Entry → Type 0
 IsShort entry = IsSendableReply entry.noted.reply
@@ -67,3 +68,9 @@ pub looked_fits : (seen : List Entry) (now : Moment) (peer : Peer) (id : ℕ) (f
 looked_fits seen now peer id found short is =
     let same : noted_reply seen now peer id ≡ found.reply = ap (λ o. option_and_then (λ (noted : Noted). noted.reply) o) is in
     subst IsSendableReply same (reply_fits seen now peer id short)
+
+-- ---- what is sent
+
+pub one_fits : (peer : Peer) (bytes : Bytes) (out : List Datagram) → FitsDatagram bytes → out ≡ (record { to = peer; bytes = bytes }) ∷ [] → AreSendable out
+one_fits peer bytes out fits is =
+    rw is (All-push (λ sent. FitsDatagram sent.bytes) [] (record { to = peer; bytes = bytes }) (All-nil (λ sent. FitsDatagram sent.bytes)) fits)

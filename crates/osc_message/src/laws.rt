@@ -1,5 +1,5 @@
 //! Laws of the definitions, for the crates above. These functions do nothing: whoever calls one has its clauses for a proof.
-ghost use Rattle.std.specs.Prelude.{◌≡◌, ◌≤◌, ◌<◌, ◌^◌, ◌∷◌, ◌++◌, ℕ, true, [], List, length, filter, map, Option, Some};
+ghost use Rattle.std.specs.Prelude.{◌≡◌, ◌≤◌, ◌<◌, ◌^◌, ◌∷◌, ◌++◌, ℕ, false, true, [], List, length, filter, map, Option, Some};
 ghost use Rattle.std.specs.List.{filter_map};
 ghost use Rattle.std.specs.Option.{option_to_list};
 ghost use Rattle.osc_model.specs.declared.bytes.Bytes.{Bytes as AnyBytes};
@@ -9,11 +9,15 @@ ghost use Rattle.osc_model.specs.declared.node.Peer.{Peer as AnyPeer};
 ghost use Rattle.osc_coap.specs.Length.{datagram_limit};
 ghost use Rattle.osc_coap.specs.Message.{HasSpelling, Message, spelling};
 ghost use Rattle.osc_message.specs.Confirmables.{Sent as AnySent, Open as AnyOpen, same_peer, takes, with_open, acknowledged};
+ghost use Rattle.osc_dedup.specs.Table.{Entry};
+ghost use Rattle.osc_message.specs.Heard.{heard};
+ghost use Rattle.osc_message.specs.declared.heard.Heard.TheVariants as heard_as;
+ghost use Rattle.osc_message.specs.declared.received.Received.TheVariants as received_as;
 ghost use Rattle.osc_message.specs.Limits.{IsWithinLimits};
 ghost use Rattle.osc_message.specs.Received.{Receives};
 ghost use Rattle.osc_message.specs.Schedule.{done_over, done_among, schedule, is_sending};
 ghost use Rattle.osc_message.specs.Sending.{empty_acknowledgement, reply_id, reply_start, reset};
-ghost use Rattle.osc_message.specs.Ticks.{outstanding_due, dues, dues_of, after, ticked, tick_sends};
+ghost use Rattle.osc_message.specs.Ticks.{acts, outstanding_due, dues, dues_of, after, ticked, tick_sends};
 ghost use Rattle.osc_message.specs.declared.received.Received.{Received as AnyReceived};
 
 use osc_coap::laws::{growing, length_of_growing, one_message, one_spelling};
@@ -25,6 +29,12 @@ pub fn one_reception()
     one_message();
     one_spelling();
 }
+
+/// What is heard as a message is the message that came.
+pub fn what_is_heard()
+    ensures { (seen : List Entry) (now : AnyMoment) (from : AnyPeer) (received : AnyReceived) (message : Message)
+        → heard seen now from received ≡ heard_as.Message message → received ≡ received_as.Message message }
+{}
 
 /// What a node sends of its own has a spelling, by which it is read again: a Reset, an empty acknowledgement, and a reply as far as
 /// its token.
@@ -67,6 +77,11 @@ pub fn ticks()
 /// A tick sends at most as many datagrams as there are open messages.
 pub fn ticks_send_few()
     ensures { (now : AnyMoment) (all : List AnyOpen) → length (tick_sends now all) ≤ length all }
+{}
+
+/// A tick at which nothing is due leaves the open messages as they are.
+pub fn ticks_at_rest()
+    ensures { (now : AnyMoment) (all : List AnyOpen) → acts now all ≡ false → ticked now all ≡ all }
 {}
 
 /// Ticks do with a message that went out, whatever stands beside it at each of them, what its first going out and its timeout

@@ -1,5 +1,6 @@
 //! Room for what a step sends and notes, taken before the step's first change: what is put there takes no memory.
 ghost use Rattle.std.specs.Prelude.{◌≡◌, ◌≤◌, ◌<◌, ◌-◌, [], ◌∷◌, ◌++◌, length, IfOk};
+ghost use Rattle.osc_message.specs.Sending.{AreSendable, FitsDatagram};
 
 use osc_model::{Bytes, Datagram, Datagrams, Peer};
 use std::alloc::{AllocError, Global};
@@ -126,10 +127,12 @@ impl ReplyRoom {
     }
 
     /// The reply's datagram, and its bytes to be noted; takes no memory.
+    #[tactic(auto, using(crate::proofs::Notes::one_fits))]
     pub fn fill(self, to: Peer, bytes: &[u8]) -> (Datagrams, Bytes)
         requires { length bytes.now ≤ self }
         ensures sent { result.0 ≡ (record { to = to; bytes = bytes.now }) ∷ [] }
         ensures noted { result.1 ≡ bytes.now }
+        ensures fits { FitsDatagram bytes.now → AreSendable result.0 }
     {
         let ReplyRoom {
             mut outbox,

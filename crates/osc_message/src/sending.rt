@@ -2,7 +2,7 @@
 ghost use Rattle.std.specs.Prelude.{◌≡◌, [], ◌∷◌, IfOk};
 ghost use Rattle.osc_coap.specs.Message.{HasSpelling, spelling};
 ghost use Rattle.osc_model.specs.Step.{sends};
-ghost use Rattle.osc_message.specs.Sending.{is_confirmable as is_confirmable_of, reset as reset_message, empty_acknowledgement as empty_acknowledgement_of, acknowledgement as acknowledgement_of, datagram, reply_kind as reply_kind_of};
+ghost use Rattle.osc_message.specs.Sending.{is_confirmable as is_confirmable_of, reset as reset_message, empty_acknowledgement as empty_acknowledgement_of, acknowledgement as acknowledgement_of, AreSendable, FitsDatagram, datagram, reply_kind as reply_kind_of};
 
 use crate::outbox::ReplyRoom;
 use osc_coap::{Kind, MessageBuilder, MessageRef};
@@ -56,8 +56,10 @@ pub fn reply_kind(kind: Kind) -> Kind
 }
 
 /// The step that sends these bytes to the peer.
+#[tactic(auto, using(crate::proofs::Notes::one_fits))]
 pub fn sending_bytes(alloc: Global, to: Peer, bytes: Bytes) -> Result<Step, AllocError>
-    ensures { IfOk result (λ step. step ≡ sends ((record { to = to; bytes = bytes }) ∷ [])) }
+    ensures sent { IfOk result (λ step. step ≡ sends ((record { to = to; bytes = bytes }) ∷ [])) }
+    ensures fits { FitsDatagram bytes → IfOk result (λ step. AreSendable step.out) }
 {
     let mut out = Datagrams::new(alloc);
     out.push(Datagram { to, bytes })?;
@@ -72,6 +74,7 @@ pub fn sending_message(
 ) -> Result<Step, AllocError>
     ensures sent { IfOk result (λ step. step ≡ sends (datagram to message.now ∷ [])) }
     ensures lawful { IfOk result (λ _. HasSpelling message.now) }
+    ensures fits { IfOk result (λ step. AreSendable step.out) }
 {
     sending_bytes(alloc, to, Bytes::from_slice(alloc, message.bytes())?)
 }
@@ -84,6 +87,9 @@ pub fn noted(
 ) -> Result<(Datagrams, Bytes), AllocError>
     ensures sent { IfOk result (λ made. made.0 ≡ datagram to message.now ∷ []) }
     ensures noted { IfOk result (λ made. made.1 ≡ spelling message.now) }
+    ensures lawful { IfOk result (λ _. HasSpelling message.now) }
+    ensures fits { IfOk result (λ made. AreSendable made.0) }
+    ensures short { IfOk result (λ made. FitsDatagram made.1) }
 {
     let room = ReplyRoom::new(alloc, message.bytes().len())?;
     Ok(room.fill(to, message.bytes()))

@@ -1,4 +1,4 @@
-use Rattle.std.proofs.Common.{Some, ap, subst, sym, ◌∙◌}
+use Rattle.std.proofs.Common.{subst, sym}
 use Rattle.osc_message.specs.Sending.{IsSendableReply}
 use Rattle.osc_message.proofs.Notes.{looked_fits}
 use Rattle.osc_message.proofs.endpoint.Endpoint.noted_reply.Goals as goal
