@@ -2,6 +2,7 @@
 pub mod Notes
 pub mod States
 pub mod Texts
+pub mod Seals
 pub mod ServerKinds
 pub mod ClientKinds
 pub mod ProxyKinds

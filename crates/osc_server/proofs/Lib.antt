@@ -1,3 +1,4 @@
+pub mod Came
 pub mod Cases
 pub mod Gets
 pub mod Notes

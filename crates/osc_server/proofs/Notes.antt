@@ -20,7 +20,7 @@ use Rattle.osc_message.specs.Confirmables.{Open}
 use Rattle.osc_message.specs.Endpoint.{EndpointState, id_taken, noted, settled, acknowledged_by, after_tick}
 use Rattle.osc_message.specs.Ticks.{acts, tick_sends}
 use Rattle.osc_message.specs.Heard.{noted_reply}
-use Rattle.osc_message.specs.Sending.{is_confirmable, replied}
+use Rattle.osc_message.specs.Sending.{FitsDatagram, is_confirmable, replied}
 use Rattle.osc_server.specs.Table.{answered}
 use Rattle.osc_server.specs.Parts.{IsMessage, IsQuiet, KeepsMessages, SendsTo}
 
@@ -132,9 +132,10 @@ noted_message seen now peer id kept =
 
 -- ---- what is sent
 
-pub sent_again : (peer : Peer) (bytes : Bytes) → IsMessage bytes → SendsTo peer ((record { to = peer; bytes = bytes }) ∷ [])
-sent_again peer bytes message = record {
+pub sent_again : (peer : Peer) (bytes : Bytes) → IsMessage bytes → FitsDatagram bytes → SendsTo peer ((record { to = peer; bytes = bytes }) ∷ [])
+sent_again peer bytes message fits = record {
   one = omega arith;
   messages = All-push (λ sent. IsMessage sent.bytes) [] (record { to = peer; bytes = bytes }) (All-nil (λ sent. IsMessage sent.bytes)) message;
+  fits = All-push (λ sent. FitsDatagram sent.bytes) [] (record { to = peer; bytes = bytes }) (All-nil (λ sent. FitsDatagram sent.bytes)) fits;
   addressed = All-push (λ sent. sent.to ≡ peer) [] (record { to = peer; bytes = bytes }) (All-nil (λ sent. sent.to ≡ peer)) refl;
 }

@@ -6,7 +6,7 @@ use Rattle.osc_model.specs.declared.node.Draw.{Draw}
 use Rattle.osc_model.specs.declared.node.Moment.{Moment}
 use Rattle.osc_model.specs.declared.node.Peer.{Peer}
 use Rattle.osc_model.specs.declared.step.Step.{Step}
-use Rattle.osc_coap.specs.Message.{Message}
+use Rattle.osc_coap.specs.Message.{Message, Spells, spelling}
 use Rattle.osc_authz.specs.Table.{accepted}
 use Rattle.osc_protect.specs.Protection.{SealedRequest}
 use Rattle.osc_run.specs.ServerKinds.{Replies as AppliesTo}
@@ -27,8 +27,9 @@ pub serves : (is_sealing : List ℕ → List ℕ → List ℕ → List ℕ → L
       open_scope = old.open_scope;
       endpoint = answered old.endpoint now from draw message served.answer;
     }
+    → Spells (spelling served.answer) served.answer
     → Serves is_sealing old now from draw message step new
-serves is_sealing old now from draw message request served tree step new is sent kept =
+serves is_sealing old now from draw message request served tree step new is sent kept spelled =
     let same : tree ≡ new.tree = sym (ap (λ s. s.tree) kept) in
     record {
       request = request;
@@ -41,6 +42,7 @@ serves is_sealing old now from draw message request served tree step new is sent
       answer = served.answer;
       protected = is.replied.protected;
       sent = record {
+        spelled = spelled;
         sent = sent ∙ ap (λ notes. record { out = datagram from served.answer ∷ []; notes = notes }) is.replied.noted;
         kept = kept ∙ ap (λ t. record {
           tree = t;

@@ -1,7 +1,9 @@
 -- Which case a datagram is to a server: the first test that holds, read from the top.
-use Rattle.std.specs.Prelude.{ℕ, Bool, true, false, ◌==◌, ◌&&◌, ◌||◌, if◌then◌else◌, List, bytes_eq, Option, Some, None, is_some, codes}
+use Rattle.std.specs.Prelude.{ℕ, Bool, true, false, ◌==◌, ◌&&◌, ◌||◌, if◌then◌else◌, List, bytes_eq, Option, Some, None, IsSome, is_some, codes}
 use Rattle.std.specs.List.{list_any}
 use Rattle.osc_model.specs.Scope.{Scope}
+use Rattle.osc_model.specs.declared.node.Moment.{Moment}
+use Rattle.osc_model.specs.declared.node.Peer.{Peer}
 use Rattle.osc_model.specs.declared.request.Request.{Request}
 use Rattle.osc_coap.specs.Code.{is_request_code}
 use Rattle.osc_coap.specs.Message.{NumberAndValue, Message as CoapMessage}
@@ -12,6 +14,8 @@ use Rattle.osc_scope.specs.declared.verdict.Verdict.{Verdict}
 use Rattle.osc_scope.specs.declared.verdict.Verdict.TheVariants.{Granted}
 use Rattle.osc_message.specs.declared.heard.Heard.{Heard}
 use Rattle.osc_message.specs.declared.heard.Heard.TheVariants as heard
+use Rattle.osc_dedup.specs.Table.{Entry}
+use Rattle.osc_message.specs.Heard.{noted_reply}
 use Rattle.osc_message.specs.Sending.{is_confirmable}
 use Rattle.osc_server.specs.declared.case.Case.{Case}
 use Rattle.osc_server.specs.declared.case.Case.TheVariants.{Ignored, Reset, Repeated, Empty, BadOption, ProxyAsked, Protected, Posted, NotPosted, OpenGet, Unauthorised}
@@ -67,8 +71,14 @@ case_of open_scope (heard.Repeat id) = Repeated id
 case_of open_scope (heard.Empty kind id) = Empty kind id
 case_of open_scope (heard.Message message) = message_case open_scope message
 
--- whether anything may be sent
-abbrev pub IsAnswered : Case → Type 0
-IsAnswered Ignored = ⊥
-IsAnswered (Empty kind id) = ⊥
-IsAnswered case = Unit {0}
+-- whether it is answered by a message of its own
+abbrev pub IsAnsweredAnew : Case → Type 0
+IsAnsweredAnew Ignored = ⊥
+IsAnsweredAnew (Repeated id) = ⊥
+IsAnsweredAnew (Empty kind id) = ⊥
+IsAnsweredAnew case = Unit {0}
+
+-- whether anything is sent: of a repeat, where the message was answered before
+abbrev pub IsAnswered : List Entry → Moment → Peer → Case → Type 0
+IsAnswered seen now from (Repeated id) = IsSome (noted_reply seen now from id)
+IsAnswered seen now from case = IsAnsweredAnew case

@@ -1,20 +1,32 @@
--- A datagram comes to a server: what it is received as, and what the table makes of that.
-use Rattle.std.specs.Prelude.{ℕ, List}
+-- The steps of a server: a datagram comes to it, or the time for what is due.
+use Rattle.std.specs.Prelude.{◌≡◌, ℕ, List, []}
+use Rattle.osc_model.specs.Step.{sends}
 use Rattle.osc_model.specs.declared.node.Draw.{Draw}
 use Rattle.osc_model.specs.declared.node.Moment.{Moment}
 use Rattle.osc_model.specs.declared.node.Peer.{Peer}
 use Rattle.osc_model.specs.declared.step.Step.{Step}
+use Rattle.osc_message.specs.Endpoint.{after_tick}
 use Rattle.osc_message.specs.Heard.{heard}
 use Rattle.osc_message.specs.Received.{Receives}
+use Rattle.osc_message.specs.Sending.{AreSendable}
 use Rattle.osc_message.specs.declared.received.Received.{Received}
 use Rattle.osc_server.specs.Case.{case_of}
 use Rattle.osc_server.specs.State.{State}
 use Rattle.osc_server.specs.Table.{Answers}
+use Rattle.osc_server.specs.Told.{AreTold}
+
+-- nothing of what it sends is ever due again, and the notes go whose lifetime has ended
+pub record Ticks (old : State) (now : Moment) (step : Step) (new : State) : Type 0 where
+  pub sent : step ≡ sends []
+  pub kept : new ≡ record old { endpoint = after_tick now old.endpoint }
 
 -- `is_sealing key nonce aad text sealed` is the cipher's relation
 module _ (is_sealing : List ℕ → List ℕ → List ℕ → List ℕ → List ℕ → Type 0) where
-  -- these bytes come from this address
+  -- these bytes come from this address: what they are received as, what the table makes of that, what the notes tell of the
+  -- datagrams, and that what is sent can be
   pub record Hears (old : State) (now : Moment) (draw : Draw) (from : Peer) (bytes : List ℕ) (step : Step) (new : State) : Type 0 where
     pub received : Received
     pub receives : Receives bytes received
     pub answers : Answers is_sealing old now from draw (case_of old.open_scope (heard old.endpoint.seen now from received)) step new
+    pub told : AreTold is_sealing old now from bytes step
+    pub fits : AreSendable step.out

@@ -18,6 +18,7 @@ use Rattle.osc_model.specs.declared.step.Datagram.{Datagram}
 use Rattle.osc_authz.specs.Desk.{DeskState}
 use Rattle.osc_authz.specs.Held.{Held}
 use Rattle.osc_message.specs.Endpoint.{EndpointState}
+use Rattle.osc_message.specs.Sending.{AreSendable}
 use Rattle.osc_protect.specs.Protection.{SealedRequest, IsProtectedResponse}
 use Rattle.osc_run.specs.ServerKinds.{Replies as AppliesTo}
 use Rattle.osc_run.specs.Texts.{read_request, IsWithinRanges}
@@ -70,6 +71,7 @@ AsksGet case = Unit {0}
 pub record SendsTo (peer : Peer) (out : List Datagram) : Type 0 where
   pub one : length out ≤ 1
   pub messages : All (λ sent. (message : Message) × Spells sent.bytes message) out
+  pub fits : AreSendable out
   pub addressed : All (λ sent. sent.to ≡ peer) out
 
 -- What becomes of a request of this number that was opened to this text under a context: the tree, and the protected reply, for

@@ -15,7 +15,7 @@ use Rattle.osc_model.specs.declared.reply.Reply.{Reply}
 use Rattle.osc_model.specs.declared.request.Request.{Request}
 use Rattle.osc_model.specs.declared.step.Step.{Step}
 use Rattle.osc_cbor.specs.Spelling.{spelling as item_spelling}
-use Rattle.osc_coap.specs.Message.{Message, spelling}
+use Rattle.osc_coap.specs.Message.{Message, Spells, spelling}
 use Rattle.osc_options.specs.Replies.{with_reply, with_error}
 use Rattle.osc_message.specs.declared.heard.Heard.TheVariants as heard
 use Rattle.osc_message.specs.declared.handling.Handling.TheVariants.{Dropped, Answered}
@@ -50,9 +50,11 @@ abbrev pub answered : EndpointState → Moment → Peer → Draw → Message →
 answered endpoint now from draw request answer =
     settled (replied draw request endpoint) now from (heard.Message request) (Answered (Some (spelling answer)))
 
--- a new request is answered once, by this message: it goes out, this much is noted of the step, and resources and desk are these
+-- a new request is answered once, by this message: it goes out, as bytes that are read again as it, this much is noted of the step,
+-- and resources and desk are these
 pub record Sends (old : State) (now : Moment) (from : Peer) (draw : Draw) (request answer : Message) (notes : StepNotes) (tree : Tree) (desk : DeskState) (step : Step) (new : State) : Type 0 where
   pub sent : step ≡ record { out = datagram from answer ∷ []; notes = notes }
+  pub spelled : Spells (spelling answer) answer
   pub kept : new ≡ record { tree = tree; desk = desk; open_scope = old.open_scope; endpoint = answered old.endpoint now from draw request answer }
 
 -- the message that carries the reply: the acknowledgement of a confirmable request (RFC 7252 section 5.2.1), and a message of

@@ -119,7 +119,7 @@ fn request_case<'a>(
 ) -> Result<Case<'a>, AllocError>
     ensures case { IfOk result (λ case. case ≡ spec.request_case open_scope.now message.entry) }
     ensures get { IfOk result AsksGet }
-    ensures needs_memory { OnErr result (spec.IsAnswered (spec.request_case open_scope.now message.entry)) }
+    ensures needs_memory { OnErr result (spec.IsAnsweredAnew (spec.request_case open_scope.now message.entry)) }
 {
     if has_bad_option(&message) {
         Ok(refused_option(message))
@@ -140,7 +140,7 @@ fn message_case<'a>(
 ) -> Result<Case<'a>, AllocError>
     ensures case { IfOk result (λ case. case ≡ spec.message_case open_scope.now message.entry) }
     ensures get { IfOk result AsksGet }
-    ensures needs_memory { OnErr result (spec.IsAnswered (spec.message_case open_scope.now message.entry)) }
+    ensures needs_memory { OnErr result (spec.IsAnsweredAnew (spec.message_case open_scope.now message.entry)) }
 {
     if is_request_code(message.code()) {
         request_case(alloc, open_scope, message)
@@ -160,7 +160,7 @@ pub fn case_of<'a>(
 ) -> Result<Case<'a>, AllocError>
     ensures case { IfOk result (λ case. case ≡ spec.case_of open_scope.now heard.entry) }
     ensures get { IfOk result AsksGet }
-    ensures needs_memory { OnErr result (spec.IsAnswered (spec.case_of open_scope.now heard.entry)) }
+    ensures needs_memory { OnErr result (spec.IsAnsweredAnew (spec.case_of open_scope.now heard.entry)) }
 {
     match heard {
         Heard::Ignored => Ok(Case::Ignored),

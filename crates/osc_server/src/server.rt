@@ -1,11 +1,11 @@
 //! The server.
-ghost use Rattle.std.specs.Prelude.{◌≡◌, ◌≤◌, ◌<◌, [], ◌∷◌, length, IsOk, IfOk, OnErr};
+ghost use Rattle.std.specs.Prelude.{◌≡◌, ◌≤◌, ◌<◌, [], ◌∷◌, length, false, IsErr, IsOk, IsSome, IfOk, None, OnErr};
 ghost use Rattle.std.specs.List.{All};
 ghost use Rattle.osc_authz.specs.Table.{IsTable};
 ghost use Rattle.osc_coap.specs.Message.{Message, Spells, spelling};
 ghost use Rattle.osc_message.specs.declared.handling.Handling.TheVariants.{Dropped};
 ghost use Rattle.osc_message.specs.declared.heard.Heard.TheVariants as heard;
-ghost use Rattle.osc_message.specs.Endpoint.{after_tick, fresh, settled};
+ghost use Rattle.osc_message.specs.Endpoint.{fresh, settled};
 ghost use Rattle.osc_message.specs.Heard.{heard as heard_as, noted_reply as noted_reply_of};
 ghost use Rattle.osc_message.specs.Received.{Receives};
 ghost use Rattle.osc_message.specs.declared.received.Received.{Received as AnyReceived};
@@ -17,9 +17,10 @@ ghost use Rattle.osc_model.specs.declared.node.Moment.{Moment as AnyMoment};
 ghost use Rattle.osc_run.specs.ServerKinds.{ServerStep};
 ghost use Rattle.osc_message.specs.Sending.{again, datagram};
 ghost use Rattle.osc_server.specs.Case.{IsAnswered, case_of as case_in};
+ghost use Rattle.osc_message.specs.Ticks.{acts};
+ghost use Rattle.osc_server.specs.Hearing.{Hears, Ticks};
 ghost use Rattle.osc_server.specs.Parts.{AsksGet, IsShort, SendsTo};
 ghost use Rattle.osc_server.specs.State.{core};
-ghost use Rattle.osc_server.specs.Told.{AreTold};
 ghost use Rattle.osc_server.specs.Table.{Answers, AnswersGet, AnswersPost, AnswersProtected, Replies, Sends, answered, refusal_to as refusal_to_of};
 
 use crate::answer::{refusal_to, reply_to};
@@ -30,6 +31,7 @@ use crate::serving::{Served, serve};
 use osc_authz::{Post, ServerDesk};
 use osc_ccm::Aead;
 use osc_coap::{Kind, MessageBuilder, MessageRef};
+use osc_message::laws::what_is_heard;
 use osc_message::{
     Buffer, Endpoint, Handling, Heard, ReplyRoom, reset, sending_bytes, sending_message,
 };
@@ -129,20 +131,19 @@ impl Server {
         bytes: &[u8],
         draw: &Draw,
     ) -> Result<Step, AllocError>
-        ensures answered { IfOk result (λ step. (received : AnyReceived) × Receives bytes.now received
-            × Answers A.is_sealing self.old now from draw.now (case_in self.old.open_scope (heard_as self.old.endpoint.seen now from received)) step self.new) }
+        ensures heard { IfOk result (λ step. Hears A.is_sealing self.old now draw.now from bytes.now step self.new) }
         ensures one { IfOk result (λ step. length step.out ≤ 1) }
         ensures messages { IfOk result (λ step. All (λ d. (m : Message) × Spells d.bytes m) step.out) }
         ensures addressed { IfOk result (λ step. All (λ d. d.to ≡ from) step.out) }
-        ensures told { IfOk result (λ step. AreTold A.is_sealing self.old now from step) }
         ensures kind { IfOk result (λ step. ServerStep (core self.old) now step.notes (core self.new)) }
         ensures same { self.new.open_scope ≡ self.old.open_scope }
         ensures err { OnErr result (self.new ≡ self.old) }
 
         // What isn't answered takes no memory.
         ensures needs_memory { OnErr result ((received : AnyReceived) × Receives bytes.now received
-            × IsAnswered (case_in self.old.open_scope (heard_as self.old.endpoint.seen now from received))) }
+            × IsAnswered self.old.endpoint.seen now from (case_in self.old.open_scope (heard_as self.old.endpoint.seen now from received))) }
     {
+        what_is_heard();
         kinds::posts_that_agree::<A>();
         kinds::posts_that_are_refused::<A>();
         kinds::requests_that_open();
@@ -170,7 +171,7 @@ impl Server {
         ensures sent { IfOk result (λ step. SendsTo from step.out) }
         ensures same { self.new.open_scope ≡ self.old.open_scope }
         ensures err { OnErr result (self.new ≡ self.old) }
-        ensures needs_memory { OnErr result (IsAnswered case.entry) }
+        ensures needs_memory { OnErr result (IsAnswered self.old.endpoint.seen now from case.entry) }
     {
         match case {
             Case::Ignored => Ok(Step::sending(Datagrams::new(alloc))),
@@ -247,6 +248,7 @@ impl Server {
     fn repeat(&self, alloc: Global, now: Moment, from: Peer, id: u16) -> Result<Step, AllocError>
         ensures again { IfOk result (λ step. step ≡ sends (again from (noted_reply_of self.now.endpoint.seen now from id))) }
         ensures sent { IfOk result (λ step. SendsTo from step.out) }
+        ensures needs_memory { IsErr result → IsSome (noted_reply_of self.now.endpoint.seen now from id) }
     {
         match self.endpoint.noted_reply(now, from, id) {
             Some(bytes) => sending_bytes(alloc, from, bytes.clone()?),
@@ -324,6 +326,7 @@ impl Server {
         requires { length (spelling answer.now) ≤ room }
         ensures step { result ≡ record { out = datagram from answer.now ∷ []; notes = notes } }
         ensures kept { self.new ≡ record self.old { endpoint = answered self.old.endpoint now from draw.now request.entry answer.now } }
+        ensures spelled { Spells (spelling answer.now) answer.now }
         ensures sent { SendsTo from result.out }
     {
         let (out, noted) = room.fill(from, answer.bytes());
@@ -430,13 +433,23 @@ impl Server {
     /// Lets the notes of what was heard go whose lifetime has ended. Nothing that a server sends waits for an acknowledgement, so
     /// nothing is sent, and no memory is taken.
     pub fn on_tick(&mut self, alloc: Global, now: Moment) -> Result<Step, AllocError>
-        ensures sent { IfOk result (λ step. step ≡ sends []) }
-        ensures kept { IfOk result (λ _. self.new ≡ record self.old { endpoint = after_tick now self.old.endpoint }) }
+        ensures ticked { IfOk result (λ step. Ticks self.old now step self.new) }
         ensures kind { IfOk result (λ step. ServerStep (core self.old) now step.notes (core self.new)) }
         ensures never { IsOk result }
     {
         let ticked = self.endpoint.on_tick(alloc, now)?;
         Ok(Step::sending(ticked.out))
+    }
+
+    /// The first moment at which a tick does anything but let notes go: none, since nothing that a server sends waits for an
+    /// acknowledgement.
+    pub fn next_deadline(&self) -> Option<u64>
+        ensures none { result ≡ None }
+        ensures idle { (now : AnyMoment) → acts now self.now.endpoint.sending ≡ false }
+    {
+        // The clause `idle` is the server's invariant.
+        let _ = &self.endpoint;
+        None
     }
 
     /// Starts again: forgets the security contexts and what was heard, and keeps resources, open scope, key and audience. Takes no

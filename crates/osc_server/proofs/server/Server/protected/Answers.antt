@@ -40,7 +40,7 @@ returns-in-Ok-2-clause-answered g c =
     (serves g.A.Aead.is_sealing
     (record { tree = c.self.inside.tree; desk = c.self.inside.desk; open_scope = c.self.inside.open_scope; endpoint = c.self.inside.endpoint })
     c.args.now c.args.from c.args.draw.now c.args.message c.in-Ok.request c.in-Ok-2.field-0 c.serve.new.tree c.send.result c.send.new.self
-    as_served c.send.ensures.step kept))
+    as_served c.send.ensures.step kept c.send.ensures.spelled))
 
 pub returns-in-Err-clause-answered : goal.returns-in-Err-clause-answered
 returns-in-Err-clause-answered g c =

@@ -1,0 +1,25 @@
+-- What a note of a seal, or of an opening, tells of the datagram.
+use Rattle.std.specs.Prelude.{◌≡◌, ℕ, List, Some}
+use Rattle.osc_model.specs.declared.step.Datagram.{Datagram}
+use Rattle.osc_model.specs.declared.step.Note.{Note}
+use Rattle.osc_coap.specs.Building.{payload_of}
+use Rattle.osc_coap.specs.Message.{Message, Spells, spelling}
+use Rattle.osc_context.specs.Derivation.{key_of, other_side}
+
+-- `is_sealing key nonce aad text sealed` is the cipher's relation
+module _ (is_sealing : List ℕ → List ℕ → List ℕ → List ℕ → List ℕ → Type 0) where
+  -- what the note says was sealed is the payload of this datagram's message
+  pub record IsSealOf (note : Note) (sent : Datagram) : Type 0 where
+    pub message : Message
+    pub bytes : sent.bytes ≡ spelling message
+    pub sealed : List ℕ
+    pub payload : message.payload ≡ payload_of sealed
+    pub is_sealed : is_sealing (key_of note.context note.side) note.nonce note.aad note.plaintext sealed
+
+  -- what the note says was opened is the payload of the message that these bytes are, which the other end sealed
+  pub record IsOpenOf (note : Note) (bytes : List ℕ) : Type 0 where
+    pub message : Message
+    pub spelled : Spells bytes message
+    pub sealed : List ℕ
+    pub payload : message.payload ≡ Some sealed
+    pub is_sealed : is_sealing (key_of note.context (other_side note.side)) note.nonce note.aad note.plaintext sealed
