@@ -1,5 +1,6 @@
 pub mod Counted
 pub mod Outcomes
+pub mod Fitting
 pub mod Own
 pub mod Reading
 pub mod Sent

@@ -78,5 +78,5 @@ kind_of is_sealing old now from (Counted message) step new has makes answers =
 pub lied : (is_sealing : List ℕ → List ℕ → List ℕ → List ℕ → List ℕ → Type 0) (tag : ℕ) (old : State) (to : Peer) (context : ClientContext) (number : ℕ) (text : List ℕ) (outside : Message) (step : Step)
     → old.context ≡ Some context → number ≤ greatest_number → LiesUnder is_sealing tag to context number text outside step → ClientStep true (core old) step.notes (core old)
 lied is_sealing tag old to context number text outside step held lawful (LiesUnder.too_long long told) = rw told (refusals true (core old) 14)
-lied is_sealing tag old to context number text outside step held lawful (lies protected fits sealed told) =
+lied is_sealing tag old to context number text outside step held lawful (lies protected fits sealed spelled told) =
     Lied refl (record { context = context; number = number; lawful = lawful; plaintext = text; noted = ap (λ (s : Step). s.notes) told; held = held; is = refl })

@@ -34,16 +34,17 @@ use Rattle.osc_message.specs.declared.due.Due.{Due}
 use Rattle.osc_message.specs.declared.due.Due.TheVariants.{Keep, Send, GiveUp}
 use Rattle.osc_message.specs.declared.received.Received.{Received}
 use Rattle.osc_run.specs.ClientKinds.{IsEnding, request_note, response_note}
+use Rattle.osc_run.specs.Seals.{IsOpenOf, IsSealOf}
 use Rattle.osc_run.specs.Texts.{IsReplyIn}
 use Rattle.osc_client.specs.Answering.{AskComes, Comes, ExchangeComes, code_of, ended_by, notes_of}
 use Rattle.osc_client.specs.Answering as comes
 use Rattle.osc_client.specs.Case.{case_of, is_ended}
-use Rattle.osc_client.specs.Lying.{LiesUnder, lies}
+use Rattle.osc_client.specs.Lying.{Lies, LiesBy, LiesUnder, lies, outside_of}
 use Rattle.osc_client.specs.Lying as lying
 use Rattle.osc_client.specs.Sending.{Asks, asks, hindered, plain_of, refusing}
 use Rattle.osc_client.specs.State.{State}
 use Rattle.osc_client.specs.Table.{Answers, Counts, Settles, refusal}
-use Rattle.osc_client.specs.Told.{AreTold, IsOpenOf, IsSealOf, IsToldOf, NeedsNoSeal, SealsNothing, needs_none, noted_before, open_before, sealed_now, unprotected}
+use Rattle.osc_client.specs.Told.{AreTold, IsToldOf, NeedsNoSeal, SealsNothing, needs_none, noted_before, open_before, sealed_now, unprotected}
 use Rattle.osc_client.specs.declared.answering.Outcome.{Outcome}
 use Rattle.osc_client.specs.declared.answering.Outcome.TheVariants as outcome
 use Rattle.osc_client.specs.declared.case.Case.{Case}
@@ -82,6 +83,9 @@ module _ (old : State) (now : Moment) where
 
   silent_message : (to : Peer) (m : Message) → has_oscore m.options ≡ false → SealsNothing old now (sends (datagram to m ∷ []))
   silent_message to m plain = silent (datagram to m ∷ []) (one_plain (datagram to m) (unprotected m refl plain))
+
+  pub refused_silently : (step : Step) (number : ℕ) → step ≡ refusing number → SealsNothing old now step
+  refused_silently step number e = as_silent step _ e (silent_refusal number)
 
   -- an exchange begins by this message
   pub begins_silently : (to : Peer) (m : Message) (nonce : List ℕ) → has_oscore m.options ≡ false
@@ -158,13 +162,21 @@ module _ (is_sealing : List ℕ → List ℕ → List ℕ → List ℕ → List 
 
   pub ask_told : (tag : ℕ) (request : Request) (draw : Draw) (step : Step) (new : State) → Asks is_sealing tag old now request draw step new → AreTold is_sealing old now None step
   ask_told tag request draw step new (hindered number why refused) = told_refusal step number refused.told
-  ask_told tag request draw step new (asks context protected free sealed told kept) =
+  ask_told tag request draw step new (asks context protected free sealed spelled told kept) =
       as_sent None step _ told (told_seal old.next_hop (plain_bytes (plain_of old draw request)) context.name context.next (plain_of old draw request) protected sealed)
 
-  pub under_told : (tag : ℕ) (to : Peer) (context : ClientContext) (number : ℕ) (text : List ℕ) (outside : Message) (step : Step)
+  under_told : (tag : ℕ) (to : Peer) (context : ClientContext) (number : ℕ) (text : List ℕ) (outside : Message) (step : Step)
       → LiesUnder is_sealing tag to context number text outside step → AreTold is_sealing old now None step
   under_told tag to context number text outside step (lying.LiesUnder.too_long long told) = told_refusal step 14 told
-  under_told tag to context number text outside step (lies protected fits sealed told) = as_sent None step _ told (told_seal to text context.name number outside protected sealed)
+  under_told tag to context number text outside step (lies protected fits sealed spelled told) = as_sent None step _ told (told_seal to text context.name number outside protected sealed)
+
+  by_told : (tag : ℕ) (to : Peer) (context : Option ClientContext) (number : ℕ) (text : List ℕ) (outside : Message) (step : Step)
+      → LiesBy is_sealing tag to context number text outside step → AreTold is_sealing old now None step
+  by_told tag to None number text outside step told = told_refusal step 22 told
+  by_told tag to (Some context) number text outside step it = under_told tag to context number text outside step it
+
+  pub lie_told : (tag number : ℕ) (text : List ℕ) (draw : Draw) (step : Step) → Lies is_sealing tag old number text draw step → AreTold is_sealing old now None step
+  lie_told tag number text draw step it = by_told tag old.next_hop old.context number text (outside_of old.origin draw) step it
 
   -- ---- a datagram
 

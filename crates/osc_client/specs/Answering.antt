@@ -1,11 +1,15 @@
 -- What an answer that counts comes to (RFC 8613 section 8.4, RFC 9203 section 4.2).
 use Rattle.std.specs.Prelude.{◌≡◌, ℕ, ◌/◌, Bool, true, false, ◌==◌, ◌||◌, List, [], Option, Some, None, Result, Ok, Err, unwrap_or}
 use Rattle.osc_model.specs.StepNotes.{StepNotes, quiet}
+use Rattle.osc_model.specs.Code.{code}
 use Rattle.osc_model.specs.declared.code.Code.{Code}
 use Rattle.osc_model.specs.declared.context.Side.TheVariants.{Server}
 use Rattle.osc_model.specs.declared.reply.Reply.{Reply}
 use Rattle.osc_model.specs.declared.step.ClientResult.TheVariants as result
+use Rattle.osc_cbor.specs.Data.{DataItem}
+use Rattle.osc_cbor.specs.Spelling.{IsWhole}
 use Rattle.osc_coap.specs.Message.{Message}
+use Rattle.osc_message.specs.Sending.{is_confirmable}
 use Rattle.osc_options.specs.Split.{has_oscore}
 use Rattle.osc_context.specs.Derivation.{key_of}
 use Rattle.osc_protect.specs.Aad.{aad_of}
@@ -89,6 +93,19 @@ module _ (is_sealing : List ℕ → List ℕ → List ℕ → List ℕ → List 
   Comes desk context (Exchange begun) message outcome = ExchangeComes desk begun message outcome
   Comes desk (Some context) (Ask ask) message outcome = AskComes context ask message outcome
   Comes desk None (Ask ask) message outcome = ⊥
+
+-- ---- what is read in memory
+
+-- of an answer to an exchange its payload, where it is 2.01 without protection and an item; and a protected response to a request
+abbrev pub IsRead : Awaited → Message → Type 0
+IsRead (Exchange begun) message =
+    (has_oscore message.options ≡ false) × (code_of message ≡ code 2 1) × ((item : DataItem) × IsWhole (unwrap_or message.payload []) item)
+IsRead (Ask ask) message = (has_oscore message.options ≡ true) × ((response : SealedResponse) × IsResponse message response)
+
+-- A response that counts takes memory for its acknowledgement, where it is confirmable, and to be read.
+pub data CountsInMemory (waiting : Option Waiting) (message : Message) : Type 0 where
+  acknowledged : is_confirmable message.kind ≡ true → CountsInMemory waiting message
+  is_read : (what : Waiting) → waiting ≡ Some what → IsRead what.what message → CountsInMemory waiting message
 
 -- ---- what is kept then
 

@@ -54,13 +54,6 @@ case_of next_hop from waiting (heard.Repeat id) = Repeated id
 case_of next_hop from waiting (heard.Empty kind id) = Empty kind id
 case_of next_hop from waiting (heard.Message message) = message_case next_hop from waiting message
 
--- whether anything may be sent
-abbrev pub IsAnswered : Case → Type 0
-IsAnswered Ignored = ⊥
-IsAnswered (Empty kind id) = ⊥
-IsAnswered (Dropped message) = ⊥
-IsAnswered case = Unit {0}
-
 -- a Reset ends what waits where it names its message, acknowledged before or not (section 4.2)
 abbrev pub is_named : Peer → Peer → ℕ → Option Waiting → Bool
 is_named next_hop from id None = false

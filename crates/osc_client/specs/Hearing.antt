@@ -1,14 +1,34 @@
--- A datagram comes to a client: what it is received as, and what the table makes of that.
-use Rattle.std.specs.Prelude.{ℕ, List}
+-- The steps of a client: a datagram comes to it, the time for what is due, or its holder begins something. Each says what the table
+-- makes of it, what the notes tell of the datagrams, and that what is sent can be.
+use Rattle.std.specs.Prelude.{ℕ, List, Some, None}
+use Rattle.osc_model.specs.declared.node.Draw.{Draw}
 use Rattle.osc_model.specs.declared.node.Moment.{Moment}
 use Rattle.osc_model.specs.declared.node.Peer.{Peer}
+use Rattle.osc_model.specs.declared.request.Request.{Request}
 use Rattle.osc_model.specs.declared.step.Step.{Step}
 use Rattle.osc_message.specs.Heard.{heard}
 use Rattle.osc_message.specs.Received.{Receives}
+use Rattle.osc_message.specs.Sending.{AreSendable}
 use Rattle.osc_message.specs.declared.received.Received.{Received}
 use Rattle.osc_client.specs.Case.{case_of}
+use Rattle.osc_client.specs.Lying.{Lies}
+use Rattle.osc_client.specs.Sending.{Asks, Exchanges}
+use Rattle.osc_client.specs.Sending as sending
 use Rattle.osc_client.specs.State.{State}
 use Rattle.osc_client.specs.Table.{Answers}
+use Rattle.osc_client.specs.Told.{AreTold, SealsNothing}
+
+-- what is due goes out, and what is over ends
+pub record Ticks (old : State) (now : Moment) (step : Step) (new : State) : Type 0 where
+  pub ticks : sending.Ticks old now step new
+  pub told : SealsNothing old now step
+  pub fits : AreSendable step.out
+
+-- an exchange is begun, or refused
+pub record Begins (old : State) (now : Moment) (draw : Draw) (step : Step) (new : State) : Type 0 where
+  pub exchanges : Exchanges old now draw step new
+  pub told : SealsNothing old now step
+  pub fits : AreSendable step.out
 
 -- `is_sealing key nonce aad text sealed` is the cipher's relation
 module _ (is_sealing : List ℕ → List ℕ → List ℕ → List ℕ → List ℕ → Type 0) where
@@ -17,3 +37,17 @@ module _ (is_sealing : List ℕ → List ℕ → List ℕ → List ℕ → List 
     pub received : Received
     pub receives : Receives bytes received
     pub answers : Answers is_sealing old now from (case_of old.next_hop from old.waiting (heard old.endpoint.seen now from received)) step new
+    pub told : AreTold is_sealing old now (Some bytes) step
+    pub fits : AreSendable step.out
+
+  -- a request is asked, or refused, where the cipher's tag is so long
+  pub record Requests (tag : ℕ) (old : State) (now : Moment) (request : Request) (draw : Draw) (step : Step) (new : State) : Type 0 where
+    pub asks : Asks is_sealing tag old now request draw step new
+    pub told : AreTold is_sealing old now None step
+    pub fits : AreSendable step.out
+
+  -- a lie is told, or refused; the client stays as it is
+  pub record TellsLie (tag : ℕ) (old : State) (number : ℕ) (text : List ℕ) (draw : Draw) (step : Step) : Type 0 where
+    pub lies : Lies is_sealing tag old number text draw step
+    pub told : (now : Moment) → AreTold is_sealing old now None step
+    pub fits : AreSendable step.out

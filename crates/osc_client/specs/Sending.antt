@@ -1,5 +1,5 @@
 -- What a client sends of its own, and what it keeps then.
-use Rattle.std.specs.Prelude.{◌≡◌, ◌≢◌, ℕ, ◌+◌, ◌<◌, ◌≤◌, Bool, true, false, ◌==◌, nat_le, if◌then◌else◌, List, [], ◌∷◌, length, Option, Some, None, codes}
+use Rattle.std.specs.Prelude.{◌≡◌, ◌≢◌, ℕ, ◌+◌, ◌<◌, ◌≤◌, Bool, true, false, ◌||◌, ◌==◌, nat_le, if◌then◌else◌, List, [], ◌∷◌, length, Option, Some, None, codes}
 use Rattle.osc_model.specs.Draw.{nonce_drawn, token_drawn}
 use Rattle.osc_model.specs.Step.{sends}
 use Rattle.osc_model.specs.StepNotes.{quiet}
@@ -11,12 +11,12 @@ use Rattle.osc_model.specs.declared.step.ClientResult.TheVariants.{Refused, Time
 use Rattle.osc_model.specs.declared.step.Step.{Step}
 use Rattle.osc_cbor.specs.Spelling.{spelling as item_spelling}
 use Rattle.osc_coap.specs.Building.{bare, payload_of}
-use Rattle.osc_coap.specs.Message.{Message, spelling}
+use Rattle.osc_coap.specs.Message.{Message, Spells, spelling}
 use Rattle.osc_coap.specs.declared.kind.Kind.TheVariants.{Confirmable}
 use Rattle.osc_options.specs.Requests.{with_request}
 use Rattle.osc_message.specs.Confirmables.{Open, with_open}
 use Rattle.osc_message.specs.Endpoint.{EndpointState, own_id, id_taken, after_tick, fresh}
-use Rattle.osc_message.specs.Ticks.{ticked, tick_sends}
+use Rattle.osc_message.specs.Ticks.{acts, ticked, tick_sends}
 use Rattle.osc_message.specs.Timeout.{timeout_of}
 use Rattle.osc_context.specs.Nonce.{greatest_number}
 use Rattle.osc_protect.specs.Protection.{IsProtectedRequest, longest_message, plain_bytes, request_length}
@@ -77,12 +77,13 @@ post_of desk begun id token = post_with id token (item_spelling (post_item desk.
 abbrev pub post_by : State → Draw → Message
 post_by old draw = through old.origin (post_of old.desk (begun_by old draw) (own_id draw old.endpoint.next_id) (token_drawn draw))
 
--- 17 where something is open, 14 where the post is longer than a datagram may be, and else it goes out
+-- 17 where something is open, 14 where the post is longer than a datagram may be, and else it goes out, as bytes that are read again
+-- as it
 pub data Exchanges (old : State) (now : Moment) (draw : Draw) (step : Step) (new : State) : Type 0 where
   busy : old.waiting ≢ None → IsRefused 17 old step new → Exchanges old now draw step new
   too_long : old.waiting ≡ None → longest_message < length (spelling (post_by old draw)) → IsRefused 14 old step new
       → Exchanges old now draw step new
-  begins : old.waiting ≡ None → length (spelling (post_by old draw)) ≤ longest_message
+  begins : old.waiting ≡ None → length (spelling (post_by old draw)) ≤ longest_message → Spells (spelling (post_by old draw)) (post_by old draw)
       → step ≡ record { out = datagram old.next_hop (post_by old draw) ∷ []; notes = record quiet { drawn = Some (nonce_drawn draw) } }
       → new ≡ opened old now draw (post_by old draw) (Exchange (begun_by old draw))
       → Exchanges old now draw step new
@@ -107,6 +108,10 @@ TicksBy true old now step new =
 
 abbrev pub Ticks : State → Moment → Step → State → Type 0
 Ticks old now step new = TicksBy (is_over now old.endpoint.sending old.waiting) old now step new
+
+-- whether a tick does anything but let notes go: something is due, or what waits is over
+abbrev pub acts_at : State → Moment → Bool
+acts_at old now = acts now old.endpoint.sending || is_over now old.endpoint.sending old.waiting
 
 -- it starts again: the grant and the way to the server stay alone
 abbrev pub restarted : State → State
@@ -145,11 +150,12 @@ module _ (is_sealing : List ℕ → List ℕ → List ℕ → List ℕ → List 
     pub lawful : context.next ≤ greatest_number
     pub fits : Fits old draw request context
 
-  -- It is refused; or the next number is taken, and the protected request goes out.
+  -- It is refused; or the next number is taken, and the protected request goes out, as bytes that are read again as it.
   pub data Asks (old : State) (now : Moment) (request : Request) (draw : Draw) (step : Step) (new : State) : Type 0 where
     hindered : (number : ℕ) → IsHindered old request draw number → IsRefused number old step new → Asks old now request draw step new
     asks : (context : ClientContext) (protected : Message) → IsFree old request draw context
         → IsProtectedRequest is_sealing context.name context.next (plain_of old draw request) protected
+        → Spells (spelling protected) protected
         → step
         ≡ record {
           out = datagram old.next_hop protected ∷ [];

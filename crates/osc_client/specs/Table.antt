@@ -1,5 +1,5 @@
 -- What a client sends in each case, and what it keeps after it.
-use Rattle.std.specs.Prelude.{◌≡◌, ℕ, Bool, true, false, List, [], ◌∷◌, Some, None, option_map}
+use Rattle.std.specs.Prelude.{◌≡◌, ℕ, Bool, true, false, List, [], ◌∷◌, Some, None, IsSome, option_map}
 use Rattle.osc_model.specs.Code.{code}
 use Rattle.osc_model.specs.Step.{sends}
 use Rattle.osc_model.specs.StepNotes.{quiet}
@@ -17,7 +17,7 @@ use Rattle.osc_message.specs.Heard.{noted_reply}
 use Rattle.osc_message.specs.Sending.{acknowledgement, reset, again, datagram, sent_to}
 use Rattle.osc_message.specs.declared.handling.Handling.TheVariants as handling
 use Rattle.osc_message.specs.declared.heard.Heard.TheVariants as heard
-use Rattle.osc_client.specs.Answering.{Comes, context_after, notes_of, waits_after}
+use Rattle.osc_client.specs.Answering.{Comes, CountsInMemory, context_after, notes_of, waits_after}
 use Rattle.osc_client.specs.Case.{is_ended}
 use Rattle.osc_client.specs.State.{State}
 use Rattle.osc_client.specs.declared.answering.Outcome.{Outcome}
@@ -72,3 +72,12 @@ module _ (is_sealing : List ℕ → List ℕ → List ℕ → List ℕ → List 
   Answers old now from (Dropped message) step new =
       (step ≡ sends []) × (new ≡ record old { endpoint = settled old.endpoint now from (heard.Message message) handling.Dropped })
   Answers old now from (Counted message) step new = Counts old now from message step new
+
+-- What takes memory: what is sent, or read. Of a repeat something is sent where the message was answered before.
+abbrev pub TakesMemory : State → Moment → Peer → Case → Type 0
+TakesMemory old now from Ignored = ⊥
+TakesMemory old now from (Repeated id) = IsSome (noted_reply old.endpoint.seen now from id)
+TakesMemory old now from (Empty kind id) = ⊥
+TakesMemory old now from (Dropped message) = ⊥
+TakesMemory old now from (Counted message) = CountsInMemory old.waiting message
+TakesMemory old now from case = Unit {0}

@@ -8,12 +8,11 @@ use Rattle.osc_model.specs.declared.step.ClientResult.TheVariants.{Answer}
 use Rattle.osc_model.specs.declared.step.Datagram.{Datagram}
 use Rattle.osc_model.specs.declared.step.Note.{Note}
 use Rattle.osc_model.specs.declared.step.Step.{Step}
-use Rattle.osc_coap.specs.Building.{payload_of}
-use Rattle.osc_coap.specs.Message.{Message, Spells, spelling}
+use Rattle.osc_coap.specs.Message.{Message, spelling}
 use Rattle.osc_options.specs.Split.{has_oscore}
-use Rattle.osc_context.specs.Derivation.{key_of, other_side}
 use Rattle.osc_message.specs.Confirmables.{Open}
 use Rattle.osc_message.specs.Heard.{noted_reply}
+use Rattle.osc_run.specs.Seals.{IsOpenOf, IsSealOf}
 use Rattle.osc_run.specs.Texts.{IsReplyIn}
 use Rattle.osc_client.specs.State.{State}
 
@@ -34,32 +33,16 @@ pub record SealsNothing (old : State) (now : Moment) (step : Step) : Type 0 wher
 
 -- `is_sealing key nonce aad text sealed` is the cipher's relation
 module _ (is_sealing : List ℕ → List ℕ → List ℕ → List ℕ → List ℕ → Type 0) where
-  -- what the note says was sealed is the payload of this datagram's message
-  pub record IsSealOf (note : Note) (sent : Datagram) : Type 0 where
-    pub message : Message
-    pub bytes : sent.bytes ≡ spelling message
-    pub sealed : List ℕ
-    pub payload : message.payload ≡ payload_of sealed
-    pub is_sealed : is_sealing (key_of note.context note.side) note.nonce note.aad note.plaintext sealed
-
-  -- what the note says was opened is the payload of the message that these bytes are, which the other end sealed
-  pub record IsOpenOf (note : Note) (bytes : List ℕ) : Type 0 where
-    pub message : Message
-    pub spelled : Spells bytes message
-    pub sealed : List ℕ
-    pub payload : message.payload ≡ Some sealed
-    pub is_sealed : is_sealing (key_of note.context (other_side note.side)) note.nonce note.aad note.plaintext sealed
-
   -- it was sealed in this step, as noted, or needs no seal
   pub data IsToldOf (old : State) (now : Moment) (notes : StepNotes) (sent : Datagram) : Type 0 where
-    sealed_now : (note : Note) → notes.seals ≡ Some note → IsSealOf note sent → IsToldOf old now notes sent
+    sealed_now : (note : Note) → notes.seals ≡ Some note → IsSealOf is_sealing note sent → IsToldOf old now notes sent
     needs_none : NeedsNoSeal old now sent → IsToldOf old now notes sent
 
   -- Each datagram is told of so; what is noted as sealed is the one that is sent; what is noted as opened is the one that came; and
   -- an answer is the reply in what was opened.
   pub record AreTold (old : State) (now : Moment) (came : Option (List ℕ)) (step : Step) : Type 0 where
     pub out : All (λ sent. IsToldOf old now step.notes sent) step.out
-    pub seals : (note : Note) → step.notes.seals ≡ Some note → (sent : Datagram) × (step.out ≡ sent ∷ []) × IsSealOf note sent
-    pub opens : (note : Note) → step.notes.opens ≡ Some note → (bytes : List ℕ) × (came ≡ Some bytes) × IsOpenOf note bytes
+    pub seals : (note : Note) → step.notes.seals ≡ Some note → (sent : Datagram) × (step.out ≡ sent ∷ []) × IsSealOf is_sealing note sent
+    pub opens : (note : Note) → step.notes.opens ≡ Some note → (bytes : List ℕ) × (came ≡ Some bytes) × IsOpenOf is_sealing note bytes
     pub answers : (reply : Reply) → step.notes.result ≡ Some (Answer reply)
         → (note : Note) × (step.notes.opens ≡ Some note) × IsReplyIn note.plaintext reply

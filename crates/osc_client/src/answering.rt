@@ -1,14 +1,18 @@
 //! What an answer that counts comes to.
-ghost use Rattle.std.specs.Prelude.{◌≡◌, ◌≢◌, ◌≤◌, ℕ, List, true, None, Some, IfOk, IfErr, IfSome, IfNone};
+ghost use Rattle.std.specs.Prelude.{◌≡◌, ◌≢◌, ◌≤◌, ℕ, List, [], true, None, Some, IfOk, IfErr, IsErr, IfSome, IfNone, unwrap_or};
 ghost use Rattle.osc_context.specs.Nonce.{greatest_number};
+ghost use Rattle.osc_cbor.specs.Data.{DataItem};
+ghost use Rattle.osc_cbor.specs.Spelling.{IsWhole};
+ghost use Rattle.osc_model.specs.Code.{code};
 ghost use Rattle.osc_model.specs.declared.reply.Reply.{Reply as AnyReply};
 ghost use Rattle.osc_options.specs.Split.{has_oscore as has_oscore_in};
 ghost use Rattle.osc_protect.specs.Protection.{IsResponse};
 ghost use Rattle.osc_run.specs.ClientKinds.{response_note};
 ghost use Rattle.osc_run.specs.Texts.{IsReplyIn};
-ghost use Rattle.osc_client.specs.Answering.{AskComes, Comes, ExchangeComes, IsFinish, IsSealedFor, context_after, is_error as is_error_of, is_success as is_success_of, notes_of, waits_after};
+ghost use Rattle.osc_client.specs.Answering.{AskComes, Comes, ExchangeComes, IsFinish, IsRead, IsSealedFor, code_of, context_after, is_error as is_error_of, is_success as is_success_of, notes_of, waits_after};
 ghost use Rattle.osc_client.specs.Bounds.{IsEnd, IsLawful, NeedsContext};
 ghost use Rattle.osc_client.specs.declared.answering.Outcome.TheVariants as outcome;
+ghost use Rattle.osc_client.specs.declared.waiting.Awaited.TheVariants as awaited;
 ghost use Rattle.osc_model.specs.declared.step.ClientResult.TheVariants as ended;
 
 use crate::waiting::{Awaited, OpenAsk, Waiting};
@@ -74,6 +78,7 @@ fn exchange_outcome(
     ensures comes { IfOk result (λ came. IfOk came (λ outcome. ExchangeComes desk.now begun message.now outcome × IsEnd outcome)) }
     ensures stays { IfOk result (λ came. IfErr came (λ back. ExchangeComes desk.now begun message.now (outcome.Stays None) × (back ≡ begun))) }
     ensures memory { IfErr result (λ back. back ≡ begun) }
+    ensures read { IsErr result → IsRead (awaited.Exchange begun) message.now }
 {
     if has_option(message, OSCORE) {
         return Ok(Err(begun));
@@ -99,6 +104,7 @@ fn finish(
 ) -> Result<Outcome, OpenExchange>
     ensures finished { IfOk result (λ outcome. IsFinish desk.now begun message.now outcome × IsEnd outcome) }
     ensures memory { IfErr result (λ back. back ≡ begun) }
+    ensures read { IsErr result → (code_of message.now ≡ code 2 1) × ((item : DataItem) × IsWhole (unwrap_or message.now.payload []) item) }
 {
     let payload = message.payload().unwrap_or(&[]);
     match desk.finish(alloc, begun, Code(message.code()), payload) {
@@ -123,7 +129,8 @@ fn ask_outcome<A: Aead>(
     message: &MessageRef<'_>,
 ) -> Result<Outcome, AllocError>
     requires { ask.now.number ≤ greatest_number }
-    ensures { IfOk result (λ outcome. AskComes A.is_sealing context.now ask.now message.now outcome) }
+    ensures comes { IfOk result (λ outcome. AskComes A.is_sealing context.now ask.now message.now outcome) }
+    ensures read { IsErr result → IsRead (awaited.Ask ask.now) message.now }
 {
     if !has_option(message, OSCORE) {
         return Ok(if is_error(message.code()) {
@@ -204,6 +211,7 @@ pub(crate) fn outcome_of<A: Aead>(
     ensures comes { IfOk result (λ come. Comes A.is_sealing desk.now context.now waiting.what message.now come.outcome) }
     ensures waits { IfOk result (λ come. come.waiting ≡ waits_after come.outcome waiting) }
     ensures memory { IfErr result (λ back. back ≡ waiting) }
+    ensures read { IsErr result → IsRead waiting.what message.now }
 {
     let Waiting {
         token,

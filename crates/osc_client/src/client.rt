@@ -1,6 +1,6 @@
 //! The client.
-ghost use Rattle.std.specs.Prelude.{◌≡◌, ◌≤◌, ◌<◌, [], ◌∷◌, length, false, true, None, IfOk, IfErr, IsErr, IsSome, OnOk, OnErr, Some, is_some, option_map};
-ghost use Rattle.osc_coap.specs.Message.{spelling};
+ghost use Rattle.std.specs.Prelude.{◌≡◌, ◌≤◌, ◌<◌, ◌↔◌, [], ◌∷◌, length, false, true, None, IfOk, IfErr, IfNone, IfSome, IsErr, IsSome, OnOk, OnErr, Some, is_some, option_map};
+ghost use Rattle.osc_coap.specs.Message.{Spells, spelling};
 ghost use Rattle.osc_model.specs.StepNotes.{quiet};
 ghost use Rattle.osc_model.specs.declared.node.Moment.{Moment as AnyMoment};
 ghost use Rattle.osc_model.specs.declared.step.ClientResult.TheVariants as result_of;
@@ -13,15 +13,15 @@ ghost use Rattle.osc_message.specs.declared.handling.Handling.TheVariants as han
 ghost use Rattle.osc_message.specs.declared.heard.Heard.TheVariants as heard;
 ghost use Rattle.osc_message.specs.declared.received.Received.{Received as AnyReceived};
 ghost use Rattle.osc_model.specs.Step.{sends};
-ghost use Rattle.osc_message.specs.Sending.{again, datagram};
-ghost use Rattle.osc_client.specs.Case.{IsAnswered, case_of as case_in, counts as counts_of, is_ended as is_ended_of};
-ghost use Rattle.osc_client.specs.Table.{Answers, Counts, SendsOne, Settles, refusal as refusal_of};
+ghost use Rattle.osc_message.specs.Sending.{AreSendable, again, datagram};
+ghost use Rattle.osc_client.specs.Answering.{CountsInMemory};
+ghost use Rattle.osc_client.specs.Hearing.{Begins, Hears, Requests, TellsLie, Ticks};
+ghost use Rattle.osc_client.specs.Case.{case_of as case_in, counts as counts_of, is_ended as is_ended_of};
+ghost use Rattle.osc_client.specs.Table.{Answers, Counts, SendsOne, Settles, TakesMemory, refusal as refusal_of};
 ghost use Rattle.osc_message.specs.Ticks.{acts};
 ghost use Rattle.osc_run.specs.ClientKinds.{ClientStep, IsSkipped};
 ghost use Rattle.osc_client.specs.State.{core, skipped_to};
-ghost use Rattle.osc_client.specs.Lying.{Lies};
-ghost use Rattle.osc_client.specs.Told.{AreTold, SealsNothing};
-ghost use Rattle.osc_client.specs.Sending.{Asks, Exchanges, IsFree, IsHindered, Ticks, is_over_by, opened, plain_of, restarted};
+ghost use Rattle.osc_client.specs.Sending.{IsFree, IsHindered, acts_at, is_over_by, opened, plain_of, restarted};
 ghost use Rattle.osc_client.specs.Bounds.{AsksFor, IsLawful, IsRoomFor, NeedsContext};
 
 use crate::answering::{Learnt, learn, outcome_of};
@@ -37,6 +37,7 @@ use osc_authz::{ClientContext, ClientDesk};
 use osc_ccm::Aead;
 use osc_coap::{Kind, MessageBuilder, MessageRef};
 use osc_context::NUMBER_LIMIT;
+use osc_message::laws::ticks_at_rest;
 use osc_message::{
     Endpoint, Handling, Heard, ReplyRoom, noted, reset, sending_bytes, sending_message,
 };
@@ -152,9 +153,8 @@ impl Client {
     /// Begins an exchange: posts the token, a drawn nonce and the recipient ID that it offers to authz-info. Refused, with nothing
     /// changed, by 17 where something is open and by 14 where the post is longer than a datagram may be.
     pub fn exchange(&mut self, alloc: Global, now: Moment, draw: &Draw) -> Result<Step, AllocError>
-        ensures exchanged { IfOk result (λ step. Exchanges self.old now draw.now step self.new) }
+        ensures begun { IfOk result (λ step. Begins self.old now draw.now step self.new) }
         ensures kind { IfOk result (λ step. ClientStep false (core self.old) step.notes (core self.new)) }
-        ensures told { IfOk result (λ step. SealsNothing self.old now step) }
         ensures err { OnErr result (self.new ≡ self.old) }
         // What is busy is refused without memory.
         ensures needs_memory { OnErr result (self.old.waiting ≡ None) }
@@ -190,9 +190,8 @@ impl Client {
         draw: &Draw,
     ) -> Result<Step, AllocError>
         requires { 0 < request.now.code.0 }
-        ensures asked { IfOk result (λ step. Asks A.is_sealing A.TAG self.old now request.now draw.now step self.new) }
+        ensures asked { IfOk result (λ step. Requests A.is_sealing A.TAG self.old now request.now draw.now step self.new) }
         ensures kind { IfOk result (λ step. ClientStep false (core self.old) step.notes (core self.new)) }
-        ensures told { IfOk result (λ step. AreTold A.is_sealing self.old now None step) }
         ensures err { OnErr result (self.new ≡ self.old) }
         // What hinders a request is told without memory.
         ensures needs_memory { OnErr result ((context : AnyContext) × IsFree A.is_sealing A.TAG self.old request.now draw.now context) }
@@ -226,9 +225,8 @@ impl Client {
         draw: &Draw,
     ) -> Result<Step, AllocError>
         requires { number ≤ greatest_number }
-        ensures lied { IfOk result (λ step. Lies A.is_sealing A.TAG self.now number text.now draw.now step) }
+        ensures lied { IfOk result (λ step. TellsLie A.is_sealing A.TAG self.now number text.now draw.now step) }
         ensures kind { IfOk result (λ step. ClientStep true (core self.now) step.notes (core self.now)) }
-        ensures told { IfOk result (λ step. (now : AnyMoment) → AreTold A.is_sealing self.now now None step) }
         ensures needs_memory { IsErr result → IsSome self.now.context }
     {
         match &self.context {
@@ -285,6 +283,8 @@ impl Client {
         requires lawful { IsLawful what }
         ensures sent { result ≡ datagram self.old.next_hop message.now ∷ [] }
         ensures opened { self.new ≡ opened self.old now draw.now message.now what }
+        ensures spelled { Spells (spelling message.now) message.now }
+        ensures fits { AreSendable result }
     {
         let (out, kept) = room.fill(self.next_hop, message.bytes());
         let id = self.endpoint.take_id(draw);
@@ -310,15 +310,13 @@ impl Client {
         from: Peer,
         bytes: &[u8],
     ) -> Result<Step, AllocError>
-        ensures answered { IfOk result (λ step. (received : AnyReceived) × Receives bytes.now received
-            × Answers A.is_sealing self.old now from (case_in self.old.next_hop from self.old.waiting (heard_as self.old.endpoint.seen now from received)) step self.new) }
+        ensures heard { IfOk result (λ step. Hears A.is_sealing self.old now from bytes.now step self.new) }
         ensures sent { IfOk result (λ step. SendsOne from step.out) }
         ensures kind { IfOk result (λ step. ClientStep false (core self.old) step.notes (core self.new)) }
-        ensures told { IfOk result (λ step. AreTold A.is_sealing self.old now (Some bytes.now) step) }
         ensures err { OnErr result (self.new ≡ self.old) }
-        // What isn't answered takes no memory.
+        // What is neither answered nor read takes no memory.
         ensures needs_memory { OnErr result ((received : AnyReceived) × Receives bytes.now received
-            × IsAnswered (case_in self.old.next_hop from self.old.waiting (heard_as self.old.endpoint.seen now from received))) }
+            × TakesMemory self.old now from (case_in self.old.next_hop from self.old.waiting (heard_as self.old.endpoint.seen now from received))) }
     {
         kinds::exchanges_that_make();
         let heard = self.endpoint.on_datagram(now, from, bytes);
@@ -337,7 +335,8 @@ impl Client {
         requires { AsksFor self.old.next_hop from self.old.waiting case }
         ensures answered { IfOk result (λ step. Answers A.is_sealing self.old now from case.entry step self.new) }
         ensures err { OnErr result (self.new ≡ self.old) }
-        ensures needs_memory { OnErr result (IsAnswered case.entry) }
+        ensures fits { IfOk result (λ step. AreSendable step.out) }
+        ensures needs_memory { OnErr result (TakesMemory self.old now from case.entry) }
     {
         match case {
             Case::Ignored => Ok(Step::sending(Datagrams::new(alloc))),
@@ -353,7 +352,9 @@ impl Client {
 
     /// Sends again what answered the message of this ID, if anything did.
     fn repeat(&self, alloc: Global, now: Moment, from: Peer, id: u16) -> Result<Step, AllocError>
-        ensures { IfOk result (λ step. step ≡ sends (again from (noted_reply_of self.now.endpoint.seen now from id))) }
+        ensures again { IfOk result (λ step. step ≡ sends (again from (noted_reply_of self.now.endpoint.seen now from id))) }
+        ensures fits { IfOk result (λ step. AreSendable step.out) }
+        ensures needs_memory { IsErr result → IsSome (noted_reply_of self.now.endpoint.seen now from id) }
     {
         match self.endpoint.noted_reply(now, from, id) {
             Some(bytes) => sending_bytes(alloc, from, bytes.clone()?),
@@ -363,7 +364,8 @@ impl Client {
 
     /// Settles what an empty acknowledgement or Reset names; a Reset ends it.
     fn settle_empty(&mut self, alloc: Global, now: Moment, from: Peer, kind: Kind, id: u16) -> Step
-        ensures { Settles (is_ended_of self.old.next_hop from kind id self.old.waiting) self.old now from kind id result self.new }
+        ensures settled { Settles (is_ended_of self.old.next_hop from kind id self.old.waiting) self.old now from kind id result self.new }
+        ensures silent { result.out ≡ [] }
     {
         let is_ended = is_ended(self.next_hop, from, kind, id, &self.waiting);
         self.endpoint
@@ -388,6 +390,7 @@ impl Client {
     ) -> Result<Step, AllocError>
         ensures sent { IfOk result (λ step. step ≡ sends (datagram from (refusal_of message.entry) ∷ [])) }
         ensures kept { OnOk result (self.new ≡ record self.old { endpoint = settled self.old.endpoint now from (heard.Message message.entry) (handling.Answered (Some (spelling (refusal_of message.entry)))) }) }
+        ensures fits { IfOk result (λ step. AreSendable step.out) }
         ensures err { OnErr result (self.new ≡ self.old) }
     {
         let (out, bytes) = noted(alloc, from, &refusal(&message))?;
@@ -420,7 +423,9 @@ impl Client {
     ) -> Result<Step, AllocError>
         requires { counts_of self.old.next_hop from message self.old.waiting ≡ true }
         ensures answered { IfOk result (λ step. Counts A.is_sealing self.old now from message.entry step self.new) }
+        ensures fits { IfOk result (λ step. AreSendable step.out) }
         ensures err { OnErr result (self.new ≡ self.old) }
+        ensures needs_memory { OnErr result (CountsInMemory self.old.waiting message.entry) }
     {
         let (out, bytes) = acknowledged(alloc, from, &message)?;
         let waiting = self.waiting.take().unwrap();
@@ -449,7 +454,6 @@ impl Client {
     pub fn on_tick(&mut self, alloc: Global, now: Moment) -> Result<Step, AllocError>
         ensures ticked { IfOk result (λ step. Ticks self.old now step self.new) }
         ensures kind { IfOk result (λ step. ClientStep false (core self.old) step.notes (core self.new)) }
-        ensures told { IfOk result (λ step. SealsNothing self.old now step) }
         ensures err { OnErr result (self.new ≡ self.old) }
         ensures needs_memory { OnErr result (acts now self.old.endpoint.sending ≡ true) }
     {
@@ -464,6 +468,21 @@ impl Client {
             });
         }
         Ok(Step::sending(ticked.out))
+    }
+
+    /// The first moment at which a tick sends, gives up or ends anything, in ms, or none where no tick would. What was acknowledged ends
+    /// 247 seconds after it was sent.
+    ///
+    /// The work grows with the square of the number of open messages.
+    pub fn next_deadline(&self) -> Option<u64>
+        ensures some { IfSome result (λ deadline. (now : AnyMoment) → (acts_at self.now now ≡ true) ↔ (deadline ≤ now.ms)) }
+        ensures none { IfNone result ((now : AnyMoment) → acts_at self.now now ≡ false) }
+    {
+        ticks_at_rest();
+        match &self.waiting {
+            Some(waiting) if self.endpoint.open_messages() == 0 => Some(waiting.until),
+            _ => self.endpoint.next_deadline(),
+        }
     }
 
     /// Starts again: forgets its context, what it waits for and what was heard, and keeps its grant and the way to the server. Takes no

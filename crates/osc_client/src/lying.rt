@@ -2,6 +2,7 @@
 ghost use Rattle.std.specs.Prelude.{◌≡◌, ◌≤◌, IfOk};
 ghost use Rattle.osc_context.specs.Nonce.{greatest_number};
 ghost use Rattle.osc_protect.specs.Protection.{HasShortContext};
+ghost use Rattle.osc_message.specs.Sending.{AreSendable};
 ghost use Rattle.osc_client.specs.Lying.{LiesUnder, outside_of};
 
 use crate::proxied::outer_message;
@@ -40,7 +41,8 @@ pub(crate) fn lie_under<A: Aead>(
 ) -> Result<Step, AllocError>
     requires number { number ≤ greatest_number }
     requires short { HasShortContext context.now.name }
-    ensures { IfOk result (λ step. LiesUnder A.is_sealing A.TAG to context.now number text.now outside.now step) }
+    ensures lied { IfOk result (λ step. LiesUnder A.is_sealing A.TAG to context.now number text.now outside.now step) }
+    ensures fits { IfOk result (λ step. AreSendable step.out) }
 {
     let room = Room::new(alloc, context.name(), DATAGRAM_LIMIT)?;
     match protect_uncounted::<A>(room, context.sender(), number, &outside.message(), text) {

@@ -1,7 +1,7 @@
 //! What a client sends in answer to a datagram.
-ghost use Rattle.std.specs.Prelude.{◌≡◌, ◌∷◌, [], IfOk, option_map};
-ghost use Rattle.osc_coap.specs.Message.{spelling};
-ghost use Rattle.osc_message.specs.Sending.{acknowledgement as acknowledgement_of, datagram, sent_to};
+ghost use Rattle.std.specs.Prelude.{◌≡◌, ◌∷◌, [], true, IfOk, IsErr, option_map};
+ghost use Rattle.osc_coap.specs.Message.{Spells, spelling};
+ghost use Rattle.osc_message.specs.Sending.{acknowledgement as acknowledgement_of, AreSendable, IsSendableReply, datagram, is_confirmable, sent_to};
 ghost use Rattle.osc_client.specs.Table.{refusal as refusal_of};
 
 use osc_coap::{Kind, MessageBuilder, MessageRef};
@@ -15,7 +15,9 @@ pub(crate) fn message_out(
     to: Peer,
     message: &MessageBuilder,
 ) -> Result<Datagrams, AllocError>
-    ensures { IfOk result (λ out. out ≡ datagram to message.now ∷ []) }
+    ensures sent { IfOk result (λ out. out ≡ datagram to message.now ∷ []) }
+    ensures spelled { IfOk result (λ _. Spells (spelling message.now) message.now) }
+    ensures fits { IfOk result AreSendable }
 {
     let bytes = Bytes::from_slice(alloc, message.bytes())?;
     let mut out = Datagrams::new(alloc);
@@ -39,6 +41,9 @@ pub(crate) fn acknowledged(
 ) -> Result<(Datagrams, Option<Bytes>), AllocError>
     ensures sent { IfOk result (λ made. made.0 ≡ sent_to to (acknowledgement_of message.now)) }
     ensures noted { IfOk result (λ made. made.1 ≡ option_map spelling (acknowledgement_of message.now)) }
+    ensures fits { IfOk result (λ made. AreSendable made.0) }
+    ensures short { IfOk result (λ made. IsSendableReply made.1) }
+    ensures needs_memory { IsErr result → is_confirmable message.now.kind ≡ true }
 {
     match acknowledgement(message) {
         Some(answer) => {

@@ -3,7 +3,7 @@ use Rattle.osc_options.specs.Split.{has_oscore}
 use Rattle.osc_client.specs.Answering.{malformed}
 use Rattle.osc_client.proofs.answering.ask_outcome.Goals as goal
 
-pub returns-in-Err : goal.returns-in-Err
-returns-in-Err g c =
+pub returns-in-Err-clause-comes : goal.returns-in-Err-clause-comes
+returns-in-Err-clause-comes g c =
     let protected : has_oscore c.args.message.now.options ≡ true = sym c.has_option.ensures ∙ c.if-not-has_option.false in
     malformed protected (λ response is. let wrong = c.in-Err.ensures.only response is in cc) refl

@@ -12,6 +12,7 @@ use Rattle.osc_model.specs.declared.step.Datagram.{Datagram}
 use Rattle.osc_model.specs.declared.step.Note.{Note}
 use Rattle.osc_protect.specs.Protection.{IsProtectedRequest, plain_bytes}
 use Rattle.osc_run.specs.ClientKinds.{request_note}
+use Rattle.osc_client.proofs.Fitting.{refusal_fits}
 use Rattle.osc_client.proofs.StepKinds.{refusals}
 use Rattle.osc_client.proofs.Telling.{ask_told}
 use Rattle.osc_client.proofs.client.Client.ask.Goals as goal
@@ -19,7 +20,12 @@ use Rattle.osc_client.proofs.client.Client.ask.Goals as goal
 pub returns-in-Err-clause-asked : goal.returns-in-Err-clause-asked
 returns-in-Err-clause-asked g c =
     let why : IsHindered g.A.Aead.is_sealing g.A.Aead.TAG c.args.self.now c.args.request.now c.args.draw.now c.in-Err.number = rw c.in-Err.is at c.in_ok-prepared.ensures.hindered in
-    hindered c.in-Err.number why (record { told = c.refused.ensures; kept = refl })
+    let refuses = hindered c.in-Err.number why (record { told = c.refused.ensures; kept = refl }) in
+    record {
+      asks = refuses;
+      told = ask_told g.A.Aead.is_sealing c.args.self.now c.args.now g.A.Aead.TAG c.args.request.now c.args.draw.now c.refused.result c.args.self.now refuses;
+      fits = refusal_fits c.refused.result c.in-Err.number c.refused.ensures;
+    }
 
 pub returns-in-Err-clause-kind : goal.returns-in-Err-clause-kind
 returns-in-Err-clause-kind g c = rw c.refused.ensures (refusals false (core c.args.self.now) c.in-Err.number)
@@ -56,9 +62,10 @@ returns-clause-asked g c =
     c.open-out.ensures.opened
     ∙ ap (λ (s : State). opened (record s { context = Some c.protected-message.new.context }) c.args.now c.args.draw.now message (Ask c.protected-message.result.ask)) c.self.view_is
     ∙ ap₂ (λ (k : Made) (a : OpenAsk). opened (record c.args.self.now { context = Some k }) c.args.now c.args.draw.now message (Ask a)) taken ask in
-    asks free.0 message free.1 protected told kept
-
-pub returns-clause-told : goal.returns-clause-told
-returns-clause-told g c =
-    ask_told g.A.Aead.is_sealing c.args.self.now c.args.now g.A.Aead.TAG c.args.request.now c.args.draw.now
-    (record { out = c.open-out.result; notes = c.with_seal.result }) c.open-out.new.self (returns-clause-asked g c)
+    let asked_so = asks free.0 message free.1 protected c.open-out.ensures.spelled told kept in
+    record {
+      asks = asked_so;
+      told = ask_told g.A.Aead.is_sealing c.args.self.now c.args.now g.A.Aead.TAG c.args.request.now c.args.draw.now
+          (record { out = c.open-out.result; notes = c.with_seal.result }) c.open-out.new.self asked_so;
+      fits = c.open-out.ensures.fits;
+    }

@@ -1,4 +1,6 @@
-use Rattle.std.proofs.Common.{rules, ◌≡◌, ◌∙◌, ap, sym, true, Some}
+use Rattle.std.proofs.Common.{rules, ◌≡◌, ◌∙◌, ap, refl, sym, true, Some}
+use Rattle.std.specs.Result.{IsErr}
+use Rattle.osc_client.specs.Answering.{is_read}
 use Rattle.osc_client.specs.Bounds.{KeepsOwn}
 use Rattle.osc_client.specs.Case.{counts}
 use Rattle.osc_client.proofs.Own.{counted_gone, has_after, own_none}
@@ -19,3 +21,10 @@ invariant_of-self g c =
       rw c.learn-notes.ensures.context
           (grant_after g.A.Aead.is_sealing c.self.inside.desk c.args.message c.self.inside.context w.what c.in-Ok.field-0.outcome c.in-Ok.ensures.comes c.self.invariant.2),
     )
+
+pub returns-in-Err-clause-needs_memory : goal.returns-in-Err-clause-needs_memory
+returns-in-Err-clause-needs_memory g c =
+    let w = c.unwrap-waiting.result in
+    let waits : c.self.inside.waiting ≡ Some w = search rules in
+    let err : IsErr c.outcome_of.result = rw c.in-Err.is refl in
+    is_read w (ap (λ s. s.waiting) (sym c.self.view_is) ∙ waits) (c.outcome_of.ensures.read err)

@@ -6,6 +6,8 @@ use Rattle.osc_client.specs.Case.{case_of}
 use Rattle.osc_client.specs.State.{State}
 use Rattle.osc_client.specs.Table.{Answers}
 use Rattle.osc_client.specs.declared.case.Case.{Case}
+use Rattle.osc_message.specs.Sending.{AreSendable}
+use Rattle.osc_client.proofs.Fitting.{both_ok}
 use Rattle.osc_client.proofs.Sent.{one_is_sent}
 use Rattle.osc_client.proofs.StepKinds.{kind_of}
 use Rattle.osc_client.proofs.Telling.{datagram_told}
@@ -24,13 +26,22 @@ returns-clause-sent g c =
     (λ step answers. one_is_sent g.A.Aead.is_sealing c.args.self.now c.args.now c.args.from c.case_of-case.result step c.answer.new.self answers)
     c.answer.ensures.answered
 
-pub returns-clause-told : goal.returns-clause-told
-returns-clause-told g c =
+pub returns-clause-heard : goal.returns-clause-heard
+returns-clause-heard g c =
     let came = c.on_datagram-heard.ensures in
     let case : c.case_of-case.result ≡ case_of c.args.self.now.next_hop c.args.from c.args.self.now.waiting (heard c.args.self.now.endpoint.seen c.args.now c.args.from came.0) =
     c.case_of-case.ensures.case ∙ ap (λ h. case_of c.self.inside.next_hop c.args.from c.self.inside.waiting h) came.2
     ∙ ap (λ (s : State). case_of s.next_hop c.args.from s.waiting (heard s.endpoint.seen c.args.now c.args.from came.0)) c.self.view_is in
+    let table = IfOk-weaker c.answer.result _ (λ step. Answers g.A.Aead.is_sealing c.args.self.now c.args.now c.args.from
+    (case_of c.args.self.now.next_hop c.args.from c.args.self.now.waiting (heard c.args.self.now.endpoint.seen c.args.now c.args.from came.0)) step c.answer.new.self)
+    (λ step answers. subst (λ (x : Case). Answers g.A.Aead.is_sealing c.args.self.now c.args.now c.args.from x step c.answer.new.self) case answers)
+    c.answer.ensures.answered in
     IfOk-weaker c.answer.result _ _
-    (λ step answers. datagram_told g.A.Aead.is_sealing c.args.self.now c.args.now c.args.bytes.now c.args.from came.0 step c.answer.new.self came.1
-    (subst (λ (x : Case). Answers g.A.Aead.is_sealing c.args.self.now c.args.now c.args.from x step c.answer.new.self) case answers))
-    c.answer.ensures.answered
+    (λ step both. record {
+      received = came.0;
+      receives = came.1;
+      answers = both.0;
+      told = datagram_told g.A.Aead.is_sealing c.args.self.now c.args.now c.args.bytes.now c.args.from came.0 step c.answer.new.self came.1 both.0;
+      fits = both.1;
+    })
+    (both_ok c.answer.result _ (λ step. AreSendable step.out) table c.answer.ensures.fits)

@@ -1,4 +1,5 @@
 use Rattle.std.proofs.Common.{rules, ◌≡◌, Some, ap, sym, subst}
+use Rattle.osc_message.specs.Sending.{AreSendable}
 use Rattle.osc_message.specs.Ticks.{tick_sends}
 use Rattle.osc_model.specs.Step.{sends}
 use Rattle.osc_model.specs.StepNotes.{quiet}
@@ -18,13 +19,21 @@ invariant_of-self-else-is_over c =
       c.self.invariant.2,
     )
 
-pub returns-then-is_over-clause-told : goal.returns-then-is_over-clause-told
-returns-then-is_over-clause-told c =
+pub returns-then-is_over-clause-ticked : goal.returns-then-is_over-clause-ticked
+returns-then-is_over-clause-ticked c =
     let step : Step = record { out = tick_sends c.args.now c.args.self.now.endpoint.sending; notes = record quiet { result = Some TimedOut } } in
     let told : record { out = c.in_ok-ticked.ticked.out; notes = c.with_result.result } ≡ step = search rules in
-    subst (SealsNothing c.args.self.now c.args.now) (sym told) (times_out_silently c.args.self.now c.args.now)
+    record {
+      ticks = search rules;
+      told = subst (SealsNothing c.args.self.now c.args.now) (sym told) (times_out_silently c.args.self.now c.args.now);
+      fits = c.in_ok-ticked.ensures.fits;
+    }
 
-pub returns-clause-told : goal.returns-clause-told
-returns-clause-told c =
+pub returns-clause-ticked : goal.returns-clause-ticked
+returns-clause-ticked c =
     let told : c.sending.result ≡ sends (tick_sends c.args.now c.args.self.now.endpoint.sending) = search rules in
-    subst (SealsNothing c.args.self.now c.args.now) (sym told) (ticks_silently c.args.self.now c.args.now)
+    record {
+      ticks = search rules;
+      told = subst (SealsNothing c.args.self.now c.args.now) (sym told) (ticks_silently c.args.self.now c.args.now);
+      fits = subst (λ (s : Step). AreSendable s.out) (sym c.sending.ensures) c.in_ok-ticked.ensures.fits;
+    }
