@@ -1,6 +1,7 @@
 pub mod Counted
 pub mod Outcomes
 pub mod Fitting
+pub mod Opened
 pub mod Own
 pub mod Reading
 pub mod Sent

@@ -8,3 +8,4 @@ pub mod Case
 pub mod Table
 pub mod Hearing
 pub mod Bounds
+pub mod Opened

@@ -1,5 +1,5 @@
 //! What an answer that counts comes to.
-ghost use Rattle.std.specs.Prelude.{◌≡◌, ◌≢◌, ◌≤◌, ℕ, List, [], true, None, Some, IfOk, IfErr, IsErr, IfSome, IfNone, unwrap_or};
+ghost use Rattle.std.specs.Prelude.{◌≡◌, ◌≢◌, ◌≤◌, ℕ, List, [], true, None, Some, IfOk, IfErr, IsErr, IsSome, IfSome, IfNone, unwrap_or};
 ghost use Rattle.osc_context.specs.Nonce.{greatest_number};
 ghost use Rattle.osc_cbor.specs.Data.{DataItem};
 ghost use Rattle.osc_cbor.specs.Spelling.{IsWhole};
@@ -11,6 +11,7 @@ ghost use Rattle.osc_run.specs.ClientKinds.{response_note};
 ghost use Rattle.osc_run.specs.Texts.{IsReplyIn};
 ghost use Rattle.osc_client.specs.Answering.{AskComes, Comes, ExchangeComes, IsFinish, IsRead, IsSealedFor, code_of, context_after, is_error as is_error_of, is_success as is_success_of, notes_of, waits_after};
 ghost use Rattle.osc_client.specs.Bounds.{IsEnd, IsLawful, NeedsContext};
+ghost use Rattle.osc_client.specs.Opened.{ComesOf};
 ghost use Rattle.osc_client.specs.declared.answering.Outcome.TheVariants as outcome;
 ghost use Rattle.osc_client.specs.declared.waiting.Awaited.TheVariants as awaited;
 ghost use Rattle.osc_model.specs.declared.step.ClientResult.TheVariants as ended;
@@ -158,7 +159,16 @@ fn opened_outcome<A: Aead>(
     requires response { IsResponse message.now response.now }
     ensures { IfOk result (λ outcome. AskComes A.is_sealing context.now ask.now message.now outcome) }
 {
-    match open::<A>(alloc, context, ask, response)? {
+    let opened = open::<A>(alloc, context, ask, response)?;
+    outcome_opened(alloc, opened)
+}
+
+/// What comes of what was opened, or wasn't: memory is taken for a reply alone.
+fn outcome_opened(alloc: Global, opened: Option<Note>) -> Result<Outcome, AllocError>
+    ensures comes { IfOk result (λ outcome. ComesOf opened outcome) }
+    ensures memory { IsErr result → IsSome opened }
+{
+    match opened {
         Some(note) => match reply_in(alloc, note.plaintext.as_slice())? {
             Some(reply) => Ok(Outcome::Answers(note, reply)),
             None => Ok(Outcome::Stays(Some(note))),
