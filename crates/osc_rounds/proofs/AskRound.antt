@@ -243,7 +243,7 @@ module _ (is_sealing : List ℕ → List ℕ → List ℕ → List ℕ → List 
   pub is_asked : first.notes.result ≢ Some (result.Refused 14) → Asks is_sealing tag client asked_at request draw first asked
       → IsAskedAndAnswered is_sealing client server now draw request at server_at held context.next first asked
   is_asked whole (hindered number hinders refused) = absurd (not_hindered number whole refused hinders)
-  is_asked whole (asks other protected free made told kept) =
+  is_asked whole (asks other protected free made spelled told kept) =
       let same : other ≡ context = same_Some other context (sym free.held ∙ may.has) in
       by same protected free made told kept
     where

@@ -322,4 +322,4 @@ module _ (is_sealing : List ℕ → List ℕ → List ℕ → List ℕ → List 
       → IsBegunAndMade is_sealing client server now draw at server_at entries first begun
   is_begun fits (busy waits refused) = absurd (waits may.idle)
   is_begun fits (sending.Exchanges.too_long idle long refused) = absurd (fits (ap (λ (s : Step). s.notes.result) refused.told))
-  is_begun fits (begins idle short told kept) = begun_so short told kept
+  is_begun fits (begins idle short spelled told kept) = begun_so short told kept
