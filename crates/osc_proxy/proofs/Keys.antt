@@ -1,15 +1,15 @@
 -- The lowest key whose exchange passes a test: one is open there.
 use Rattle.std.proofs.Common.{◌≡◌, inl, inr, ℕ, zero, suc, ◌+◌, Bool, true, false, List, [], ◌∷◌, refl, ap, sym, ◌∙◌, arith, Option, Some, None, slice_index_or}
 use Rattle.std.specs.Prelude.{find, count_by, cond, is_some, option_map, if◌then◌else◌, nat_le, ◌||◌}
-use Rattle.std.specs.List.{sum_by}
-use Rattle.std.proofs.lemmas.Bool.{cases_Bool}
+use Rattle.std.specs.List.{list_any, sum_by}
+use Rattle.std.proofs.lemmas.Bool.{cases_Bool, or_parts}
 use Rattle.std.proofs.lemmas.List.Sums.{sum_by-cons}
 use Rattle.std.proofs.lemmas.Option.{same_Some}
 use Rattle.slab.specs.Slab.{entries_from}
 use Rattle.osc_model.specs.declared.node.Peer.{Peer}
 use Rattle.osc_coap.specs.Message.{Message as CoapMessage}
 use Rattle.osc_message.specs.Sending.{is_confirmable}
-use Rattle.osc_proxy.specs.Exchanges.{Table, count, first_key, get}
+use Rattle.osc_proxy.specs.Exchanges.{Table, count, entries, first_key, get}
 use Rattle.osc_proxy.specs.Own.{has_room}
 use Rattle.osc_proxy.specs.State.{State}
 use Rattle.osc_proxy.specs.Table.{key_for}
@@ -102,6 +102,17 @@ none_at test (Some first ∷ rest) base none key exchange is =
 pub none_passes : (test : Exchange → Bool) (table : Table) → first_key test table ≡ None → (key : ℕ) (exchange : Exchange) → get table key ≡ Some exchange
     → test exchange ≡ false
 none_passes test table none key exchange is = none_at test table.slots 0 none key exchange is
+
+no_entry : (test : Exchange → Bool) (rest : List (ℕ × Exchange)) → list_any (λ entry. test entry.1) rest ≡ false
+    → key_of (find (λ entry. test entry.1) rest) ≡ None
+no_entry test [] none = refl
+no_entry test (entry ∷ rest) none =
+    let both = or_parts (test entry.1) (list_any (λ e. test e.1) rest) none in
+    rw both.0 (no_entry test rest both.1)
+
+-- where no exchange passes, no key is found
+pub none_found : (test : Exchange → Bool) (table : Table) → list_any (λ entry. test entry.1) (entries table) ≡ false → first_key test table ≡ None
+none_found test table none = no_entry test (entries table) none
 
 one_key : (room full : Bool) (next key : ℕ) → (if room then (if full then None else Some next) else None) ≡ Some key → next ≡ key
 one_key true true next key e = absurd (cc)

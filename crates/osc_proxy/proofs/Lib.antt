@@ -3,8 +3,10 @@ mod AddLaws
 mod UriLaws
 mod OptionLaws
 mod Keys
+mod Tokens
 mod Goes
 mod Ending
 mod Ends
 mod Marks
+mod Idle
 mod Steps

@@ -1,11 +1,14 @@
 -- Which case a datagram is to a proxy: the first test that holds, read from the top.
-use Rattle.std.specs.Prelude.{ℕ, if◌then◌else◌, List, Option, Some, None}
+use Rattle.std.specs.Prelude.{ℕ, if◌then◌else◌, List, Option, Some, None, IsSome}
 use Rattle.osc_model.specs.Code.{code}
+use Rattle.osc_model.specs.declared.node.Moment.{Moment}
 use Rattle.osc_model.specs.declared.node.Peer.{Peer}
 use Rattle.osc_coap.specs.Code.{is_request_code, is_response_code}
 use Rattle.osc_coap.specs.Message.{Message as CoapMessage}
 use Rattle.osc_coap.specs.declared.kind.Kind.{Kind}
 use Rattle.osc_coap.specs.declared.kind.Kind.TheVariants.{Reset as ResetKind}
+use Rattle.osc_message.specs.Endpoint.{EndpointState}
+use Rattle.osc_message.specs.Heard.{noted_reply}
 use Rattle.osc_message.specs.Sending.{is_confirmable}
 use Rattle.osc_message.specs.declared.heard.Heard.{Heard}
 use Rattle.osc_message.specs.declared.heard.Heard.TheVariants as heard
@@ -57,9 +60,10 @@ case_of targets exchanges from named (heard.Repeat id) = Repeated id
 case_of targets exchanges from named (heard.Empty kind id) = ended kind id (first_key (is_named from id) exchanges)
 case_of targets exchanges from named (heard.Message message) = message_case targets exchanges from named message
 
--- whether anything may be sent
-abbrev pub IsAnswered : Case → Type 0
-IsAnswered Ignored = ⊥
-IsAnswered (Empty kind id) = ⊥
-IsAnswered (Dropped message) = ⊥
-IsAnswered case = Unit {0}
+-- whether anything may be sent: a repeat is answered where its message was
+abbrev pub IsAnswered : EndpointState → Moment → Peer → Case → Type 0
+IsAnswered endpoint now from Ignored = ⊥
+IsAnswered endpoint now from (Repeated id) = IsSome (noted_reply endpoint.seen now from id)
+IsAnswered endpoint now from (Empty kind id) = ⊥
+IsAnswered endpoint now from (Dropped message) = ⊥
+IsAnswered endpoint now from case = Unit {0}

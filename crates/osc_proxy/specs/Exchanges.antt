@@ -1,5 +1,5 @@
 -- The exchanges that a proxy has open: requests that were forwarded and whose answer hasn't gone back yet (RFC 7252 section 5.7.2).
-use Rattle.std.specs.Prelude.{◌≡◌, ◌≢◌, ℕ, ◌+◌, Bool, true, false, ◌&&◌, ◌||◌, not, ◌==◌, nat_le, bytes_eq, if◌then◌else◌, List, [], map, slice_index_or, find, count_by, Option, Some, None, is_some, option_map}
+use Rattle.std.specs.Prelude.{◌≡◌, ◌≢◌, ℕ, ◌+◌, Bool, true, false, ◌&&◌, ◌||◌, not, ◌==◌, nat_le, bytes_eq, if◌then◌else◌, List, [], ◌∷◌, map, slice_index_or, find, count_by, Option, Some, None, is_some, option_map}
 use Rattle.slab.specs.Slab.{entries_from}
 use Rattle.osc_model.specs.declared.node.Moment.{Moment}
 use Rattle.osc_model.specs.declared.node.Peer.{Peer}
@@ -41,6 +41,11 @@ free_key table = if nat_le 64 (count table) || nat_le 256 table.next then None e
 pub record Changes (old new : Table) (key : ℕ) (now : Option Exchange) : Type 0 where
   pub changed : get new key ≡ now
   pub others : (other : ℕ) → other ≢ key → get new other ≡ get old other
+
+-- each open exchange's token begins with its key, so that no two have one token
+abbrev pub HasOwnTokens : Table → Type 0
+HasOwnTokens table =
+    (key : ℕ) (exchange : Exchange) → get table key ≡ Some exchange → (rest : List ℕ) × (exchange.token ≡ key ∷ rest)
 
 -- ---- which exchange something is for
 

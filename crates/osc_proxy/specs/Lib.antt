@@ -15,3 +15,4 @@ pub mod Own
 pub mod Going
 pub mod Table
 pub mod Ticks
+pub mod Hearing

@@ -98,11 +98,12 @@ ForwardsBy (Some key) old now from draw message to step new =
 
 -- ---- an answer goes back
 
--- the exchange of this key is open, and is closed
+-- the exchange of this key is open, and is closed; the next exchange gets its key
 pub record Closes (key : ℕ) (exchange : Exchange) (old new : Table) : Type 0 where
   pub was : get old key ≡ Some exchange
   pub closed : Changes old new key None
   pub fewer : count new + 1 ≡ count old
+  pub next : new.next ≡ key
 
 -- the answer of an exchange that got none
 abbrev pub failure : Code → ℕ → Exchange → Message

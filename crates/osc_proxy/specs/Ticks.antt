@@ -3,15 +3,16 @@ use Rattle.std.specs.Prelude.{◌≡◌, ℕ, Bool, ◌||◌, List, [], ◌∷�
 use Rattle.std.specs.List.{list_any}
 use Rattle.osc_model.specs.Code.{code}
 use Rattle.osc_model.specs.Step.{sends}
+use Rattle.osc_model.specs.StepNotes.{quiet}
 use Rattle.osc_model.specs.declared.node.Draw.{Draw}
 use Rattle.osc_model.specs.declared.node.Moment.{Moment}
 use Rattle.osc_model.specs.declared.step.Datagram.{Datagram}
 use Rattle.osc_model.specs.declared.step.Step.{Step}
 use Rattle.osc_coap.specs.Message.{Message}
 use Rattle.osc_message.specs.Endpoint.{EndpointState, after_tick, own_id}
-use Rattle.osc_message.specs.Ticks.{tick_gives_up, tick_sends, tick_starts}
+use Rattle.osc_message.specs.Ticks.{acts as messages_act, tick_gives_up, tick_sends, tick_starts}
 use Rattle.osc_message.specs.declared.name.MessageName.{MessageName}
-use Rattle.osc_proxy.specs.Exchanges.{Changes, Table, count, first_key, get, gone_out, is_named, is_overdue}
+use Rattle.osc_proxy.specs.Exchanges.{Changes, Table, count, entries, first_key, get, gone_out, is_named, is_overdue}
 use Rattle.osc_proxy.specs.State.{State}
 use Rattle.osc_proxy.specs.Table.{Closes, back_kept, back_sends, failure}
 use Rattle.osc_proxy.specs.declared.exchanges.Exchange.{Exchange}
@@ -52,7 +53,7 @@ pub data AllEnd (now : Moment) (draw : Draw) (given_up : List MessageName) : Tab
       → AllEnd now draw given_up next (back_kept endpoint now draw exchange (timeout endpoint draw exchange)) later last last_endpoint
       → AllEnd now draw given_up table endpoint (back_sends endpoint exchange (timeout endpoint draw exchange) ++ later) last last_endpoint
 
--- What is due goes out, and then the answers that say that none came.
+-- What is due goes out, and then the answers that say that none came; nothing is sealed or opened.
 pub record Ticks (old : State) (now : Moment) (draw : Draw) (step : Step) (new : State) : Type 0 where
   pub started : Table
   pub starts : AllStart now (tick_starts now old.endpoint.sending) old.exchanges started
@@ -60,3 +61,13 @@ pub record Ticks (old : State) (now : Moment) (draw : Draw) (step : Step) (new :
   pub ends : AllEnd now draw (tick_gives_up now old.endpoint.sending) started (after_tick now old.endpoint) out new.exchanges new.endpoint
   pub told : step ≡ sends (tick_sends now old.endpoint.sending ++ out)
   pub targets : new.targets ≡ old.targets
+  pub silent : step.notes ≡ quiet
+
+-- ---- whether a tick sends, gives up or ends anything
+
+-- the end of an exchange is due
+abbrev pub any_overdue : Moment → Table → Bool
+any_overdue now table = list_any (λ entry. is_overdue now entry.1) (entries table)
+
+abbrev pub acts : Moment → State → Bool
+acts now state = messages_act now state.endpoint.sending || any_overdue now state.exchanges

@@ -1,9 +1,12 @@
 //! The exchanges that a proxy has open (RFC 7252 section 5.7.2).
-ghost use Rattle.std.specs.Prelude.{◌≡◌, ◌+◌, ◌≤◌, length, None, Some, IfOk, OnSome, IfNone, IsSome, option_map, option_copied, slice_set};
+ghost use Rattle.std.specs.Prelude.{◌≡◌, ◌+◌, ◌≤◌, ◌∷◌, ℕ, List, length, None, Some, IfOk, OnSome, IfNone, IsSome, option_map, option_copied, slice_set};
+ghost use Rattle.osc_model.specs.declared.node.Moment.{Moment as AnyMoment};
+ghost use Rattle.osc_message.specs.Bounds.{is_reached};
 ghost use Rattle.osc_message.specs.Confirmables.{same_peer as same_peer_of};
 ghost use Rattle.osc_proxy.specs.Exchanges as spec;
-ghost use Rattle.osc_proxy.specs.Ticks.{is_given_up as is_given_up_of, is_over as is_over_by};
+ghost use Rattle.osc_proxy.specs.Ticks.{any_overdue, is_given_up as is_given_up_of, is_over as is_over_by};
 
+use crate::deadline::first_of;
 use crate::token::Token;
 use osc_coap::{Kind, MessageRef};
 use osc_message::{Buffer, MessageName};
@@ -101,13 +104,13 @@ impl Drop for Exchanges {
 
 impl Model for Exchanges {
     ghost use Rattle.std.specs.Prelude.{◌≤◌};
-    ghost use Rattle.osc_proxy.specs.Exchanges.{Table};
+    ghost use Rattle.osc_proxy.specs.Exchanges.{HasOwnTokens, Table};
 
     ghost Value = { Table };
 
     ghost view = { λ e. record { slots = e.open.slots; next = e.open.vacant_key } };
 
-    ghost invariant = { λ e. 64 ≤ e.open.capacity };
+    ghost invariant = { λ e. (64 ≤ e.open.capacity) × HasOwnTokens (record { slots = e.open.slots; next = e.open.vacant_key }) };
 }
 
 /// Whether two peers have the same address and port.
@@ -141,6 +144,16 @@ fn is_named(from: Peer, id: u16, exchange: &Exchange) -> bool
     ensures { result ≡ spec.is_named from id exchange.now }
 {
     exchange.confirmable && same_peer(exchange.target, from) && exchange.id == id
+}
+
+/// When no answer is awaited any more, in ms; none while no end is counted.
+fn end_of(exchange: &Exchange) -> Option<u64>
+    ensures { (now : AnyMoment) → is_reached now result ≡ spec.is_overdue now exchange.now }
+{
+    match exchange.sent {
+        Some(sent) => Some(sent.ms + LIFETIME),
+        None => None,
+    }
 }
 
 /// Whether no answer came for so long that none is awaited any more.
@@ -204,7 +217,8 @@ impl Exchanges {
 
     /// How many are open.
     pub fn count(&self) -> usize
-        ensures { result ≡ spec.count self.now }
+        ensures value { result ≡ spec.count self.now }
+        ensures own_tokens { spec.HasOwnTokens self.now }
     {
         self.open.len()
     }
@@ -220,9 +234,10 @@ impl Exchanges {
         Some(key as u8)
     }
 
-    /// Opens an exchange under the free key; takes no memory.
+    /// Opens an exchange under the free key, with which its token begins; takes no memory.
     pub fn open(&mut self, exchange: Exchange)
-        requires { IsSome (spec.free_key self.old) }
+        requires free { IsSome (spec.free_key self.old) }
+        requires own_token { (rest : List ℕ) × (exchange.token ≡ self.old.next ∷ rest) }
         ensures was_free { spec.get self.old self.old.next ≡ None }
         ensures opened { spec.Changes self.old self.new self.old.next (Some exchange) }
         ensures count { spec.count self.new ≡ spec.count self.old + 1 }
@@ -276,6 +291,17 @@ impl Exchanges {
         None
     }
 
+    /// The first moment at which the end of an exchange is due, in ms, or none where no end is counted.
+    pub fn first_end(&self) -> Option<u64>
+        ensures { (now : AnyMoment) → is_reached now result ≡ any_overdue now self.now }
+    {
+        let mut first = None;
+        for (_, exchange) in self.open.iter() {
+            first = first_of(first, end_of(exchange));
+        }
+        first
+    }
+
     /// The forwarded message of the exchange of this key, if one is open, goes out at this moment.
     pub fn mark_sent(&mut self, key: usize, now: Moment)
         ensures marked { spec.Changes self.old self.new key (option_map (spec.gone_out now) (spec.get self.old key)) }
@@ -323,11 +349,12 @@ impl Exchanges {
         }
     }
 
-    /// Closes the exchange of this key, which is handed back, if one is open; takes no memory.
+    /// Closes the exchange of this key, which is handed back, if one is open; the next exchange gets its key. Takes no memory.
     pub fn close(&mut self, key: usize) -> Option<Exchange>
         ensures value { result ≡ spec.get self.old key }
         ensures closed { spec.Changes self.old self.new key None }
         ensures count { OnSome result (spec.count self.new + 1 ≡ spec.count self.old) }
+        ensures next { OnSome result (self.new.next ≡ key) }
         ensures absent { IfNone result (self.new ≡ self.old) }
     {
         self.open.try_remove(key)

@@ -5,6 +5,7 @@
 
 mod answering;
 mod case;
+mod deadline;
 mod exchanges;
 mod forwarding;
 pub mod laws;

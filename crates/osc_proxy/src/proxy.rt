@@ -1,33 +1,33 @@
 //! The proxy.
-ghost use Rattle.std.specs.Prelude.{◌≡◌, ◌≤◌, ◌<◌, ◌+◌, [], length, false, Some, IfOk, OnErr, Option, option_map};
+ghost use Rattle.std.specs.Prelude.{◌≡◌, ◌≤◌, ◌<◌, ◌+◌, ◌↔◌, [], length, true, false, Some, IfOk, OnErr, IfSome, IfNone, IsSome, option_map};
 ghost use Rattle.osc_coap.specs.Message.{spelling};
 ghost use Rattle.osc_model.specs.Step.{sends};
-ghost use Rattle.osc_model.specs.StepNotes.{quiet};
+ghost use Rattle.osc_model.specs.declared.node.Moment.{Moment as AnyMoment};
+ghost use Rattle.osc_message.specs.Bounds.{is_reached};
 ghost use Rattle.osc_message.specs.Endpoint.{fresh, settled};
-ghost use Rattle.osc_message.specs.Heard.{heard as heard_as, noted_reply as noted_reply_of};
-ghost use Rattle.osc_message.specs.Received.{Receives};
+ghost use Rattle.osc_message.specs.Heard.{noted_reply as noted_reply_of};
 ghost use Rattle.osc_message.specs.Sending.{acknowledgement as acknowledgement_of, is_confirmable as is_confirmable_of, again, sent_to};
 ghost use Rattle.osc_message.specs.declared.handling.Handling.TheVariants as handling;
 ghost use Rattle.osc_message.specs.declared.heard.Heard.TheVariants as heard;
-ghost use Rattle.osc_message.specs.declared.received.Received.{Received as AnyReceived};
 ghost use Rattle.osc_proxy.specs.Bounds.{AsksFor, CanCount, IsOpen, names_one};
-ghost use Rattle.osc_proxy.specs.Case.{IsAnswered, NamesIn, case_of as case_in};
+ghost use Rattle.osc_proxy.specs.Case.{IsAnswered};
 ghost use Rattle.osc_proxy.specs.Ends.{EachHasAnEnd};
-ghost use Rattle.osc_proxy.specs.Exchanges.{all_left, count, left_by, none_open};
+ghost use Rattle.osc_proxy.specs.Exchanges.{HasOwnTokens, all_left, count, left_by, none_open};
 ghost use Rattle.osc_proxy.specs.Going.{CanClose, IsOwn};
-ghost use Rattle.osc_proxy.specs.ProxyUri.{HostAndPort};
+ghost use Rattle.osc_proxy.specs.Hearing.{Hears, MayBeAnswered};
 ghost use Rattle.osc_proxy.specs.State.{restarted};
 ghost use Rattle.osc_proxy.specs.Table.{Answers, Counts, Ends, ForwardsBy, IsForwarded, IsRefused, forwarded_by, key_for as key_for_of};
-ghost use Rattle.osc_proxy.specs.Ticks.{Ticks};
+ghost use Rattle.osc_proxy.specs.Ticks.{Ticks, acts};
 
 use crate::answering::{answer_back, failing};
 use crate::case::{Case, case_of};
+use crate::deadline::{first_of, messages_deadline};
 use crate::exchanges::{Exchanges, FailureRoom};
 use crate::forwarding::{forwarded_message, forwarded_token};
 use crate::opening::{gone_out, waiting};
 use crate::sending::{Own, acknowledged, has_room, send_back, send_own};
 use crate::targets::Targets;
-use crate::ticking::{finish, room_for};
+use crate::ticking::{finish, rest, room_for};
 use osc_coap::{Kind, MessageBuilder, MessageRef};
 use osc_message::laws::ticks_send_few;
 use osc_message::{
@@ -84,6 +84,7 @@ impl Proxy {
     pub fn open_exchanges(&self) -> usize
         ensures value { result ≡ count self.now.exchanges }
         ensures ends { EachHasAnEnd self.now.exchanges self.now.endpoint }
+        ensures own_tokens { HasOwnTokens self.now.exchanges }
     {
         // For the proof alone: it tells what always holds of a proxy.
         let _endpoint = &self.endpoint;
@@ -107,23 +108,19 @@ impl Proxy {
         bytes: &[u8],
         draw: &Draw,
     ) -> Result<Step, AllocError>
-        ensures answered { IfOk result (λ step. (received : AnyReceived) × Receives bytes.now received
-            × ((named : Option HostAndPort) × NamesIn (heard_as self.old.endpoint.seen now from received) named
-            × Answers self.old now from draw.now (case_in self.old.targets self.old.exchanges from named (heard_as self.old.endpoint.seen now from received)) step self.new)) }
+        ensures heard { IfOk result (λ step. Hears self.old now draw.now from bytes.now step self.new) }
         ensures few { IfOk result (λ step. length step.out ≤ 2) }
-        ensures nothing_sealed { IfOk result (λ step. step.notes ≡ quiet) }
         ensures err { OnErr result (self.new ≡ self.old) }
         // Each exchange that is open has its end counted, or its forwarded message is open still.
         ensures ends { EachHasAnEnd self.new.exchanges self.new.endpoint }
-        // What isn't answered takes no memory.
-        ensures needs_memory { OnErr result ((received : AnyReceived) × Receives bytes.now received
-            × ((named : Option HostAndPort) × NamesIn (heard_as self.old.endpoint.seen now from received) named
-            × IsAnswered (case_in self.old.targets self.old.exchanges from named (heard_as self.old.endpoint.seen now from received)))) }
+        ensures own_tokens { HasOwnTokens self.new.exchanges }
+        // What isn't answered takes no memory; nor does a repeat, where nothing was answered before.
+        ensures needs_memory { OnErr result (MayBeAnswered self.old now from bytes.now) }
     {
         let heard = self.endpoint.on_datagram(now, from, bytes);
         let case = case_of(&self.targets, &self.exchanges, from, heard);
         let step = self.answer(alloc, now, from, draw, case);
-        // For the proof alone: the call tells that each exchange has an end.
+        // For the proof alone: the call tells what always holds of a proxy.
         let _open = self.open_exchanges();
         step
     }
@@ -140,7 +137,7 @@ impl Proxy {
         requires { AsksFor self.old.exchanges from case }
         ensures answered { IfOk result (λ step. Answers self.old now from draw.now case.entry step self.new) }
         ensures err { OnErr result (self.new ≡ self.old) }
-        ensures needs_memory { OnErr result (IsAnswered case.entry) }
+        ensures needs_memory { OnErr result (IsAnswered self.old.endpoint now from case.entry) }
     {
         match case {
             Case::Ignored => Ok(Step::sending(Datagrams::new(alloc))),
@@ -158,7 +155,8 @@ impl Proxy {
 
     /// Sends again what answered the message of this ID, if anything did.
     fn repeat(&self, alloc: Global, now: Moment, from: Peer, id: u16) -> Result<Step, AllocError>
-        ensures { IfOk result (λ step. step ≡ sends (again from (noted_reply_of self.now.endpoint.seen now from id))) }
+        ensures sent { IfOk result (λ step. step ≡ sends (again from (noted_reply_of self.now.endpoint.seen now from id))) }
+        ensures needs_memory { OnErr result (IsSome (noted_reply_of self.now.endpoint.seen now from id)) }
     {
         match self.endpoint.noted_reply(now, from, id) {
             Some(bytes) => sending_bytes(alloc, from, bytes.clone()?),
@@ -404,12 +402,77 @@ impl Proxy {
     }
 
     /// Sends what is due at this moment, and answers by 5.04 those whose forwarded message was given up, or went out, or left the queue
-    /// without going out, 247 seconds ago. Without memory an `AllocError`; then nothing has changed.
+    /// without going out, 247 seconds ago. Where nothing is due no memory is taken; without memory an `AllocError`, and then nothing
+    /// has changed.
     pub fn on_tick(&mut self, alloc: Global, now: Moment, draw: &Draw) -> Result<Step, AllocError>
         ensures ticked { IfOk result (λ step. Ticks self.old now draw.now step self.new) }
         ensures few { IfOk result (λ step. length step.out ≤ length self.old.endpoint.sending + count self.old.exchanges) }
-        ensures nothing_sealed { IfOk result (λ step. step.notes ≡ quiet) }
         ensures ends { EachHasAnEnd self.new.exchanges self.new.endpoint }
+        ensures own_tokens { HasOwnTokens self.new.exchanges }
+        ensures err { OnErr result (self.new ≡ self.old) }
+        ensures needs_memory { OnErr result (acts now self.old ≡ true) }
+    {
+        let step = self.tick(alloc, now, draw);
+        // For the proof alone: the call tells what always holds of a proxy.
+        let _open = self.open_exchanges();
+        step
+    }
+
+    /// The first moment at which a tick sends, gives up or ends anything, in ms, or none where no tick would.
+    ///
+    /// The work grows with the square of the number of open messages.
+    pub fn next_deadline(&self) -> Option<u64>
+        ensures some { IfSome result (λ deadline. (now : AnyMoment) → (acts now self.now ≡ true) ↔ (deadline ≤ now.ms)) }
+        ensures none { IfNone result ((now : AnyMoment) → acts now self.now ≡ false) }
+    {
+        self.deadline()
+    }
+
+    /// The same, by what is reached at each moment.
+    fn deadline(&self) -> Option<u64>
+        ensures { (now : AnyMoment) → is_reached now result ≡ acts now self.now }
+    {
+        first_of(
+            messages_deadline(&self.endpoint),
+            self.exchanges.first_end(),
+        )
+    }
+
+    /// Whether a tick sends, gives up or ends anything at this moment.
+    fn is_due(&self, now: Moment) -> bool
+        ensures { result ≡ acts now self.now }
+    {
+        self.deadline().is_some_and(|first| first <= now.ms)
+    }
+
+    /// What is due at this moment, or nothing.
+    fn tick(&mut self, alloc: Global, now: Moment, draw: &Draw) -> Result<Step, AllocError>
+        ensures ticked { IfOk result (λ step. Ticks self.old now draw.now step self.new) }
+        ensures few { IfOk result (λ step. length step.out ≤ length self.old.endpoint.sending + count self.old.exchanges) }
+        ensures err { OnErr result (self.new ≡ self.old) }
+        ensures needs_memory { OnErr result (acts now self.old ≡ true) }
+    {
+        if self.is_due(now) {
+            self.act(alloc, now, draw)
+        } else {
+            Ok(self.rest(alloc, now, draw))
+        }
+    }
+
+    /// A tick at which nothing is due: notes whose lifetime has ended go. Takes no memory.
+    fn rest(&mut self, alloc: Global, now: Moment, draw: &Draw) -> Step
+        requires { acts now self.old ≡ false }
+        ensures ticked { Ticks self.old now draw.now result self.new }
+        ensures few { length result.out ≤ length self.old.endpoint.sending + count self.old.exchanges }
+    {
+        let _ = draw;
+        rest(&self.exchanges, &mut self.endpoint, alloc, now)
+    }
+
+    /// A tick at which something is due.
+    fn act(&mut self, alloc: Global, now: Moment, draw: &Draw) -> Result<Step, AllocError>
+        ensures ticked { IfOk result (λ step. Ticks self.old now draw.now step self.new) }
+        ensures few { IfOk result (λ step. length step.out ≤ length self.old.endpoint.sending + count self.old.exchanges) }
         ensures err { OnErr result (self.new ≡ self.old) }
     {
         ticks_send_few();

@@ -1,11 +1,14 @@
 //! What comes due at a proxy.
-ghost use Rattle.std.specs.Prelude.{◌≡◌, ◌≤◌, ◌<◌, ◌+◌, ◌++◌, [], IfOk, List, length};
+ghost use Rattle.std.specs.Prelude.{◌≡◌, ◌≤◌, ◌<◌, ◌+◌, ◌++◌, [], false, IfOk, List, length};
 ghost use Rattle.osc_model.specs.Step.{sends};
+ghost use Rattle.osc_model.specs.declared.node.Draw.{Draw as AnyDraw};
 ghost use Rattle.osc_model.specs.declared.step.Datagram.{Datagram as AnyDatagram};
+ghost use Rattle.osc_message.specs.Endpoint.{after_tick};
+ghost use Rattle.osc_message.specs.Ticks.{acts as messages_act, tick_gives_up, tick_sends, tick_starts};
 ghost use Rattle.osc_proxy.specs.Bounds.{IsOpen};
 ghost use Rattle.osc_proxy.specs.Exchanges.{Table, count, first_key, is_named};
 ghost use Rattle.osc_proxy.specs.Table.{Closes, back_kept, back_sends};
-ghost use Rattle.osc_proxy.specs.Ticks.{AllEnd, AllStart, Starts, timeout};
+ghost use Rattle.osc_proxy.specs.Ticks.{AllEnd, AllStart, Starts, any_overdue, timeout};
 ghost use Rattle.osc_proxy.specs.declared.exchanges.Exchange.{Exchange as AnyExchange};
 
 use crate::answering::failing;
@@ -95,6 +98,25 @@ pub(crate) fn room_for(alloc: Global, repeats: usize, answers: usize) -> Result<
 {
     let places = repeats.checked_add(answers).ok_or(AllocError)?;
     Outbox::new(alloc, places)
+}
+
+/// What is done where nothing is due: notes whose lifetime has ended go. Takes no memory.
+pub(crate) fn rest(
+    exchanges: &Exchanges,
+    endpoint: &mut Endpoint,
+    alloc: Global,
+    now: Moment,
+) -> Step
+    requires messages { messages_act now endpoint.old.sending ≡ false }
+    requires exchanges { any_overdue now exchanges.now ≡ false }
+    ensures step { result ≡ sends [] }
+    ensures kept { endpoint.new ≡ after_tick now endpoint.old }
+    ensures ends { (draw : AnyDraw) → AllEnd now draw (tick_gives_up now endpoint.old.sending) exchanges.now endpoint.new [] exchanges.now endpoint.new }
+    ensures starts { AllStart now (tick_starts now endpoint.old.sending) exchanges.now exchanges.now }
+    ensures sent { tick_sends now endpoint.old.sending ≡ [] }
+{
+    let _ = exchanges;
+    Step::sending(endpoint.on_tick(alloc, now).unwrap().out)
 }
 
 /// What is done once the message layer ticked; takes no memory.

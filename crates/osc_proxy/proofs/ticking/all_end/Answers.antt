@@ -49,7 +49,7 @@ loop-preserved c =
 pub returns : goal.returns
 returns c =
     let here = c.loop in
-    let none = none_is_there (is_over c.args.now c.args.given_up.now) here.exchanges (omega (arith, here.invariant.count, c.loop-test.false, c.count-end.ensures)) in (
+    let none = none_is_there (is_over c.args.now c.args.given_up.now) here.exchanges (omega (arith, here.invariant.count, c.loop-test.false, c.count-end.ensures.value)) in (
       here.invariant.so_far,
       here.invariant.sent,
       subst (λ out. AllEnd c.args.now c.args.draw.now c.args.given_up.now c.args.exchanges.now c.args.endpoint.now out here.exchanges here.endpoint)

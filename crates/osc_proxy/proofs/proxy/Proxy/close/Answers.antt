@@ -42,6 +42,7 @@ returns c =
         was = asked.is;
         closed = subst (λ (s : State). Changes s.exchanges c.close.new.self key None) view c.close.ensures.closed;
         fewer = fewer ∙ ap (λ (s : State). count s.exchanges) view;
+        next = subst (λ r. OnSome r (c.close.new.self.next ≡ key)) (c.close.ensures.value ∙ here) c.close.ensures.next;
       };
       others = c.leave.ensures
           ∙ ap (all_left now from c.args.named)

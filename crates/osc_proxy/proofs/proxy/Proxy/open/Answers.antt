@@ -1,10 +1,11 @@
-use Rattle.std.proofs.Common.{◌≡◌, ◌+◌, ◌++◌, refl, sym, ap, ◌∙◌, subst, Some, true, false}
+use Rattle.std.proofs.Common.{◌≡◌, ◌+◌, ◌∷◌, ◌++◌, drop, refl, sym, ap, ◌∙◌, subst, Some, true, false}
 use Rattle.std.proofs.lemmas.Option.{same_Some}
 use Rattle.osc_coap.specs.Message.{spelling}
 use Rattle.osc_message.specs.Endpoint.{EndpointState, own_id, settled}
 use Rattle.osc_message.specs.Sending.{acknowledgement, is_confirmable, sent_to}
 use Rattle.osc_message.specs.declared.handling.Handling.TheVariants as handling
 use Rattle.osc_message.specs.declared.heard.Heard.TheVariants as heard
+use Rattle.osc_model.specs.Draw.{token_drawn}
 use Rattle.osc_model.specs.Step.{sends}
 use Rattle.osc_proxy.specs.Ends.{has_end}
 use Rattle.osc_proxy.specs.Exchanges.{Changes, count, get}
@@ -94,3 +95,14 @@ invariant_of-self c =
     each_at c.open.new.self c.open.new.self c.send_own-goes.new.endpoint made refl c.send_own-goes.ensures.made
     (each_changed inside.exchanges c.open.new.self inside.exchanges.next (Some exchange) made.sending c.open.ensures.opened
     (λ other at. subst (λ (e : Exchange). has_end made.sending e ≡ true) (same_Some exchange other at) has) others)
+
+-- its token begins with its key
+pub open-requires-clause-own_token : goal.open-requires-clause-own_token
+open-requires-clause-own_token c =
+    let draw = c.args.draw.now in
+    let rest = drop 1 (token_drawn draw) in
+    let next : c.self.inside.exchanges.next ≡ c.args.key =
+    ap (λ (s : State). s.exchanges.next) c.self.view_is ∙ next_is c.args.self.now c.args.message c.args.own.to c.args.key c.requires.key in
+    let token : c.gone_out.result.token ≡ c.args.key ∷ rest =
+    ap (λ (e : Exchange). e.token) c.gone_out.ensures ∙ ap (λ (e : Exchange). e.token) c.waiting-exchange.ensures in
+    (rest, token ∙ ap (λ k. k ∷ rest) (sym next))

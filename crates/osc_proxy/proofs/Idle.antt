@@ -1,0 +1,25 @@
+-- A tick at which nothing is due does nothing.
+use Rattle.std.proofs.Common.{◌≡◌, false, not, List, [], ◌∷◌, refl, ap, ◌∙◌, Option, None}
+use Rattle.std.specs.List.{filter_map, cons_option, list_any}
+use Rattle.osc_model.specs.declared.node.Moment.{Moment}
+use Rattle.osc_message.specs.declared.due.Due.{Due}
+use Rattle.osc_message.specs.declared.due.Due.TheVariants.{Keep, Send, GiveUp}
+use Rattle.osc_message.specs.Confirmables.{Open}
+use Rattle.osc_message.specs.Ticks.{dues_of, datagram_of, started_of, given_up_of, tick_sends, tick_starts, tick_gives_up, is_kept, acts}
+
+-- what comes of messages that are kept, where nothing comes of one
+none_of : {X : Type 0} (f : Open × Due → Option X) → ((message : Open) → f (message, Keep) ≡ None) → (pairs : List (Open × Due))
+    → list_any (λ pair. not (is_kept pair.1)) pairs ≡ false → filter_map f pairs ≡ []
+none_of f none [] idle = refl
+none_of f none ((message, Keep) ∷ pairs) idle = ap (λ o. cons_option o (filter_map f pairs)) (none message) ∙ none_of f none pairs idle
+none_of f none ((message, Send) ∷ pairs) idle = absurd (cc)
+none_of f none ((message, GiveUp) ∷ pairs) idle = absurd (cc)
+
+pub idle_sends : (now : Moment) (all : List Open) → acts now all ≡ false → tick_sends now all ≡ []
+idle_sends now all idle = none_of datagram_of (λ message. refl) (dues_of now all) idle
+
+pub idle_starts : (now : Moment) (all : List Open) → acts now all ≡ false → tick_starts now all ≡ []
+idle_starts now all idle = none_of started_of (λ message. refl) (dues_of now all) idle
+
+pub idle_gives_up : (now : Moment) (all : List Open) → acts now all ≡ false → tick_gives_up now all ≡ []
+idle_gives_up now all idle = none_of given_up_of (λ message. refl) (dues_of now all) idle
