@@ -9,4 +9,5 @@ mod Ending
 mod Ends
 mod Marks
 mod Idle
+mod Fits
 mod Steps

@@ -4,8 +4,9 @@ use Rattle.osc_model.specs.declared.node.Draw.{Draw}
 use Rattle.osc_model.specs.declared.node.Moment.{Moment}
 use Rattle.osc_model.specs.declared.node.Peer.{Peer}
 use Rattle.osc_model.specs.declared.step.Datagram.{Datagram}
-use Rattle.osc_coap.specs.Message.{Message, spelling}
+use Rattle.osc_coap.specs.Message.{HasSpelling, Message, spelling}
 use Rattle.osc_message.specs.Endpoint.{EndpointState}
+use Rattle.osc_message.specs.Sending.{FitsDatagram}
 use Rattle.osc_proxy.specs.Exchanges.{get}
 use Rattle.osc_proxy.specs.Own.{goes_now, has_room, sends_own, with_own}
 use Rattle.osc_proxy.specs.State.{State}
@@ -19,6 +20,8 @@ pub record IsOwn (to : Peer) (confirmable : Bool) (bytes : List ℕ) (own : Own)
   pub kind : own.confirmable ≡ confirmable
   pub sent : own.sent ≡ bytes
   pub kept : confirmable ≡ true → own.kept ≡ bytes
+  pub short : FitsDatagram bytes
+  pub kept_short : FitsDatagram own.kept
 
 -- the exchange of this key can be closed by this response: its forwarded message has this ID, and this is the answer that goes back
 pub record CanClose (old : State) (draw : Draw) (message : Message) (key id : ℕ) (own : Own) : Type 0 where
@@ -26,6 +29,7 @@ pub record CanClose (old : State) (draw : Draw) (message : Message) (key id : �
   pub is : get old.exchanges key ≡ Some exchange
   pub named : id ≡ exchange.id
   pub answer : IsOwn exchange.client exchange.confirmable (spelling (answer_to (next_own old draw) exchange message)) own
+  pub lawful : HasSpelling (answer_to (next_own old draw) exchange message)
 
 abbrev pub back_sends_by : Bool → EndpointState → Peer → List ℕ → List Datagram
 back_sends_by confirmable endpoint to bytes =

@@ -10,7 +10,7 @@ use Rattle.osc_model.specs.declared.step.Datagram.{Datagram}
 use Rattle.osc_model.specs.declared.step.Step.{Step}
 use Rattle.osc_coap.specs.Building.{bare}
 use Rattle.osc_coap.specs.Length.{datagram_limit}
-use Rattle.osc_coap.specs.Message.{Message, spelling}
+use Rattle.osc_coap.specs.Message.{HasSpelling, Message, spelling}
 use Rattle.osc_coap.specs.declared.kind.Kind.TheVariants.{Reset as ResetKind}
 use Rattle.osc_message.specs.Endpoint.{EndpointState, own_id, settled}
 use Rattle.osc_message.specs.Heard.{noted_reply}
@@ -26,6 +26,8 @@ use Rattle.osc_proxy.specs.declared.case.Case.{Case}
 use Rattle.osc_proxy.specs.declared.case.Case.TheVariants.{Ignored, Reset, Repeated, Empty, Ended, Refused, Forwarded, Rejected, Dropped, Counted}
 use Rattle.osc_proxy.specs.declared.exchanges.Exchange.{Exchange}
 
+-- Each message here has a spelling, by which it is read again as that very message (section 3).
+
 -- ---- a request isn't forwarded
 
 -- the answer that says why: in the acknowledgement, or in a non-confirmable message of the proxy's own
@@ -33,6 +35,7 @@ abbrev pub refusal : State → Draw → Message → Code → Message
 refusal old draw message code = reply_start draw old.endpoint.next_id message code.0
 
 pub record IsRefused (why : Code) (old : State) (now : Moment) (from : Peer) (draw : Draw) (message : Message) (step : Step) (new : State) : Type 0 where
+  pub lawful : HasSpelling (refusal old draw message why)
   pub told : step ≡ sends (datagram from (refusal old draw message why) ∷ [])
   pub kept : new
       ≡ record old {
@@ -78,6 +81,7 @@ exchange_of key id now from draw message to goes = record {
 pub record IsForwarded (key : ℕ) (old : State) (now : Moment) (from : Peer) (draw : Draw) (message : Message) (to : Peer) (step : Step) (new : State) : Type 0 where
   pub goes : Bool
   pub goes_is : goes ≡ goes_now (is_confirmable message.kind) to (taken_up old now from message)
+  pub lawful : HasSpelling (forwarded_by old draw key message)
   pub told : step ≡ sends (sent_to from (acknowledgement message) ++ sends_own goes to (spelling (forwarded_by old draw key message)))
   pub targets : new.targets ≡ old.targets
   pub endpoint : new.endpoint
@@ -144,6 +148,7 @@ pub record Counts (key : ℕ) (old : State) (now : Moment) (from : Peer) (draw :
   pub closed : Table
   pub closes : Closes key exchange old.exchanges closed
   pub others : new.exchanges ≡ left_counted now from message exchange closed
+  pub lawful : HasSpelling (answer_to (next_own old draw) exchange message)
   pub told : step
       ≡ sends (sent_to from (acknowledgement message)
       ++ back_sends (counted old now from message exchange) exchange (answer_to (next_own old draw) exchange message))
@@ -161,6 +166,7 @@ pub record Ends (key id : ℕ) (old : State) (now : Moment) (from : Peer) (draw 
   pub closed : Table
   pub closes : Closes key exchange old.exchanges closed
   pub others : new.exchanges ≡ all_left now from id closed
+  pub lawful : HasSpelling (failure (code 5 2) (next_own old draw) exchange)
   pub told : step ≡ sends (back_sends (named old now from id) exchange (failure (code 5 2) (next_own old draw) exchange))
   pub targets : new.targets ≡ old.targets
   pub endpoint : new.endpoint ≡ back_kept (named old now from id) now draw exchange (failure (code 5 2) (next_own old draw) exchange)

@@ -10,6 +10,7 @@ use Rattle.osc_model.specs.declared.step.Datagram.{Datagram}
 use Rattle.osc_model.specs.declared.step.Step.{Step}
 use Rattle.osc_coap.specs.Message.{Message}
 use Rattle.osc_message.specs.Endpoint.{EndpointState, after_tick, own_id}
+use Rattle.osc_message.specs.Sending.{AreSendable}
 use Rattle.osc_message.specs.Ticks.{acts as messages_act, tick_gives_up, tick_sends, tick_starts}
 use Rattle.osc_message.specs.declared.name.MessageName.{MessageName}
 use Rattle.osc_proxy.specs.Exchanges.{Changes, Table, count, entries, first_key, get, gone_out, is_named, is_overdue}
@@ -53,7 +54,7 @@ pub data AllEnd (now : Moment) (draw : Draw) (given_up : List MessageName) : Tab
       → AllEnd now draw given_up next (back_kept endpoint now draw exchange (timeout endpoint draw exchange)) later last last_endpoint
       → AllEnd now draw given_up table endpoint (back_sends endpoint exchange (timeout endpoint draw exchange) ++ later) last last_endpoint
 
--- What is due goes out, and then the answers that say that none came; nothing is sealed or opened.
+-- What is due goes out, and then the answers that say that none came, each in at most 1,152 bytes; nothing is sealed or opened.
 pub record Ticks (old : State) (now : Moment) (draw : Draw) (step : Step) (new : State) : Type 0 where
   pub started : Table
   pub starts : AllStart now (tick_starts now old.endpoint.sending) old.exchanges started
@@ -62,6 +63,7 @@ pub record Ticks (old : State) (now : Moment) (draw : Draw) (step : Step) (new :
   pub told : step ≡ sends (tick_sends now old.endpoint.sending ++ out)
   pub targets : new.targets ≡ old.targets
   pub silent : step.notes ≡ quiet
+  pub fits : AreSendable step.out
 
 -- ---- whether a tick sends, gives up or ends anything
 

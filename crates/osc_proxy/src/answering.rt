@@ -1,7 +1,7 @@
 //! The answers that go back to a proxy's clients (RFC 7252 section 5.7.1).
 ghost use Rattle.std.specs.Prelude.{◌≡◌, ◌≤◌, ◌<◌, length, true};
 ghost use Rattle.osc_coap.specs.Length.{datagram_limit};
-ghost use Rattle.osc_coap.specs.Message.{spelling};
+ghost use Rattle.osc_coap.specs.Message.{HasSpelling, spelling};
 ghost use Rattle.osc_proxy.specs.Exchanges.{answers};
 ghost use Rattle.osc_proxy.specs.Forwarding.{answer};
 ghost use Rattle.osc_proxy.specs.Going.{IsOwn};
@@ -64,7 +64,8 @@ pub(crate) fn answer_back(
 /// The answer of an exchange that got none, in the room that was taken for it.
 pub(crate) fn failing(exchange: Exchange, id: u16, why: Code) -> Own
     requires { 0 < why.0 }
-    ensures { IsOwn exchange.client exchange.confirmable (spelling (failure_of why id exchange)) result }
+    ensures own { IsOwn exchange.client exchange.confirmable (spelling (failure_of why id exchange)) result }
+    ensures lawful { HasSpelling (failure_of why id exchange) }
 {
     length_of_growing();
     let Exchange {

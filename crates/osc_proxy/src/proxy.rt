@@ -1,12 +1,12 @@
 //! The proxy.
 ghost use Rattle.std.specs.Prelude.{◌≡◌, ◌≤◌, ◌<◌, ◌+◌, ◌↔◌, [], length, true, false, Some, IfOk, OnErr, IfSome, IfNone, IsSome, option_map};
-ghost use Rattle.osc_coap.specs.Message.{spelling};
+ghost use Rattle.osc_coap.specs.Message.{HasSpelling, spelling};
 ghost use Rattle.osc_model.specs.Step.{sends};
 ghost use Rattle.osc_model.specs.declared.node.Moment.{Moment as AnyMoment};
 ghost use Rattle.osc_message.specs.Bounds.{is_reached};
 ghost use Rattle.osc_message.specs.Endpoint.{fresh, settled};
 ghost use Rattle.osc_message.specs.Heard.{noted_reply as noted_reply_of};
-ghost use Rattle.osc_message.specs.Sending.{acknowledgement as acknowledgement_of, is_confirmable as is_confirmable_of, again, sent_to};
+ghost use Rattle.osc_message.specs.Sending.{AreSendable, IsSendableReply, acknowledgement as acknowledgement_of, is_confirmable as is_confirmable_of, again, sent_to};
 ghost use Rattle.osc_message.specs.declared.handling.Handling.TheVariants as handling;
 ghost use Rattle.osc_message.specs.declared.heard.Heard.TheVariants as heard;
 ghost use Rattle.osc_proxy.specs.Bounds.{AsksFor, CanCount, IsOpen, names_one};
@@ -29,7 +29,7 @@ use crate::sending::{Own, acknowledged, has_room, send_back, send_own};
 use crate::targets::Targets;
 use crate::ticking::{finish, rest, room_for};
 use osc_coap::{Kind, MessageBuilder, MessageRef};
-use osc_message::laws::ticks_send_few;
+use osc_message::laws::{ticks_send_few, what_nodes_send};
 use osc_message::{
     Endpoint, Handling, Heard, Outbox, is_confirmable, noted, reset, sending_bytes, sending_message,
 };
@@ -136,6 +136,7 @@ impl Proxy {
     ) -> Result<Step, AllocError>
         requires { AsksFor self.old.exchanges from case }
         ensures answered { IfOk result (λ step. Answers self.old now from draw.now case.entry step self.new) }
+        ensures fits { IfOk result (λ step. AreSendable step.out) }
         ensures err { OnErr result (self.new ≡ self.old) }
         ensures needs_memory { OnErr result (IsAnswered self.old.endpoint now from case.entry) }
     {
@@ -156,6 +157,7 @@ impl Proxy {
     /// Sends again what answered the message of this ID, if anything did.
     fn repeat(&self, alloc: Global, now: Moment, from: Peer, id: u16) -> Result<Step, AllocError>
         ensures sent { IfOk result (λ step. step ≡ sends (again from (noted_reply_of self.now.endpoint.seen now from id))) }
+        ensures fits { IfOk result (λ step. AreSendable step.out) }
         ensures needs_memory { OnErr result (IsSome (noted_reply_of self.now.endpoint.seen now from id)) }
     {
         match self.endpoint.noted_reply(now, from, id) {
@@ -201,6 +203,7 @@ impl Proxy {
         requires why { 0 < why.0 }
         requires kind { names_one message.kind ≡ false }
         ensures refused { IfOk result (λ step. IsRefused why self.old now from draw.now message.entry step self.new) }
+        ensures fits { IfOk result (λ step. AreSendable step.out) }
         ensures err { OnErr result (self.new ≡ self.old) }
     {
         let reply = self.endpoint.reply_start(draw, &message, why.0);
@@ -239,6 +242,7 @@ impl Proxy {
         requires code { 0 < message.code }
         requires kind { names_one message.kind ≡ false }
         ensures forwarded { IfOk result (λ step. ForwardsBy (key_for_of self.old message.entry to) self.old now from draw.now message.entry to step self.new) }
+        ensures fits { IfOk result (λ step. AreSendable step.out) }
         ensures err { OnErr result (self.new ≡ self.old) }
     {
         let Some(key) = self.key_for(&message, to) else {
@@ -278,6 +282,7 @@ impl Proxy {
         requires kind { names_one message.kind ≡ false }
         requires forwarded { forwarded.now ≡ forwarded_by self.old draw.now key message }
         ensures forwarded { IfOk result (λ step. IsForwarded key self.old now from draw.now message.entry to step self.new) }
+        ensures fits { IfOk result (λ step. AreSendable step.out) }
         ensures err { OnErr result (self.new ≡ self.old) }
     {
         let room = FailureRoom::new(alloc)?;
@@ -305,8 +310,12 @@ impl Proxy {
         requires sent { out.sent ≡ sent_to from (acknowledgement_of message) }
         requires place { 0 < out.places }
         requires reply { reply ≡ option_map spelling (acknowledgement_of message) }
-        ensures { IsForwarded key self.old now from draw.now message.entry own.to result self.new }
+        requires short { IsSendableReply reply }
+        requires lawful { HasSpelling (forwarded_by self.old draw.now key message) }
+        ensures forwarded { IsForwarded key self.old now from draw.now message.entry own.to result self.new }
+        ensures fits { AreSendable result.out }
     {
+        what_nodes_send();
         let mut out = out;
         let id = self.endpoint.own_id(draw);
         let exchange = waiting(key, id, now, from, draw, &message, own.to, room);
@@ -333,6 +342,7 @@ impl Proxy {
     ) -> Result<Step, AllocError>
         requires { CanCount self.old.exchanges from message key }
         ensures counted { IfOk result (λ step. Counts key self.old now from draw.now message.entry step self.new) }
+        ensures fits { IfOk result (λ step. AreSendable step.out) }
         ensures err { OnErr result (self.new ≡ self.old) }
     {
         let exchange = self.exchanges.get(key).unwrap();
@@ -360,8 +370,11 @@ impl Proxy {
         requires sent { out.sent ≡ sent_to from (acknowledgement_of message) }
         requires place { 0 < out.places }
         requires reply { reply ≡ option_map spelling (acknowledgement_of message) }
-        ensures { Counts key self.old now from draw.now message.entry result self.new }
+        requires short { IsSendableReply reply }
+        ensures counted { Counts key self.old now from draw.now message.entry result self.new }
+        ensures fits { AreSendable result.out }
     {
+        what_nodes_send();
         let mut out = out;
         let kind = message.kind();
         let id = message.id();
@@ -390,6 +403,7 @@ impl Proxy {
     ) -> Result<Step, AllocError>
         requires { IsOpen self.old.exchanges key }
         ensures ended { IfOk result (λ step. Ends key id self.old now from draw.now step self.new) }
+        ensures fits { IfOk result (λ step. AreSendable step.out) }
         ensures err { OnErr result (self.new ≡ self.old) }
     {
         let mut out = Outbox::new(alloc, 1)?;

@@ -1,7 +1,7 @@
 //! What a proxy sends.
 ghost use Rattle.std.specs.Prelude.{◌≡◌, ◌<◌, ◌≤◌, ◌+◌, ◌++◌, true, IfOk, option_map};
-ghost use Rattle.osc_coap.specs.Message.{spelling};
-ghost use Rattle.osc_message.specs.Sending.{acknowledgement as acknowledgement_of, sent_to};
+ghost use Rattle.osc_coap.specs.Message.{HasSpelling, spelling};
+ghost use Rattle.osc_message.specs.Sending.{FitsDatagram, IsSendableReply, acknowledgement as acknowledgement_of, sent_to};
 ghost use Rattle.osc_proxy.specs.Own.{goes_now, has_room, sends_own, with_own};
 ghost use Rattle.osc_proxy.specs.Going.{IsOwn, back_kept_by, back_sends_by};
 
@@ -19,6 +19,7 @@ pub(crate) fn acknowledged(
     ensures sent { IfOk result (λ made. made.0.sent ≡ sent_to to (acknowledgement_of message.now)) }
     ensures place { IfOk result (λ made. 0 < made.0.places) }
     ensures noted { IfOk result (λ made. made.1 ≡ option_map spelling (acknowledgement_of message.now)) }
+    ensures short { IfOk result (λ made. IsSendableReply made.1) }
 {
     let mut out = Outbox::new(alloc, 2)?;
     match acknowledgement(message) {
@@ -49,7 +50,8 @@ impl Own {
         confirmable: bool,
         message: &MessageBuilder,
     ) -> Result<Own, AllocError>
-        ensures { IfOk result (λ own. IsOwn to confirmable (spelling message.now) own) }
+        ensures own { IfOk result (λ own. IsOwn to confirmable (spelling message.now) own) }
+        ensures lawful { IfOk result (λ _. HasSpelling message.now) }
     {
         let sent = Bytes::from_slice(alloc, message.bytes())?;
         let kept = if confirmable {
@@ -83,6 +85,7 @@ pub(crate) fn send_own(
 ) -> bool
     requires place { 0 < out.old.places }
     requires room { has_room own.confirmable own.to endpoint.old ≡ true }
+    requires short { FitsDatagram own.kept }
     ensures goes { result ≡ goes_now own.confirmable own.to endpoint.old }
     ensures made { endpoint.new ≡ with_own own.confirmable endpoint.old now draw.now own.to own.kept }
     ensures sent { out.new.sent ≡ out.old.sent ++ sends_own (goes_now own.confirmable own.to endpoint.old) own.to own.sent }
@@ -114,7 +117,8 @@ pub(crate) fn send_back(
     draw: &Draw,
     own: Own,
 )
-    requires { 0 < out.old.places }
+    requires place { 0 < out.old.places }
+    requires short { FitsDatagram own.kept }
     ensures made { endpoint.new ≡ back_kept_by own.confirmable endpoint.old now draw.now own.to own.kept }
     ensures sent { out.new.sent ≡ out.old.sent ++ back_sends_by own.confirmable endpoint.old own.to own.sent }
     ensures places { out.old.places ≤ out.new.places + 1 }

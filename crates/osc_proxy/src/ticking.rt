@@ -3,7 +3,9 @@ ghost use Rattle.std.specs.Prelude.{◌≡◌, ◌≤◌, ◌<◌, ◌+◌, ◌+
 ghost use Rattle.osc_model.specs.Step.{sends};
 ghost use Rattle.osc_model.specs.declared.node.Draw.{Draw as AnyDraw};
 ghost use Rattle.osc_model.specs.declared.step.Datagram.{Datagram as AnyDatagram};
+ghost use Rattle.osc_coap.specs.Message.{spelling};
 ghost use Rattle.osc_message.specs.Endpoint.{after_tick};
+ghost use Rattle.osc_message.specs.Sending.{AreSendable, FitsDatagram};
 ghost use Rattle.osc_message.specs.Ticks.{acts as messages_act, tick_gives_up, tick_sends, tick_starts};
 ghost use Rattle.osc_proxy.specs.Bounds.{IsOpen};
 ghost use Rattle.osc_proxy.specs.Exchanges.{Table, count, first_key, is_named};
@@ -62,7 +64,8 @@ fn end(
     requires place { 0 < out.old.places }
     ensures ended { (exchange : AnyExchange) × Closes key exchange exchanges.old exchanges.new
         × (out.new.sent ≡ out.old.sent ++ back_sends endpoint.old exchange (timeout endpoint.old draw.now exchange))
-        × (endpoint.new ≡ back_kept endpoint.old now draw.now exchange (timeout endpoint.old draw.now exchange)) }
+        × (endpoint.new ≡ back_kept endpoint.old now draw.now exchange (timeout endpoint.old draw.now exchange))
+        × FitsDatagram (spelling (timeout endpoint.old draw.now exchange)) }
     ensures count { count exchanges.new + 1 ≡ count exchanges.old }
     ensures places { out.old.places ≤ out.new.places + 1 }
 {
@@ -82,7 +85,7 @@ pub(crate) fn all_end(
 )
     requires { count exchanges.old ≤ out.old.places }
     ensures { (later : List AnyDatagram) × (out.new.sent ≡ out.old.sent ++ later)
-        × AllEnd now draw.now given_up.now exchanges.old endpoint.old later exchanges.new endpoint.new }
+        × AllEnd now draw.now given_up.now exchanges.old endpoint.old later exchanges.new endpoint.new × AreSendable later }
 {
     for _ in 0..exchanges.count() {
         let Some(key) = exchanges.find_over(now, given_up) else {
@@ -132,7 +135,7 @@ pub(crate) fn finish(
     requires places { length ticked.out + count exchanges.old ≤ out.places }
     ensures { (started : Table) × AllStart now ticked.started exchanges.old started
         × ((later : List AnyDatagram) × AllEnd now draw.now ticked.given_up started endpoint.old later exchanges.new endpoint.new
-        × (result ≡ sends (ticked.out ++ later))) }
+        × (result ≡ sends (ticked.out ++ later)) × AreSendable later) }
 {
     let mut out = out;
     let Ticked {

@@ -3,6 +3,8 @@ use Rattle.osc_proxy.specs.Exchanges.{first_key}
 use Rattle.osc_proxy.specs.Table.{back_sends}
 use Rattle.osc_proxy.specs.Ticks.{AllEnd, is_over, timeout}
 use Rattle.osc_proxy.specs.Ticks.AllEnd.{none_is, one_is}
+use Rattle.osc_coap.specs.Message.{spelling}
+use Rattle.osc_proxy.proofs.Fits.{sendable_back, sendable_both}
 use Rattle.osc_proxy.proofs.Keys.{first_is_there, none_is_there}
 use Rattle.osc_proxy.proofs.ticking.all_end.Goals as goal
 
@@ -15,6 +17,7 @@ returns-in_default c =
       subst (λ out. AllEnd c.args.now c.args.draw.now c.args.given_up.now c.args.exchanges.now c.args.endpoint.now out here.exchanges here.endpoint)
           (append-nil here.invariant.so_far)
           (here.invariant.ends [] here.exchanges here.endpoint (none_is here.exchanges here.endpoint none)),
+      here.invariant.fits,
     )
 
 pub end-requires-clause-open : goal.end-requires-clause-open
@@ -30,6 +33,7 @@ loop-preserved c =
     let closes = c.end.ensures.ended.1 in
     let sent = c.end.ensures.ended.2 in
     let after = c.end.ensures.ended.3 in
+    let short = c.end.ensures.ended.4 in
     let now = c.args.now in
     let draw = c.args.draw.now in
     let names = c.args.given_up.now in
@@ -37,6 +41,8 @@ loop-preserved c =
     record {
       so_far = kept.so_far ++ out;
       sent = sent ∙ ap (λ xs. xs ++ out) kept.sent ∙ append_assoc c.args.out.now.sent kept.so_far out;
+      fits = sendable_both kept.so_far out kept.fits
+          (sendable_back exchange.confirmable here.endpoint exchange.client (spelling (timeout here.endpoint draw exchange)) short);
       ends = λ later last endpoint more.
           subst (λ xs. AllEnd now draw names c.args.exchanges.now c.args.endpoint.now xs last endpoint) (sym (append_assoc kept.so_far out later))
           (kept.ends (out ++ later) last endpoint
@@ -55,4 +61,5 @@ returns c =
       subst (λ out. AllEnd c.args.now c.args.draw.now c.args.given_up.now c.args.exchanges.now c.args.endpoint.now out here.exchanges here.endpoint)
           (append-nil here.invariant.so_far)
           (here.invariant.ends [] here.exchanges here.endpoint (none_is here.exchanges here.endpoint none)),
+      here.invariant.fits,
     )

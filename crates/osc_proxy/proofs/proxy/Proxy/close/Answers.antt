@@ -1,7 +1,7 @@
 use Rattle.std.proofs.Common.{◌≡◌, ◌+◌, ◌++◌, ap, ap₂, sym, ◌∙◌, subst, Some, None}
 use Rattle.std.specs.Prelude.{OnSome}
 use Rattle.osc_message.specs.Endpoint.{EndpointState, acknowledged_by, settled}
-use Rattle.osc_message.specs.Sending.{acknowledgement, sent_to}
+use Rattle.osc_message.specs.Sending.{AreSendable, FitsDatagram, acknowledgement, sent_to}
 use Rattle.osc_message.specs.declared.handling.Handling.TheVariants as handling
 use Rattle.osc_message.specs.declared.heard.Heard.TheVariants as heard
 use Rattle.osc_model.specs.Step.{sends}
@@ -10,11 +10,12 @@ use Rattle.osc_proxy.specs.Going.{back_sends_by}
 use Rattle.osc_proxy.specs.State.{State}
 use Rattle.osc_proxy.specs.Table.{answer_to, back_kept, back_sends, counted, next_own}
 use Rattle.osc_proxy.proofs.Ends.{Each, each_at, each_closed, each_left, each_left_by, each_more, grows_back}
+use Rattle.osc_proxy.proofs.Fits.{sendable_acknowledgement, sendable_back, sendable_both, sendable_step}
 use Rattle.osc_proxy.proofs.Goes.{back_kept_is, back_sends_is}
 use Rattle.osc_proxy.proofs.proxy.Proxy.close.Goals as goal
 
-pub returns : goal.returns
-returns c =
+pub returns-clause-counted : goal.returns-clause-counted
+returns-clause-counted c =
     let inside = c.self.inside in
     let old = c.args.self.now in
     let now = c.args.now in
@@ -48,6 +49,7 @@ returns c =
           ∙ ap (all_left now from c.args.named)
           (c.leave_by.ensures ∙ ap₂ (λ kind id. left_by now from kind id c.close.new.self) c.kind-kind.ensures c.id-id.ensures)
           ∙ ap (λ i. all_left now from i (left_by now from message.kind message.id c.close.new.self)) asked.named;
+      lawful = asked.lawful;
       told = c.sending.ensures
           ∙ ap sends
           (c.into_datagrams.ensures
@@ -79,3 +81,13 @@ invariant_of-self c =
     each_at c.leave.new.self left c.send_back.new.endpoint _ marked c.send_back.ensures.made
     (each_more left c.settle.new.self.sending _ (grows_back own.confirmable c.settle.new.self now c.args.draw.now own.to own.kept)
     (subst (λ (e : EndpointState). Each left e.sending) (sym c.settle.ensures) each))
+
+pub returns-clause-fits : goal.returns-clause-fits
+returns-clause-fits c =
+    let own = c.args.own in
+    let is = c.requires.exchange.answer in
+    let back = back_sends_by own.confirmable c.settle.new.self own.to own.sent in
+    sendable_step c.sending.result (c.args.out.sent ++ back) (c.sending.ensures ∙ ap sends (c.into_datagrams.ensures ∙ c.send_back.ensures.sent))
+    (sendable_both c.args.out.sent back
+    (subst AreSendable (sym c.requires.sent) (sendable_acknowledgement (λ id. (c.what_nodes_send.ensures.short id).1) c.args.from c.args.message))
+    (sendable_back own.confirmable c.settle.new.self own.to own.sent (subst FitsDatagram (sym is.sent) is.short)))

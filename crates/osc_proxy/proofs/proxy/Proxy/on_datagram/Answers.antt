@@ -1,4 +1,5 @@
 use Rattle.std.proofs.Common.{◌≡◌, ◌∙◌, ap, subst, Result, Ok, Err, OnErr}
+use Rattle.std.specs.Prelude.{IfOk}
 use Rattle.std.proofs.lemmas.Result.{IfOk-weaker}
 use Rattle.osc_message.specs.Heard.{heard}
 use Rattle.osc_message.specs.declared.heard.Heard.{Heard}
@@ -19,6 +20,10 @@ weaker : {T E : Type 0} (r : Result T E) (P Q : Type 0) → (P → Q) → OnErr 
 weaker (Ok x) P Q h p = tt
 weaker (Err e) P Q h p = h p
 
+both : {T E : Type 0} (r : Result T E) (P Q : T → Type 0) → IfOk r P → IfOk r Q → IfOk r (λ x. P x × Q x)
+both (Ok x) P Q p q = (p, q)
+both (Err e) P Q p q = tt
+
 -- the case is that of what came
 pub returns-clause-heard : goal.returns-clause-heard
 returns-clause-heard c =
@@ -33,16 +38,17 @@ returns-clause-heard c =
     c.case_of-case.ensures.case.2 ∙ ap (λ (h : Heard). case_of c.self.inside.targets c.self.inside.exchanges from named h) came.2
     ∙ ap (λ (s : State). case_of s.targets s.exchanges from named (heard s.endpoint.seen now from came.0)) c.self.view_is in
     IfOk-weaker c.answer-step.result _ _
-    (λ step answers.
+    (λ step told.
     record {
       received = came.0;
       receives = came.1;
       named = named;
       names = subst (λ (h : Heard). NamesIn h named) (came.2 ∙ view) c.case_of-case.ensures.case.1;
-      answers = subst (λ (x : Case). Answers old now from draw x step c.answer-step.new.self) case answers;
-      silent = (small_step old now from draw c.case_of-case.result step c.answer-step.new.self answers).nothing;
+      answers = subst (λ (x : Case). Answers old now from draw x step c.answer-step.new.self) case told.0;
+      silent = (small_step old now from draw c.case_of-case.result step c.answer-step.new.self told.0).nothing;
+      fits = told.1;
     })
-    c.answer-step.ensures.answered
+    (both c.answer-step.result _ _ c.answer-step.ensures.answered c.answer-step.ensures.fits)
 
 pub returns-clause-needs_memory : goal.returns-clause-needs_memory
 returns-clause-needs_memory c =

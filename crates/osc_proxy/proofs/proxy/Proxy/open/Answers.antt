@@ -2,7 +2,7 @@ use Rattle.std.proofs.Common.{◌≡◌, ◌+◌, ◌∷◌, ◌++◌, drop, ref
 use Rattle.std.proofs.lemmas.Option.{same_Some}
 use Rattle.osc_coap.specs.Message.{spelling}
 use Rattle.osc_message.specs.Endpoint.{EndpointState, own_id, settled}
-use Rattle.osc_message.specs.Sending.{acknowledgement, is_confirmable, sent_to}
+use Rattle.osc_message.specs.Sending.{AreSendable, FitsDatagram, acknowledgement, is_confirmable, sent_to}
 use Rattle.osc_message.specs.declared.handling.Handling.TheVariants as handling
 use Rattle.osc_message.specs.declared.heard.Heard.TheVariants as heard
 use Rattle.osc_model.specs.Draw.{token_drawn}
@@ -14,12 +14,13 @@ use Rattle.osc_proxy.specs.State.{State}
 use Rattle.osc_proxy.specs.Table.{exchange_of, forwarded_by, next_own, sent_when, taken_up}
 use Rattle.osc_proxy.specs.declared.exchanges.Exchange.{Exchange}
 use Rattle.osc_proxy.proofs.Ends.{Each, each_at, each_changed, each_more, grows_own, none_named, own_has_end}
+use Rattle.osc_proxy.proofs.Fits.{sendable_acknowledgement, sendable_both, sendable_own, sendable_step}
 use Rattle.osc_proxy.proofs.Goes.{made_is, sent_is}
 use Rattle.osc_proxy.proofs.Keys.{next_is}
 use Rattle.osc_proxy.proofs.proxy.Proxy.open.Goals as goal
 
-pub returns : goal.returns
-returns c =
+pub returns-clause-forwarded : goal.returns-clause-forwarded
+returns-clause-forwarded c =
     let inside = c.self.inside in
     let old = c.args.self.now in
     let now = c.args.now in
@@ -48,6 +49,7 @@ returns c =
     record {
       goes = went;
       goes_is = goes ∙ ap (goes_now kind to) taken;
+      lawful = c.requires.lawful;
       told = c.sending.ensures
           ∙ ap sends
           (c.into_datagrams.ensures
@@ -106,3 +108,13 @@ open-requires-clause-own_token c =
     let token : c.gone_out.result.token ≡ c.args.key ∷ rest =
     ap (λ (e : Exchange). e.token) c.gone_out.ensures ∙ ap (λ (e : Exchange). e.token) c.waiting-exchange.ensures in
     (rest, token ∙ ap (λ k. k ∷ rest) (sym next))
+
+pub returns-clause-fits : goal.returns-clause-fits
+returns-clause-fits c =
+    let own = c.args.own in
+    let goes = goes_now own.confirmable own.to c.settle.new.self in
+    sendable_step c.sending.result (c.args.out.sent ++ sends_own goes own.to own.sent)
+    (c.sending.ensures ∙ ap sends (c.into_datagrams.ensures ∙ c.send_own-goes.ensures.sent))
+    (sendable_both c.args.out.sent (sends_own goes own.to own.sent)
+    (subst AreSendable (sym c.requires.sent) (sendable_acknowledgement (λ id. (c.what_nodes_send.ensures.short id).1) c.args.from c.args.message))
+    (sendable_own goes own.to own.sent (subst FitsDatagram (sym c.requires.own.sent) c.requires.own.short)))
