@@ -9,5 +9,6 @@ mod Ending
 mod Ends
 mod Marks
 mod Idle
+mod Forwarded
 mod Fits
 mod Steps

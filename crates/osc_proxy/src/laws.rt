@@ -1,15 +1,23 @@
 //! Laws of the definitions, for the crates above. These functions do nothing: whoever calls one has its clauses for a proof.
-ghost use Rattle.std.specs.Prelude.{◌≡◌, ◌<◌, ◌+◌, ◌⊎◌, ℕ, true, false, Some, IsSomeAnd};
+ghost use Rattle.std.specs.Prelude.{◌≡◌, ◌<◌, ◌≤◌, ◌+◌, ◌⊎◌, ℕ, true, false, List, [], length, Option, Some, None, IsSomeAnd, codes};
 ghost use Rattle.osc_model.specs.declared.node.Draw.{Draw as AnyDraw};
-ghost use Rattle.osc_coap.specs.Message.{Message as AnyMessage};
+ghost use Rattle.osc_coap.specs.Message.{HasSpelling, Message as AnyMessage, NumberAndValue, spelling};
+ghost use Rattle.osc_options.specs.Recognised.{recognised};
+ghost use Rattle.osc_options.specs.Requests.{value as value_in};
+ghost use Rattle.osc_options.specs.Split.{AreInOrder, of_number};
 ghost use Rattle.osc_model.specs.declared.node.Moment.{Moment as AnyMoment};
 ghost use Rattle.osc_model.specs.declared.node.Peer.{Peer as AnyPeer};
 ghost use Rattle.osc_model.specs.declared.step.Step.{Step as AnyStep};
 ghost use Rattle.osc_proxy.specs.Ends.{EachHasAnEnd, is_open};
 ghost use Rattle.osc_proxy.specs.Exchanges.{HasOwnTokens, Table, answers, first_key, get, is_overdue, lifetime};
+ghost use Rattle.osc_proxy.specs.Forwarding.{forwarded, forwarded_options, has_proxy_uri, is_taken_out};
+ghost use Rattle.osc_proxy.specs.ProxyUri.{HostAndPort};
+ghost use Rattle.osc_proxy.specs.Route.{Names, port_in};
 ghost use Rattle.osc_proxy.specs.State.{State};
 ghost use Rattle.osc_proxy.specs.Ticks.{Ticks};
 ghost use Rattle.osc_proxy.specs.declared.exchanges.Exchange.{Exchange as AnyExchange};
+
+use osc_coap::laws::{fewer_options, length_of_spelling};
 
 /// A tick leaves no exchange that is over: of each that is left the forwarded message is open still, or the end is less than 247 seconds
 /// away.
@@ -25,4 +33,29 @@ pub fn none_is_over()
 pub fn found_by_token()
     ensures { (table : Table) (from : AnyPeer) (message : AnyMessage) (key : ℕ) (exchange : AnyExchange) → HasOwnTokens table
         → get table key ≡ Some exchange → answers from message exchange ≡ true → first_key (answers from message) table ≡ Some key }
+{}
+
+/// A forwarded message isn't longer than the request, where its token isn't.
+pub fn forwarding_adds_nothing()
+    ensures { (id : ℕ) (token : List ℕ) (message : AnyMessage) → HasSpelling message → length token ≤ length message.token
+        → length (spelling (forwarded id token message)) ≤ length (spelling message) }
+{
+    fewer_options();
+    length_of_spelling();
+}
+
+/// A forwarded message has the options that the request came with, in their order, but for those that are for the proxy.
+pub fn options_that_are_forwarded()
+    ensures stay { (options : List NumberAndValue) (number : ℕ) → is_taken_out (has_proxy_uri options) number ≡ false
+        → of_number number (forwarded_options options) ≡ of_number number options }
+    ensures go { (options : List NumberAndValue) (number : ℕ) → is_taken_out (has_proxy_uri options) number ≡ true
+        → of_number number (forwarded_options options) ≡ [] }
+    ensures order { (before : ℕ) (options : List NumberAndValue) → AreInOrder before options → AreInOrder before (forwarded_options options) }
+{}
+
+/// A request without a Proxy-Uri whose Proxy-Scheme is `coap` names the host of its Uri-Host and the port of its Uri-Port.
+pub fn named_by_options()
+    ensures { (options : List NumberAndValue) (named : Option HostAndPort) (host : List ℕ) → value_in 35 (recognised 0 options) ≡ None
+        → value_in 39 (recognised 0 options) ≡ Some (codes "coap") → value_in 3 (recognised 0 options) ≡ Some host → Names options named
+        → named ≡ Some (host, port_in (value_in 7 (recognised 0 options))) }
 {}
