@@ -35,7 +35,7 @@ one_back endpoint exchange message = sends_few (has_way_back endpoint exchange) 
 pub few_end : (now : Moment) (draw : Draw) (names : List MessageName) (table last : Table) (endpoint last_endpoint : EndpointState) (out : List Datagram)
     → AllEnd now draw names table endpoint out last last_endpoint → length out ≤ count table
 few_end now draw names table last endpoint last_endpoint out (none_is t e none) = omega arith
-few_end now draw names table last endpoint last_endpoint out (one_is t next l e le key exchange later found closes rest) =
+few_end now draw names table last endpoint last_endpoint out (one_is t next l e le key exchange later found closes lawful rest) =
     let few = few_end now draw names next last _ last_endpoint later rest in
     let one = one_back endpoint exchange (timeout endpoint draw exchange) in
     omega (arith, few, one, closes.fewer, length-append (back_sends endpoint exchange (timeout endpoint draw exchange)) later)

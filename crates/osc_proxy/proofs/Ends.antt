@@ -325,13 +325,13 @@ pub none_left : (now : Moment) (draw : Draw) (names : List MessageName) (table l
     → AllEnd now draw names table endpoint out last last_endpoint
     → (key : ℕ) (exchange : Exchange) → get last key ≡ Some exchange → is_over now names exchange ≡ false
 none_left now draw names table last endpoint last_endpoint out (none_is t e none) = none_passes (is_over now names) t none
-none_left now draw names table last endpoint last_endpoint out (one_is t next l e le key exchange later found closes rest) =
+none_left now draw names table last endpoint last_endpoint out (one_is t next l e le key exchange later found closes lawful rest) =
     none_left now draw names next l _ le later rest
 
 ends_left : (now : Moment) (draw : Draw) (names : List MessageName) (table last : Table) (endpoint last_endpoint : EndpointState) (out : List Datagram)
     → AllEnd now draw names table endpoint out last last_endpoint → EachEnds names table endpoint.sending → EachEnds names last last_endpoint.sending
 ends_left now draw names table last endpoint last_endpoint out (none_is t e none) each = each
-ends_left now draw names table last endpoint last_endpoint out (one_is t next l e le key exchange later found closes rest) each =
+ends_left now draw names table last endpoint last_endpoint out (one_is t next l e le key exchange later found closes lawful rest) each =
     ends_left now draw names next l _ le later rest
     (ends_closed names t next key e.sending (back_kept e now draw exchange (timeout e draw exchange)).sending closes.closed
     (grows_back exchange.confirmable e now draw exchange.client (spelling (timeout e draw exchange))) each)

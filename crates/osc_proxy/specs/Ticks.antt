@@ -8,7 +8,7 @@ use Rattle.osc_model.specs.declared.node.Draw.{Draw}
 use Rattle.osc_model.specs.declared.node.Moment.{Moment}
 use Rattle.osc_model.specs.declared.step.Datagram.{Datagram}
 use Rattle.osc_model.specs.declared.step.Step.{Step}
-use Rattle.osc_coap.specs.Message.{Message}
+use Rattle.osc_coap.specs.Message.{HasSpelling, Message}
 use Rattle.osc_message.specs.Endpoint.{EndpointState, after_tick, own_id}
 use Rattle.osc_message.specs.Sending.{AreSendable}
 use Rattle.osc_message.specs.Ticks.{acts as messages_act, tick_gives_up, tick_sends, tick_starts}
@@ -44,13 +44,14 @@ is_over now given_up exchange = is_given_up given_up exchange || is_overdue now 
 abbrev pub timeout : EndpointState → Draw → Exchange → Message
 timeout endpoint draw exchange = failure (code 5 4) (own_id draw endpoint.next_id) exchange
 
--- Each that is over ends by 5.04, the one of the lowest key first.
+-- Each that is over ends by 5.04, which is read again as that very message, the one of the lowest key first.
 pub data AllEnd (now : Moment) (draw : Draw) (given_up : List MessageName) : Table → EndpointState → List Datagram → Table → EndpointState → Type 0 where
   none_is : (table : Table) (endpoint : EndpointState) → first_key (is_over now given_up) table ≡ None
       → AllEnd now draw given_up table endpoint [] table endpoint
   one_is : (table next last : Table) (endpoint last_endpoint : EndpointState) (key : ℕ) (exchange : Exchange) (later : List Datagram)
       → first_key (is_over now given_up) table ≡ Some key
       → Closes key exchange table next
+      → HasSpelling (timeout endpoint draw exchange)
       → AllEnd now draw given_up next (back_kept endpoint now draw exchange (timeout endpoint draw exchange)) later last last_endpoint
       → AllEnd now draw given_up table endpoint (back_sends endpoint exchange (timeout endpoint draw exchange) ++ later) last last_endpoint
 

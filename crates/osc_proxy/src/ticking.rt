@@ -3,7 +3,7 @@ ghost use Rattle.std.specs.Prelude.{◌≡◌, ◌≤◌, ◌<◌, ◌+◌, ◌+
 ghost use Rattle.osc_model.specs.Step.{sends};
 ghost use Rattle.osc_model.specs.declared.node.Draw.{Draw as AnyDraw};
 ghost use Rattle.osc_model.specs.declared.step.Datagram.{Datagram as AnyDatagram};
-ghost use Rattle.osc_coap.specs.Message.{spelling};
+ghost use Rattle.osc_coap.specs.Message.{HasSpelling, spelling};
 ghost use Rattle.osc_message.specs.Endpoint.{after_tick};
 ghost use Rattle.osc_message.specs.Sending.{AreSendable, FitsDatagram};
 ghost use Rattle.osc_message.specs.Ticks.{acts as messages_act, tick_gives_up, tick_sends, tick_starts};
@@ -65,7 +65,7 @@ fn end(
     ensures ended { (exchange : AnyExchange) × Closes key exchange exchanges.old exchanges.new
         × (out.new.sent ≡ out.old.sent ++ back_sends endpoint.old exchange (timeout endpoint.old draw.now exchange))
         × (endpoint.new ≡ back_kept endpoint.old now draw.now exchange (timeout endpoint.old draw.now exchange))
-        × FitsDatagram (spelling (timeout endpoint.old draw.now exchange)) }
+        × FitsDatagram (spelling (timeout endpoint.old draw.now exchange)) × HasSpelling (timeout endpoint.old draw.now exchange) }
     ensures count { count exchanges.new + 1 ≡ count exchanges.old }
     ensures places { out.old.places ≤ out.new.places + 1 }
 {

@@ -2,15 +2,11 @@
 -- node's own tables give.
 use Rattle.std.specs.Prelude.{◌≡◌, ℕ, false, List, [], Option, Some, None}
 use Rattle.osc_model.specs.Step.{sends}
-use Rattle.osc_model.specs.StepNotes.{quiet}
 use Rattle.osc_model.specs.declared.node.Draw.{Draw}
 use Rattle.osc_model.specs.declared.node.Moment.{Moment}
 use Rattle.osc_model.specs.declared.node.Peer.{Peer}
 use Rattle.osc_model.specs.declared.step.Step.{Step}
 use Rattle.osc_message.specs.Endpoint.{after_tick}
-use Rattle.osc_message.specs.Heard.{heard}
-use Rattle.osc_message.specs.Received.{Receives}
-use Rattle.osc_message.specs.declared.received.Received.{Received}
 use Rattle.osc_run.specs.ClientKinds.{ClientStep}
 use Rattle.osc_run.specs.ServerKinds.{ServerStep}
 use Rattle.osc_server.specs.Hearing.{Hears as HeardByServer}
@@ -20,31 +16,17 @@ use Rattle.osc_client.specs.Hearing.{Hears as HeardByClient}
 use Rattle.osc_client.specs.Sending.{Ticks as ClientTicks}
 use Rattle.osc_client.specs.State.{State as Client, core as core_of_client}
 use Rattle.osc_client.specs.Told.{AreTold as AreToldByClient, SealsNothing}
-use Rattle.osc_proxy.specs.Case.{NamesIn, case_of as proxy_case}
-use Rattle.osc_proxy.specs.ProxyUri.{HostAndPort}
+use Rattle.osc_proxy.specs.Hearing.{Hears as HeardByProxy}
 use Rattle.osc_proxy.specs.State.{State as Proxy}
-use Rattle.osc_proxy.specs.Table.{Answers as ProxyAnswers}
 use Rattle.osc_proxy.specs.Ticks.{Ticks as ProxyTicks}
 use Rattle.osc_turn.specs.Ports.{Arrival}
 
 -- ---- a proxy
 
--- these bytes came from this peer
-pub record ProxyHears (old : Proxy) (now : Moment) (draw : Draw) (from : Peer) (bytes : List ℕ) (step : Step) (new : Proxy) : Type 0 where
-  pub received : Received
-  pub receives : Receives bytes received
-  pub named : Option HostAndPort
-  pub names : NamesIn (heard old.endpoint.seen now from received) named
-  pub answers : ProxyAnswers old now from draw (proxy_case old.targets old.exchanges from named (heard old.endpoint.seen now from received)) step new
-
-abbrev pub ProxyMakes : Proxy → Moment → Draw → Option Arrival → Step → Proxy → Type 0
-ProxyMakes old now draw None step new = ProxyTicks old now draw step new
-ProxyMakes old now draw (Some came) step new = ProxyHears old now draw came.0 came.1 step new
-
 -- it seals and opens nothing
-pub record ProxySteps (old : Proxy) (now : Moment) (draw : Draw) (came : Option Arrival) (step : Step) (new : Proxy) : Type 0 where
-  pub makes : ProxyMakes old now draw came step new
-  pub kind : step.notes ≡ quiet
+abbrev pub ProxySteps : Proxy → Moment → Draw → Option Arrival → Step → Proxy → Type 0
+ProxySteps old now draw None step new = ProxyTicks old now draw step new
+ProxySteps old now draw (Some came) step new = HeardByProxy old now draw came.0 came.1 step new
 
 -- ---- a server and a client
 

@@ -46,7 +46,7 @@ loop-preserved c =
       ends = λ later last endpoint more.
           subst (λ xs. AllEnd now draw names c.args.exchanges.now c.args.endpoint.now xs last endpoint) (sym (append_assoc kept.so_far out later))
           (kept.ends (out ++ later) last endpoint
-          (one_is here.exchanges c.end.new.exchanges last here.endpoint endpoint c.in-Some.key exchange later (sym c.find_over.ensures ∙ c.in-Some.is) closes
+          (one_is here.exchanges c.end.new.exchanges last here.endpoint endpoint c.in-Some.key exchange later (sym c.find_over.ensures ∙ c.in-Some.is) closes c.end.ensures.ended.5
           (subst (λ s. AllEnd now draw names c.end.new.exchanges s later last endpoint) after more)));
       places = omega (arith, kept.places, c.end.ensures.count, c.end.ensures.places);
       count = omega (arith, kept.count, c.end.ensures.count);
