@@ -3,14 +3,10 @@ use Rattle.std.specs.Prelude.{◌≡◌, ℕ, ◌+◌, ◌≤◌, ◌<◌, Bool,
 use Rattle.osc_model.specs.Step.{sends}
 use Rattle.osc_model.specs.declared.node.Draw.{Draw}
 use Rattle.osc_model.specs.declared.node.Moment.{Moment}
-use Rattle.osc_model.specs.declared.node.Peer.{Peer}
 use Rattle.osc_model.specs.declared.request.Request.{Request}
 use Rattle.osc_model.specs.declared.step.Step.{Step}
 use Rattle.osc_context.specs.Nonce.{greatest_number}
 use Rattle.osc_message.specs.Endpoint.{after_tick, fresh}
-use Rattle.osc_message.specs.Heard.{heard}
-use Rattle.osc_message.specs.Received.{Receives}
-use Rattle.osc_message.specs.declared.received.Received.{Received}
 use Rattle.osc_run.specs.ClientKinds.{ClientStep, IsSkipped}
 use Rattle.osc_run.specs.Notes.{by_server, by_client, by_proxy}
 use Rattle.osc_run.specs.ProxyKinds.{ProxyStep}
@@ -21,11 +17,9 @@ use Rattle.osc_client.specs.Hearing.{Hears as ClientHears}
 use Rattle.osc_client.specs.Lying.{Lies}
 use Rattle.osc_client.specs.Sending.{Asks, Exchanges, Ticks as ClientTicks, restarted}
 use Rattle.osc_client.specs.State.{State as Client, core as core_of_client}
-use Rattle.osc_proxy.specs.Case.{NamesIn, case_of as proxy_case}
 use Rattle.osc_proxy.specs.Exchanges.{count}
-use Rattle.osc_proxy.specs.ProxyUri.{HostAndPort}
+use Rattle.osc_proxy.specs.Hearing.{Hears as ProxyHears}
 use Rattle.osc_proxy.specs.State.{State as Proxy, restarted as proxy_again}
-use Rattle.osc_proxy.specs.Table.{Answers as ProxyAnswers}
 use Rattle.osc_proxy.specs.Ticks.{Ticks as ProxyTicks}
 use Rattle.osc_world.specs.Nodes.{NodeStates}
 use Rattle.osc_world.specs.declared.event.Event.{Event}
@@ -89,14 +83,6 @@ abbrev pub server_again : Server → Server
 server_again old = record old { desk = record old.desk { table = [] }; endpoint = fresh }
 
 -- ---- what a proxy does, which seals and opens nothing
-
--- these bytes come to it from this address
-pub record ProxyHears (old : Proxy) (now : Moment) (draw : Draw) (from : Peer) (bytes : List ℕ) (step : Step) (new : Proxy) : Type 0 where
-  pub received : Received
-  pub receives : Receives bytes received
-  pub named : Option HostAndPort
-  pub names : NamesIn (heard old.endpoint.seen now from received) named
-  pub answers : ProxyAnswers old now from draw (proxy_case old.targets old.exchanges from named (heard old.endpoint.seen now from received)) step new
 
 -- a datagram that was sent comes to it; what was never sent doesn't come
 abbrev pub ProxyGets : Proxy → Moment → Draw → Option Sent → Step → Proxy → Type 0

@@ -12,7 +12,8 @@ ghost use Rattle.osc_world.specs.Nodes.{client_at, found, node_at, node_of, prox
 ghost use Rattle.osc_rounds.specs.AskRound.{IsLawfulServer};
 ghost use Rattle.osc_server.specs.Hearing.{Hears as ServerHears};
 ghost use Rattle.osc_client.specs.Hearing.{Hears as ClientHears};
-ghost use Rattle.osc_world.specs.Steps.{AsksFor, ClientDoes, ClientGets, IsStep, ProxyDoes, ProxyGets, ProxyHears, ServerDoes, ServerGets, ServerTakes, Takes, TakesOf, TakesOfProxy, IsSkip, LiesAt, is_lie, most_of, most_of_placed, most_of_proxy, most_sent, one_or};
+ghost use Rattle.osc_proxy.specs.Hearing.{Hears as ProxyHears};
+ghost use Rattle.osc_world.specs.Steps.{AsksFor, ClientDoes, ClientGets, IsStep, ProxyDoes, ProxyGets, ServerDoes, ServerGets, ServerTakes, Takes, TakesOf, TakesOfProxy, IsSkip, LiesAt, is_lie, most_of, most_of_placed, most_of_proxy, most_sent, one_or};
 
 use crate::event::{Event, What};
 use crate::log::Sent;
