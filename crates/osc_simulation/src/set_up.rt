@@ -74,12 +74,15 @@ fn add_all(alloc: Global, start: &mut Start, proxies: &[ProxyName]) -> Result<()
     Ok(())
 }
 
-// Adds a proxy, which forwards to the server alone.
+// Adds a proxy, which forwards to the server alone. No other node of a script stands at its address: only want of memory refuses it.
 fn add(alloc: Global, start: &mut Start, proxy: ProxyName) -> Result<(), AllocError>
     ensures { OnOk result (start.new ≡ spec.with_new_proxy start.old proxy) }
 {
     let targets = targets(alloc)?;
-    start.add_proxy(alloc, Node::Proxy(proxy).address(), targets)
+    match start.add_proxy(alloc, Node::Proxy(proxy).address(), targets) {
+        Ok(()) => Ok(()),
+        Err(_) => Err(AllocError),
+    }
 }
 
 // The server, by the host `s` and its port.
@@ -262,7 +265,8 @@ fn holder(number: u8, client: ClientName, way: Way, claims: Claims) -> Holder
     }
 }
 
-// A grant of a script has a scope that can be read and is short enough for a token: only want of memory refuses it.
+// A grant of a script has a scope that can be read and is short enough for a token, and no other node stands at its client's address:
+// only want of memory refuses it.
 fn admit(alloc: Global, start: &mut Start, holder: Holder) -> Result<(), AllocError>
     ensures { OnOk result (Enrols spec.is_sealing start.old holder start.new) }
 {

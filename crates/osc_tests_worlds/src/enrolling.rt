@@ -5,11 +5,12 @@ use crate::quiet::is_quiet;
 use osc_authz::GrantError;
 use osc_ccm::Ccm;
 use osc_client::Way;
-use osc_model::Bytes;
+use osc_model::{Bytes, Peer};
+use osc_proxy::Targets;
 use osc_scope::Scope;
 use osc_token::{Audience, Claims, InputMaterial};
 use osc_tree::Tree;
-use osc_world::{EnrollError, Holder, Start};
+use osc_world::{EnrollError, Holder, PlaceError, Start};
 use std::alloc::{AllocError, Global};
 use std::process::Abort;
 use std::test::*;
@@ -85,12 +86,12 @@ fn start(alloc: Global) -> Result<Start, AllocError> {
     ))
 }
 
-/// Why the client of this row isn't enrolled, if it isn't.
-fn refusal(alloc: Global, start: &mut Start, row: Row) -> Option<EnrollError> {
+/// Why the client of this row isn't enrolled there, if it isn't.
+fn refusal(alloc: Global, start: &mut Start, at: Peer, row: Row) -> Option<EnrollError> {
     match claims(alloc, row) {
         Ok(claims) => {
             let holder = Holder {
-                at: CLIENT,
+                at,
                 way: Way {
                     next_hop: SERVER,
                     origin: None,
@@ -120,10 +121,43 @@ fn who_is_refused(rt: HostRuntime) {
     let mut start = start(rt.alloc()).expect(&rt, "memory");
     for (row, error) in REFUSED {
         assert!(rt;
-            refusal(rt.alloc(), &mut start, row) == Some(error),
+            refusal(rt.alloc(), &mut start, CLIENT, row) == Some(error),
             "{error}"
         );
     }
-    assert!(rt; refusal(rt.alloc(), &mut start, GOOD) == None);
+    assert!(rt; refusal(rt.alloc(), &mut start, CLIENT, GOOD) == None);
+    begins(&rt, rt.alloc(), start);
+}
+
+const PROXY: Peer = Peer {
+    address: [127, 0, 0, 1],
+    port: 6001,
+};
+
+/// A proxy with no target is added there.
+fn placed(alloc: Global, start: &mut Start, at: Peer) -> Result<(), PlaceError> {
+    start.add_proxy(alloc, at, Targets::new(alloc))
+}
+
+/// No two nodes stand at one address, whatever the claims are; who was refused takes none.
+fn takes_no_second(rt: &impl Abort, alloc: Global, start: &mut Start) {
+    assert!(rt; placed(alloc, start, SERVER) == Err(PlaceError::AddressTaken));
+    assert!(rt; refusal(alloc, start, CLIENT, REFUSED[0].0) == Some(EnrollError::BadScope));
+    assert!(rt; !start.is_taken(CLIENT));
+    assert!(rt; refusal(alloc, start, CLIENT, GOOD) == None);
+    assert!(rt; placed(alloc, start, PROXY) == Ok(()));
+    for at in [SERVER, CLIENT, PROXY] {
+        assert!(rt; start.is_taken(at));
+        for row in [GOOD, REFUSED[0].0] {
+            assert!(rt; refusal(alloc, start, at, row) == Some(EnrollError::AddressTaken));
+        }
+        assert!(rt; placed(alloc, start, at) == Err(PlaceError::AddressTaken));
+    }
+}
+
+#[test]
+fn addresses_of_their_own(rt: HostRuntime) {
+    let mut start = start(rt.alloc()).expect(&rt, "memory");
+    takes_no_second(&rt, rt.alloc(), &mut start);
     begins(&rt, rt.alloc(), start);
 }

@@ -1,7 +1,7 @@
 //! Rounds that end well. What is assumed of a world before an exchange, or a request, that goes straight to the server is decided by what
 //! the world tells; then two deliveries are the whole round, and what is promised has come about.
 
-use crate::common::{DELETE, GET, POST, PUT, SERVER, accepted, history, request_on};
+use crate::common::{DELETE, GET, POST, PUT, SERVER, accepted, counts, has, history, request_on};
 use crate::owners::{Right, own, place, world_of};
 use crate::quiet::is_quiet;
 use osc_authz::ServerContext;
@@ -59,13 +59,9 @@ fn place_of(world: &World, number: usize) -> Option<Peer> {
     }
 }
 
-/// No datagram waits, and what is sent to the client's place comes to it: neither the server nor a client before it stands there.
+/// No datagram waits, and there is a client of this number.
 fn is_at_rest(world: &World, client: usize) -> bool {
-    let at = place_of(world, client);
-    world.next_waiting().is_none()
-        && at.is_some()
-        && at != Some(SERVER)
-        && (0..client).all(|other| place_of(world, other) != at)
+    world.next_waiting().is_none() && world.client(client).is_some()
 }
 
 /// The client waits for nothing, and sends straight to the server, as each client of these worlds does.
@@ -454,9 +450,12 @@ fn beside_63_other_contexts(rt: HostRuntime) -> Result<(), Fail> {
 /// As many bytes as a resource may have.
 const MOST_BYTES: &[u8] = &[b'a'; 512];
 
-/// They are put, and come back.
+/// They are put, by the one request of the history, and come back. What is assumed of a run holds before and after.
 fn puts_and_gets(rt: &impl Abort, alloc: Global, world: &mut World) {
     makes_one(rt, alloc, world, at(0, 0, 200));
+    assert!(rt; world.premise_holds());
+    assert!(rt; counts(alloc, world) == (0, 0, 0));
+    assert!(rt; world.tree().len() == 0);
     is_served_and_answered(
         rt,
         alloc,
@@ -464,6 +463,9 @@ fn puts_and_gets(rt: &impl Abort, alloc: Global, world: &mut World) {
         at(0, 0, 201),
         (PUT, MOST_BYTES, Code::CREATED, b""),
     );
+    assert!(rt; world.premise_holds());
+    assert!(rt; counts(alloc, world) == (1, 1, 1));
+    assert!(rt; has(alloc, world, MOST_BYTES));
     is_served_and_answered(
         rt,
         alloc,

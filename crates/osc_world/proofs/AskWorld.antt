@@ -1,6 +1,6 @@
 -- A request is asked, and a quiet round serves and answers it.
 use Rattle.std.proofs.Common.{◌≡◌, ◌∙◌, sym, ap, subst, refl, ℕ, zero, suc, ◌+◌, Bool, true, false, List, [], ◌∷◌, ◌++◌, length, map, Option, Some, None, arith, append-nil}
-use Rattle.std.specs.Prelude.{◌≢◌, slice_get, slice_set, position, ◌==◌, if◌then◌else◌, is_none as nothing_is, option_to_list}
+use Rattle.std.specs.Prelude.{◌≢◌, slice_get, slice_set, position, ◌==◌, is_none as nothing_is, option_to_list}
 use Rattle.std.proofs.lemmas.Bool.{eqb-false}
 use Rattle.osc_model.specs.Apply.{apply_read}
 use Rattle.osc_model.specs.declared.node.Draw.{Draw}
@@ -27,7 +27,7 @@ use Rattle.osc_client.specs.State.{State as Client}
 use Rattle.osc_rounds.specs.AskRound.{IsAskedAndAnswered, IsLawfulServer, IsServedAndAnswered, MayAsk, asked_text}
 use Rattle.osc_rounds.specs.Asked.{IsAnswered}
 use Rattle.osc_world.specs.Log.{sent_by, sent_from, steps_with}
-use Rattle.osc_world.specs.Nodes.{NodeStates, found, node_at, proxy_at, whose_step}
+use Rattle.osc_world.specs.Nodes.{NodeStates, StandApart, node_at, whose_step}
 use Rattle.osc_world.specs.Quiet.{OneMore, Rounds, delivery, waiting_first}
 use Rattle.osc_world.specs.Ready.{HasAnswered, IsAtRest, IsNotRefused, IsRoundOfTwo, asking}
 use Rattle.osc_world.specs.Steps.{AsksFor, ClientTakes, Takes, TakesOf}
@@ -39,14 +39,8 @@ use Rattle.osc_world.specs.declared.nodes.Placed.{Placed}
 use Rattle.osc_world.specs.declared.nodes.Taken.{Taken}
 use Rattle.osc_world.specs.declared.nodes.Whose.{Whose}
 use Rattle.osc_world.specs.declared.nodes.Whose.TheVariants as whose
-use Rattle.osc_world.proofs.OneDelivery.{AreStill, ToClient, ToServer, done, get_set, none_of_still, position_same, still_behind, still_of_none, to_client, to_server, waits_behind}
-
--- who stands where doesn't change with what a node keeps
-pub node_same : (nodes : NodeStates) (number : ℕ) (placed : Placed) (client : Client) (server : Server) (at : Peer) → slice_get nodes.clients number ≡ Some placed
-    → node_at (record nodes { server = server; clients = slice_set nodes.clients number (record placed { client = client }) }) at ≡ node_at nodes at
-node_same nodes number placed client server at there =
-    ap (λ (it : Option ℕ). if same_peer nodes.server_at at then whose.Server else found it (proxy_at nodes.proxies at))
-    (position_same (λ (p : Placed). same_peer p.at at) nodes.clients number placed (record placed { client = client }) there refl)
+use Rattle.osc_world.proofs.Apart.{stands_there}
+use Rattle.osc_world.proofs.OneDelivery.{AreStill, ToClient, ToServer, done, get_set, none_of_still, still_behind, still_of_none, to_client, to_server, waits_behind}
 
 -- a quiet round in which nothing waits
 pub quiet_now : (is_sealing : List ℕ → List ℕ → List ℕ → List ℕ → List ℕ → Type 0) (tag : ℕ) (drawn : ℕ → Draw) (now : Moment) (left : ℕ) (old : State) (quiet : Bool) (new : State)
@@ -69,6 +63,7 @@ module _ (is_sealing : List ℕ → List ℕ → List ℕ → List ℕ → List 
     → IsAskedAndAnswered is_sealing client server now draw request at server_at held context.next first asked)
     (drawn : ℕ → Draw) (asked_at now : Moment) (draw : Draw) (number : ℕ) (request : Request) (placed : Placed) (context : ClientContext) (held : Held)
     (old w1 new : State) (left : ℕ) (is_quiet : Bool)
+    (apart : StandApart w1.nodes)
     (lawful : IsLawfulServer w1.nodes.server)
     (rest : IsAtRest old number placed)
     (may : MayAsk placed.client old.nodes.server now draw placed.at old.nodes.server_at context held)
@@ -180,8 +175,11 @@ module _ (is_sealing : List ℕ → List ℕ → List ℕ → List ℕ → List 
   there_2 : slice_get w2.nodes.clients number ≡ Some after
   there_2 = ap (λ (n : NodeStates). slice_get n.clients number) nodes_2 ∙ get_set old.nodes.clients number placed after rest.here
 
+  there_1 : slice_get w1.nodes.clients number ≡ Some after
+  there_1 = ap (λ (n : NodeStates). slice_get n.clients number) nodes_1 ∙ get_set old.nodes.clients number placed after rest.here
+
   node_2 : node_at w2.nodes placed.at ≡ whose.Client number
-  node_2 = ap (λ (n : NodeStates). node_at n placed.at) nodes_2 ∙ node_same old.nodes number placed asked to_s.server placed.at rest.here ∙ rest.stands
+  node_2 = ap (λ (n : NodeStates). node_at n placed.at) to_s.nodes ∙ stands_there itself w1.nodes number after apart there_1
 
   to_c : ToClient is_sealing tag now (drawn (length w2.records)) w2 behind two sent_2 w3 third.1 number after
   to_c = to_client is_sealing tag now (drawn (length w2.records)) w2 behind two sent_2 w3 third.1 number after node_2 there_2

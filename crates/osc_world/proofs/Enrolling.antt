@@ -42,6 +42,9 @@ at_end (z ∷ xs) x y (suc n) e =
 
 -- ---- clients
 
+pub none_enrolled : AreEnrolled [] []
+none_enrolled = record { texts = λ m there. absurd there; holders = λ number placed there. absurd (cc) }
+
 holds_more : (minted : List Minted) (one : Minted) (number : ℕ) (secret : List ℕ) → Holds minted number secret → Holds (minted ++ one ∷ []) number secret
 holds_more minted one number secret h =
     record { held = h.held; granted = in_front h.held minted (one ∷ []) h.granted; holder = h.holder; secret = h.secret }

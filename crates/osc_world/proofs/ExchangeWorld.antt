@@ -1,5 +1,5 @@
 -- An exchange is begun, and a quiet round makes a context at both ends.
-use Rattle.std.proofs.Common.{◌≡◌, ◌∙◌, sym, ap, subst, refl, ℕ, suc, ◌+◌, Bool, true, false, List, [], ◌∷◌, ◌++◌, length, map, Option, Some, None, arith, append-nil}
+use Rattle.std.proofs.Common.{◌≡◌, ◌∙◌, sym, ap, subst, refl, ℕ, suc, ◌+◌, ◌<◌, Bool, true, false, List, [], ◌∷◌, ◌++◌, length, map, Option, Some, None, arith, append-nil}
 use Rattle.std.specs.Prelude.{◌≢◌, slice_get, slice_set, position}
 use Rattle.osc_model.specs.declared.node.Draw.{Draw}
 use Rattle.osc_model.specs.declared.node.Moment.{Moment}
@@ -20,8 +20,8 @@ use Rattle.osc_rounds.specs.ExchangeRound.{IsAgreedAndMade, IsBegunAndMade, IsHe
 use Rattle.osc_scope.specs.Entries.{Entry}
 use Rattle.osc_token.specs.declared.claims.Claims.{Claims}
 use Rattle.osc_world.specs.Log.{sent_by, sent_from, steps_with}
-use Rattle.osc_world.specs.Nodes.{NodeStates, node_at}
-use Rattle.osc_world.specs.Quiet.{Rounds, delivery, waiting_first}
+use Rattle.osc_world.specs.Nodes.{NodeStates, StandApart, node_at}
+use Rattle.osc_world.specs.Quiet.{AreWhole, Rounds, delivery, waiting_first}
 use Rattle.osc_world.specs.Ready.{HasMade, IsAtRest, IsNotRefused, IsRoundOfTwo, beginning}
 use Rattle.osc_world.specs.Steps.{ClientTakes, TakesOf}
 use Rattle.osc_world.specs.Worlds.{Happens, State}
@@ -31,15 +31,19 @@ use Rattle.osc_world.specs.declared.nodes.Placed.{Placed}
 use Rattle.osc_world.specs.declared.nodes.Taken.{Taken}
 use Rattle.osc_world.specs.declared.nodes.Whose.TheVariants as whose
 use Rattle.osc_world.proofs.OneDelivery.{AreStill, ToClient, ToServer, done, get_set, none_of_still, still_behind, still_of_none, to_client, to_server, waits_behind}
-use Rattle.osc_world.proofs.AskWorld.{node_same, one_more, quiet_now}
+use Rattle.osc_world.proofs.Apart.{stands_there}
+use Rattle.osc_world.proofs.AskWorld.{one_more, quiet_now}
+use Rattle.osc_world.proofs.Rounds.{none_lost}
 
 module _ (is_sealing : List ℕ → List ℕ → List ℕ → List ℕ → List ℕ → Type 0) (tag : ℕ) (itself : (a : Peer) → same_peer a a ≡ true)
     (law : (client begun : Client) (server : Server) (asked_at now : Moment) (draw : Draw) (at server_at : Peer) (claims : Claims) (entries : List Entry) (first : Step)
     → MayExchange is_sealing client server now draw at server_at claims entries → first.notes.result ≢ Some (result.Refused 14)
     → Exchanges client asked_at draw first begun
     → IsBegunAndMade is_sealing client server now draw at server_at entries first begun)
-    (drawn : ℕ → Draw) (sizes : (n : ℕ) → length (drawn n).0 ≡ 32) (asked_at now : Moment) (draw : Draw) (number : ℕ) (placed : Placed) (claims : Claims) (entries : List Entry)
+    (drawn : ℕ → Draw) (asked_at now : Moment) (draw : Draw) (number : ℕ) (placed : Placed) (claims : Claims) (entries : List Entry)
     (old w1 new : State) (left : ℕ) (is_quiet : Bool)
+    (sizes : AreWhole drawn w1 new)
+    (apart : StandApart w1.nodes)
     (rest : IsAtRest old number placed)
     (may : MayExchange is_sealing placed.client old.nodes.server now draw placed.at old.nodes.server_at claims entries)
     (happens : Happens is_sealing tag old (beginning asked_at draw number) w1)
@@ -102,7 +106,9 @@ module _ (is_sealing : List ℕ → List ℕ → List ℕ → List ℕ → List 
   hears_1 = subst (λ (s : Server). ServerHears is_sealing s now draw_1 placed.at (spelling is.message) to_s.step to_s.server) (ap (λ (n : NodeStates). n.server) nodes_1) to_s.hears
 
   served : IsAgreedAndMade is_sealing asked now placed.at old.nodes.server_at entries to_s.step to_s.server
-  served = is.agreed draw_1 to_s.step to_s.server (sizes (length w1.records)) hears_1
+  served =
+      let used : length w1.records < length new.records = omega (arith, to_s.records, none_lost is_sealing tag drawn now (suc left) w2 is_quiet new second.2) in
+      is.agreed draw_1 to_s.step to_s.server (sizes (length w1.records) (omega arith) used) hears_1
 
   abbrev two : Sent
   two = sent_from old.nodes.server_at (datagram placed.at served.answer)
@@ -136,8 +142,11 @@ module _ (is_sealing : List ℕ → List ℕ → List ℕ → List ℕ → List 
   there_2 : slice_get w2.nodes.clients number ≡ Some after
   there_2 = ap (λ (n : NodeStates). slice_get n.clients number) nodes_2 ∙ get_set old.nodes.clients number placed after rest.here
 
+  there_1 : slice_get w1.nodes.clients number ≡ Some after
+  there_1 = ap (λ (n : NodeStates). slice_get n.clients number) nodes_1 ∙ get_set old.nodes.clients number placed after rest.here
+
   node_2 : node_at w2.nodes placed.at ≡ whose.Client number
-  node_2 = ap (λ (n : NodeStates). node_at n placed.at) nodes_2 ∙ node_same old.nodes number placed asked to_s.server placed.at rest.here ∙ rest.stands
+  node_2 = ap (λ (n : NodeStates). node_at n placed.at) to_s.nodes ∙ stands_there itself w1.nodes number after apart there_1
 
   to_c : ToClient is_sealing tag now (drawn (length w2.records)) w2 behind two sent_2 w3 third.1 number after
   to_c = to_client is_sealing tag now (drawn (length w2.records)) w2 behind two sent_2 w3 third.1 number after node_2 there_2

@@ -1,10 +1,8 @@
 -- What is sent last waits first, where nothing waited before, and is delivered to whom it was sent.
-use Rattle.std.proofs.Common.{◌≡◌, ◌∙◌, sym, ap, subst, refl, ℕ, zero, suc, ◌+◌, Bool, true, false, cond, not, List, [], ◌∷◌, ◌++◌, length, map, Option, Some, None, arith}
+use Rattle.std.proofs.Common.{◌≡◌, ◌∙◌, ap, subst, refl, ℕ, zero, suc, ◌+◌, Bool, true, false, not, List, [], ◌∷◌, ◌++◌, length, map, Option, Some, None, arith}
 use Rattle.std.specs.Prelude.{slice_get, slice_set, nat_lt, position}
-use Rattle.std.specs.List.{position_or_len}
 use Rattle.std.proofs.lemmas.Bool.{lt-ltb, le-ltb, ltb-false}
 use Rattle.std.proofs.lemmas.List.{length-append}
-use Rattle.std.proofs.lemmas.Option.{same_Some}
 use Rattle.std.proofs.lemmas.List.Sums.{prefix_len-le-length}
 use Rattle.osc_model.specs.declared.node.Draw.{Draw}
 use Rattle.osc_model.specs.declared.node.Moment.{Moment}
@@ -15,7 +13,7 @@ use Rattle.osc_server.specs.Hearing.{Hears as ServerHears}
 use Rattle.osc_server.specs.State.{State as Server}
 use Rattle.osc_client.specs.Hearing.{Hears as ClientHears}
 use Rattle.osc_client.specs.State.{State as Client}
-use Rattle.osc_world.specs.Log.{delivered, first_waiting, sent_by, sent_from, settled, steps_with}
+use Rattle.osc_world.specs.Log.{first_waiting, sent_by, sent_from, settled, steps_with}
 use Rattle.osc_world.specs.Nodes.{hearer, node_at, whose_step}
 use Rattle.osc_world.specs.Quiet.{delivery}
 use Rattle.osc_world.specs.Steps.{ClientGets, ClientTakes, ServerGets, ServerTakes, Takes, TakesOf}
@@ -93,20 +91,6 @@ pub get_set : {A : Type 0} (xs : List A) (k : ℕ) (x y : A) → slice_get xs k 
 get_set [] k x y e = absurd (cc)
 get_set (z ∷ xs) zero x y e = refl
 get_set (z ∷ xs) (suc k) x y e = get_set xs k x y e
-
-first_same : {A : Type 0} (p : A → Bool) (xs : List A) (k : ℕ) (x y : A) → slice_get xs k ≡ Some x → p y ≡ p x → position_or_len p (slice_set xs k y) ≡ position_or_len p xs
-first_same p [] k x y e same = refl
-first_same p (z ∷ xs) zero x y e same =
-    let it : p y ≡ p z = same ∙ ap p (sym (same_Some z x e)) in rw it refl
-first_same p (z ∷ xs) (suc k) x y e same = ap (λ (n : ℕ). cond (not (p z)) (1 + n) 0) (first_same p xs k x y e same)
-
-length_same : {A : Type 0} (xs : List A) (k : ℕ) (y : A) → length (slice_set xs k y) ≡ length xs
-length_same [] k y = refl
-length_same (z ∷ xs) zero y = refl
-length_same (z ∷ xs) (suc k) y = ap suc (length_same xs k y)
-
-pub position_same : {A : Type 0} (p : A → Bool) (xs : List A) (k : ℕ) (x y : A) → slice_get xs k ≡ Some x → p y ≡ p x → position p (slice_set xs k y) ≡ position p xs
-position_same p xs k x y e same = rw (first_same p xs k x y e same, length_same xs k y) refl
 
 -- ---- a delivery
 

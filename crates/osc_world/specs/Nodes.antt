@@ -1,5 +1,6 @@
 -- The nodes of a world, and whose step an event is.
-use Rattle.std.specs.Prelude.{ℕ, ◌==◌, nat_le, if◌then◌else◌, List, Option, Some, None, position, slice_get, slice_set}
+use Rattle.std.specs.Prelude.{ℕ, ◌==◌, nat_le, if◌then◌else◌, Bool, List, ◌∷◌, ◌++◌, map, Option, Some, None, position, slice_get, slice_set}
+use Rattle.std.specs.List.{IsDistinct, list_any}
 use Rattle.osc_model.specs.declared.node.Peer.{Peer}
 use Rattle.osc_context.specs.Nonce.{greatest_number}
 use Rattle.osc_message.specs.Confirmables.{same_peer}
@@ -21,6 +22,20 @@ pub record NodeStates : Type 0 where
   pub server : Server
   pub clients : List Placed
   pub proxies : List PlacedProxy
+
+-- ---- where they stand
+
+-- the address of the server, those of the clients, and those of the proxies
+abbrev pub places : Peer → List Placed → List PlacedProxy → List Peer
+places server_at clients proxies = server_at ∷ (map (λ placed. placed.at) clients ++ map (λ placed. placed.at) proxies)
+
+-- whether this address is one of those
+abbrev pub is_among : Peer → List Peer → Bool
+is_among at places = list_any (λ place. same_peer place at) places
+
+-- no two of the nodes stand at one address
+abbrev pub StandApart : NodeStates → Type 0
+StandApart nodes = IsDistinct same_peer (places nodes.server_at nodes.clients nodes.proxies)
 
 -- ---- whose step an event is
 

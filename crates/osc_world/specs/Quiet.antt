@@ -1,5 +1,5 @@
 -- Quiet rounds: what waits is delivered, in order of sending.
-use Rattle.std.specs.Prelude.{◌≡◌, ℕ, zero, suc, Bool, true, List, length, Option, Some, None, is_none, position}
+use Rattle.std.specs.Prelude.{◌≡◌, ◌≤◌, ◌<◌, ℕ, zero, suc, Bool, true, List, length, Option, Some, None, is_none, position}
 use Rattle.osc_model.specs.declared.node.Draw.{Draw}
 use Rattle.osc_model.specs.declared.node.Moment.{Moment}
 use Rattle.osc_world.specs.Worlds.{State, Happens}
@@ -13,6 +13,10 @@ waiting_first world = position (λ datagram. datagram.waits) world.sent
 -- it is delivered, with the draw of its event
 abbrev pub delivery : Moment → Draw → ℕ → Event
 delivery now draw datagram = record { moment = now; draw = draw; what = Deliver datagram }
+
+-- each draw of an event between these worlds has 32 bytes
+abbrev pub AreWhole : (ℕ → Draw) → State → State → Type 0
+AreWhole drawn old new = (event : ℕ) → length old.records ≤ event → event < length new.records → length (drawn event).0 ≡ 32
 
 -- `is_sealing key nonce aad text sealed` is the cipher's relation, and `tag` how long its tag is
 module _ (is_sealing : List ℕ → List ℕ → List ℕ → List ℕ → List ℕ → Type 0) (tag : ℕ) where

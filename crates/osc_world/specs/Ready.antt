@@ -17,21 +17,18 @@ use Rattle.osc_rounds.specs.AskRound.{MayAsk, asked_text}
 use Rattle.osc_rounds.specs.ExchangeRound.{IsHeld, MayExchange}
 use Rattle.osc_scope.specs.Entries.{Entry}
 use Rattle.osc_token.specs.declared.claims.Claims.{Claims}
-use Rattle.osc_world.specs.Nodes.{node_at}
 use Rattle.osc_world.specs.Quiet.{waiting_first}
 use Rattle.osc_world.specs.Worlds.{Happens, State}
 use Rattle.osc_world.specs.declared.event.Event.{Event}
 use Rattle.osc_world.specs.declared.event.What.TheVariants.{Ask, Exchange}
 use Rattle.osc_world.specs.declared.nodes.Placed.{Placed}
-use Rattle.osc_world.specs.declared.nodes.Whose.TheVariants as whose
 
 -- ---- before and after
 
--- No datagram waits, and the client of this number is the one that hears what is sent to its place.
+-- No datagram waits, and this is the client of this number, and where it stands.
 pub record IsAtRest (world : State) (client : ℕ) (placed : Placed) : Type 0 where
   pub still : waiting_first world ≡ None
   pub here : slice_get world.nodes.clients client ≡ Some placed
-  pub stands : node_at world.nodes placed.at ≡ whose.Client client
 
 -- two datagrams were delivered, to the server and back, and none waits
 pub record IsRoundOfTwo (begun : State) (is_quiet : Bool) (new : State) : Type 0 where
@@ -89,10 +86,10 @@ pub record HasAnswered (old : State) (client : ℕ) (asked_text : List ℕ) (now
 module _ (is_sealing : List ℕ → List ℕ → List ℕ → List ℕ → List ℕ → Type 0) (tag : ℕ) where
   -- The exchange that a client began last makes a context, where the world was at rest before, its token is welcome at the server, and
   -- the post wasn't refused as too long (14).
-  abbrev pub MakesWhatWasBegun : (ℕ → Draw) → Moment → ℕ → State → Bool → State → Type 0
-  MakesWhatWasBegun drawn now limit begun is_quiet new =
+  abbrev pub MakesWhatWasBegun : Moment → ℕ → State → Bool → State → Type 0
+  MakesWhatWasBegun now limit begun is_quiet new =
       (before : State) (begun_at : Moment) (draw : Draw) (client : ℕ) (placed : Placed) (claims : Claims) (entries : List Entry)
-      → 2 ≤ limit → ((n : ℕ) → length (drawn n).0 ≡ 32) → IsAtRest before client placed
+      → 2 ≤ limit → IsAtRest before client placed
       → MayExchange is_sealing placed.client before.nodes.server now draw placed.at before.nodes.server_at claims entries
       → Happens is_sealing tag before (beginning begun_at draw client) begun → IsNotRefused 14 before begun
       → IsRoundOfTwo begun is_quiet new × HasMade before client now entries new

@@ -1,5 +1,5 @@
--- Who can be enrolled, and why a client can't be.
-use Rattle.std.specs.Prelude.{◌≤◌, List, length, ⊤}
+-- Who can be enrolled, and why a client or a proxy can't be taken in.
+use Rattle.std.specs.Prelude.{◌≡◌, ◌≤◌, true, false, List, length, ⊤}
 use Rattle.std.specs.Option.{ForSome}
 use Rattle.osc_cbor.specs.Spelling.{spelling}
 use Rattle.osc_scope.specs.Entries.{Entry, IsScope}
@@ -7,11 +7,17 @@ use Rattle.osc_token.specs.Minted.{most_claims}
 use Rattle.osc_token.specs.Token.{claims_item}
 use Rattle.osc_token.specs.declared.claims.Claims.{Claims}
 use Rattle.osc_token.specs.declared.claims.InputMaterial.{InputMaterial}
+use Rattle.osc_model.specs.declared.node.Peer.{Peer}
 use Rattle.osc_authz.specs.Granted.{IsSecret, IsShort}
 use Rattle.osc_authz.specs.declared.error.GrantError.{GrantError}
 use Rattle.osc_authz.specs.declared.error.GrantError.TheVariants as grant
 use Rattle.osc_world.specs.declared.error.EnrollError.{EnrollError}
 use Rattle.osc_world.specs.declared.error.EnrollError.TheVariants as enroll
+use Rattle.osc_world.specs.declared.error.PlaceError.{PlaceError}
+use Rattle.osc_world.specs.declared.error.PlaceError.TheVariants as place
+use Rattle.osc_world.specs.declared.start.Holder.{Holder}
+use Rattle.osc_world.specs.Nodes.{is_among}
+use Rattle.osc_world.specs.Starts.{Beginning, places_of}
 
 -- the bytes of the claims' scope are a scope
 abbrev pub HasScope : Claims → Type 0
@@ -35,9 +41,29 @@ pub record IsLawful (claims : Claims) : Type 0 where
   pub salt : IsShort claims.material.salt
   pub id_context : ForSome claims.material.id_context IsShort
 
--- Why it can't be: the scope, then the length, then the input material; memory may be wanting whatever the claims are.
+-- Why its claims can't be: the scope, then the length, then the input material; memory may be wanting whatever the claims are.
 abbrev pub IsRefusal : Claims → EnrollError → Type 0
+IsRefusal claims enroll.AddressTaken = ⊥
 IsRefusal claims enroll.BadScope = ¬ (HasScope claims)
 IsRefusal claims enroll.TooLong = HasScope claims × ¬ (FitAToken claims)
 IsRefusal claims (enroll.Grant error) = HasScope claims × FitAToken claims × IsUngranted claims.material error
 IsRefusal claims enroll.Memory = ⊤
+
+-- ---- addresses
+
+-- a node stands there, or none does
+abbrev pub IsTaken : Beginning → Peer → Type 0
+IsTaken start at = is_among at (places_of start) ≡ true
+
+abbrev pub IsFree : Beginning → Peer → Type 0
+IsFree start at = is_among at (places_of start) ≡ false
+
+-- Why a client can't be enrolled: its address, then its claims.
+abbrev pub Refuses : Beginning → Holder → EnrollError → Type 0
+Refuses start holder enroll.AddressTaken = IsTaken start holder.at
+Refuses start holder error = IsFree start holder.at × IsRefusal holder.claims error
+
+-- why a proxy can't be placed there
+abbrev pub RefusesPlace : Beginning → Peer → PlaceError → Type 0
+RefusesPlace start at place.AddressTaken = IsTaken start at
+RefusesPlace start at place.Memory = IsFree start at

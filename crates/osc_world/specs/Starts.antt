@@ -17,7 +17,7 @@ use Rattle.osc_run.specs.States.{Minted}
 use Rattle.osc_client.specs.State.{core}
 use Rattle.osc_proxy.specs.Exchanges.{none_open}
 use Rattle.osc_proxy.specs.declared.targets.Target.{Target}
-use Rattle.osc_world.specs.Nodes.{NodeStates}
+use Rattle.osc_world.specs.Nodes.{NodeStates, places}
 use Rattle.osc_world.specs.Worlds.{State}
 use Rattle.osc_world.specs.declared.nodes.Placed.{Placed}
 use Rattle.osc_world.specs.declared.nodes.PlacedProxy.{PlacedProxy}
@@ -34,6 +34,10 @@ pub record Beginning : Type 0 where
   pub minted : List Minted
   pub clients : List Placed
   pub proxies : List PlacedProxy
+
+-- where its nodes stand
+abbrev pub places_of : Beginning → List Peer
+places_of start = places start.server_at start.clients start.proxies
 
 -- each text is that of its grant, and each client holds one and did nothing yet
 pub record AreEnrolled (minted : List Minted) (clients : List Placed) : Type 0 where

@@ -4,7 +4,7 @@ ghost use Rattle.osc_model.specs.declared.node.Draw.{Draw as AnyDraw};
 
 use osc_model::Draw;
 
-/// Random bytes for events, by the events' numbers.
+/// Random bytes for events, by the events' numbers: 32 for each, as the type of a draw says.
 pub trait Draws {
     ghost drawn: { Self → ℕ → AnyDraw };
 

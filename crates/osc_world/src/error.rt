@@ -1,8 +1,9 @@
-//! Why a client can't be enrolled.
+//! Why a client can't be enrolled, or a proxy added.
 
 ghost use Rattle.std.specs.Prelude.{◌≡◌};
 ghost use Rattle.osc_world.specs.Errors.{of_mint, of_scope};
 ghost use Rattle.osc_world.specs.declared.error.EnrollError.TheVariants as enroll_variants;
+ghost use Rattle.osc_world.specs.declared.error.PlaceError.TheVariants as place_variants;
 
 use osc_authz::GrantError;
 use osc_scope::ScopeError;
@@ -13,6 +14,9 @@ use thiserror::Error;
 /// Why a client can't be enrolled: the first of these that stands, or want of memory.
 #[derive(Clone, Copy, Debug, PartialEq, Eq, Error)]
 pub enum EnrollError {
+    /// A node stands at its address.
+    #[error("another node stands at this address")]
+    AddressTaken,
     /// The scope of the claims is none.
     #[error("the scope can't be read")]
     BadScope,
@@ -25,6 +29,25 @@ pub enum EnrollError {
     /// There was no memory.
     #[error("out of memory")]
     Memory,
+}
+
+/// Why a proxy can't be added.
+#[derive(Clone, Copy, Debug, PartialEq, Eq, Error)]
+pub enum PlaceError {
+    /// A node stands at its address.
+    #[error("another node stands at this address")]
+    AddressTaken,
+    /// There was no memory.
+    #[error("out of memory")]
+    Memory,
+}
+
+impl From<AllocError> for PlaceError {
+    ghost from_gives = { λ _ e. e ≡ place_variants.Memory };
+
+    fn from(_error: AllocError) -> PlaceError {
+        PlaceError::Memory
+    }
 }
 
 impl From<ScopeError> for EnrollError {

@@ -13,7 +13,7 @@ mod start;
 mod world;
 
 pub use draws::Draws;
-pub use error::EnrollError;
+pub use error::{EnrollError, PlaceError};
 pub use event::{Event, What};
 pub use log::{Record, Sent};
 pub use nodes::{Placed, PlacedProxy};

@@ -1,22 +1,27 @@
 //! Where a world begins.
 ghost use Rattle.std.specs.Prelude.{◌≡◌, ◌<◌, ◌^◌, ◌++◌, ℕ, List, [], ◌∷◌, IfErr, IfOk, OnErr, OnOk, length};
+ghost use Rattle.std.specs.List.{list_any};
 ghost use Rattle.std.specs.Option.{ForSome};
 ghost use Rattle.osc_cbor.specs.Spelling.{spelling};
 ghost use Rattle.osc_cose.specs.Encrypt0.{enc_structure, object_item};
-ghost use Rattle.osc_run.specs.Runs.{IsTextOf};
+ghost use Rattle.osc_message.specs.Confirmables.{same_peer};
+ghost use Rattle.osc_run.specs.Runs.{IsReached, IsTextOf};
 ghost use Rattle.osc_scope.specs.Entries.{Entry, IsScope, scope_of};
 ghost use Rattle.osc_token.specs.Minted.{FitTheirTypes};
 ghost use Rattle.osc_token.specs.Token.{algorithm_header, claims_item, token_object};
-ghost use Rattle.osc_world.specs.Refusals.{FitAToken, HasScope, IsLawful, IsRefusal};
-ghost use Rattle.osc_world.specs.Starts.{Enrols, IsDeskOf, IsEnrolled, begun, new_proxy};
+ghost use Rattle.osc_world.specs.Nodes.{StandApart, is_among};
+ghost use Rattle.osc_world.specs.Refusals.{FitAToken, HasScope, IsFree, IsLawful, IsRefusal, Refuses, RefusesPlace};
+ghost use Rattle.osc_world.specs.Starts.{Enrols, IsDeskOf, IsEnrolled, begun, new_proxy, places_of};
 ghost use Rattle.osc_world.specs.Starting.{AreParts};
+ghost use Rattle.osc_world.specs.Worlds.{run_of};
 
-use crate::error::EnrollError;
+use crate::error::{EnrollError, PlaceError};
 use crate::nodes::{Nodes, Placed, PlacedProxy};
 use crate::world::World;
 use osc_authz::{ClientDesk, ServerDesk};
 use osc_ccm::Aead;
 use osc_client::{Client, Way};
+use osc_message::laws::one_peer;
 use osc_model::{Bytes, Peer};
 use osc_proxy::{Proxy, Targets};
 use osc_run::{Grant, Minted, kinds};
@@ -42,7 +47,8 @@ pub struct Holder {
 }
 
 /// A world before its first event: the resources, what needs no protection, the key that the issuer of tokens and the server share, for
-/// whom tokens are, where the server stands, the clients that were enrolled, and the proxies that were added.
+/// whom tokens are, where the server stands, the clients that were enrolled, and the proxies that were added. No two nodes stand at one
+/// address.
 #[derive(Drop)]
 pub struct Start {
     first: Tree,
@@ -71,10 +77,13 @@ pub struct Parts {
 
 impl Model for Start {
     ghost use Rattle.std.specs.Coded.{codes};
+    ghost use Rattle.std.specs.List.{IsDistinct};
+    ghost use Rattle.osc_message.specs.Confirmables.{same_peer};
     ghost use Rattle.osc_model.specs.Scope.{coded_scope};
     ghost use Rattle.osc_model.specs.Tree.{coded_tree};
     ghost use Rattle.osc_run.specs.Runs.{IsTextOf};
     ghost use Rattle.osc_token.specs.Minted.{FitTheirTypes};
+    ghost use Rattle.osc_world.specs.Nodes.{places};
     ghost use Rattle.osc_world.specs.Starts.{AreEnrolled, Beginning};
 
     ghost Value = { Beginning };
@@ -92,7 +101,7 @@ impl Model for Start {
       proxies = s.proxies.items;
     } };
 
-    ghost invariant = { λ s. AreEnrolled s.minted.items s.clients.items };
+    ghost invariant = { λ s. AreEnrolled s.minted.items s.clients.items × IsDistinct same_peer (places s.server_at s.clients.items s.proxies.items) };
 }
 
 impl Start {
@@ -119,19 +128,42 @@ impl Start {
         }
     }
 
+    /// Whether a node stands there.
+    pub fn is_taken(&self, at: Peer) -> bool
+        ensures { result ≡ is_among at (places_of self.now) }
+    {
+        self.server_at == at || stands_at(&self.clients, at) || forwards_at(&self.proxies, at)
+    }
+
     /// Enrolls a client: its claims are a grant, of which it gets the token. Its number is that of the clients before it.
     ///
     /// # Errors
     ///
-    /// The first that stands: `BadScope` where the scope of its claims is none, `TooLong` where its claims have more than 65535 bytes,
-    /// `Grant` where its input material has a length that no token may have; or `Memory`, whatever its claims are. Then nothing has
-    /// changed.
+    /// The first that stands: `AddressTaken` where a node stands at its address, `BadScope` where the scope of its claims is none,
+    /// `TooLong` where its claims have more than 65535 bytes, `Grant` where its input material has a length that no token may have; or,
+    /// where its address is free, `Memory`, whatever its claims are. Then nothing has changed.
     pub fn enroll<A: Aead>(&mut self, alloc: Global, holder: Holder) -> Result<(), EnrollError>
+        ensures enrolled { OnOk result (Enrols A.is_sealing self.old holder self.new) }
+        ensures free { OnOk result (IsFree self.old holder.at) }
+        ensures lawful { OnOk result (IsLawful holder.claims) }
+        ensures refused { IfErr result (λ error. Refuses self.old holder error) }
+        ensures err { OnErr result (self.new ≡ self.old) }
+    {
+        if self.is_taken(holder.at) {
+            return Err(EnrollError::AddressTaken);
+        }
+        self.admit::<A>(alloc, holder)
+    }
+
+    /// The same of a client whose address is free.
+    fn admit<A: Aead>(&mut self, alloc: Global, holder: Holder) -> Result<(), EnrollError>
+        requires { IsFree self.old holder.at }
         ensures enrolled { OnOk result (Enrols A.is_sealing self.old holder self.new) }
         ensures lawful { OnOk result (IsLawful holder.claims) }
         ensures refused { IfErr result (λ error. IsRefusal holder.claims error) }
         ensures err { OnErr result (self.new ≡ self.old) }
     {
+        one_peer();
         self.minted.reserve(1)?;
         self.clients.reserve(1)?;
         let number = self.clients.len();
@@ -141,12 +173,31 @@ impl Start {
         Ok(())
     }
 
-    /// Adds a proxy that stands there and forwards to these targets. Its number is that of the proxies before it. Without memory all
-    /// stays as it was.
-    pub fn add_proxy(&mut self, alloc: Global, at: Peer, targets: Targets) -> Result<(), AllocError>
+    /// Adds a proxy that stands there and forwards to these targets. Its number is that of the proxies before it.
+    ///
+    /// # Errors
+    ///
+    /// `AddressTaken` where a node stands there, `Memory` where none does and there was no memory. Then nothing has changed.
+    pub fn add_proxy(&mut self, alloc: Global, at: Peer, targets: Targets) -> Result<(), PlaceError>
+        ensures added { OnOk result (self.new ≡ record self.old { proxies = self.old.proxies ++ new_proxy at targets ∷ [] }) }
+        ensures free { OnOk result (IsFree self.old at) }
+        ensures refused { IfErr result (λ error. RefusesPlace self.old at error) }
+        ensures err { OnErr result (self.new ≡ self.old) }
+    {
+        if self.is_taken(at) {
+            return Err(PlaceError::AddressTaken);
+        }
+        self.add(alloc, at, targets)?;
+        Ok(())
+    }
+
+    /// The same where the address is free.
+    fn add(&mut self, alloc: Global, at: Peer, targets: Targets) -> Result<(), AllocError>
+        requires { IsFree self.old at }
         ensures added { OnOk result (self.new ≡ record self.old { proxies = self.old.proxies ++ new_proxy at targets ∷ [] }) }
         ensures err { OnErr result (self.new ≡ self.old) }
     {
+        one_peer();
         self.proxies.reserve(1)?;
         let proxy = Proxy::new(alloc, targets)?;
         self.proxies.push_reserved(PlacedProxy { at, proxy });
@@ -155,7 +206,9 @@ impl Start {
 
     /// The world that begins so. Nothing was sent, and nothing happened yet.
     pub fn begin(self, alloc: Global) -> Result<World, AllocError>
-        ensures { IfOk result (λ world. world ≡ begun self) }
+        ensures begun { IfOk result (λ world. world ≡ begun self) }
+        ensures reached { IfOk result (λ world. IsReached (run_of world)) }
+        ensures apart { IfOk result (λ world. StandApart world.nodes) }
     {
         let Start {
             first,
@@ -196,6 +249,20 @@ impl Start {
             proxies,
         })
     }
+}
+
+/// Whether one of the clients stands there.
+fn stands_at(clients: &[Placed], at: Peer) -> bool
+    ensures { result ≡ list_any (λ placed. same_peer placed.at at) clients.now }
+{
+    clients.iter().any(|placed| placed.at == at)
+}
+
+/// Whether one of the proxies does.
+fn forwards_at(proxies: &[PlacedProxy], at: Peer) -> bool
+    ensures { result ≡ list_any (λ placed. same_peer placed.at at) proxies.now }
+{
+    proxies.iter().any(|placed| placed.at == at)
 }
 
 /// The grant of the claims, and the client that holds it.

@@ -1,5 +1,5 @@
 //! The world.
-ghost use Rattle.std.specs.Prelude.{◌≡◌, ◌↔◌, ◌++◌, [], IfOk, IsTrue, List, OnErr, OnOk, map, option_map, position, reverse, slice_get};
+ghost use Rattle.std.specs.Prelude.{◌≡◌, ◌≢◌, ◌<◌, ◌↔◌, ◌++◌, ℕ, [], false, IfOk, IsTrue, List, OnErr, OnOk, length, map, option_map, position, reverse, slice_get};
 ghost use Rattle.osc_model.specs.Isolation.{Agree, HaveOwnPaths, alone as answers_alone, answered};
 ghost use Rattle.osc_run.specs.History.{acceptances, history as history_of, questions};
 ghost use Rattle.osc_run.specs.States.{grants_of};
@@ -8,11 +8,11 @@ ghost use Rattle.osc_run.specs.Premise.{Premise};
 ghost use Rattle.osc_rounds.specs.AskRound.{IsLawfulServer};
 ghost use Rattle.osc_world.specs.Claims.{HasOneHistory, HasOwnAnswers, KeepsItsNonces};
 ghost use Rattle.osc_world.specs.Log.{settled, waiting};
-ghost use Rattle.osc_world.specs.Nodes.{skipped};
-ghost use Rattle.osc_run.specs.Runs.{IsStart};
-ghost use Rattle.osc_world.specs.Quiet.{Rounds, delivery};
+ghost use Rattle.osc_world.specs.Nodes.{StandApart, skipped};
+ghost use Rattle.osc_run.specs.Runs.{IsReached, IsStart};
+ghost use Rattle.osc_world.specs.Quiet.{AreWhole, Rounds, delivery};
 ghost use Rattle.osc_world.specs.Ready.{AnswersWhatWasAsked, MakesWhatWasBegun};
-ghost use Rattle.osc_world.specs.Worlds.{Happen, Happens, run_with};
+ghost use Rattle.osc_world.specs.Worlds.{Happen, Happens, run_of, run_with};
 ghost use Rattle.osc_world.specs.declared.event.Event.{Event as AnyEvent};
 
 use crate::draws::Draws;
@@ -30,7 +30,8 @@ use osc_tree::Tree;
 use std::alloc::{AllocError, Global};
 use std::marker::Model;
 
-/// A server, its clients and proxies, each datagram that was ever sent, and what is noted of each step.
+/// A server, its clients and proxies, each datagram that was ever sent, and what is noted of each step. No two nodes stand at one
+/// address.
 ///
 /// Whatever happens in it, there is one history, where what is assumed holds: that whatever opened was sealed before by the other end
 /// of its context, or minted; that no drawn nonce came twice; and that no two grants share a secret. See [`World::premise_holds`].
@@ -55,6 +56,7 @@ impl Drop for World {
 
 impl Model for World {
     ghost use Rattle.osc_run.specs.Runs.{IsReached};
+    ghost use Rattle.osc_world.specs.Nodes.{StandApart};
     ghost use Rattle.osc_world.specs.Quiet.{Rounds, delivery};
     ghost use Rattle.osc_world.specs.Ready.{AnswersWhatWasAsked, MakesWhatWasBegun};
     ghost use Rattle.osc_world.specs.Worlds.{State, run_of, world_of};
@@ -68,14 +70,17 @@ impl Model for World {
 
     ghost view = { λ w. world_of w.minted.items w.first w.nodes w.log };
 
-    ghost invariant = { λ w. IsReached (run_of (world_of w.minted.items w.first w.nodes w.log)) };
+    ghost invariant = { λ w. IsReached (run_of (world_of w.minted.items w.first w.nodes w.log)) × StandApart w.nodes };
 }
 
 impl World {
     /// A world of these nodes, in which nothing happened yet; takes no memory.
     pub(crate) fn begun(alloc: Global, minted: Vec<Minted>, first: Tree, nodes: Nodes) -> World
-        requires { IsStart (run_with minted.items first nodes []) }
-        ensures { result ≡ record { minted = minted.items; first = first; nodes = nodes; sent = []; steps = []; records = [] } }
+        requires start { IsStart (run_with minted.items first nodes []) }
+        requires apart { StandApart nodes }
+        ensures begun { result ≡ record { minted = minted.items; first = first; nodes = nodes; sent = []; steps = []; records = [] } }
+        ensures reached { IsReached (run_of result) }
+        ensures apart { StandApart result.nodes }
     {
         World {
             minted,
@@ -88,6 +93,8 @@ impl World {
     /// One event. Without memory an `AllocError`; then nothing has changed.
     pub fn step<A: Aead>(&mut self, alloc: Global, event: &Event) -> Result<(), AllocError>
         ensures happens { OnOk result (Happens A.is_sealing A.TAG self.old event.now self.new) }
+        ensures reached { IsReached (run_of self.new) }
+        ensures apart { StandApart self.new.nodes }
         ensures one_history { HasOneHistory self.new }
         ensures own_nonces { KeepsItsNonces self.new }
         ensures own_answers { HasOwnAnswers self.new }
@@ -124,7 +131,9 @@ impl World {
     /// resources, up to the first that is for want of memory or of room ([`World::alone`]).
     pub fn run<A: Aead>(&mut self, alloc: Global, events: &[Event]) -> Result<(), AllocError>
         ensures happen { (done rest : List AnyEvent) × (events.now ≡ done ++ rest) × Happen A.is_sealing A.TAG self.old done self.new
-            × OnOk result (rest ≡ []) }
+            × OnOk result (rest ≡ []) × OnErr result (rest ≢ []) }
+        ensures reached { IsReached (run_of self.new) }
+        ensures apart { StandApart self.new.nodes }
         ensures one_history { HasOneHistory self.new }
         ensures own_nonces { KeepsItsNonces self.new }
         ensures own_answers { HasOwnAnswers self.new }
@@ -140,7 +149,7 @@ impl World {
 
     fn happen<A: Aead>(&mut self, alloc: Global, events: &[Event]) -> Result<(), AllocError>
         ensures { (done rest : List AnyEvent) × (events.now ≡ done ++ rest) × Happen A.is_sealing A.TAG self.old done self.new
-            × OnOk result (rest ≡ []) }
+            × OnOk result (rest ≡ []) × OnErr result (rest ≢ []) }
     {
         for event in events {
             self.happens::<A>(alloc, event)?;
@@ -149,7 +158,8 @@ impl World {
     }
 
     /// A quiet round: each datagram that was neither delivered nor dropped is delivered, in order of sending, until none is left, or so
-    /// many were. Whether none is left; for want of memory an `AllocError`, and the deliveries before it stand.
+    /// many were. Whether none is left; an `AllocError` at the first for whose delivery memory is wanting: the deliveries before it stand,
+    /// and it waits.
     ///
     /// Behind an exchange or a request that goes straight to the server, in a world that was at rest before, two deliveries are the whole
     /// round: the exchange makes a context of one name at both ends, with the token's scope; and the request is served once, by what the
@@ -162,8 +172,11 @@ impl World {
         limit: usize,
     ) -> Result<bool, AllocError>
         ensures rounds { IfOk result (λ quiet. Rounds A.is_sealing A.TAG (D.drawn draws.now) now limit self.old quiet self.new) }
-        ensures begun { IfOk result (λ quiet. MakesWhatWasBegun A.is_sealing A.TAG (D.drawn draws.now) now limit self.old quiet self.new) }
+        ensures stopped { OnErr result ((some : ℕ) × (some < limit) × Rounds A.is_sealing A.TAG (D.drawn draws.now) now some self.old false self.new) }
+        ensures begun { IfOk result (λ quiet. MakesWhatWasBegun A.is_sealing A.TAG now limit self.old quiet self.new) }
         ensures asked { IfOk result (λ quiet. AnswersWhatWasAsked A.is_sealing A.TAG now limit self.old quiet self.new) }
+        ensures reached { IsReached (run_of self.new) }
+        ensures apart { StandApart self.new.nodes }
         ensures one_history { HasOneHistory self.new }
         ensures own_nonces { KeepsItsNonces self.new }
         ensures own_answers { HasOwnAnswers self.new }
@@ -173,16 +186,17 @@ impl World {
         own_answers();
         an_exchanged_round::<A>();
         an_asked_round::<A>();
-        self.has_a_lawful_server();
+        self.is_lawful();
         let done = self.rounds::<A, D>(alloc, now, draws, limit);
         // The clauses of runs are the world's invariant after it.
         let _ = &self.minted;
         done
     }
 
-    // For proofs: what is true of each server. Does nothing.
-    fn has_a_lawful_server(&self)
-        ensures { IsLawfulServer self.now.nodes.server }
+    // For proofs: what is true of each world. Does nothing.
+    fn is_lawful(&self)
+        ensures server { IsLawfulServer self.now.nodes.server }
+        ensures apart { StandApart self.now.nodes }
     {
         self.nodes.has_a_lawful_server();
     }
@@ -194,13 +208,16 @@ impl World {
         draws: &D,
         limit: usize,
     ) -> Result<bool, AllocError>
-        ensures { IfOk result (λ quiet. Rounds A.is_sealing A.TAG (D.drawn draws.now) now limit self.old quiet self.new) }
+        ensures rounds { IfOk result (λ quiet. Rounds A.is_sealing A.TAG (D.drawn draws.now) now limit self.old quiet self.new) }
+        ensures stopped { OnErr result ((some : ℕ) × (some < limit) × Rounds A.is_sealing A.TAG (D.drawn draws.now) now some self.old false self.new) }
+        ensures whole { OnOk result (AreWhole (D.drawn draws.now) self.old self.new) }
     {
         for _ in 0..limit {
             let Some(datagram) = self.next_waiting() else {
                 return Ok(true);
             };
             let draw = draws.draw(self.log.records().len());
+            is_whole(&draw);
             self.delivers::<A>(alloc, now, draw, datagram)?;
         }
         Ok(self.next_waiting().is_none())
@@ -228,6 +245,7 @@ impl World {
     /// The requests that were served, the oldest first. Without memory there is no list.
     pub fn history(&self, alloc: Global) -> Result<Vec<&Entry>, AllocError>
         ensures history { IfOk result (λ all. map (λ entry. entry.now) all.items ≡ history_of self.now.steps) }
+        ensures reached { IsReached (run_of self.now) }
         ensures one_history { HasOneHistory self.now }
         ensures own_answers { HasOwnAnswers self.now }
     {
@@ -257,15 +275,19 @@ impl World {
     /// The requests that clients sealed, or their holders in a lie, the oldest first. Without memory there is no list.
     pub fn asked(&self, alloc: Global) -> Result<Vec<Question<'_>>, AllocError>
         ensures asked { IfOk result (λ all. all.items ≡ questions self.now.steps) }
+        ensures reached { IsReached (run_of self.now) }
         ensures one_history { HasOneHistory self.now }
+        ensures own_nonces { KeepsItsNonces self.now }
     {
         one_history();
+        own_nonces();
         self.log.notes().asked(alloc)
     }
 
     /// The replies that clients accepted, the oldest first. Without memory there is no list.
     pub fn accepted(&self, alloc: Global) -> Result<Vec<Acceptance<'_>>, AllocError>
         ensures accepted { IfOk result (λ all. all.items ≡ acceptances self.now.steps) }
+        ensures reached { IsReached (run_of self.now) }
         ensures one_history { HasOneHistory self.now }
     {
         one_history();
@@ -284,6 +306,7 @@ impl World {
     /// The server's resources.
     pub fn tree(&self) -> &Tree
         ensures tree { result.now ≡ self.now.nodes.server.tree }
+        ensures reached { IsReached (run_of self.now) }
         ensures one_history { HasOneHistory self.now }
     {
         one_history();
@@ -294,14 +317,16 @@ impl World {
 
     /// The server.
     pub fn server(&self) -> &Server
-        ensures { result.now ≡ self.now.nodes.server }
+        ensures server { result.now ≡ self.now.nodes.server }
+        ensures apart { StandApart self.now.nodes }
     {
         self.nodes.server()
     }
 
     /// The client of this number, and where it stands, if there is one.
     pub fn client(&self, number: usize) -> Option<&Placed>
-        ensures { option_map (λ placed. placed.now) result ≡ slice_get self.now.nodes.clients number }
+        ensures client { option_map (λ placed. placed.now) result ≡ slice_get self.now.nodes.clients number }
+        ensures apart { StandApart self.now.nodes }
     {
         self.nodes.client(number)
     }
@@ -309,6 +334,7 @@ impl World {
     /// The resources that the world began with.
     pub fn first_tree(&self) -> &Tree
         ensures tree { result.now ≡ self.now.first }
+        ensures reached { IsReached (run_of self.now) }
         ensures one_history { HasOneHistory self.now }
     {
         one_history();
@@ -329,10 +355,18 @@ impl World {
         self.log.sent()
     }
 
-    /// What each step noted, the oldest first.
+    /// What each step noted, the oldest first: a run, of which there is one history and whose seals keep their nonces, where what is
+    /// assumed holds.
     pub fn steps(&self) -> &[Noted]
-        ensures { reverse result.now ≡ self.now.steps }
+        ensures steps { reverse result.now ≡ self.now.steps }
+        ensures reached { IsReached (run_of self.now) }
+        ensures one_history { HasOneHistory self.now }
+        ensures own_nonces { KeepsItsNonces self.now }
+        ensures own_answers { HasOwnAnswers self.now }
     {
+        one_history();
+        own_nonces();
+        own_answers();
         self.log.notes().steps()
     }
 
@@ -368,6 +402,8 @@ impl World {
     /// or has no context.
     pub fn skip(&mut self, client: usize, number: u64)
         ensures skipped { self.new ≡ record self.old { nodes = skipped client number self.old.nodes } }
+        ensures reached { IsReached (run_of self.new) }
+        ensures apart { StandApart self.new.nodes }
         ensures one_history { HasOneHistory self.new }
         ensures own_nonces { KeepsItsNonces self.new }
         ensures own_answers { HasOwnAnswers self.new }
@@ -385,4 +421,11 @@ impl World {
     {
         self.nodes.skip(client, number);
     }
+}
+
+/// For proofs: how many bytes are drawn. Does nothing.
+fn is_whole(draw: &Draw)
+    ensures { length draw.now.0 ≡ 32 }
+{
+    let _ = &draw.0;
 }

@@ -1,7 +1,9 @@
-use Rattle.std.proofs.Common.{◌≡◌, ◌+◌, ◌++◌, ◌∷◌, [], take, drop, refl, sym, ap, ◌∙◌, subst, append-nil, rules, arith}
-use Rattle.std.proofs.lemmas.List.{take_all, take_more, take-append-drop}
+use Rattle.std.proofs.Common.{◌≡◌, ◌+◌, ◌++◌, ◌∷◌, [], take, drop, refl, sym, ap, ◌∙◌, subst, append-nil, length, rules, arith}
+use Rattle.std.specs.Prelude.{◌≢◌}
+use Rattle.std.proofs.lemmas.List.{length-drop, take_all, take_more, take-append-drop}
 use Rattle.osc_world.specs.Worlds.{Happen}
 use Rattle.osc_world.proofs.Going.{happen_more}
+use Rattle.osc_world.proofs.Rounds.{on_err}
 use Rattle.osc_world.proofs.world.World.happen.Goals as goal
 
 pub loop-event-init : goal.loop-event-init
@@ -27,6 +29,7 @@ returns-in_err-happens g c =
       sym (take-append-drop here.event-index events),
       subst (λ s. Happen g.A.Aead.is_sealing g.A.Aead.TAG c.args.self.now (take here.event-index events) s) (sym c.in_err-happens.ensures.err) here.invariant,
       search rules,
+      on_err c.from_residual.result (drop here.event-index events ≢ []) (λ none. absurd (omega (arith, c.loop-event-test.true, length-drop here.event-index events, ap length none))),
     )
 
 pub returns : goal.returns
@@ -38,4 +41,5 @@ returns g c =
       sym (append-nil events),
       subst (λ es. Happen g.A.Aead.is_sealing g.A.Aead.TAG c.args.self.now es here.self) (take_all here.event-index events (omega (arith, c.loop-event-test.false))) here.invariant,
       refl,
+      search rules,
     )

@@ -1,14 +1,17 @@
 use Rattle.std.proofs.Common.{ap, ◌∙◌, subst}
 use Rattle.osc_world.specs.Nodes.{whose_step}
 use Rattle.osc_world.specs.Steps.{Takes}
+use Rattle.osc_world.proofs.Apart.{apart_after}
 use Rattle.osc_world.proofs.Going.{reached_after, happened}
 use Rattle.osc_world.proofs.world.World.happens.Goals as goal
 
 pub invariant_of-self-2 : goal.invariant_of-self-2
 invariant_of-self-2 g c =
-    let w = c.self.inside in
-    reached_after w.minted.items w.first w.nodes c.take.new.self w.log.steps c.reserve.new.self.steps c.keep.new.self.steps c.args.event.now.moment c.in_ok-taken.taken
-    c.in_ok-taken.ensures.step c.reserve.ensures.steps c.keep.ensures.steps c.self.invariant
+    let w = c.self.inside in (
+      reached_after w.minted.items w.first w.nodes c.take.new.self w.log.steps c.reserve.new.self.steps c.keep.new.self.steps c.args.event.now.moment c.in_ok-taken.taken
+          c.in_ok-taken.ensures.step c.reserve.ensures.steps c.keep.ensures.steps c.self.invariant.0,
+      apart_after g.A.Aead.is_sealing g.A.Aead.TAG w.nodes c.take.new.self c.whose-whose.result c.sent-2.result.now c.args.event.now c.in_ok-taken.taken c.in_ok-taken.ensures.takes c.self.invariant.1,
+    )
 
 pub returns-clause-happens : goal.returns-clause-happens
 returns-clause-happens g c =

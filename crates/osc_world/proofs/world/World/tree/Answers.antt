@@ -1,7 +1,10 @@
 use Rattle.std.proofs.Common.{subst}
 use Rattle.osc_run.specs.Runs.{IsReached}
-use Rattle.osc_world.specs.Worlds.{run_of}
+use Rattle.osc_world.specs.Worlds.{State, run_of}
 use Rattle.osc_world.proofs.world.World.tree.Goals as goal
 
 pub returns-clause-one_history : goal.returns-clause-one_history
-returns-clause-one_history c = c.one_history.ensures (run_of c.args.self.now) (subst (λ w. IsReached (run_of w)) c.self.view_is c.self.invariant)
+returns-clause-one_history c = c.one_history.ensures (run_of c.args.self.now) (subst (λ (w : State). IsReached (run_of w)) c.self.view_is c.self.invariant.0)
+
+pub returns-clause-reached : goal.returns-clause-reached
+returns-clause-reached c = subst (λ (w : State). IsReached (run_of w)) c.self.view_is c.self.invariant.0

@@ -1,7 +1,10 @@
-use Rattle.std.proofs.Common.{◌≡◌, ◌++◌, ◌∷◌, [], ap, ◌∙◌, subst, length, rules}
-use Rattle.osc_world.specs.Starts.{IsEnrolled}
+use Rattle.std.proofs.Common.{◌≡◌, ◌++◌, ◌∷◌, [], false, ap, ◌∙◌, subst, length, rules}
+use Rattle.osc_model.specs.declared.node.Peer.{Peer}
+use Rattle.osc_world.specs.Nodes.{is_among, places}
+use Rattle.osc_world.specs.Starts.{Beginning, IsEnrolled, places_of}
+use Rattle.osc_world.proofs.Apart.{one_more_client}
 use Rattle.osc_world.proofs.Enrolling.{enrolled_more, enrols}
-use Rattle.osc_world.proofs.start.Start.enroll.Goals as goal
+use Rattle.osc_world.proofs.start.Start.admit.Goals as goal
 
 pub invariant_of-self-2 : goal.invariant_of-self-2
 invariant_of-self-2 g c =
@@ -14,7 +17,14 @@ invariant_of-self-2 g c =
     let all : c.push_reserved.new.self.items ≡ s.minted.items ++ minted ∷ [] = c.push_reserved.ensures.items ∙ ap (λ xs. xs ++ minted ∷ []) c.reserve.ensures.items in
     let others : c.push_reserved-2.new.self.items ≡ s.clients.items ++ placed ∷ [] =
     c.push_reserved-2.ensures.items ∙ ap (λ xs. xs ++ placed ∷ []) c.reserve-2.ensures.items in
-    rw (all, others) (enrolled_more g.A.Aead.is_sealing s.key c.args.holder s.minted.items s.clients.items minted placed c.self.invariant is c.in_ok-minted.ensures.text)
+    let at : placed.at ≡ c.args.holder.at = c.in_ok-minted.ensures.enrolled.client.at in
+    let free : is_among placed.at (places s.server_at s.clients.items s.proxies.items) ≡ false =
+    ap (λ (p : Peer). is_among p (places s.server_at s.clients.items s.proxies.items)) at
+    ∙ ap (λ (start : Beginning). is_among c.args.holder.at (places_of start)) c.self.view_is ∙ c.requires in
+    rw (all, others) (
+      enrolled_more g.A.Aead.is_sealing s.key c.args.holder s.minted.items s.clients.items minted placed c.self.invariant.0 is c.in_ok-minted.ensures.text,
+      one_more_client c.one_peer.ensures.same c.one_peer.ensures.itself s.server_at s.clients.items s.proxies.items placed free c.self.invariant.1,
+    )
 
 pub returns-clause-enrolled : goal.returns-clause-enrolled
 returns-clause-enrolled g c =
