@@ -1,15 +1,13 @@
 -- What look-ups over a table find.
-use Rattle.std.proofs.Common.{◌≡◌, ℕ, zero, suc, ◌+◌, ◌-◌, ◌<◌, ◌≤◌, Bool, true, false, not, cond, List, [], ◌∷◌, ◌++◌, length, map, get_or, set, take, drop, Option, Some, None, refl, sym, ap, ap₂, ◌∙◌, arith, position, nat_lt}
-use Rattle.std.specs.List.{All, AllByRecursion, IsDistinct, find, position_or_len}
-use Rattle.std.specs.Option.{IfSome}
+use Rattle.std.proofs.Common.{◌≡◌, ℕ, zero, suc, ◌+◌, ◌<◌, ◌≤◌, Bool, true, false, not, ◌||◌, cond, List, [], ◌∷◌, ◌++◌, length, map, get_or, set, Option, Some, None, option_map, refl, sym, ap, ap₂, ◌∙◌, arith, position, nat_lt}
+use Rattle.std.specs.List.{AllByRecursion, IsDistinct, find, position_or_len}
+use Rattle.std.specs.Option.{IfSome, option_map_or}
 use Rattle.std.specs.Str.{bytes_eq}
-use Rattle.std.proofs.lemmas.Bool.{both_ways, ltb-true, ltb-false}
-use Rattle.std.proofs.lemmas.List.{length-map, length-take-le, get_or-append_right, get_or-drop}
-use Rattle.std.proofs.lemmas.List.Elements.{All-from_recursion, recursion_from_All}
+use Rattle.std.proofs.lemmas.Bool.{both_ways, cond-false, cond-true, ltb-true, ltb-false}
 use Rattle.std.proofs.lemmas.Slice.Eq.{bytes_eq-Decides}
 use Rattle.osc_authz.specs.declared.holding.Holding.{Holding}
 use Rattle.osc_authz.specs.Held.{Held}
-use Rattle.osc_authz.specs.Table.{IsTable, contexts, has_id, listed, with_id, with_pending}
+use Rattle.osc_authz.specs.Table.{IsTable, accepted, accepted_in, contexts, has_id, holds_id, ids, listed, taking, with_id, with_pending}
 
 -- ---- a request opened
 
@@ -41,17 +39,6 @@ in_holding P (holding ∷ table) zero d within all =
 in_holding P (holding ∷ table) (suc i) d within all =
     in_holding P table i d (omega arith) (each_back P (listed holding.confirmed ++ listed holding.pending) (contexts table) all)
 
--- a holding that the loop over a table has yet to come to
-pub both_fresh : (P : Held → Type 0) (change : Holding → Holding) (table now : List Holding) (i : ℕ) (d : Holding) → i < length table
-    → now ≡ map change (take i table) ++ drop i table → All P (contexts table) → HoldOf P (get_or now i d)
-both_fresh P change table now i d within done all =
-    let front : length (map change (take i table)) ≡ i = length-map (take i table) change ∙ length-take-le i table (omega arith) in
-    let place : i + (i - i) ≡ i = omega arith in
-    let at : get_or now i d ≡ get_or table i d =
-    ap (λ xs. get_or xs i d) done ∙ get_or-append_right (map change (take i table)) (drop i table) i i d front (omega arith) ∙ get_or-drop i table (i - i) d ∙ ap (λ k. get_or table k d) place
-    in
-    rw at (in_holding P table i d within (recursion_from_All P (contexts table) all))
-
 -- Recipient IDs stand once: what holds of the context that is found holds of all with its ID.
 found_alone : (P : Held → Type 0) (id : List ℕ) (held : Held) (xs : List Held) → IsDistinct bytes_eq (map (λ context. context.name.client_id) xs)
     → find (has_id id) xs ≡ Some held → P held → AllByRecursion (λ context. has_id id context ≡ true → P context) xs
@@ -73,10 +60,220 @@ found_alone P id held (x ∷ xs) apart found here = by (has_id id x) refl found 
         (λ again. rw it here, no_other same xs apart.0)
     by false other is up = (λ has. absurd (both_ways (has_id id x) other has), up is here)
 
-pub all_fresh : (P : Held → Type 0) (id : List ℕ) (table : List Holding) (held : Held) → IsTable table → with_id id table ≡ Some held → P held
-    → All (λ context. has_id id context ≡ true → P context) (contexts table)
-all_fresh P id table held is_table found here =
-    All-from_recursion (λ context. has_id id context ≡ true → P context) (contexts table) (found_alone P id held (contexts table) is_table.own_ids found here)
+-- ---- where a recipient ID stands
+
+-- The holding that has the ID is the only one: no other is changed.
+module _ (id : List ℕ) (number : ℕ) where
+  abbrev client_ids : List Held → List (List ℕ)
+  client_ids xs = map (λ held. held.name.client_id) xs
+
+  -- none of these contexts has the ID
+  abbrev IsNone : List Held → Type 0
+  IsNone xs = AllByRecursion (λ y. bytes_eq id y ≡ false) (client_ids xs)
+
+  none_of : (held : Held) (xs : List Held) → has_id id held ≡ true → AllByRecursion (λ y. bytes_eq held.name.client_id y ≡ false) (client_ids xs) → IsNone xs
+  none_of held xs has all = rw ((bytes_eq-Decides id held.name.client_id).0 has) all
+
+  others : (c p : Option Held) (rest : List Held) → IsDistinct bytes_eq (client_ids (listed c ++ listed p ++ rest))
+      → (option_map_or (has_id id) c false || option_map_or (has_id id) p false) ≡ true → IsNone rest
+  unfolding IsDistinct
+  others None None rest apart has = absurd (cc)
+  others None (Some held) rest apart has = none_of held rest has apart.0
+  others (Some held) None rest apart has = by (has_id id held) refl has
+    where
+      by : (b : Bool) → has_id id held ≡ b → (b || false) ≡ true → IsNone rest
+      by true t e = none_of held rest t apart.0
+      by false t e = absurd (cc)
+  others (Some held) (Some other) rest apart has = by (has_id id held) refl has
+    where
+      by : (b : Bool) → has_id id held ≡ b → (b || has_id id other) ≡ true → IsNone rest
+      by true t e = none_of held rest t apart.0.1
+      by false t e = none_of other rest e apart.1.0
+
+  rest_apart : (c p : Option Held) (rest : List Held) → IsDistinct bytes_eq (client_ids (listed c ++ listed p ++ rest)) → IsDistinct bytes_eq (client_ids rest)
+  unfolding IsDistinct
+  rest_apart None None rest apart = apart
+  rest_apart None (Some held) rest apart = apart.1
+  rest_apart (Some held) None rest apart = apart.1
+  rest_apart (Some held) (Some other) rest apart = apart.1.1
+
+  untouched : (holding : Holding) → holds_id id holding ≡ false → accepted_in id number holding ≡ holding
+  untouched holding none = by (option_map_or (has_id id) holding.confirmed false) (option_map_or (has_id id) holding.pending false) none
+    where
+      by : (c p : Bool) → (c || p) ≡ false
+          → cond p (record holding { confirmed = option_map (taking number) holding.pending; pending = None }) (cond c (record holding { confirmed = option_map (taking number) holding.confirmed }) holding) ≡ holding
+      by true p e = absurd (cc)
+      by false true e = absurd (cc)
+      by false false e = refl
+
+  neither : (c p : Option Held) (rest : List Held) → IsNone (listed c ++ listed p ++ rest)
+      → ((option_map_or (has_id id) c false || option_map_or (has_id id) p false) ≡ false) × IsNone rest
+  neither None None rest none = (refl, none)
+  neither None (Some held) rest none = (none.0, none.1)
+  neither (Some held) None rest none = (ap (λ b. b || false) none.0, none.1)
+  neither (Some held) (Some other) rest none = (ap₂ (λ (b c : Bool). b || c) none.0 none.1.0, none.1.1)
+
+  all_untouched : (table : List Holding) → IsNone (contexts table) → accepted id number table ≡ table
+  all_untouched [] none = refl
+  all_untouched (holding ∷ table) none =
+      let parts = neither holding.confirmed holding.pending (contexts table) none in
+      ap₂ (λ (h : Holding) (t : List Holding). h ∷ t) (untouched holding parts.0) (all_untouched table parts.1)
+
+  accepted_within : (table : List Holding) (d : Holding) → IsDistinct bytes_eq (ids table) → position_or_len (holds_id id) table < length table
+      → set table (position_or_len (holds_id id) table) (accepted_in id number (get_or table (position_or_len (holds_id id) table) d)) ≡ accepted id number table
+  accepted_within [] d apart within = absurd (omega arith)
+  accepted_within (holding ∷ table) d apart within =
+      by (holds_id id holding) refl (1 + rest) (omega arith) within (accepted_within table d (rest_apart holding.confirmed holding.pending (contexts table) apart))
+    where
+      rest : ℕ
+      rest = position_or_len (holds_id id) table
+
+      by : (b : Bool) → holds_id id holding ≡ b → (n : ℕ) → n ≡ suc rest → cond (not b) n 0 < suc (length table)
+          → (rest < length table → set table rest (accepted_in id number (get_or table rest d)) ≡ accepted id number table)
+          → set (holding ∷ table) (cond (not b) n 0) (accepted_in id number (get_or (holding ∷ table) (cond (not b) n 0) d)) ≡ accepted_in id number holding ∷ accepted id number table
+      by true has n is inside up =
+          ap (λ t. accepted_in id number holding ∷ t) (sym (all_untouched table (others holding.confirmed holding.pending (contexts table) apart has)))
+      by false has n is inside up = rw is (ap₂ (λ (h : Holding) (t : List Holding). h ∷ t) (sym (untouched holding has)) (up (omega (arith, is, inside))))
+
+  -- the holding at the place of the ID
+  pub accepted_here : (table : List Holding) (i : ℕ) (d : Holding) → IsTable table → position (holds_id id) table ≡ Some i
+      → set table i (accepted_in id number (get_or table i d)) ≡ accepted id number table
+  accepted_here table i d is_table found = by (nat_lt place (length table)) refl found
+    where
+      place : ℕ
+      place = position_or_len (holds_id id) table
+
+      by : (b : Bool) → nat_lt place (length table) ≡ b → cond b (Some place) None ≡ Some i → set table i (accepted_in id number (get_or table i d)) ≡ accepted id number table
+      by true inside is =
+          let same : place ≡ i = cc in
+          ap (λ (k : ℕ). set table k (accepted_in id number (get_or table k d))) (sym same)
+          ∙ accepted_within table d is_table.own_ids (ltb-true place (length table) inside)
+      by false outside is = let none : None ≡ Some i = is in absurd (cc)
+
+  found_within : (table : List Holding) (d : Holding) → position_or_len (holds_id id) table < length table
+      → holds_id id (get_or table (position_or_len (holds_id id) table) d) ≡ true
+  found_within [] d within = absurd (omega arith)
+  found_within (holding ∷ table) d within = by (holds_id id holding) refl (1 + rest) (omega arith) within (found_within table d)
+    where
+      rest : ℕ
+      rest = position_or_len (holds_id id) table
+
+      by : (b : Bool) → holds_id id holding ≡ b → (n : ℕ) → n ≡ suc rest → cond (not b) n 0 < suc (length table)
+          → (rest < length table → holds_id id (get_or table rest d) ≡ true)
+          → holds_id id (get_or (holding ∷ table) (cond (not b) n 0) d) ≡ true
+      by true has n is inside up = has
+      by false has n is inside up = rw is (up (omega (arith, is, inside)))
+
+  -- it is in the table, and has the ID
+  pub found_here : (table : List Holding) (i : ℕ) (d : Holding) → position (holds_id id) table ≡ Some i
+      → (i < length table) × (holds_id id (get_or table i d) ≡ true)
+  found_here table i d found = by (nat_lt place (length table)) refl found
+    where
+      place : ℕ
+      place = position_or_len (holds_id id) table
+
+      by : (b : Bool) → nat_lt place (length table) ≡ b → cond b (Some place) None ≡ Some i → (i < length table) × (holds_id id (get_or table i d) ≡ true)
+      by true inside is =
+          let same : place ≡ i = cc in
+          let within : place < length table = ltb-true place (length table) inside in
+          (omega (arith, same, within), ap (λ (k : ℕ). holds_id id (get_or table k d)) (sym same) ∙ found_within table d within)
+      by false outside is = let none : None ≡ Some i = is in absurd (cc)
+
+  -- where a context has the ID, there is a place
+  misses : (c p : Option Held) (rest : List Held) → (option_map_or (has_id id) c false || option_map_or (has_id id) p false) ≡ false
+      → find (has_id id) (listed c ++ listed p ++ rest) ≡ find (has_id id) rest
+  misses None None rest none = refl
+  misses None (Some held) rest none = cond-false (has_id id held) (Some held) (find (has_id id) rest) none
+  misses (Some held) None rest none = by (has_id id held) refl none
+    where
+      by : (b : Bool) → has_id id held ≡ b → (b || false) ≡ false → cond b (Some held) (find (has_id id) rest) ≡ find (has_id id) rest
+      by true t e = absurd (cc)
+      by false t e = refl
+  misses (Some held) (Some other) rest none = by (has_id id held) (has_id id other) none
+    where
+      by : (b c : Bool) → (b || c) ≡ false → cond b (Some held) (cond c (Some other) (find (has_id id) rest)) ≡ find (has_id id) rest
+      by true c e = absurd (cc)
+      by false true e = absurd (cc)
+      by false false e = refl
+
+  has_place : (table : List Holding) (held : Held) → with_id id table ≡ Some held → length table ≤ position_or_len (holds_id id) table → ⊥
+  has_place [] held found none = let no : None ≡ Some held = found in absurd (cc)
+  has_place (holding ∷ table) held found none = by (holds_id id holding) refl (1 + rest) (omega arith) none (has_place table held)
+    where
+      rest : ℕ
+      rest = position_or_len (holds_id id) table
+
+      by : (b : Bool) → holds_id id holding ≡ b → (n : ℕ) → n ≡ suc rest → suc (length table) ≤ cond (not b) n 0
+          → (with_id id table ≡ Some held → length table ≤ rest → ⊥) → ⊥
+      by true has n is past up = absurd (omega arith)
+      by false has n is past up = up (sym (misses holding.confirmed holding.pending (contexts table) has) ∙ found) (omega (arith, is, past))
+
+  pub is_placed : (table : List Holding) (held : Held) → with_id id table ≡ Some held → position (holds_id id) table ≡ None → ⊥
+  is_placed table held found none = by (nat_lt place (length table)) refl none
+    where
+      place : ℕ
+      place = position_or_len (holds_id id) table
+
+      by : (b : Bool) → nat_lt place (length table) ≡ b → cond b (Some place) None ≡ None → ⊥
+      by true inside is = let some : Some place ≡ None = is in absurd (cc)
+      by false outside is = has_place table held found (ltb-false place (length table) outside)
+
+  -- ---- it is found again, with its number taken
+
+  -- the contexts of a holding, and others
+  abbrev before : Holding → List Held → List Held
+  before holding later = listed holding.confirmed ++ listed holding.pending ++ later
+
+  taken_one : (held other : Held) (rest : List Held) → has_id id other ≡ true → Some other ≡ Some held → find (has_id id) (taking number other ∷ rest) ≡ Some (taking number held)
+  taken_one held other rest has same =
+      let it : other ≡ held = cc in
+      cond-true (has_id id other) (Some (taking number other)) (find (has_id id) rest) has ∙ ap (λ h. Some (taking number h)) it
+
+  found_in : (i : List ℕ) (c p : Option Held) (rest later : List Held) (held : Held) → IsDistinct bytes_eq (client_ids (listed c ++ listed p ++ rest))
+      → (option_map_or (has_id id) c false || option_map_or (has_id id) p false) ≡ true → find (has_id id) (listed c ++ listed p ++ rest) ≡ Some held
+      → find (has_id id) (before (accepted_in id number (record { id = i; confirmed = c; pending = p })) later) ≡ Some (taking number held)
+  unfolding IsDistinct
+  found_in i None None rest later held apart has found = absurd (cc)
+  found_in i None (Some other) rest later held apart has found = by (has_id id other) has
+    where
+      by : (b : Bool) → b ≡ true
+          → find (has_id id) (before (cond b (record { id = i; confirmed = Some (taking number other); pending = None }) (record { id = i; confirmed = None; pending = Some other })) later) ≡ Some (taking number held)
+      by true t = taken_one held other later has (sym (cond-true (has_id id other) (Some other) (find (has_id id) rest) has) ∙ found)
+      by false t = absurd (cc)
+  found_in i (Some other) None rest later held apart has found = by (has_id id other) refl has
+    where
+      by : (b : Bool) → has_id id other ≡ b → (b || false) ≡ true
+          → find (has_id id) (before (cond b (record { id = i; confirmed = Some (taking number other); pending = None }) (record { id = i; confirmed = Some other; pending = None })) later) ≡ Some (taking number held)
+      by true t e = taken_one held other later t (sym (cond-true (has_id id other) (Some other) (find (has_id id) rest) t) ∙ found)
+      by false t e = absurd (cc)
+  found_in i (Some first) (Some second) rest later held apart has found = by (has_id id first) (has_id id second) refl refl has
+    where
+      by : (b d : Bool) → has_id id first ≡ b → has_id id second ≡ d → (b || d) ≡ true
+          → find (has_id id) (before (cond d (record { id = i; confirmed = Some (taking number second); pending = None }) (cond b (record { id = i; confirmed = Some (taking number first); pending = Some second }) (record { id = i; confirmed = Some first; pending = Some second }))) later) ≡ Some (taking number held)
+      by true true t u e = absurd (both_ways (has_id id second) (none_of first (second ∷ rest) t apart.0).0 u)
+      by true false t u e = taken_one held first (second ∷ later) t (sym (cond-true (has_id id first) (Some first) (find (has_id id) (second ∷ rest)) t) ∙ found)
+      by false true t u e =
+          taken_one held second later u
+          (sym (cond-true (has_id id second) (Some second) (find (has_id id) rest) u) ∙ sym (cond-false (has_id id first) (Some first) (find (has_id id) (second ∷ rest)) t) ∙ found)
+      by false false t u e = absurd (cc)
+
+  pub found_again : (table : List Holding) (held : Held) → IsDistinct bytes_eq (ids table) → with_id id table ≡ Some held → with_id id (accepted id number table) ≡ Some (taking number held)
+  found_again [] held apart found = let no : None ≡ Some held = found in absurd (cc)
+  found_again (holding ∷ table) held apart found =
+      by (holds_id id holding) refl (found_again table held (rest_apart holding.confirmed holding.pending (contexts table) apart))
+    where
+      by : (b : Bool) → holds_id id holding ≡ b → (with_id id table ≡ Some held → with_id id (accepted id number table) ≡ Some (taking number held))
+          → with_id id (accepted_in id number holding ∷ accepted id number table) ≡ Some (taking number held)
+      by true has up = found_in holding.id holding.confirmed holding.pending (contexts table) (contexts (accepted id number table)) held apart has found
+      by false has up =
+          rw (untouched holding has)
+          (misses holding.confirmed holding.pending (contexts (accepted id number table)) has ∙ up (sym (misses holding.confirmed holding.pending (contexts table) has) ∙ found))
+
+-- what holds of the context with the ID holds of those of any holding that have it
+pub each_of : (P : Held → Type 0) (id : List ℕ) (table : List Holding) (held : Held) (i : ℕ) (d : Holding) → IsTable table → with_id id table ≡ Some held → P held
+    → i < length table → HoldOf (λ context. has_id id context ≡ true → P context) (get_or table i d)
+each_of P id table held i d is_table found here within =
+    in_holding (λ context. has_id id context ≡ true → P context) table i d within (found_alone P id held (contexts table) is_table.own_ids found here)
 
 -- ---- where a token id stands
 

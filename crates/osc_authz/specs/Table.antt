@@ -52,6 +52,9 @@ alive now table = filter (holds_live now) table
 abbrev pub has_id : List ℕ → Held → Bool
 has_id id held = bytes_eq id held.name.client_id
 
+abbrev pub holds_id : List ℕ → Holding → Bool
+holds_id id holding = option_map_or (has_id id) holding.confirmed false || option_map_or (has_id id) holding.pending false
+
 -- the context with this recipient ID
 abbrev pub with_id : List ℕ → List Holding → Option Held
 with_id id table = find (has_id id) (contexts table)

@@ -11,7 +11,6 @@ use osc_context::joined_salt;
 use osc_model::{Bytes, ContextName, Side};
 use osc_scope::Scope;
 use osc_token::{Claims, InputMaterial};
-use osc_window::Window;
 use std::alloc::{AllocError, Global};
 
 /// The id of the material, and the name of the context that a post and its answer make of the rest.
@@ -70,7 +69,6 @@ pub(crate) fn context_of(
         scope,
         not_before,
         expires,
-        window: Window::new(),
     };
     Ok((id, context))
 }

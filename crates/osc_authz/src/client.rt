@@ -68,7 +68,7 @@ impl Drop for ClientContext {
 }
 
 impl Model for ClientContext {
-    ghost use Rattle.std.specs.Prelude.{◌≡◌};
+    ghost use Rattle.std.specs.Prelude.{◌≡◌, []};
     ghost use Rattle.osc_model.specs.declared.context.Side.TheVariants.{Client};
     ghost use Rattle.osc_context.specs.Derivation.{sender_of, recipient_of};
     ghost use Rattle.osc_authz.specs.Begun.{Made};
@@ -77,7 +77,7 @@ impl Model for ClientContext {
 
     ghost view = { λ context. record { name = context.name; next = context.sender.next } };
 
-    ghost invariant = { λ context. (context.sender ≡ sender_of context.name Client context.sender.next) × (context.recipient ≡ recipient_of context.name Client) };
+    ghost invariant = { λ context. (context.sender ≡ sender_of context.name Client context.sender.next) × (context.recipient ≡ recipient_of context.name Client []) };
 }
 
 impl ClientContext {
@@ -97,7 +97,7 @@ impl ClientContext {
 
     /// What the client opens with.
     pub fn recipient(&self) -> &RecipientContext
-        ensures { result.now ≡ recipient_of self.now.name Client }
+        ensures { result.now ≡ recipient_of self.now.name Client [] }
     {
         &self.recipient
     }

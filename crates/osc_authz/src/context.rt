@@ -1,15 +1,15 @@
 //! The security contexts of a server.
 
-ghost use Rattle.std.specs.Prelude.{◌≡◌, option_map};
+ghost use Rattle.std.specs.Prelude.{◌≡◌, ◌≤◌, option_map};
 ghost use Rattle.osc_model.specs.declared.context.Side.TheVariants.{Server};
-ghost use Rattle.osc_context.specs.Derivation.{sender_of, recipient_of};
+ghost use Rattle.osc_context.specs.Derivation.{accepted_of, sender_of, recipient_of};
+ghost use Rattle.osc_context.specs.Nonce.{greatest_number};
 ghost use Rattle.osc_window.specs.Window.{IsFresh};
 ghost use Rattle.osc_authz.specs.Table.{is_live as is_live_of, has_id as has_id_of, is_named as is_named_of, taking};
 
-use osc_context::{RecipientContext, SenderContext};
+use osc_context::{AcceptedNumber, RecipientContext, SenderContext};
 use osc_model::{ContextName, Moment};
 use osc_scope::Scope;
-use osc_window::Window;
 use std::marker::Model;
 
 /// A security context of a server, with the rights of the token that made it.
@@ -20,7 +20,6 @@ pub struct ServerContext {
     pub(crate) scope: Scope,
     pub(crate) not_before: Option<u64>,
     pub(crate) expires: Option<u64>,
-    pub(crate) window: Window,
 }
 
 // Proved once, and not anew at each exit of whoever owns one.
@@ -33,7 +32,6 @@ impl Drop for ServerContext {
             scope: _,
             not_before: _,
             expires: _,
-            window: _,
         } = self;
     }
 }
@@ -50,9 +48,9 @@ impl Model for ServerContext {
 
     ghost coded = { Prim.hlevel (codes, coded_scope) };
 
-    ghost view = { λ context. record { name = context.name; scope = context.scope; not_before = context.not_before; expires = context.expires; window = context.window } };
+    ghost view = { λ context. record { name = context.name; scope = context.scope; not_before = context.not_before; expires = context.expires; window = context.recipient.window } };
 
-    ghost invariant = { λ context. (context.sender ≡ sender_of context.name Server 0) × (context.recipient ≡ recipient_of context.name Server) };
+    ghost invariant = { λ context. (context.sender ≡ sender_of context.name Server 0) × (context.recipient ≡ recipient_of context.name Server context.recipient.window) };
 }
 
 impl ServerContext {
@@ -70,9 +68,9 @@ impl ServerContext {
         &self.sender
     }
 
-    /// What the server opens with.
+    /// What the server opens with, and which of the holder's numbers are fresh.
     pub fn recipient(&self) -> &RecipientContext
-        ensures { result.now ≡ recipient_of self.now.name Server }
+        ensures { result.now ≡ recipient_of self.now.name Server self.now.window }
     {
         &self.recipient
     }
@@ -82,13 +80,6 @@ impl ServerContext {
         ensures { result.now ≡ self.now.scope }
     {
         &self.scope
-    }
-
-    /// Which of the holder's numbers are fresh.
-    pub fn window(&self) -> &Window
-        ensures { result.now ≡ self.now.window }
-    {
-        &self.window
     }
 
     /// Whether its token is in its time.
@@ -119,10 +110,12 @@ impl ServerContext {
     }
 
     /// Its window takes this fresh number.
-    pub(crate) fn take_number(&mut self, number: u64)
-        requires { IsFresh self.old.window number }
-        ensures { self.new ≡ taking number self.old }
+    pub(crate) fn take_number(&mut self, number: u64) -> AcceptedNumber
+        requires fresh { IsFresh self.old.window number }
+        requires number { number ≤ greatest_number }
+        ensures right { result ≡ accepted_of self.old.name Server number }
+        ensures taken { self.new ≡ taking number self.old }
     {
-        self.window.accept(number);
+        self.recipient.accept(number)
     }
 }

@@ -1,6 +1,6 @@
 //! Derivation of a context whose IDs are lawful.
 
-ghost use Rattle.std.specs.Prelude.{◌≡◌, ◌≢◌, ◌≤◌, length, IfOk};
+ghost use Rattle.std.specs.Prelude.{◌≡◌, ◌≢◌, ◌≤◌, [], length, IfOk};
 ghost use Rattle.osc_context.specs.Derivation.{sender_of, recipient_of};
 
 use osc_context::{DeriveError, RecipientContext, SenderContext, derive};
@@ -17,7 +17,7 @@ pub(crate) fn derived(
     requires server { length name.now.server_id ≤ 7 }
     requires apart { name.now.client_id ≢ name.now.server_id }
     ensures sender { IfOk result (λ made. made.0 ≡ sender_of name.now side 0) }
-    ensures recipient { IfOk result (λ made. made.1 ≡ recipient_of name.now side) }
+    ensures recipient { IfOk result (λ made. made.1 ≡ recipient_of name.now side []) }
 {
     match derive(alloc, name, side) {
         Ok(made) => Ok(made),

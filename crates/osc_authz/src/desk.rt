@@ -1,6 +1,10 @@
 //! The server's end of exchanges.
 
 ghost use Rattle.std.specs.Prelude.{◌≡◌, ◌≤◌, ℕ, List, [], length, IfOk, IsErr, IsSome, OnErr, Some, Ok, option_map};
+ghost use Rattle.std.specs.Option.{IfSome};
+ghost use Rattle.osc_model.specs.declared.context.Side.TheVariants.{Server};
+ghost use Rattle.osc_context.specs.Derivation.{accepted_of};
+ghost use Rattle.osc_context.specs.Nonce.{greatest_number};
 ghost use Rattle.osc_window.specs.Window.{IsFresh};
 ghost use Rattle.osc_cbor.specs.Data.{DataItem};
 ghost use Rattle.osc_cbor.specs.Spelling.{IsWhole};
@@ -12,7 +16,7 @@ ghost use Rattle.osc_authz.specs.Agreement.{Agrees, Answers};
 ghost use Rattle.osc_authz.specs.Held.{Held};
 ghost use Rattle.osc_authz.specs.Payload.{post_fields as fields_of};
 ghost use Rattle.osc_token.specs.Reading.{IsItem};
-ghost use Rattle.osc_authz.specs.Table.{IsTable, IsFull, accepted, alive, meant, with_id};
+ghost use Rattle.osc_authz.specs.Table.{IsTable, IsFull, accepted, alive, meant, taking, with_id};
 ghost use Rattle.osc_authz.specs.Post.{Posts};
 
 use crate::agreement::context_of;
@@ -24,6 +28,7 @@ use crate::post::{Post, PostAnswer};
 use crate::table;
 use osc_cbor::{Item, read_whole};
 use osc_ccm::Aead;
+use osc_context::AcceptedNumber;
 use osc_model::{Draw, Moment};
 use osc_scope::Scope;
 use osc_token::{Audience, Claims, TokenError, judge, open_token};
@@ -270,14 +275,18 @@ impl ServerDesk {
         table::with_id(&self.table, id)
     }
 
-    /// A request with this fresh number opened under the context with this recipient ID: its window takes the number. If it
-    /// was pending, it is confirmed, and the older one of its token id goes. Takes no memory.
-    pub fn accept(&mut self, id: &[u8], number: u64)
-        requires { (held : Held) × (with_id id.now self.old.table ≡ Some held) × IsFresh held.window number }
+    /// A request with this fresh number opened under the context with this recipient ID: its window takes the number, and the
+    /// right to one reply comes of it. If the context was pending, it is confirmed, and the older one of its token id goes.
+    /// Takes no memory.
+    pub fn accept(&mut self, id: &[u8], number: u64) -> AcceptedNumber
+        requires fresh { (held : Held) × (with_id id.now self.old.table ≡ Some held) × IsFresh held.window number }
+        requires number { number ≤ greatest_number }
+        ensures right { IfSome (with_id id.now self.old.table) (λ held. result ≡ accepted_of held.name Server number) }
+        ensures found { IfSome (with_id id.now self.old.table) (λ held. with_id id.now self.new.table ≡ Some (taking number held)) }
         ensures accepted { self.new ≡ record self.old { table = accepted id.now number self.old.table } }
         ensures table { IsTable self.new.table }
     {
-        table::accept(&mut self.table, id, number);
+        table::accept(&mut self.table, id, number)
     }
 
     /// Forgets all contexts.

@@ -1,11 +1,16 @@
 //! The contexts of one token id.
 
-ghost use Rattle.std.specs.Prelude.{◌≡◌, ◌++◌, true, false, find, option_map, bytes_eq};
+ghost use Rattle.std.specs.Prelude.{◌≡◌, ◌≤◌, ◌++◌, true, false, find, option_map, bytes_eq, IsSome};
 ghost use Rattle.std.specs.Option.{option_map_or, IfSome};
+ghost use Rattle.osc_model.specs.declared.context.ContextName.{ContextName as AnyName};
+ghost use Rattle.osc_model.specs.declared.context.Side.TheVariants.{Server};
+ghost use Rattle.osc_context.specs.Derivation.{accepted_of};
+ghost use Rattle.osc_context.specs.Nonce.{greatest_number};
 ghost use Rattle.osc_window.specs.Window.{IsFresh};
-ghost use Rattle.osc_authz.specs.Table.{is_live as is_live_of, holds_live as holds_live_of, listed, has_id, taking, accepted_in};
+ghost use Rattle.osc_authz.specs.Table.{is_live as is_live_of, holds_live as holds_live_of, holds_id, listed, has_id, taking, accepted_in};
 
 use crate::context::ServerContext;
+use osc_context::AcceptedNumber;
 use osc_model::{Bytes, Moment};
 
 /// The contexts of one token id: one that a request has opened under, and one of the newest post.
@@ -46,13 +51,17 @@ fn is_of(context: &Option<ServerContext>, id: &[u8]) -> bool
     }
 }
 
-/// The window of the context, where it is there, takes this fresh number.
-fn take_number(context: &mut Option<ServerContext>, number: u64)
-    requires { IfSome context.old (λ held. IsFresh held.window number) }
-    ensures { context.new ≡ option_map (taking number) context.old }
+/// The window of the context, which is there, takes this fresh number.
+fn take_number(context: &mut Option<ServerContext>, number: u64) -> AcceptedNumber
+    requires there { IsSome context.old }
+    requires fresh { IfSome context.old (λ held. IsFresh held.window number) }
+    requires number { number ≤ greatest_number }
+    ensures right { IfSome context.old (λ held. result ≡ accepted_of held.name Server number) }
+    ensures taken { context.new ≡ option_map (taking number) context.old }
 {
-    if let Some(context) = context {
-        context.take_number(number);
+    match context {
+        Some(context) => context.take_number(number),
+        None => unreachable!(),
     }
 }
 
@@ -71,6 +80,13 @@ impl Holding {
         token == self.id.as_slice()
     }
 
+    /// Whether one of the contexts has this recipient ID.
+    pub fn has_id(&self, id: &[u8]) -> bool
+        ensures { result ≡ holds_id id.now self.now }
+    {
+        is_of(&self.confirmed, id) || is_of(&self.pending, id)
+    }
+
     /// The context with this recipient ID.
     pub fn with_id(&self, id: &[u8]) -> Option<&ServerContext>
         ensures { option_map (λ context. context.now) result ≡ find (has_id id.now) (listed self.now.confirmed ++ listed self.now.pending) }
@@ -86,16 +102,20 @@ impl Holding {
 
     /// The window of the context with this recipient ID takes this fresh number. If it was pending, it is confirmed, and the
     /// older one goes.
-    pub fn accept(&mut self, id: &[u8], number: u64)
+    pub fn accept(&mut self, id: &[u8], number: u64) -> AcceptedNumber
+        requires there { holds_id id.now self.old ≡ true }
+        requires number { number ≤ greatest_number }
         requires confirmed { IfSome self.old.confirmed (λ held. has_id id.now held ≡ true → IsFresh held.window number) }
         requires pending { IfSome self.old.pending (λ held. has_id id.now held ≡ true → IsFresh held.window number) }
-        ensures { self.new ≡ accepted_in id.now number self.old }
+        ensures right { (name : AnyName)
+            → IfSome self.old.confirmed (λ held. has_id id.now held ≡ true → held.name ≡ name)
+            → IfSome self.old.pending (λ held. has_id id.now held ≡ true → held.name ≡ name)
+            → result ≡ accepted_of name Server number }
+        ensures accepted { self.new ≡ accepted_in id.now number self.old }
     {
         if is_of(&self.pending, id) {
             self.confirmed = self.pending.take();
-            take_number(&mut self.confirmed, number);
-        } else if is_of(&self.confirmed, id) {
-            take_number(&mut self.confirmed, number);
         }
+        take_number(&mut self.confirmed, number)
     }
 }

@@ -1,14 +1,18 @@
 //! The table of a desk: look-ups, what is full, which recipient ID is free, and one more pending context.
 
-ghost use Rattle.std.specs.Prelude.{◌≡◌, ◌↔◌, ◌<◌, ◌≤◌, ◌∷◌, true, length, option_map, bytes_eq, position, IsTrue};
-ghost use Rattle.std.specs.List.{All};
+ghost use Rattle.std.specs.Prelude.{◌≡◌, ◌↔◌, ◌<◌, ◌≤◌, ◌∷◌, length, option_map, bytes_eq, position, IfSome, IsTrue, Some};
 ghost use Rattle.std.specs.Vec.{vec_len, vec_capacity};
+ghost use Rattle.osc_model.specs.declared.context.Side.TheVariants.{Server};
+ghost use Rattle.osc_context.specs.Derivation.{accepted_of};
+ghost use Rattle.osc_context.specs.Nonce.{greatest_number};
 ghost use Rattle.osc_window.specs.Window.{IsFresh};
-ghost use Rattle.osc_authz.specs.Table.{IsTable, IsFull, IsLeastFree, accepted, alive, contexts, has_id, has_token, ids, with_id as with_id_of, without_pending, with_pending};
+ghost use Rattle.osc_authz.specs.Held.{Held};
+ghost use Rattle.osc_authz.specs.Table.{IsTable, IsFull, IsLeastFree, accepted, alive, has_token, holds_id, ids, with_id as with_id_of, without_pending, with_pending};
 
 use crate::context::ServerContext;
 use crate::holding::Holding;
 use crate::marks::{least_unmarked, mark, mark_staying};
+use osc_context::AcceptedNumber;
 use osc_model::{Bytes, Moment};
 
 /// How many token ids have a context at most.
@@ -26,14 +30,26 @@ pub(crate) fn with_id<'a>(table: &'a [Holding], id: &[u8]) -> Option<&'a ServerC
     None
 }
 
+/// The place of the token id that has the context with this recipient ID.
+fn place_of_id(table: &[Holding], id: &[u8]) -> Option<usize>
+    ensures { result ≡ position (holds_id id.now) table.now }
+{
+    table.iter().position(|holding| holding.has_id(id))
+}
+
 /// The window of the context with this recipient ID takes this fresh number. If it was pending, it is confirmed, and the
 /// older one of its token id goes.
-pub(crate) fn accept(table: &mut [Holding], id: &[u8], number: u64)
-    requires { All (λ held. has_id id.now held ≡ true → IsFresh held.window number) (contexts table.old) }
-    ensures { table.new ≡ accepted id.now number table.old }
+pub(crate) fn accept(table: &mut [Holding], id: &[u8], number: u64) -> AcceptedNumber
+    requires table { IsTable table.old }
+    requires fresh { (held : Held) × (with_id_of id.now table.old ≡ Some held) × IsFresh held.window number }
+    requires number { number ≤ greatest_number }
+    ensures right { IfSome (with_id_of id.now table.old) (λ held. result ≡ accepted_of held.name Server number) }
+    ensures accepted { table.new ≡ accepted id.now number table.old }
 {
-    for holding in table.iter_mut() {
-        holding.accept(id, number);
+    match place_of_id(table, id) {
+        Some(index) => table[index].accept(id, number),
+        // The context is there.
+        None => unreachable!(),
     }
 }
 

@@ -10,8 +10,8 @@ use osc_coap::{DATAGRAM_LIMIT, MessageRef};
 use osc_context::{RecipientContext, SenderContext, derive};
 use osc_model::{Bytes, ContextName, Side};
 use osc_protect::{
-    MessageTooLong, OpenedRequest, ProtectedRequest, RequestRoom, Room, SealedRequestRef,
-    open_request, protect_request, read_request,
+    MessageTooLong, ProtectedRequest, Room, SealedRequestRef, open_request, protect_request,
+    read_request,
 };
 use std::alloc::{AllocError, Global};
 
@@ -215,24 +215,17 @@ fn open_once(
     recipient: &RecipientContext,
     sealed: &SealedRequestRef<'_>,
 ) -> Result<usize, AllocError>
-    requires recipient { recipient.now ≡ recipient_of name.now Server }
+    requires recipient { recipient.now ≡ recipient_of name.now Server recipient.now.window }
     requires named { IsFor name.now sealed.now }
 {
-    let room = RequestRoom::new(alloc, name, sealed.sealed().len())?;
+    let room = Room::new(alloc, name, sealed.sealed().len())?;
     match open_request::<Ccm<8>>(room, recipient, sealed) {
-        Ok(opened) => Ok(length_of(opened)),
+        Ok(note) => Ok(note.plaintext.len()),
         Err(error) => {
             drop(error);
             Ok(0)
         }
     }
-}
-
-// How long the plaintext of an opened request is, which isn't answered.
-fn length_of(opened: OpenedRequest) -> usize {
-    let OpenedRequest { note, right } = opened;
-    right.forgo();
-    note.plaintext.len()
 }
 
 // Opens the request so many times, each time in new room.
@@ -243,7 +236,7 @@ fn open_again(
     sealed: &SealedRequestRef<'_>,
     rounds: u64,
 ) -> Result<u64, AllocError>
-    requires recipient { recipient.now ≡ recipient_of name.now Server }
+    requires recipient { recipient.now ≡ recipient_of name.now Server recipient.now.window }
     requires named { IsFor name.now sealed.now }
 {
     let mut opened = 0u64;

@@ -69,11 +69,18 @@ pub record Taken : Type 0 where
   pub common_iv : List ℕ
   pub number : ℕ
 
--- what it opens with: the other end's ID and key
+-- what it opens with: the other end's ID and key, and the window of the numbers that it accepted of the other end
 pub record Recipient : Type 0 where
   pub id : List ℕ
   pub key : List ℕ
   pub common_iv : List ℕ
+  pub window : List ℕ
+
+-- a number of the other end that was accepted, and what the nonce of that end's request is made of beside it
+pub record Accepted : Type 0 where
+  pub id : List ℕ
+  pub common_iv : List ℕ
+  pub number : ℕ
 
 abbrev pub sender_of : ContextName → Side → ℕ → Sender
 sender_of name side next = record { id = id_of name side; key = key_of name side; common_iv = common_iv_of name; next = next }
@@ -86,5 +93,14 @@ next_taken sender = record { id = sender.id; key = sender.key; common_iv = sende
 abbrev pub taken_of : ContextName → Side → ℕ → Taken
 taken_of name side number = record { id = id_of name side; key = key_of name side; common_iv = common_iv_of name; number = number }
 
-abbrev pub recipient_of : ContextName → Side → Recipient
-recipient_of name side = record { id = id_of name (other_side side); key = key_of name (other_side side); common_iv = common_iv_of name }
+abbrev pub recipient_of : ContextName → Side → List ℕ → Recipient
+recipient_of name side window =
+    record { id = id_of name (other_side side); key = key_of name (other_side side); common_iv = common_iv_of name; window = window }
+
+-- a number that a recipient accepts
+abbrev pub next_accepted : Recipient → ℕ → Accepted
+next_accepted recipient number = record { id = recipient.id; common_iv = recipient.common_iv; number = number }
+
+-- a number that an end under a name accepted of the other end
+abbrev pub accepted_of : ContextName → Side → ℕ → Accepted
+accepted_of name side number = record { id = id_of name (other_side side); common_iv = common_iv_of name; number = number }

@@ -92,7 +92,7 @@ fn contexts(
     ensures sender { IfOk result (λ made. made.0
         ≡ record { id = own.now; key = derived name.now own.now (codes "Key") 16; common_iv = common_iv_of name.now; next = 0 }) }
     ensures recipient { IfOk result (λ made. made.1
-        ≡ record { id = other.now; key = derived name.now other.now (codes "Key") 16; common_iv = common_iv_of name.now }) }
+        ≡ record { id = other.now; key = derived name.now other.now (codes "Key") 16; common_iv = common_iv_of name.now; window = [] }) }
 {
     let prk = prk_of(name);
     let common_iv = derive_common_iv(alloc, &prk, name)?;
@@ -115,7 +115,7 @@ pub fn derive(
     side: Side,
 ) -> Result<(SenderContext, RecipientContext), DeriveError>
     ensures sender { IfOk result (λ made. made.0 ≡ sender_of name.now side 0) }
-    ensures recipient { IfOk result (λ made. made.1 ≡ recipient_of name.now side) }
+    ensures recipient { IfOk result (λ made. made.1 ≡ recipient_of name.now side []) }
     ensures too_long { (result ≡ Err DeriveError.IdTooLong)
         ↔ ((longest_id < length name.now.client_id) ⊎ (longest_id < length name.now.server_id)) }
     ensures equal { (result ≡ Err DeriveError.EqualIds)

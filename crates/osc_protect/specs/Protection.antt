@@ -86,7 +86,7 @@ request_length tag name number m = length_of_request (length (plain_bytes m) + t
 abbrev pub response_length : ℕ → Option ℕ → Message → ℕ
 response_length tag own m = length (spelling (response_with own m (replicate (length (plain_bytes m) + tag) 0)))
 
--- ---- room and rights
+-- ---- room
 
 -- the memory of one use of a key: for which context, and for how many bytes of text at most
 pub record RoomOf : Type 0 where
@@ -96,11 +96,6 @@ pub record RoomOf : Type 0 where
 -- a text that isn't longer than a message may be has room
 abbrev pub HasRoomFor : List ℕ → ℕ → Type 0
 HasRoomFor text most = length text ≤ longest_message → length text ≤ most
-
--- what a reply answers: the request of this number under this context
-pub record ReplyTo : Type 0 where
-  pub context : ContextName
-  pub number : ℕ
 
 -- ---- what a message says, before it is opened
 

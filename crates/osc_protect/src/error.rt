@@ -3,9 +3,8 @@
 ghost use Rattle.std.specs.Prelude.{◌≡◌};
 ghost use Rattle.osc_protect.specs.Errors as spec;
 
-use crate::reply::ReplyRight;
-use crate::room::{RequestRoom, Room, TextRoom};
-use osc_context::SendNumber;
+use crate::room::Room;
+use osc_context::{AcceptedNumber, SendNumber};
 use thiserror::Error;
 
 /// The OSCORE option's value is malformed, or there is no payload; of a request also: it has no Partial IV or no kid.
@@ -26,7 +25,7 @@ impl Malformed {
 #[derive(Debug, Drop)]
 pub struct RequestNotGenuine {
     /// The room, as it was.
-    pub room: RequestRoom,
+    pub room: Room,
 }
 
 impl RequestNotGenuine {
@@ -72,13 +71,13 @@ impl MessageTooLong {
     }
 }
 
-/// The protected reply would be longer than a datagram may be: room and right are handed back.
+/// The protected reply would be longer than a datagram may be: room and number are handed back.
 #[derive(Debug)]
 pub struct ReplyTooLong {
     /// The room, as it was.
-    pub room: TextRoom,
-    /// The right to reply, not used.
-    pub right: ReplyRight,
+    pub room: Room,
+    /// The accepted number, not spent.
+    pub number: AcceptedNumber,
 }
 
 impl ReplyTooLong {

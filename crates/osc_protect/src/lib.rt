@@ -2,13 +2,13 @@
 //!
 //! Generic over the cipher: all that is known of it is the law of `Aead`. Protecting and opening take no memory, since their
 //! room was taken before; each use of a key is noted. A message is read before it is opened, so that its context and its
-//! number can be looked at first: numbers are accepted by the caller, last.
+//! number can be looked at first: numbers are accepted by the caller, last, and a reply under a request's nonce is protected
+//! only with the number that was accepted.
 #![tactic(auto)]
 
 mod aad;
 mod error;
 pub mod laws;
-mod reply;
 mod request;
 mod response;
 mod room;
@@ -19,12 +19,10 @@ mod value;
 pub use error::{
     Malformed, MessageTooLong, ReplyTooLong, RequestNotGenuine, ResponseNotGenuine, TextTooLong,
 };
-pub use reply::ReplyRight;
 pub use request::{
-    OpenedRequest, ProtectedRequest, UncountedRequest, fits, open_request, protect_request,
-    protect_uncounted,
+    ProtectedRequest, UncountedRequest, fits, open_request, protect_request, protect_uncounted,
 };
 pub use response::{ProtectedResponse, open_response, protect_reply, protect_response};
-pub use room::{RequestRoom, Room, TextRoom};
+pub use room::Room;
 pub use sealed::{SealedRequestRef, SealedResponseRef, read_request, read_response};
 pub use value::OscoreOption;

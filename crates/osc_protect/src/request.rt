@@ -10,8 +10,7 @@ ghost use Rattle.osc_protect.specs.Aad.{aad_of};
 ghost use Rattle.osc_protect.specs.Protection.{HasShortContext, HasRoomFor, longest_message, plain_bytes, request_nonce, note_of, IsRequestOf, IsProtectedRequest, length_of_request, request_length, IsFor};
 
 use crate::error::{MessageTooLong, RequestNotGenuine, TextTooLong};
-use crate::reply::ReplyRight;
-use crate::room::{RequestRoom, Room};
+use crate::room::Room;
 use crate::sealed::SealedRequestRef;
 use crate::sealing::{KeyUse, open, outer_message, seal, split};
 use crate::value::request_option;
@@ -144,34 +143,25 @@ fn outer_of_text<A: Aead>(
     outer_message(message, OUTER_CODE, value, size + A::TAG)
 }
 
-/// A request that was opened.
-#[derive(Debug)]
-pub struct OpenedRequest {
-    /// What was sealed, and under which name, number and nonce.
-    pub note: Note,
-    /// The right to one reply under its nonce.
-    pub right: ReplyRight,
-}
-
-/// Opens a protected request at the server. Which numbers are fresh isn't asked here, and no number is accepted: that is the
-/// caller's, once it knows that it goes on. Takes no memory.
+/// Opens a protected request at the server, and answers the note of the opening, whose plaintext is what was sealed. Which
+/// numbers are fresh isn't asked here, and no number is accepted: that is the caller's, once it knows that it goes on, and the
+/// right to a reply comes of it alone. Takes no memory.
 ///
 /// # Errors
 ///
 /// Exactly where what is sealed is the sealing of no text; the room is handed back.
 pub fn open_request<A: Aead>(
-    room: RequestRoom,
+    room: Room,
     recipient: &RecipientContext,
     request: &SealedRequestRef<'_>,
-) -> Result<OpenedRequest, RequestNotGenuine>
-    requires recipient { recipient.now ≡ recipient_of room.name Server }
+) -> Result<Note, RequestNotGenuine>
+    requires recipient { recipient.now ≡ recipient_of room.name Server recipient.now.window }
     requires named { IsFor room.name request.now }
     requires room { length request.now.sealed ≤ room.most }
-    ensures opened { IfOk result (λ opened.
-        A.is_sealing (key_of room.name Client) (request_nonce room.name request.now.number) (aad_of room.name request.now.number) opened.note.plaintext request.now.sealed) }
-    ensures noted { IfOk result (λ opened. opened.note
-        ≡ note_of room.name Server request.now.number (request_nonce room.name request.now.number) opened.note.plaintext) }
-    ensures right { IfOk result (λ opened. opened.right ≡ record { context = room.name; number = request.now.number }) }
+    ensures opened { IfOk result (λ note.
+        A.is_sealing (key_of room.name Client) (request_nonce room.name request.now.number) (aad_of room.name request.now.number) note.plaintext request.now.sealed) }
+    ensures noted { IfOk result (λ note. note
+        ≡ note_of room.name Server request.now.number (request_nonce room.name request.now.number) note.plaintext) }
     ensures not_genuine { IsErr result
         ↔ ((text : List ℕ) → ¬ A.is_sealing (key_of room.name Client) (request_nonce room.name request.now.number) (aad_of room.name request.now.number) text request.now.sealed) }
     ensures err { IfErr result (λ refused. refused.room ≡ room) }
@@ -182,14 +172,8 @@ pub fn open_request<A: Aead>(
         number,
         nonce: nonce_for(recipient.common_iv(), recipient.id(), number),
     };
-    let (room, context) = room.parts();
     match open::<A>(room, recipient.key(), used, request.sealed()) {
-        Ok(note) => Ok(OpenedRequest {
-            note,
-            right: ReplyRight::new(context, number),
-        }),
-        Err(room) => Err(RequestNotGenuine {
-            room: RequestRoom::of(room, context),
-        }),
+        Ok(note) => Ok(note),
+        Err(room) => Err(RequestNotGenuine { room }),
     }
 }

@@ -2,20 +2,19 @@
 
 ghost use Rattle.std.specs.Prelude.{◌≡◌, ◌≤◌, ◌↔◌, ℕ, List, Some, None, length, IfSome, IsOk, IsErr, IfOk, IfErr};
 ghost use Rattle.osc_model.specs.declared.context.Side.TheVariants.{Client, Server};
-ghost use Rattle.osc_context.specs.Derivation.{key_of, common_iv_of, taken_of, sender_of, recipient_of};
+ghost use Rattle.osc_context.specs.Derivation.{key_of, accepted_of, taken_of, sender_of, recipient_of};
 ghost use Rattle.osc_context.specs.Nonce.{longest_id, greatest_number};
 ghost use Rattle.osc_protect.specs.Aad.{aad_of};
 ghost use Rattle.osc_protect.specs.Protection.{HasRoomFor, longest_message, plain_bytes, request_nonce, response_nonce, note_of, IsProtectedResponse, response_length};
 
 use crate::error::{MessageTooLong, ReplyTooLong, ResponseNotGenuine};
-use crate::reply::ReplyRight;
-use crate::room::{Room, TextRoom};
+use crate::room::Room;
 use crate::sealed::SealedResponseRef;
 use crate::sealing::{KeyUse, open, seal, split};
 use crate::value::response_option;
 use osc_ccm::Aead;
 use osc_coap::{MessageBuilder, MessageRef};
-use osc_context::{RecipientContext, SendNumber, SenderContext, nonce_for};
+use osc_context::{AcceptedNumber, RecipientContext, SendNumber, SenderContext, nonce_for};
 use osc_model::{ContextName, Note, Side};
 
 /// The code of a protected response, 2.04 (RFC 8613 section 4.2).
@@ -30,42 +29,38 @@ pub struct ProtectedResponse {
     pub note: Note,
 }
 
-/// Protects the server's reply under the nonce of the request that it answers, with an empty option value; the right to
-/// reply is used up. Takes no memory.
+/// Protects the server's reply under the nonce of the request that it answers, with an empty option value. The right to it is
+/// the request's number, which the server of the room's context accepted: it is spent. Takes no memory.
 ///
 /// # Errors
 ///
-/// Exactly where the protected message is longer than a datagram may be; right and room are handed back.
+/// Exactly where the protected message is longer than a datagram may be; room and number are handed back.
 pub fn protect_reply<A: Aead>(
-    right: ReplyRight,
-    room: TextRoom,
+    room: Room,
+    number: AcceptedNumber,
     sender: &SenderContext,
     message: &MessageRef<'_>,
 ) -> Result<ProtectedResponse, ReplyTooLong>
-    requires sender { sender.now ≡ sender_of right.context Server sender.now.next }
-    requires room { HasRoomFor (plain_bytes message.now) room }
-    ensures protected { IfOk result (λ made. IsProtectedResponse A.is_sealing right.context right.number None message.now made.message) }
+    requires number { number ≡ accepted_of room.name Server number.number }
+    requires sender { sender.now ≡ sender_of room.name Server sender.now.next }
+    requires room { HasRoomFor (plain_bytes message.now) room.most }
+    ensures protected { IfOk result (λ made. IsProtectedResponse A.is_sealing room.name number.number None message.now made.message) }
     ensures noted { IfOk result (λ made. made.note
-        ≡ note_of right.context Server right.number (request_nonce right.context right.number) (plain_bytes message.now)) }
+        ≡ note_of room.name Server number.number (request_nonce room.name number.number) (plain_bytes message.now)) }
     ensures fits { IsOk result ↔ (response_length A.TAG None message.now ≤ longest_message) }
-    ensures err { IfErr result (λ refused. (refused.right ≡ right) × (refused.room ≡ room)) }
+    ensures err { IfErr result (λ refused. (refused.room ≡ room) × (refused.number ≡ number)) }
 {
     let used = KeyUse {
         side: Side::Server,
-        number: right.number(),
-        nonce: nonce_for(
-            sender.common_iv(),
-            right.context().client_id.as_slice(),
-            right.number(),
-        ),
+        number: number.get(),
+        nonce: nonce_for(number.common_iv(), number.id(), number.get()),
     };
     let value = response_option(None);
     let Some((outer, plaintext)) = split::<A>(message, OUTER_CODE, value.as_slice()) else {
-        return Err(ReplyTooLong { room, right });
+        return Err(ReplyTooLong { room, number });
     };
-    let (context, _) = right.used();
-    let room = Room::of(context, room);
     let (message, note) = seal::<A>(outer, room, sender.key(), used, plaintext.bytes());
+    number.spend();
     Ok(ProtectedResponse { message, note })
 }
 
@@ -115,7 +110,7 @@ fn nonce_of_response(
     number: u64,
     own: Option<u64>,
 ) -> [u8; 13]
-    requires recipient { recipient.now ≡ recipient_of name.now Client }
+    requires recipient { recipient.now ≡ recipient_of name.now Client recipient.now.window }
     requires id { length name.now.client_id ≤ longest_id }
     requires number { number ≤ greatest_number }
     requires own { IfSome own (λ n. n ≤ greatest_number) }
@@ -139,7 +134,7 @@ pub fn open_response<A: Aead>(
     number: u64,
     response: &SealedResponseRef<'_>,
 ) -> Result<Note, ResponseNotGenuine>
-    requires recipient { recipient.now ≡ recipient_of room.name Client }
+    requires recipient { recipient.now ≡ recipient_of room.name Client recipient.now.window }
     requires number { number ≤ greatest_number }
     requires id { length room.name.client_id ≤ longest_id }
     requires room { length response.now.sealed ≤ room.most }

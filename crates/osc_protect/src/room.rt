@@ -14,7 +14,7 @@ use std::fmt;
 use std::marker::Model;
 
 /// Room for one text of at most so many bytes, and for its associated data. Contracts see that number.
-pub struct TextRoom {
+pub(crate) struct TextRoom {
     most: usize,
     /// Empty, with room for the associated data.
     pub(crate) aad: Vec<u8>,
@@ -30,13 +30,6 @@ impl Drop for TextRoom {
             aad: _,
             text: _,
         } = self;
-    }
-}
-
-// What was in it isn't printed.
-impl fmt::Debug for TextRoom {
-    fn fmt<W: fmt::Write>(&self, f: &mut fmt::Formatter<W>) -> fmt::Result {
-        f.write_str("TextRoom")
     }
 }
 
@@ -232,75 +225,5 @@ impl Room {
             aad,
             plaintext,
         }
-    }
-}
-
-/// The memory of opening one request: of the note, and of the right to reply. Contracts see it as a `Room`.
-pub struct RequestRoom {
-    room: Room,
-    /// The name once more, for the right to reply.
-    context: ContextName,
-}
-
-// Proved once, and not anew at each exit of whoever owns one.
-impl Drop for RequestRoom {
-    fn drop(self) {
-        let RequestRoom {
-            room: _,
-            context: _,
-        } = self;
-    }
-}
-
-// The secret isn't printed.
-impl fmt::Debug for RequestRoom {
-    fn fmt<W: fmt::Write>(&self, f: &mut fmt::Formatter<W>) -> fmt::Result {
-        f.write_str("RequestRoom")
-    }
-}
-
-impl Model for RequestRoom {
-    ghost use Rattle.std.specs.Prelude.{◌≡◌};
-    ghost use Rattle.osc_protect.specs.Protection.{RoomOf};
-
-    ghost Value = { RoomOf };
-
-    ghost view = { λ room. room.room };
-
-    ghost invariant = { λ room. room.context ≡ room.room.name };
-}
-
-impl RequestRoom {
-    /// Room for opening a request under the context of this name, in which at most so many bytes are sealed.
-    pub fn new(alloc: Global, name: &ContextName, most: usize) -> Result<RequestRoom, AllocError>
-        ensures { IfOk result (λ room. room ≡ record { name = name.now; most = most }) }
-    {
-        Ok(RequestRoom {
-            room: Room::new(alloc, name, most)?,
-            context: name.clone()?,
-        })
-    }
-
-    /// Its room, with the name once more.
-    pub(crate) fn of(room: Room, context: ContextName) -> RequestRoom
-        requires { context ≡ room.name }
-        ensures { result ≡ room }
-    {
-        RequestRoom { room, context }
-    }
-
-    /// The name of the context.
-    pub fn name(&self) -> &ContextName
-        ensures { result.now ≡ self.now.name }
-    {
-        &self.context
-    }
-
-    /// The room, and the name once more.
-    pub(crate) fn parts(self) -> (Room, ContextName)
-        ensures { result ≡ (self, self.name) }
-    {
-        let RequestRoom { room, context } = self;
-        (room, context)
     }
 }

@@ -5,16 +5,20 @@ use Rattle.osc_model.specs.Tree.{Tree}
 use Rattle.osc_model.specs.declared.node.Draw.{Draw}
 use Rattle.osc_model.specs.declared.node.Moment.{Moment}
 use Rattle.osc_model.specs.declared.node.Peer.{Peer}
+use Rattle.osc_model.specs.declared.step.Note.{Note}
 use Rattle.osc_model.specs.declared.step.Step.{Step}
 use Rattle.osc_coap.specs.Message.{Message, Spells, spelling}
-use Rattle.osc_authz.specs.Table.{accepted}
+use Rattle.osc_authz.specs.Desk.{DeskState}
+use Rattle.osc_authz.specs.Held.{Held}
+use Rattle.osc_authz.specs.Table.{accepted, taking}
 use Rattle.osc_protect.specs.Protection.{SealedRequest}
-use Rattle.osc_run.specs.ServerKinds.{Replies as AppliesTo}
+use Rattle.osc_run.specs.ServerKinds.{opening_note, Replies as AppliesTo}
 use Rattle.osc_run.specs.Texts.{read_request}
 use Rattle.osc_message.specs.Sending.{datagram}
-use Rattle.osc_server.specs.Parts.{IsServedAs}
+use Rattle.osc_message.specs.Endpoint.{EndpointState}
+use Rattle.osc_server.specs.Parts.{IsReplied, IsServedAs}
 use Rattle.osc_server.specs.State.{State}
-use Rattle.osc_server.specs.Table.{Serves, answered}
+use Rattle.osc_server.specs.Table.{IsOpened, Serves, answered}
 use Rattle.osc_server.specs.declared.serving.Served.{Served}
 
 pub serves : (is_sealing : List ℕ → List ℕ → List ℕ → List ℕ → List ℕ → Type 0)
@@ -52,3 +56,37 @@ serves is_sealing old now from draw message request served tree step new is sent
         }) same;
       };
     }
+
+-- what becomes of it under the context as it is once it took the number
+pub served_as : (is_sealing : List ℕ → List ℕ → List ℕ → List ℕ → List ℕ → Type 0)
+    (old : Tree) (desk : DeskState) (endpoint : EndpointState) (now : Moment) (draw : Draw) (message : Message) (request : SealedRequest)
+    (held context : Held) (taken number : ℕ) (text : List ℕ) (served : Served) (new : Tree)
+    → IsOpened is_sealing desk now message request held text → context ≡ taking taken held → number ≡ request.number
+    → IsReplied is_sealing old endpoint now draw message context number text served new
+    → IsServedAs is_sealing old desk endpoint now draw message request served new
+served_as is_sealing old desk endpoint now draw message request held context taken number text served new opened is same replied =
+    let it : IsReplied is_sealing old endpoint now draw message (taking taken held) request.number text served new =
+    subst (λ (c : Held). IsReplied is_sealing old endpoint now draw message c request.number text served new) is
+    (subst (λ (n : ℕ). IsReplied is_sealing old endpoint now draw message context n text served new) same replied)
+    in
+    record {
+      held = held;
+      text = text;
+      opened = opened;
+      replied = record {
+        reply = it.reply;
+        within = it.within;
+        applied = it.applied;
+        protected = it.protected;
+        noted = it.noted;
+        room = it.room;
+      };
+    }
+
+-- what is noted of the opening, with the memory beside it
+pub opened_note : (is_sealing : List ℕ → List ℕ → List ℕ → List ℕ → List ℕ → Type 0) (desk : DeskState) (now : Moment) (message : Message) (request : SealedRequest) (note taken : Note)
+    → taken ≡ note
+    → (held : Held) × IsOpened is_sealing desk now message request held note.plaintext × (note ≡ opening_note held.name request.number note.plaintext)
+    → (held : Held) × IsOpened is_sealing desk now message request held taken.plaintext × (taken ≡ opening_note held.name request.number taken.plaintext)
+opened_note is_sealing desk now message request note taken same opened =
+    subst (λ (n : Note). (held : Held) × IsOpened is_sealing desk now message request held n.plaintext × (n ≡ opening_note held.name request.number n.plaintext)) (sym same) opened

@@ -370,7 +370,7 @@ impl Server {
         ))
     }
 
-    /// Answers a protected request. The number is taken last, once nothing can fail.
+    /// Answers a protected request. Its number is accepted once nothing can fail.
     fn protected<A: Aead>(
         &mut self,
         alloc: Global,
@@ -390,7 +390,7 @@ impl Server {
         match serve::<A>(
             alloc,
             now,
-            &self.desk,
+            &mut self.desk,
             &mut self.tree,
             &self.endpoint,
             draw,
@@ -403,10 +403,7 @@ impl Server {
                     notes,
                     room,
                 },
-            ) => {
-                self.desk.accept(request.kid(), request.number());
-                Ok(self.send(room, now, from, draw, message, &answer, notes))
-            }
+            ) => Ok(self.send(room, now, from, draw, message, &answer, notes)),
             Err(refusal) => self.complain(alloc, now, from, draw, message, refusal),
         }
     }

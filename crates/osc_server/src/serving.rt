@@ -1,13 +1,17 @@
-//! Protected requests (RFC 8613 sections 8.2 and 8.3), up to the change of the contexts.
-ghost use Rattle.std.specs.Prelude.{◌≡◌, ◌<◌, ◌≤◌, ◌+◌, ℕ, List, length, Some, None, IfOk, IfErr, IfSome, IfNone, OnErr};
+//! Protected requests (RFC 8613 sections 8.2 and 8.3): all memory is taken before the number is accepted, and nothing fails from
+//! there but what is answered by 5.00.
+ghost use Rattle.std.specs.Prelude.{◌≡◌, ◌<◌, ◌≤◌, ◌+◌, ℕ, List, length, Some, None, IfOk, IfErr, IfSome, IfNone, OnErr, OnOk};
 ghost use Rattle.osc_coap.specs.Message.{spelling};
-ghost use Rattle.osc_authz.specs.Table.{meant};
+ghost use Rattle.osc_authz.specs.Held.{Held};
+ghost use Rattle.osc_authz.specs.Table.{accepted, meant};
+ghost use Rattle.osc_context.specs.Derivation.{accepted_of};
+ghost use Rattle.osc_model.specs.declared.context.Side.TheVariants.{Server};
 ghost use Rattle.osc_model.specs.Apply.{apply_read};
 ghost use Rattle.osc_protect.specs.Protection.{IsFor, IsRequest, IsProtectedResponse};
 ghost use Rattle.osc_run.specs.ServerKinds.{opening_note, reply_note, Replies as AppliesTo};
 ghost use Rattle.osc_run.specs.Texts.{read_request, IsWithinRanges};
 ghost use Rattle.osc_server.specs.Parts.{IsReplied, IsReplyOf, IsServedAs, IsShort, reply_length, read_length as read_length_of};
-ghost use Rattle.osc_server.specs.Table.{IsMeant, IsRefused, IsSealed, reply_to as reply_to_of};
+ghost use Rattle.osc_server.specs.Table.{IsMeant, IsOpened, IsRefused, IsSealed, reply_to as reply_to_of};
 ghost use Rattle.osc_window.specs.Window.{IsFresh};
 
 use crate::answer::reply_to;
@@ -18,14 +22,12 @@ use osc_authz::{ServerContext, ServerDesk};
 use osc_ccm::Aead;
 use osc_coap::laws::{length_of_plaintext, length_of_spelling};
 use osc_coap::{MessageBuilder, MessageRef};
+use osc_context::AcceptedNumber;
 use osc_message::{Endpoint, ReplyRoom};
 use osc_model::{
     Bytes, Code, ContextName, Draw, Entry, Moment, Note, Path, Reply, Request, StepNotes,
 };
-use osc_protect::{
-    OpenedRequest, ProtectedResponse, ReplyRight, RequestRoom, SealedRequestRef, TextRoom,
-    open_request, protect_reply,
-};
+use osc_protect::{ProtectedResponse, Room, SealedRequestRef, open_request, protect_reply};
 use osc_run::{kinds, request_in};
 use osc_scope::Scope;
 use osc_tree::Tree;
@@ -77,7 +79,7 @@ fn fresh_context<'a, A: Aead>(
     let Some(context) = meant_context(desk, now, message, request) else {
         return Err(Refusal::NoContext);
     };
-    if !context.window().is_fresh(request.number()) {
+    if !context.recipient().is_fresh(request.number()) {
         return Err(Refusal::Replayed);
     }
     Ok(context)
@@ -127,13 +129,15 @@ fn applied(alloc: Global, tree: &mut Tree, scope: &Scope, read: &Result<Request,
 /// What an opened request asks, and the memory of all that follows, taken before anything changes.
 #[derive(Drop)]
 struct Taken {
+    /// The note of the opening.
+    note: Note,
     /// The request, or the code that answers the text.
     read: Result<Request, Code>,
     /// The name and the text, for the entry.
     context: ContextName,
     plaintext: Bytes,
     /// For the reply's seal.
-    text: TextRoom,
+    room: Room,
     /// For the protected reply.
     reply: ReplyRoom,
 }
@@ -146,22 +150,27 @@ fn copy_of(name: &ContextName) -> Result<ContextName, AllocError>
 }
 
 /// Reads what was opened, and takes the memory of all that follows.
-fn take<A: Aead>(alloc: Global, tree: &Tree, note: &Note) -> Result<Taken, AllocError>
-    ensures read { IfOk result (λ taken. taken.read ≡ read_request note.now.plaintext) }
+fn take<A: Aead>(alloc: Global, tree: &Tree, note: Note) -> Result<Taken, AllocError>
+    ensures note { IfOk result (λ taken. taken.note ≡ note) }
+    ensures read { IfOk result (λ taken. taken.read ≡ read_request note.plaintext) }
     ensures error { IfOk result (λ taken. IfErr taken.read (λ code. 0 < code.0)) }
-    ensures context { IfOk result (λ taken. taken.context ≡ note.now.context) }
-    ensures plaintext { IfOk result (λ taken. taken.plaintext ≡ note.now.plaintext) }
-    ensures text { IfOk result (λ taken. taken.text ≡ 14 + reply_length tree.now taken.read) }
+    ensures context { IfOk result (λ taken. taken.context ≡ note.context) }
+    ensures plaintext { IfOk result (λ taken. taken.plaintext ≡ note.plaintext) }
+    ensures room { IfOk result (λ taken. taken.room ≡ record { name = note.context; most = 14 + reply_length tree.now taken.read }) }
     ensures reply { IfOk result (λ taken. taken.reply ≡ 28 + reply_length tree.now taken.read + A.TAG) }
     ensures limit { IfOk result (λ taken. reply_length tree.now taken.read ≤ 512) }
 {
     let read = request_in(alloc, note.plaintext.as_slice())?;
     let most = PLAINTEXT_BESIDE_PAYLOAD + most_payload(tree, &read);
+    let context = copy_of(&note.context)?;
+    let plaintext = note.plaintext.clone()?;
+    let room = Room::new(alloc, &note.context, most)?;
     Ok(Taken {
+        note,
         read,
-        context: copy_of(&note.context)?,
-        plaintext: note.plaintext.clone()?,
-        text: TextRoom::new(alloc, most)?,
+        context,
+        plaintext,
+        room,
         reply: ReplyRoom::new(alloc, MESSAGE_BESIDE_SEALED + most + A::TAG)?,
     })
 }
@@ -169,20 +178,21 @@ fn take<A: Aead>(alloc: Global, tree: &Tree, note: &Note) -> Result<Taken, Alloc
 /// The reply to a request that was opened, protected under its nonce: it fits, since no reply has more than 512 bytes. Takes no
 /// memory.
 fn protected<A: Aead>(
-    right: ReplyRight,
-    room: TextRoom,
+    number: AcceptedNumber,
+    room: Room,
     context: &ServerContext,
     endpoint: &Endpoint,
     draw: &Draw,
     message: &MessageRef<'_>,
     reply: &Reply,
 ) -> ProtectedResponse
-    requires context { right.context ≡ context.now.name }
+    requires number { number ≡ accepted_of context.now.name Server number.number }
+    requires name { room.name ≡ context.now.name }
     requires short { IsShort reply.now }
-    requires room { 14 + length reply.now.payload ≤ room }
-    ensures protected { IsProtectedResponse A.is_sealing context.now.name right.number None
+    requires room { 14 + length reply.now.payload ≤ room.most }
+    ensures protected { IsProtectedResponse A.is_sealing context.now.name number.number None
         (reply_to_of endpoint.now draw.now message.now reply.now) result.message }
-    ensures noted { result.note ≡ reply_note context.now.name right.number reply.now }
+    ensures noted { result.note ≡ reply_note context.now.name number.number reply.now }
     ensures short { length (spelling result.message) ≤ 28 + length reply.now.payload + A.TAG }
 {
     kinds::what_is_sealed();
@@ -191,7 +201,7 @@ fn protected<A: Aead>(
     // For the proof alone: the call tells how long the token is.
     let _token = message.token();
     let plain = reply_to(endpoint, draw, message, reply);
-    protect_reply::<A>(right, room, context.sender(), &plain.message()).unwrap()
+    protect_reply::<A>(room, number, context.sender(), &plain.message()).unwrap()
 }
 
 /// Applies the request, and protects the reply under the request's nonce; takes no memory but the tree's.
@@ -203,34 +213,34 @@ fn reply<A: Aead>(
     endpoint: &Endpoint,
     draw: &Draw,
     message: &MessageRef<'_>,
-    opened: OpenedRequest,
+    number: AcceptedNumber,
     taken: Taken,
 ) -> Served
-    requires context { opened.right.context ≡ context.now.name }
-    requires noted { opened.note ≡ opening_note context.now.name opened.right.number opened.note.plaintext }
-    requires read { taken.read ≡ read_request opened.note.plaintext }
+    requires number { number ≡ accepted_of context.now.name Server number.number }
+    requires noted { taken.note ≡ opening_note context.now.name number.number taken.note.plaintext }
+    requires read { taken.read ≡ read_request taken.note.plaintext }
     requires error { IfErr taken.read (λ code. 0 < code.0) }
     requires name { taken.context ≡ context.now.name }
-    requires plaintext { taken.plaintext ≡ opened.note.plaintext }
-    requires text { taken.text ≡ 14 + reply_length tree.old taken.read }
+    requires plaintext { taken.plaintext ≡ taken.note.plaintext }
+    requires room { taken.room ≡ record { name = context.now.name; most = 14 + reply_length tree.old taken.read } }
     requires reply { taken.reply ≡ 28 + reply_length tree.old taken.read + A.TAG }
     requires limit { reply_length tree.old taken.read ≤ 512 }
-    ensures { IsReplied A.is_sealing tree.old endpoint.now now draw.now message.now context.now opened.right.number opened.note.plaintext result tree.new }
+    ensures { IsReplied A.is_sealing tree.old endpoint.now now draw.now message.now context.now number.number taken.note.plaintext result tree.new }
 {
     let reply = applied(alloc, tree, context.scope(), &taken.read);
     let Taken {
+        note,
         read: _,
         context: name,
         plaintext,
-        text,
-        reply: room,
+        room,
+        reply: reply_room,
     } = taken;
-    let OpenedRequest { note, right } = opened;
-    let number = right.number();
-    let sealed = protected::<A>(right, text, context, endpoint, draw, message, &reply);
+    let accepted = number.get();
+    let sealed = protected::<A>(number, room, context, endpoint, draw, message, &reply);
     let entry = Entry {
         context: name,
-        number,
+        number: accepted,
         plaintext,
         moment: now,
         reply,
@@ -241,37 +251,39 @@ fn reply<A: Aead>(
             .with_seal(sealed.note)
             .with_open(note)
             .with_entry(entry),
-        room,
+        room: reply_room,
     }
 }
 
-/// Serves a request that was opened. Without memory the tree is as before.
+/// Accepts the number of a request that was opened, and serves the request; takes no memory but the tree's.
 fn serve_opened<A: Aead>(
     alloc: Global,
     now: Moment,
+    desk: &mut ServerDesk,
     tree: &mut Tree,
-    context: &ServerContext,
     endpoint: &Endpoint,
     draw: &Draw,
     message: &MessageRef<'_>,
-    opened: OpenedRequest,
-) -> Result<Served, AllocError>
-    requires context { opened.right.context ≡ context.now.name }
-    requires noted { opened.note ≡ opening_note context.now.name opened.right.number opened.note.plaintext }
-    ensures replied { IfOk result (λ served.
-        IsReplied A.is_sealing tree.old endpoint.now now draw.now message.now context.now opened.right.number opened.note.plaintext served tree.new) }
-    ensures err { OnErr result (tree.new ≡ tree.old) }
+    request: &SealedRequestRef<'_>,
+    taken: Taken,
+) -> Served
+    requires opened { (held : Held) × IsOpened A.is_sealing desk.old now message.now request.now held taken.note.plaintext
+        × (taken.note ≡ opening_note held.name request.now.number taken.note.plaintext) }
+    requires read { taken.read ≡ read_request taken.note.plaintext }
+    requires error { IfErr taken.read (λ code. 0 < code.0) }
+    requires name { taken.context ≡ taken.note.context }
+    requires plaintext { taken.plaintext ≡ taken.note.plaintext }
+    requires room { taken.room ≡ record { name = taken.note.context; most = 14 + reply_length tree.old taken.read } }
+    requires reply { taken.reply ≡ 28 + reply_length tree.old taken.read + A.TAG }
+    requires limit { reply_length tree.old taken.read ≤ 512 }
+    ensures served { IsServedAs A.is_sealing tree.old desk.old endpoint.now now draw.now message.now request.now result tree.new }
+    ensures accepted { desk.new ≡ record desk.old { table = accepted request.now.kid request.now.number desk.old.table } }
 {
-    match take::<A>(alloc, tree, &opened.note) {
-        Ok(taken) => Ok(reply::<A>(
-            alloc, now, tree, context, endpoint, draw, message, opened, taken,
-        )),
-        Err(error) => {
-            let OpenedRequest { note: _, right } = opened;
-            let _number = right.forgo();
-            Err(error)
-        }
-    }
+    let number = desk.accept(request.kid(), request.number());
+    let context = desk.get(request.kid()).unwrap();
+    reply::<A>(
+        alloc, now, tree, context, endpoint, draw, message, number, taken,
+    )
 }
 
 /// Opens a protected request into room that is taken for it.
@@ -279,26 +291,50 @@ fn open<A: Aead>(
     alloc: Global,
     context: &ServerContext,
     request: &SealedRequestRef<'_>,
-) -> Result<Option<OpenedRequest>, AllocError>
+) -> Result<Option<Note>, AllocError>
     requires { IsFor context.now.name request.now }
-    ensures opened { IfOk result (λ opened. IfSome opened (λ it. IsSealed A.is_sealing context.now request.now it.note.plaintext)) }
-    ensures noted { IfOk result (λ opened. IfSome opened (λ it. it.note ≡ opening_note context.now.name request.now.number it.note.plaintext)) }
-    ensures right { IfOk result (λ opened. IfSome opened (λ it. it.right ≡ record { context = context.now.name; number = request.now.number })) }
+    ensures opened { IfOk result (λ opened. IfSome opened (λ note. IsSealed A.is_sealing context.now request.now note.plaintext)) }
+    ensures noted { IfOk result (λ opened. IfSome opened (λ note. note ≡ opening_note context.now.name request.now.number note.plaintext)) }
     ensures none { IfOk result (λ opened. IfNone opened ((text : List ℕ) → ¬ IsSealed A.is_sealing context.now request.now text)) }
 {
-    let room = RequestRoom::new(alloc, context.name(), request.sealed().len())?;
+    let room = Room::new(alloc, context.name(), request.sealed().len())?;
     match open_request::<A>(room, context.recipient(), request) {
-        Ok(opened) => Ok(Some(opened)),
+        Ok(note) => Ok(Some(note)),
         Err(_) => Ok(None),
     }
 }
 
-/// Serves a protected request, as far as the tree and the reply go, or says why it isn't served. Without memory the tree is as
-/// before, as it is where the request isn't served.
-pub fn serve<A: Aead>(
+/// Opens a protected request under the context that it means, at a fresh number, or says why it isn't served.
+fn opened<A: Aead>(
     alloc: Global,
     now: Moment,
     desk: &ServerDesk,
+    message: &MessageRef<'_>,
+    request: &SealedRequestRef<'_>,
+) -> Result<Result<Note, Refusal>, AllocError>
+    requires { IsRequest message.now request.now }
+    ensures opened { IfOk result (λ outcome. IfOk outcome (λ note. (held : Held)
+        × IsOpened A.is_sealing desk.now now message.now request.now held note.plaintext
+        × (note ≡ opening_note held.name request.now.number note.plaintext))) }
+    ensures refused { IfOk result (λ outcome. IfErr outcome (λ refusal. IsRefused A.is_sealing desk.now now message.now refusal)) }
+{
+    meant_contexts();
+    let context = match fresh_context::<A>(desk, now, message, request) {
+        Ok(context) => context,
+        Err(refusal) => return Ok(Err(refusal)),
+    };
+    match open::<A>(alloc, context, request)? {
+        Some(note) => Ok(Ok(note)),
+        None => Ok(Err(Refusal::NotGenuine)),
+    }
+}
+
+/// Serves a protected request, as far as the contexts, the tree and the reply go, or says why it isn't served. Without memory all
+/// is as before, as it is where the request isn't served.
+pub fn serve<A: Aead>(
+    alloc: Global,
+    now: Moment,
+    desk: &mut ServerDesk,
     tree: &mut Tree,
     endpoint: &Endpoint,
     draw: &Draw,
@@ -307,20 +343,20 @@ pub fn serve<A: Aead>(
 ) -> Result<Result<Served, Refusal>, AllocError>
     requires { IsRequest message.now request.now }
     ensures served { IfOk result (λ outcome. IfOk outcome (λ served.
-        IsServedAs A.is_sealing tree.old desk.now endpoint.now now draw.now message.now request.now served tree.new)) }
-    ensures refused { IfOk result (λ outcome. IfErr outcome (λ refusal. IsRefused A.is_sealing desk.now now message.now refusal)) }
-    ensures same { IfOk result (λ outcome. OnErr outcome (tree.new ≡ tree.old)) }
-    ensures err { OnErr result (tree.new ≡ tree.old) }
+        IsServedAs A.is_sealing tree.old desk.old endpoint.now now draw.now message.now request.now served tree.new)) }
+    ensures accepted { IfOk result (λ outcome. OnOk outcome
+        (desk.new ≡ record desk.old { table = accepted request.now.kid request.now.number desk.old.table })) }
+    ensures refused { IfOk result (λ outcome. IfErr outcome (λ refusal. IsRefused A.is_sealing desk.old now message.now refusal)) }
+    ensures same { IfOk result (λ outcome. OnErr outcome ((desk.new ≡ desk.old) × (tree.new ≡ tree.old))) }
+    ensures err { OnErr result ((desk.new ≡ desk.old) × (tree.new ≡ tree.old)) }
 {
-    meant_contexts();
-    let context = match fresh_context::<A>(desk, now, message, request) {
-        Ok(context) => context,
-        Err(refusal) => return Ok(Err(refusal)),
-    };
-    match open::<A>(alloc, context, request)? {
-        Some(opened) => Ok(Ok(serve_opened::<A>(
-            alloc, now, tree, context, endpoint, draw, message, opened,
-        )?)),
-        None => Ok(Err(Refusal::NotGenuine)),
+    match opened::<A>(alloc, now, desk, message, request)? {
+        Ok(note) => {
+            let taken = take::<A>(alloc, tree, note)?;
+            Ok(Ok(serve_opened::<A>(
+                alloc, now, desk, tree, endpoint, draw, message, request, taken,
+            )))
+        }
+        Err(refusal) => Ok(Err(refusal)),
     }
 }

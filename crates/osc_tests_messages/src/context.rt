@@ -224,14 +224,34 @@ fn first_sender(rt: &impl Abort, alloc: Global) -> SenderContext {
 /// Nothing of a key is printed.
 #[test]
 fn what_is_printed(rt: HostRuntime) {
-    let (mut sender, recipient) = first_client(&rt, rt.alloc());
+    let (mut sender, mut recipient) = first_client(&rt, rt.alloc());
     let number = sender.take_number().expect(&rt, "a number");
-    let printed = format!(in rt.alloc(); "{sender:?} {recipient:?} {number:?}");
+    assert!(rt; recipient.is_fresh(0));
+    let accepted = recipient.accept(0);
+    let printed = format!(in rt.alloc(); "{sender:?} {recipient:?} {number:?} {accepted:?}");
     number.spend();
+    accepted.spend();
     drop(sender);
     drop(recipient);
     let printed = printed.expect(&rt, "memory");
-    assert!(rt; printed.as_str() == "SenderContext RecipientContext SendNumber");
+    assert!(rt; printed.as_str() == "SenderContext RecipientContext SendNumber AcceptedNumber");
+}
+
+/// A number is accepted once, and says whose it is.
+#[test]
+fn accepted_numbers(rt: HostRuntime) {
+    let (sender, mut recipient) = first_client(&rt, rt.alloc());
+    drop(sender);
+    assert!(rt; recipient.is_fresh(20));
+    let accepted = recipient.accept(20);
+    let again = recipient.is_fresh(20);
+    let older = recipient.is_fresh(19);
+    drop(recipient);
+    let said = accepted.get() == 20
+        && accepted.id() == b"\x01".as_slice()
+        && *accepted.common_iv() == EXAMPLES[0].common_iv;
+    accepted.spend();
+    assert!(rt; said && older && !again);
 }
 
 /// IDs of a client and of a server, and why there is no context with them.

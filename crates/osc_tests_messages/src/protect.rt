@@ -1,5 +1,5 @@
 //! Protection: the published examples, what is read before it is opened, what is too long, and what is printed.
-ghost use Rattle.std.specs.Prelude.{◌≡◌, ◌≤◌, IfSome, length};
+ghost use Rattle.std.specs.Prelude.{◌≡◌, ◌≤◌, length, IfSome};
 ghost use Rattle.osc_model.specs.declared.context.Side.TheVariants.{Server};
 ghost use Rattle.osc_context.specs.Derivation.{taken_of, recipient_of};
 ghost use Rattle.osc_context.specs.Nonce.{longest_id};
@@ -148,25 +148,13 @@ fn protect_at(
     protect_request::<Ccm<8>>(room, number, &message).expect(rt, "a request that fits")
 }
 
-/// What the server opens of a request in this room, and the right to reply.
-fn open_in(
-    room: RequestRoom,
-    recipient: &RecipientContext,
-    sealed: &SealedRequestRef<'_>,
-) -> Option<OpenedRequest>
-    requires recipient { recipient.now ≡ recipient_of room.name Server }
+/// What the server opens of a request in this room.
+fn open_in(room: Room, recipient: &RecipientContext, sealed: &SealedRequestRef<'_>) -> Option<Note>
+    requires recipient { recipient.now ≡ recipient_of room.name Server recipient.now.window }
     requires named { IsFor room.name sealed.now }
     requires room { length sealed.now.sealed ≤ room.most }
-    ensures { IfSome result (λ opened. opened.right.context ≡ room.name) }
 {
     open_request::<Ccm<8>>(room, recipient, sealed).ok()
-}
-
-/// The note alone, without a reply.
-fn note_of(opened: OpenedRequest) -> Note {
-    let OpenedRequest { note, right } = opened;
-    right.forgo();
-    note
 }
 
 /// What the server opens of a request of this context, if it is genuine.
@@ -180,10 +168,10 @@ fn open_under(
 {
     let (sender, recipient) = derive(alloc, name, Side::Server).expect(rt, "a context");
     drop(sender);
-    let room = RequestRoom::new(alloc, name, sealed.sealed().len()).expect(rt, "memory");
+    let room = Room::new(alloc, name, sealed.sealed().len()).expect(rt, "memory");
     let opened = open_in(room, &recipient, sealed);
     drop(recipient);
-    Some(note_of(opened?))
+    opened
 }
 
 /// What the server opens of a request, if it is genuine.
@@ -316,15 +304,7 @@ fn texts_that_are_too_long(rt: HostRuntime) {
     assert!(rt; makes(&rt, rt.alloc(), &[7; 1152], None));
 }
 
-/// The right alone, without the note of the opening.
-fn right_of(opened: OpenedRequest) -> ReplyRight
-    ensures { result ≡ opened.right }
-{
-    let OpenedRequest { note: _, right } = opened;
-    right
-}
-
-/// The server opens a request of this context, and replies.
+/// The server opens a request of this context, accepts its number, and replies.
 fn reply_under(
     rt: &impl Abort,
     alloc: Global,
@@ -334,13 +314,15 @@ fn reply_under(
 ) -> ProtectedResponse
     requires { IsFor name.now sealed.now }
 {
-    let (sender, recipient) = derive(alloc, name, Side::Server).expect(rt, "a context");
-    let room = RequestRoom::new(alloc, name, sealed.sealed().len()).expect(rt, "memory");
+    let (sender, mut recipient) = derive(alloc, name, Side::Server).expect(rt, "a context");
+    let room = Room::new(alloc, name, sealed.sealed().len()).expect(rt, "memory");
     let opened = open_in(room, &recipient, sealed).expect(rt, "a genuine request");
+    drop(opened);
+    let room = Room::new(alloc, name, DATAGRAM_LIMIT).expect(rt, "memory");
+    assert!(rt; recipient.is_fresh(sealed.number()));
+    let number = recipient.accept(sealed.number());
     drop(recipient);
-    let right = right_of(opened);
-    let room = TextRoom::new(alloc, DATAGRAM_LIMIT).expect(rt, "memory");
-    let made = protect_reply::<Ccm<8>>(right, room, &sender, reply).expect(rt, "a reply that fits");
+    let made = protect_reply::<Ccm<8>>(room, number, &sender, reply).expect(rt, "it fits");
     drop(sender);
     made
 }
@@ -664,25 +646,11 @@ fn room_is_hidden(rt: &impl Abort, alloc: Global, name: &ContextName) -> bool {
     hidden
 }
 
-fn request_room_is_hidden(rt: &impl Abort, alloc: Global, name: &ContextName) -> bool {
-    let room = RequestRoom::new(alloc, name, 7).expect(rt, "memory");
-    let hidden = prints(rt, alloc, &room, "RequestRoom");
-    drop(room);
-    hidden
-}
-
-fn text_room_is_hidden(rt: &impl Abort, alloc: Global) -> bool {
-    let room = TextRoom::new(alloc, 7).expect(rt, "memory");
-    prints(rt, alloc, &room, "TextRoom")
-}
-
 /// Nothing of a key or a text is printed.
 #[test]
 fn what_is_printed(rt: HostRuntime) {
     let name = name_of(&rt, rt.alloc(), &CONTEXTS[0]);
     assert!(rt; room_is_hidden(&rt, rt.alloc(), &name));
-    assert!(rt; request_room_is_hidden(&rt, rt.alloc(), &name));
-    assert!(rt; text_room_is_hidden(&rt, rt.alloc()));
     assert!(rt; prints(&rt, rt.alloc(), &Malformed, "Malformed"));
     drop(name);
 }

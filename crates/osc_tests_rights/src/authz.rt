@@ -242,9 +242,9 @@ fn other_answers_make_none(rt: HostRuntime) {
 /// A request of number 0 opens under this recipient ID, where there is such a context and the number is fresh.
 fn accepted(desk: &mut ServerDesk, id: u8) -> bool {
     if let Some(context) = desk.get(&[id])
-        && context.window().is_fresh(0)
+        && context.recipient().is_fresh(0)
     {
-        desk.accept(&[id], 0);
+        desk.accept(&[id], 0).spend();
         return true;
     }
     false

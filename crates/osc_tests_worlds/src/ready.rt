@@ -171,7 +171,7 @@ fn has_a_fresh_number(world: &World, next: Next) -> bool {
         shared(world, next.now, next.client),
     ) {
         (Some(number), Some(context)) => number <= GREATEST
-            && context.window().is_fresh(number)
+            && context.recipient().is_fresh(number)
             && is_short(context.name()),
         _ => false,
     }
@@ -246,8 +246,9 @@ fn is_scope(alloc: Global, scope: &Scope) -> bool {
 fn has_made(alloc: Global, world: &World, next: Next) -> bool {
     learnt(world) == Some(&ClientResult::Made)
         && next_number(world, next.client) == Some(0)
-        && shared(world, next.now, next.client).is_some_and(|context| context.window().is_fresh(0)
-            && is_scope(alloc, context.scope()))
+        && shared(world, next.now, next.client).is_some_and(|context| {
+            context.recipient().is_fresh(0) && is_scope(alloc, context.scope())
+        })
 }
 
 /// An exchange as it is promised.

@@ -5,5 +5,5 @@ returns-then-not-is_fresh-clause-refused g c = (
   c.args.request.now,
   c.in-Some.context.now,
   c.in-Some.ensures.some,
-  λ fresh. absurd (cc (c.if-not-is_fresh.true, c.is_fresh.ensures.1 (rw (c.window.ensures, c.number.ensures.value) fresh))),
+  λ fresh. absurd (cc (c.if-not-is_fresh.true, c.is_fresh.ensures.1 (rw (c.recipient.ensures, c.number.ensures.value) fresh))),
 )

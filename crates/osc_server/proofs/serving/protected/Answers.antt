@@ -19,15 +19,15 @@ unwrap-requires g c =
 
 pub returns-clause-noted : goal.returns-clause-noted
 returns-clause-noted g c =
-    let same : note_of c.args.right.context Server c.args.right.number (request_nonce c.args.right.context c.args.right.number) (plain_bytes c.message.result)
-    ≡ reply_note c.args.context.now.name c.args.right.number c.args.reply.now =
-    rw (c.requires.context, c.message.ensures, c.reply_to-plain.ensures, c.what_is_sealed.ensures _ c.args.reply.now) refl
+    let same : note_of c.args.room.name Server c.args.number.number (request_nonce c.args.room.name c.args.number.number) (plain_bytes c.message.result)
+    ≡ reply_note c.args.context.now.name c.args.number.number c.args.reply.now =
+    rw (c.requires.name, c.message.ensures, c.reply_to-plain.ensures, c.what_is_sealed.ensures _ c.args.reply.now) refl
     in
     IfOk-at_ok _ c.unwrap.ensures c.protect_reply.ensures.noted ∙ same
 
 pub returns-clause-short : goal.returns-clause-short
 returns-clause-short g c =
-    let made = IfOk-at_ok (λ made. IsProtectedResponse g.A.Aead.is_sealing c.args.right.context c.args.right.number None c.message.result made.message) c.unwrap.ensures c.protect_reply.ensures.protected in
+    let made = IfOk-at_ok (λ made. IsProtectedResponse g.A.Aead.is_sealing c.args.room.name c.args.number.number None c.message.result made.message) c.unwrap.ensures c.protect_reply.ensures.protected in
     let plain : length (plain_bytes c.message.result) ≤ 14 + length c.args.reply.now.payload =
     rw (c.message.ensures, c.reply_to-plain.ensures, c.what_is_sealed.ensures _ c.args.reply.now)
     (text_short c.length_of_plaintext.ensures (length c.args.reply.now.payload) c.args.reply.now

@@ -1,27 +1,34 @@
-use Rattle.std.proofs.Common.{◌≡◌, ◌++◌, length, take, drop, ap, ◌∙◌, arith}
+use Rattle.std.proofs.Common.{◌≡◌, ◌++◌, length, take, drop, Some, ap, ◌∙◌, arith}
 use Rattle.std.proofs.lemmas.List.{take_at}
-use Rattle.osc_window.specs.Window.{IsFresh}
-use Rattle.osc_authz.specs.Table.{IsTable, accepted}
-use Rattle.osc_authz.proofs.Lookups.{all_fresh}
+use Rattle.osc_authz.specs.Table.{IsTable, accepted, with_id}
+use Rattle.osc_authz.proofs.Lookups.{found_again}
 use Rattle.osc_authz.proofs.TableLaws.{accepted_is_table}
 use Rattle.osc_authz.proofs.desk.ServerDesk.accept.Goals as goal
 
-pub accept-requires : goal.accept-requires
-accept-requires c =
-    let held = c.requires.0 in
-    rw c.deref_mut.ensures.value
-    (all_fresh (λ held. IsFresh held.window c.args.number) c.args.id.now c.self.inside.table.items held c.self.invariant (rw (← c.self.view_is) at c.requires.1) c.requires.2)
+pub accept-requires-clause-fresh : goal.accept-requires-clause-fresh
+accept-requires-clause-fresh c = (c.requires.fresh.0, rw c.deref_mut.ensures.value (rw (← c.self.view_is) at c.requires.fresh.1), c.requires.fresh.2)
 
-kept : (c : goal.After-self-1) → IsTable (take c.self.inside.table.len (c.accept.new.table ++ drop (length c.accept.new.table) c.self.inside.table.items))
-kept c =
-    let new : c.accept.new.table ≡ accepted c.args.id.now c.args.number c.self.inside.table.items = c.accept.ensures ∙ ap (accepted c.args.id.now c.args.number) c.deref_mut.ensures.value in
+-- the table as it is written back
+same : (c : goal.After-self-1)
+    → take c.self.inside.table.len (c.accept.new.table ++ drop (length c.accept.new.table) c.self.inside.table.items) ≡ accepted c.args.id.now c.args.number c.self.inside.table.items
+same c =
+    let new : c.accept.new.table ≡ accepted c.args.id.now c.args.number c.self.inside.table.items = c.accept.ensures.accepted ∙ ap (accepted c.args.id.now c.args.number) c.deref_mut.ensures.value in
     let whole : take c.self.inside.table.len (c.accept.new.table ++ drop (length c.accept.new.table) c.self.inside.table.items) ≡ c.accept.new.table =
     take_at c.accept.new.table (drop (length c.accept.new.table) c.self.inside.table.items) c.self.inside.table.len (omega (arith, c.accept.auto.table, c.deref_mut.ensures.len))
     in
-    rw (whole, new) (accepted_is_table c.args.id.now c.args.number c.self.inside.table.items c.self.invariant)
+    whole ∙ new
+
+kept : (c : goal.After-self-1) → IsTable (take c.self.inside.table.len (c.accept.new.table ++ drop (length c.accept.new.table) c.self.inside.table.items))
+kept c = rw (same c) (accepted_is_table c.args.id.now c.args.number c.self.inside.table.items c.self.invariant)
 
 pub invariant_of-self : goal.invariant_of-self
 invariant_of-self c = kept c
 
 pub returns-clause-table : goal.returns-clause-table
 returns-clause-table c = kept c
+
+pub returns-clause-found : goal.returns-clause-found
+returns-clause-found c =
+    let held = c.requires.fresh.0 in
+    let there : with_id c.args.id.now c.self.inside.table.items ≡ Some held = rw (← c.self.view_is) at c.requires.fresh.1 in
+    rw (c.requires.fresh.1, same c) (found_again c.args.id.now c.args.number c.self.inside.table.items held c.self.invariant.own_ids there)

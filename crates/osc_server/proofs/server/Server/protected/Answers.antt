@@ -5,7 +5,6 @@ use Rattle.osc_authz.specs.Table.{accepted}
 use Rattle.osc_server.specs.Parts.{IsServedAs}
 use Rattle.osc_server.specs.Table.{AnswersProtected, IsRefused, answered, refused, served}
 use Rattle.osc_server.specs.declared.refusal.Refusal.TheVariants.{Malformed}
-use Rattle.osc_server.proofs.Requests.{is_found}
 use Rattle.osc_server.proofs.Served.{serves}
 use Rattle.osc_server.proofs.server.Server.protected.Goals as goal
 
@@ -15,19 +14,11 @@ returns-in_default-clause-answered g c =
     (λ step sends. refused Malformed (λ request is. absurd (cc (c.in_default.is, c.read_request.ensures.only request is))) sends)
     c.complain.ensures.sends
 
-pub accept-requires : goal.accept-requires
-accept-requires g c =
-    let as_served = IfOk-at_ok (λ it. IsServedAs g.A.Aead.is_sealing c.self.inside.tree c.self.inside.desk c.self.inside.endpoint c.args.now c.args.draw.now c.args.message c.in-Ok.request it c.serve.new.tree) c.in-Ok-2.is c.in_ok-answer.ensures.served in (
-      as_served.held,
-      rw c.kid.ensures (is_found c.args.now c.in-Ok.request.kid c.in-Ok.request.kid_context c.self.inside.desk.table as_served.held as_served.opened.meant.is_meant).same,
-      rw c.number.ensures.value as_served.opened.fresh,
-    )
-
 pub returns-in-Ok-2-clause-answered : goal.returns-in-Ok-2-clause-answered
 returns-in-Ok-2-clause-answered g c =
     let as_served = IfOk-at_ok (λ it. IsServedAs g.A.Aead.is_sealing c.self.inside.tree c.self.inside.desk c.self.inside.endpoint c.args.now c.args.draw.now c.args.message c.in-Ok.request it c.serve.new.tree) c.in-Ok-2.is c.in_ok-answer.ensures.served in
-    let desk : c.accept.new.self ≡ record c.self.inside.desk { table = accepted c.in-Ok.request.kid c.in-Ok.request.number c.self.inside.desk.table } =
-    c.accept.ensures.accepted ∙ rw (c.kid.ensures, c.number.ensures.value) refl
+    let desk : c.serve.new.desk ≡ record c.self.inside.desk { table = accepted c.in-Ok.request.kid c.in-Ok.request.number c.self.inside.desk.table } =
+    rw c.in-Ok-2.is at c.in_ok-answer.ensures.accepted
     in
     let kept : c.send.new.self ≡ record {
       tree = c.serve.new.tree;
@@ -44,8 +35,8 @@ returns-in-Ok-2-clause-answered g c =
 
 pub returns-in-Err-clause-answered : goal.returns-in-Err-clause-answered
 returns-in-Err-clause-answered g c =
-    let same : c.serve.new.tree ≡ c.self.inside.tree = rw c.in-Err.is at c.in_ok-answer.ensures.same in
+    let same : (c.serve.new.desk ≡ c.self.inside.desk) × (c.serve.new.tree ≡ c.self.inside.tree) = rw c.in-Err.is at c.in_ok-answer.ensures.same in
     let why : IsRefused g.A.Aead.is_sealing c.self.inside.desk c.args.now c.args.message c.in-Err.refusal = rw c.in-Err.is at c.in_ok-answer.ensures.refused in
-    let sends = rw same at c.complain-in-Err.ensures.sends in
+    let sends = rw (same.0, same.1) at c.complain-in-Err.ensures.sends in
     subst (λ old. IfOk c.complain-in-Err.result (λ step. AnswersProtected g.A.Aead.is_sealing old c.args.now c.args.from c.args.draw.now c.args.message step c.complain-in-Err.new.self)) c.self.view_is
     (IfOk-weaker c.complain-in-Err.result _ _ (λ step it. refused c.in-Err.refusal why it) sends)
