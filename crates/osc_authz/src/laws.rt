@@ -5,6 +5,7 @@ ghost use Rattle.osc_cbor.specs.Spelling.{spelling};
 ghost use Rattle.osc_model.specs.Code.{code};
 ghost use Rattle.osc_model.specs.Draw.{nonce_drawn};
 ghost use Rattle.osc_model.specs.Grant.{HasBegun, IsNotOver};
+ghost use Rattle.osc_model.specs.declared.code.Code.{Code as AnyCode};
 ghost use Rattle.osc_model.specs.declared.node.Moment.{Moment as AnyMoment};
 ghost use Rattle.osc_model.specs.declared.node.Draw.{Draw as AnyDraw};
 ghost use Rattle.osc_scope.specs.Entries.{Entry, scope_of};
@@ -169,4 +170,12 @@ pub fn one_outcome<A: Aead>()
     osc_cbor::laws::one_item();
     osc_token::laws::one_token::<A>();
     osc_token::laws::one_outcome();
+}
+
+/// An exchange finishes in one way at most by an answer of one code and payload.
+pub fn one_finish()
+    ensures { (desk : AnyClient) (begun : Begun) (came : AnyCode) (payload : List ℕ) (result other : Result Made AnyFinishError)
+        → Finishes desk begun came payload result → Finishes desk begun came payload other → result ≡ other }
+{
+    one_payload();
 }

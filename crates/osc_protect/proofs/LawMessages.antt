@@ -35,6 +35,7 @@ module _ (is_sealing : List ℕ → List ℕ → List ℕ → List ℕ → List 
     (option_nine : (m : Message) (code : ℕ) (bytes payload : List ℕ) → value 9 (protected m code bytes payload).options ≡ Some bytes) where
   pub request_says : (name : ContextName) (number : ℕ) (m p : Message) → HasShortContext name → number ≤ greatest_number → IsProtectedRequest is_sealing name number m p
       → (request : SealedRequest) × IsRequest p request × (request.number ≡ number) × IsFor name request
+      × is_sealing (key_of name Client) (request_nonce name number) (aad_of name number) (plain_bytes m) request.sealed
       × ((text : List ℕ) → is_sealing (key_of name Client) (request_nonce name number) (aad_of name number) text request.sealed → text ≡ plain_bytes m)
   request_says name number m p short fits made =
       let request : SealedRequest = record { number = number; kid = name.client_id; kid_context = name.id_context; sealed = made.sealed } in
@@ -45,10 +46,11 @@ module _ (is_sealing : List ℕ → List ℕ → List ℕ → List ℕ → List 
         spelled = record { lawful = record { number = fits; kid_context = context_fits name.id_context short }; whole = refl };
         payload = ap (λ (q : Message). q.payload) made.whole ∙ payload_written made.sealed some;
       } in
-      (request, says, refl, record { kid = refl; kid_context = λ bytes same. same }, λ text opens. one_text _ _ _ _ _ _ opens made.is_sealed)
+      (request, says, refl, record { kid = refl; kid_context = λ bytes same. same }, made.is_sealed, λ text opens. one_text _ _ _ _ _ _ opens made.is_sealed)
 
   pub response_says : (name : ContextName) (number : ℕ) (own : Option ℕ) (m p : Message) → IfSome own (λ n. n ≤ greatest_number) → IsProtectedResponse is_sealing name number own m p
       → (response : SealedResponse) × IsResponse p response × (response.own ≡ own)
+      × is_sealing (key_of name Server) (response_nonce name number own) (aad_of name number) (plain_bytes m) response.sealed
       × ((text : List ℕ) → is_sealing (key_of name Server) (response_nonce name number own) (aad_of name number) text response.sealed → text ≡ plain_bytes m)
   response_says name number own m p fits made =
       let response : SealedResponse = record { own = own; sealed = made.sealed } in
@@ -61,4 +63,4 @@ module _ (is_sealing : List ℕ → List ℕ → List ℕ → List ℕ → List 
         spelled = record { lawful = record { number = fits; kid_context = tt }; whole = refl };
         payload = ap (λ (q : Message). q.payload) made.whole ∙ payload_written made.sealed some;
       } in
-      (response, says, refl, λ text opens. one_text _ _ _ _ _ _ opens made.is_sealed)
+      (response, says, refl, made.is_sealed, λ text opens. one_text _ _ _ _ _ _ opens made.is_sealed)

@@ -51,13 +51,14 @@ pub fn one_response()
     one_value();
 }
 
-/// A protected request is read as what it was made of: it is a request of this number for this context; whatever opens under
-/// this context's key, nonce and associated data is the plaintext of the message that was protected; and with it the message
-/// is as it was.
+/// A protected request is read as what it was made of: it is a request of this number for this context; under this context's
+/// key, nonce and associated data it opens, and to nothing but the plaintext of the message that was protected; and with it the
+/// message is as it was.
 pub fn unprotecting_a_protected_request<A: Aead>()
     ensures request { (name : AnyName) (number : ℕ) (m p : Message) → HasShortContext name → number ≤ greatest_number
         → IsProtectedRequest A.is_sealing name number m p
         → (request : SealedRequest) × IsRequest p request × (request.number ≡ number) × IsFor name request
+        × A.is_sealing (key_of name Client) (request_nonce name number) (aad_of name number) (plain_bytes m) request.sealed
         × ((text : List ℕ) → A.is_sealing (key_of name Client) (request_nonce name number) (aad_of name number) text request.sealed → text ≡ plain_bytes m) }
     ensures again { (name : AnyName) (number : ℕ) (m p : Message)
         → HasSpelling m → has_oscore m.options ≡ false → IsProtectedRequest A.is_sealing name number m p
@@ -74,6 +75,7 @@ pub fn unprotecting_a_protected_response<A: Aead>()
     ensures response { (name : AnyName) (number : ℕ) (own : Option ℕ) (m p : Message)
         → IfSome own (λ n. n ≤ greatest_number) → IsProtectedResponse A.is_sealing name number own m p
         → (response : SealedResponse) × IsResponse p response × (response.own ≡ own)
+        × A.is_sealing (key_of name Server) (response_nonce name number own) (aad_of name number) (plain_bytes m) response.sealed
         × ((text : List ℕ) → A.is_sealing (key_of name Server) (response_nonce name number own) (aad_of name number) text response.sealed → text ≡ plain_bytes m) }
     ensures again { (name : AnyName) (number : ℕ) (own : Option ℕ) (m p : Message)
         → HasSpelling m → has_oscore m.options ≡ false → IsProtectedResponse A.is_sealing name number own m p

@@ -59,6 +59,7 @@ module _ (is_sealing : List ℕ → List ℕ → List ℕ → List ℕ → List 
     pub says : (name : ContextName) (number : ℕ) (own : Option ℕ) (m p : Message) → IfSome own (λ n. n ≤ greatest_number)
         → IsProtectedResponse is_sealing name number own m p
         → (response : SealedResponse) × IsResponse p response × (response.own ≡ own)
+        × is_sealing (key_of name side.Server) (response_nonce name number own) (aad_of name number) (plain_bytes m) response.sealed
         × ((text : List ℕ) → is_sealing (key_of name side.Server) (response_nonce name number own) (aad_of name number) text response.sealed → text ≡ plain_bytes m)
     pub one_plaintext : (bytes : List ℕ) (p q : Plaintext) → SpellsPlaintext bytes p → SpellsPlaintext bytes q → p ≡ q
     pub spelled : (reply : Reply) → IfSome reply.etag (λ tag. length tag ≡ 8) → HasPlaintextSpelling (reply_plaintext reply)
@@ -138,7 +139,7 @@ module _ (is_sealing : List ℕ → List ℕ → List ℕ → List ℕ → List 
   opens_once text is =
       let it = laws.says name number None m p tt made in
       let same : it.0.sealed ≡ made.sealed = ap (λ (r : SealedResponse). r.sealed) (reads_as it.0 it.1) in
-      it.3 text (subst (λ (s : List ℕ). is_sealing (key_of name side.Server) (response_nonce name number None) (aad_of name number) text s) (sym same) is)
+      it.4 text (subst (λ (s : List ℕ). is_sealing (key_of name side.Server) (response_nonce name number None) (aad_of name number) text s) (sym same) is)
 
   -- ---- it answers
 

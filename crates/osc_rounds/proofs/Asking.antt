@@ -56,6 +56,7 @@ module _ (is_sealing : List ℕ → List ℕ → List ℕ → List ℕ → List 
     pub says : (name : ContextName) (number : ℕ) (m p : Message) → HasShortContext name → number ≤ greatest_number
         → IsProtectedRequest is_sealing name number m p
         → (request : SealedRequest) × IsRequest p request × (request.number ≡ number) × IsFor name request
+        × is_sealing (key_of name side.Client) (request_nonce name number) (aad_of name number) (plain_bytes m) request.sealed
         × ((text : List ℕ) → is_sealing (key_of name side.Client) (request_nonce name number) (aad_of name number) text request.sealed → text ≡ plain_bytes m)
 
 -- ---- what is received
@@ -150,7 +151,7 @@ module _ (is_sealing : List ℕ → List ℕ → List ℕ → List ℕ → List 
   opens_once text is =
       let it = laws.says name number m p short lawful made in
       let same : it.0.sealed ≡ made.sealed = ap (λ (r : SealedRequest). r.sealed) (reads_as it.0 it.1) in
-      it.4 text (subst (λ (s : List ℕ). is_sealing (key_of name side.Client) (request_nonce name number) (aad_of name number) text s) (sym same) is)
+      it.5 text (subst (λ (s : List ℕ). is_sealing (key_of name side.Client) (request_nonce name number) (aad_of name number) text s) (sym same) is)
 
 -- ---- it is served
 

@@ -3,6 +3,7 @@ pub mod Cases
 pub mod Gets
 pub mod Notes
 pub mod Requests
+pub mod Refusals
 pub mod Replies
 pub mod Served
 pub mod StepKinds

@@ -1,14 +1,23 @@
 //! Laws of the definitions, for the crates above. These functions do nothing: whoever calls one has its clauses for a proof.
-ghost use Rattle.std.specs.Prelude.{◌<◌, ◌≤◌, ℕ, List, length};
+ghost use Rattle.std.specs.Prelude.{◌≡◌, ◌<◌, ◌≤◌, ℕ, List, length};
 ghost use Rattle.std.specs.Option.{ForSome};
+ghost use Rattle.osc_authz.specs.Desk.{DeskState};
+ghost use Rattle.osc_authz.specs.Held.{Held};
+ghost use Rattle.osc_coap.specs.Message.{Message};
 ghost use Rattle.osc_model.specs.Apply.{apply_read};
 ghost use Rattle.osc_model.specs.Scope.{Scope};
 ghost use Rattle.osc_model.specs.Tree.{Tree, IsWithinLimits};
+ghost use Rattle.osc_model.specs.declared.node.Moment.{Moment as AnyMoment};
 ghost use Rattle.osc_model.specs.declared.reply.Reply.{Reply as AnyReply};
+ghost use Rattle.osc_protect.specs.Protection.{SealedRequest};
 ghost use Rattle.osc_run.specs.ServerKinds.{Replies as AppliesTo};
 ghost use Rattle.osc_run.specs.Texts.{read_request, reply_text};
+ghost use Rattle.osc_server.specs.Table.{IsOpened, IsRefused};
+ghost use Rattle.osc_server.specs.declared.refusal.Refusal.{Refusal as AnyRefusal};
 
+use osc_ccm::Aead;
 use osc_coap::laws::length_of_plaintext;
+use osc_protect::laws::one_request;
 
 /// What answers a protected request has at most 512 bytes of payload, and a reply that does has a plaintext of at most 526 bytes.
 pub fn lengths_of_replies()
@@ -18,4 +27,17 @@ pub fn lengths_of_replies()
         → length (reply_text reply) ≤ 526 }
 {
     length_of_plaintext();
+}
+
+/// A protected request is refused for one reason, or it opens: as one request, under one context, and to one text.
+pub fn one_refusal<A: Aead>()
+    ensures refused { (desk : DeskState) (now : AnyMoment) (message : Message) (a b : AnyRefusal)
+        → IsRefused A.is_sealing desk now message a → IsRefused A.is_sealing desk now message b → a ≡ b }
+    ensures opened { (desk : DeskState) (now : AnyMoment) (message : Message) (request : SealedRequest) (held : Held) (text : List ℕ) (refusal : AnyRefusal)
+        → IsOpened A.is_sealing desk now message request held text → ¬ IsRefused A.is_sealing desk now message refusal }
+    ensures once { (desk : DeskState) (now : AnyMoment) (message : Message) (request other : SealedRequest) (held holder : Held) (text said : List ℕ)
+        → IsOpened A.is_sealing desk now message request held text → IsOpened A.is_sealing desk now message other holder said
+        → (request ≡ other) × (held ≡ holder) × (text ≡ said) }
+{
+    one_request();
 }
