@@ -25,6 +25,7 @@ use Rattle.osc_message.specs.Sending.{reset, reply_start, replied, again, datagr
 use Rattle.osc_context.specs.Derivation.{key_of}
 use Rattle.osc_window.specs.Window.{IsFresh}
 use Rattle.osc_protect.specs.Aad.{aad_of}
+use Rattle.osc_protect.specs.Errors.{malformed, not_genuine}
 use Rattle.osc_protect.specs.Protection.{SealedRequest, IsRequest, IsProtectedResponse, request_nonce}
 use Rattle.osc_authz.specs.Desk.{DeskState}
 use Rattle.osc_authz.specs.Exchange.{answer_item}
@@ -102,6 +103,13 @@ refusal_code Malformed = code 4 2
 refusal_code NoContext = code 4 1
 refusal_code Replayed = code 4 1
 refusal_code NotGenuine = code 4 0
+
+-- the number by which programs name it
+abbrev pub refusal_number : Refusal → ℕ
+refusal_number Malformed = malformed
+refusal_number NoContext = 22
+refusal_number Replayed = 23
+refusal_number NotGenuine = not_genuine
 
 abbrev pub refusal_age : Refusal → Option ℕ
 refusal_age Malformed = None

@@ -1,6 +1,6 @@
 //! Why a protected request isn't served (RFC 8613 section 8.2).
 ghost use Rattle.std.specs.Prelude.{◌≡◌};
-ghost use Rattle.osc_server.specs.Table.{refusal_age, refusal_code, refusal_text};
+ghost use Rattle.osc_server.specs.Table.{refusal_age, refusal_code, refusal_number, refusal_text};
 
 use osc_model::Code;
 
@@ -18,6 +18,18 @@ pub enum Refusal {
 }
 
 impl Refusal {
+    /// The number by which programs name the refusal.
+    pub fn number(self) -> u8
+        ensures { result ≡ refusal_number self }
+    {
+        match self {
+            Refusal::Malformed => 21,
+            Refusal::NoContext => 22,
+            Refusal::Replayed => 23,
+            Refusal::NotGenuine => 3,
+        }
+    }
+
     /// The code of the answer.
     pub(crate) fn code(self) -> Code
         ensures { result ≡ refusal_code self }

@@ -474,3 +474,8 @@ fn what_is_sent_has_its_room(rt: HostRuntime) {
     );
     assert!(rt; outbox.into_datagrams().as_slice().len() == 2);
 }
+
+#[test]
+fn the_first_moment(rt: HostRuntime) {
+    assert!(rt; Moment::START.ms == 0);
+}
