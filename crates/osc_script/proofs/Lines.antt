@@ -1,5 +1,5 @@
 -- What is read from the words of a line, they say, and what they say is read.
-use Rattle.std.proofs.Common.{◌≡◌, ℕ, ◌<◌, ◌^◌, Bool, true, false, cond, List, [], ◌∷◌, length, Option, Some, None, codes, nat_lt, nat_le, inl, inr, refl, sym, ap, subst, ◌∙◌, ltb-true, lt-ltb, leb-true}
+use Rattle.std.proofs.Common.{◌≡◌, ℕ, ◌<◌, ◌^◌, Bool, true, false, List, [], ◌∷◌, Option, Some, None, codes, nat_lt, inl, inr, refl, sym, ap, subst, ◌∙◌, ltb-true, lt-ltb}
 use Rattle.std.specs.Prelude.{IfSome, IsSome, ◌↔◌}
 use Rattle.std.proofs.Props.{props}
 use Rattle.std.proofs.lemmas.Bool.{cases_Bool}
@@ -11,10 +11,10 @@ use Rattle.osc_script.specs.declared.line.Line.TheVariants.{Put, Open, Proxy, Vi
 use Rattle.osc_script.specs.Node.{client_name, name_of}
 use Rattle.osc_script.specs.Words.{SpellsNumber}
 use Rattle.osc_script.specs.Line.{Say}
-use Rattle.osc_script.specs.Reading.{◌>>=◌, number_in, request_number_in, format_in, client_in, node_in, worker_in, bytes_in, nonce_in, changes_in, some_changes, request_in, moment_if, moment_in, put_in, at_in, draw_in, exchange_in, skip_in, ask_in, lie_in, deliver_in, drop_in, alter_in, graft_in, tick_in, restart_in, inject_in, proxy_in, proxy_line_in, via_in, HasPath}
-use Rattle.osc_script.proofs.Found.{step_found, test_held}
+use Rattle.osc_script.specs.Reading.{◌>>=◌, number_in, request_number_in, format_in, client_in, node_in, worker_in, bytes_in, short_bytes_in, nonce_in, changes_in, some_changes, request_in, moment_if, moment_in, put_in, at_in, draw_in, exchange_in, skip_in, ask_in, lie_in, deliver_in, drop_in, alter_in, graft_in, tick_in, restart_in, inject_in, proxy_in, proxy_line_in, via_in, HasPath}
+use Rattle.osc_script.proofs.Found.{step_found}
 use Rattle.osc_script.proofs.Numbers.{number_found, format_found, request_number_found}
-use Rattle.osc_script.proofs.Payloads.{bytes_found, nonce_found}
+use Rattle.osc_script.proofs.Payloads.{bytes_found, nonce_found, short_found}
 use Rattle.osc_script.proofs.Nodes.{client_found, node_found, proxy_found, worker_found}
 use Rattle.osc_script.proofs.Requests.{request_found}
 use Rattle.osc_script.proofs.ChangeWords.{changes_found, some_found}
@@ -60,12 +60,12 @@ moment_read ms None value some =
 pub put_found : (path format bytes : List ℕ) (line : Line) → put_in path format bytes ≡ Some line → HasPath line → Say (codes "put" ∷ path ∷ format ∷ bytes ∷ []) line
 unfolding put_in
 put_found path format bytes line e has =
-    let a = step_found (format_in format) (λ f. bytes_in bytes >>= λ p. cond (nat_le (length p) longest_payload) (Some (Put path (record { format = f; payload = p }))) None) line e in
-    let b = step_found (bytes_in bytes) (λ p. cond (nat_le (length p) longest_payload) (Some (Put path (record { format = a.0; payload = p }))) None) line a.2 in
-    let c = test_held (nat_le (length b.0) longest_payload) (Some (Put path (record { format = a.0; payload = b.0 }))) line b.2 in
-    let is_put : Put path (record { format = a.0; payload = b.0 }) ≡ line = line_is (Put path (record { format = a.0; payload = b.0 })) line c.1 in
+    let a = step_found (format_in format) (λ f. short_bytes_in longest_payload bytes >>= λ p. Some (Put path (record { format = f; payload = p }))) line e in
+    let b = step_found (short_bytes_in longest_payload bytes) (λ p. Some (Put path (record { format = a.0; payload = p }))) line a.2 in
+    let c = short_found longest_payload bytes b.0 b.1 in
+    let is_put : Put path (record { format = a.0; payload = b.0 }) ≡ line = line_is (Put path (record { format = a.0; payload = b.0 })) line b.2 in
     let is_path : IsPath path = subst HasPath (sym is_put) has in
-    subst (Say (codes "put" ∷ path ∷ format ∷ bytes ∷ [])) is_put (format, bytes, refl, is_path, format_found format a.0 a.1, bytes_found bytes b.0 b.1, leb-true (length b.0) longest_payload c.0)
+    subst (Say (codes "put" ∷ path ∷ format ∷ bytes ∷ [])) is_put (format, bytes, refl, is_path, format_found format a.0 a.1, bytes_found bytes b.0 c.0, c.1)
 
 pub open_found : (path : List ℕ) (line : Line) → Some (Open path) ≡ Some line → HasPath line → Say (codes "open" ∷ path ∷ []) line
 open_found path line e has =

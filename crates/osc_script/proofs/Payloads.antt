@@ -1,5 +1,8 @@
 -- A word spells bytes exactly where they are read, and they are those.
-use Rattle.std.proofs.Common.{◌≡◌, ℕ, ◌+◌, ◌*◌, ◌<◌, ◌==◌, Bool, true, false, List, [], ◌∷◌, ◌++◌, length, get_or, replicate, Option, Some, None, Result, Ok, Err, codes, nat_lt, refl, sym, ap, subst, ◌∙◌, arith, inl, inr, ◌⊎◌, Bor, map, drop, add-one, drop-cons, drop_of_length-le, ◌≤◌, append_assoc, append-nil, eqb-true, bytes_eq, ltb-true, lt-ltb}
+use Rattle.std.proofs.Common.{◌≡◌, ℕ, ◌+◌, ◌*◌, ◌<◌, ◌==◌, Bool, true, false, List, [], ◌∷◌, ◌++◌, length, get_or, replicate, Option, Some, None, Result, Ok, Err, codes, nat_lt, refl, sym, ap, subst, ◌∙◌, arith, inl, inr, ◌⊎◌, Bor, map, drop, add-one, drop-cons, drop_of_length-le, ◌≤◌, append_assoc, append-nil, eqb-true, bytes_eq, ltb-true, lt-ltb, ◌/◌, cond, nat_le, leb-true, le-leb, length-append}
+use Rattle.std.proofs.lemmas.List.{length-replicate}
+use Rattle.std.proofs.Math.Nat.{mul-div_cancel_left}
+use Rattle.std.proofs.lemmas.Option.{cond_some}
 use Rattle.std.specs.Prelude.{slice_index, IfSome, IsNone, ◌≢◌}
 use Rattle.std.specs.List.{slice_split}
 use Rattle.std.proofs.lemmas.Bool.{cases_Bool}
@@ -9,8 +12,8 @@ use Rattle.hex.specs.Hex.{decode_of, is_hex_digit}
 use Rattle.hex.specs.declared.error.FromHexError.{FromHexError}
 use Rattle.hex.proofs.HexLemmas.{decode_of-ok}
 use Rattle.osc_script.specs.Words.{SpellsNumber, SpellsHex, SpellsRepeated, SpellParts, SpellsBytes}
-use Rattle.osc_script.specs.Reading.{◌>>=◌, number_in, decoded, hex_in, nonce_in, repeated_in, part_in, parts_in, bytes_in}
-use Rattle.osc_script.proofs.Found.{step_found, test_held}
+use Rattle.osc_script.specs.Reading.{◌>>=◌, number_in, decoded, hex_in, nonce_in, repeated_in, part_in, part_length, parts_in, total_length, bytes_in, short_bytes_in, or_none}
+use Rattle.osc_script.proofs.Found.{step_found, test_held, none_unless}
 use Rattle.osc_script.proofs.Numbers.{number_found, number_again}
 
 decoded_ok : (r : Result (List ℕ) FromHexError) (bytes : List ℕ) → decoded r ≡ Some bytes → r ≡ Ok bytes
@@ -145,6 +148,85 @@ bytes_again word bytes (inr s) =
       | inr other ↦ rw other (parts_again (slice_split (λ b. b == 43) word) bytes s)
     ]
 
+-- ---- lengths, by the counts alone
+
+half : (part bytes : List ℕ) → decode_of part ≡ Ok bytes → length bytes ≡ length part / 2
+half part bytes e = rw (twice part bytes e) (sym (mul-div_cancel_left (length bytes) (omega arith)))
+
+repeated_length : (pair digits bytes : List ℕ) → repeated_in pair digits ≡ Some bytes → length bytes ≡ or_none (number_in digits)
+unfolding repeated_in
+repeated_length pair digits bytes e =
+    let a = step_found (hex_in pair) (λ bytes. number_in digits >>= λ count. Some (replicate count (slice_index bytes 0))) bytes e in
+    let b = step_found (number_in digits) (λ count. Some (replicate count (slice_index a.0 0))) bytes a.2 in
+    ap length (some_is bytes (replicate b.0 (slice_index a.0 0)) b.2) ∙ length-replicate b.0 (slice_index a.0 0) ∙ sym (ap or_none b.1)
+  where
+    some_is : (x y : List ℕ) → Some y ≡ Some x → x ≡ y
+    some_is x y e = cc
+
+part_has_length : (part bytes : List ℕ) → part_in part ≡ Some bytes → length bytes ≡ part_length part
+unfolding part_in part_length
+part_has_length [] bytes e = half [] bytes (hex_found [] bytes e).digits
+part_has_length (high ∷ []) bytes e = half (high ∷ []) bytes (hex_found (high ∷ []) bytes e).digits
+part_has_length (high ∷ low ∷ []) bytes e = half (high ∷ low ∷ []) bytes (hex_found (high ∷ low ∷ []) bytes e).digits
+part_has_length (high ∷ low ∷ star ∷ digits) bytes e =
+    elim (cases_Bool (star == 42)) [
+      | inl same ↦
+          let read : repeated_in (high ∷ low ∷ []) digits ≡ Some bytes = sym (rw same refl) ∙ e in
+          rw same (repeated_length (high ∷ low ∷ []) digits bytes read)
+      | inr other ↦
+          let read : hex_in (high ∷ low ∷ star ∷ digits) ≡ Some bytes = sym (rw other refl) ∙ e in
+          rw other (half (high ∷ low ∷ star ∷ digits) bytes (hex_found (high ∷ low ∷ star ∷ digits) bytes read).digits)
+    ]
+
+total_has_length : (parts : List (List ℕ)) (bytes : List ℕ) → parts_in parts ≡ Some bytes → length bytes ≡ total_length parts
+unfolding parts_in total_length
+total_has_length [] bytes e = let empty : [] ≡ bytes = cc in rw (← empty) refl
+total_has_length (part ∷ parts) bytes e =
+    let a = step_found (part_in part) (λ first. parts_in parts >>= λ rest. Some (first ++ rest)) bytes e in
+    let b = step_found (parts_in parts) (λ rest. Some (a.0 ++ rest)) bytes a.2 in
+    ap length (some_is bytes (a.0 ++ b.0) b.2) ∙ length-append a.0 b.0 ∙ sums (part_has_length part a.0 a.1) (total_has_length parts b.0 b.1)
+  where
+    some_is : (x y : List ℕ) → Some y ≡ Some x → x ≡ y
+    some_is x y e = cc
+
+    sums : {a b c d : ℕ} → a ≡ c → b ≡ d → a + b ≡ c + d
+    sums e f = rw (e, f) refl
+
+word_has_length : (word bytes : List ℕ) → bytes_in word ≡ Some bytes → length bytes ≡ total_length (slice_split (λ b. b == 43) word)
+unfolding bytes_in total_length part_length
+word_has_length word bytes e =
+    elim (cases_Bool (bytes_eq word (codes "-"))) [
+      | inl same ↦
+          let dash : total_length (slice_split (λ b. b == 43) (codes "-")) ≡ 0 = refl in
+          ap length (some_is [] bytes (sym (rw same refl) ∙ e)) ∙ sym dash ∙ ap (λ (w : List ℕ). total_length (slice_split (λ b. b == 43) w)) (sym ((bytes_eq-Decides word (codes "-")).0 same))
+      | inr other ↦ total_has_length (slice_split (λ b. b == 43) word) bytes (sym (rw other refl) ∙ e)
+    ]
+  where
+    some_is : (x y : List ℕ) → Some x ≡ Some y → y ≡ x
+    some_is x y e = cc
+
+pub short_found : (most : ℕ) (word bytes : List ℕ) → short_bytes_in most word ≡ Some bytes → (bytes_in word ≡ Some bytes) × (length bytes ≤ most)
+unfolding short_bytes_in
+short_found most word bytes e =
+    let a = step_found (bytes_in word) (λ bytes. cond (nat_le (length bytes) most) (Some bytes) None) bytes e in
+    let c = cond_some (nat_le (length a.0) most) a.0 bytes a.2 in
+    (a.1 ∙ ap Some c.1, rw (← c.1) (leb-true (length a.0) most c.0))
+
+pub short_again : (most : ℕ) (word bytes : List ℕ) → bytes_in word ≡ Some bytes → length bytes ≤ most → short_bytes_in most word ≡ Some bytes
+unfolding short_bytes_in
+short_again most word bytes e le = rw (e, le-leb (length bytes) most le) refl
+
+-- parts that are longer are none of these bytes
+pub too_many : (most : ℕ) (word : List ℕ) → most < total_length (slice_split (λ b. b == 43) word) → None ≡ short_bytes_in most word
+too_many most word lt = sym (none_unless (short_bytes_in most word) (λ bytes e.
+    let s = short_found most word bytes e in
+    omega (arith, lt, s.1, word_has_length word bytes s.0)))
+
+-- and those that aren't are all of them
+pub few_enough : (most : ℕ) (word : List ℕ) (found : Option (List ℕ)) → ¬ (most < total_length (slice_split (λ b. b == 43) word)) → found ≡ bytes_in word → found ≡ short_bytes_in most word
+few_enough most word (Some bytes) few e = sym (short_again most word bytes (sym e) (omega (arith, few, word_has_length word bytes (sym e))))
+few_enough most word None few e = sym (none_unless (short_bytes_in most word) (λ bytes f. let g : None ≡ Some bytes = e ∙ (short_found most word bytes f).0 in absurd cc))
+
 -- what hex reads
 pub pairs_read : (part bytes : List ℕ) (empty : Bool) → empty ≡ (length part == 0) → empty ≡ false → decode_of part ≡ Ok bytes → Some bytes ≡ hex_in part
 pairs_read [] bytes empty e f d = absurd cc
@@ -200,6 +282,16 @@ is_done front = ap Some (append-nil front)
 -- the same at place i of what a loop goes over
 drop_part : (parts : List (Bor (List ℕ))) (i : ℕ) (d : Bor (List ℕ)) → i < length parts → map (λ part. part.now) (drop i parts) ≡ (get_or parts i d).now ∷ map (λ part. part.now) (drop (i + 1) parts)
 drop_part parts i d lt = rw (add-one, drop-cons parts i d) refl
+
+-- the parts from a place on, and those behind the next
+pub total_at : (parts : List (Bor (List ℕ))) (i : ℕ) (d : Bor (List ℕ)) (first : ℕ) → i < length parts → first ≡ part_length (get_or parts i d).now
+    → total_length (map (λ part. part.now) (drop i parts)) ≡ first + total_length (map (λ part. part.now) (drop (i + 1) parts))
+unfolding total_length
+total_at parts i d first lt e = rw (drop_part parts i d lt, e) refl
+
+pub total_done : (parts : List (Bor (List ℕ))) (i : ℕ) → length parts ≤ i → total_length (map (λ part. part.now) (drop i parts)) ≡ 0
+unfolding total_length
+total_done parts i le = rw (drop_of_length-le parts le) refl
 
 pub goes_on_at : (front first all : List ℕ) (parts : List (Bor (List ℕ))) (i : ℕ) (d : Bor (List ℕ)) (total : Option (List ℕ)) → i < length parts → Some first ≡ part_in (get_or parts i d).now → all ≡ front ++ first
     → with_front front (parts_in (map (λ part. part.now) (drop i parts))) ≡ total → with_front all (parts_in (map (λ part. part.now) (drop (i + 1) parts))) ≡ total

@@ -1,5 +1,5 @@
 -- What the words of a line say is what is read from them, kind by kind.
-use Rattle.std.proofs.Common.{◌≡◌, ℕ, ◌≤◌, true, false, List, [], ◌∷◌, length, get_or, map, drop, Option, Some, None, codes, nat_le, Bor, inl, inr, refl, sym, ap, subst, ◌∙◌, arith, bytes_eq, le-leb, IsUtf8}
+use Rattle.std.proofs.Common.{◌≡◌, ℕ, ◌≤◌, true, false, List, [], ◌∷◌, length, get_or, map, drop, Option, Some, None, codes, Bor, inl, inr, refl, sym, ap, subst, ◌∙◌, arith, bytes_eq, IsUtf8}
 use Rattle.std.proofs.lemmas.Bool.{cases_Bool}
 use Rattle.std.proofs.lemmas.Slice.Eq.{bytes_eq-Decides}
 use Rattle.osc_model.specs.Tree.{longest_payload}
@@ -10,7 +10,7 @@ use Rattle.osc_script.specs.Line.{IsSkipped, Say, Says}
 use Rattle.osc_script.specs.Reading.{Reads, with_none, with_one, with_two, with_three, with_more, with_two_more, put_in, at_in, draw_in, exchange_in, skip_in, ask_in, lie_in, deliver_in, drop_in, alter_in, graft_in, tick_in, restart_in, inject_in, proxy_line_in, via_in, node_line_in, datagram_line_in, client_line_in, timed_line_in, line_in, HasPath, Gives}
 use Rattle.osc_script.proofs.Found.{chosen, test_held}
 use Rattle.osc_script.proofs.Numbers.{number_again, format_again, request_number_again}
-use Rattle.osc_script.proofs.Payloads.{bytes_again, nonce_again}
+use Rattle.osc_script.proofs.Payloads.{bytes_again, nonce_again, short_again}
 use Rattle.osc_script.proofs.Nodes.{client_again, node_again, proxy_again, worker_again}
 use Rattle.osc_script.proofs.Requests.{request_again}
 use Rattle.osc_script.proofs.ChangeWords.{changes_again, some_again}
@@ -194,8 +194,8 @@ pub say_again : (words : List (List ℕ)) (line : Line) → IsPlain line → Say
 unfolding line_in timed_line_in client_line_in datagram_line_in node_line_in proxy_line_in via_in put_in at_in draw_in exchange_in skip_in ask_in lie_in deliver_in drop_in alter_in graft_in tick_in restart_in inject_in
 say_again words Skipped p s = absurd s
 say_again words (Put path resource) p s =
-    let short : nat_le (length resource.payload) longest_payload ≡ true = le-leb (length resource.payload) longest_payload s.6 in
-    (ap read_of s.2 ∙ rw (format_again s.0 resource.format s.4, bytes_again s.1 resource.payload s.5, short) refl, s.3)
+    let short = short_again longest_payload s.1 resource.payload (bytes_again s.1 resource.payload s.5) s.6 in
+    (ap read_of s.2 ∙ rw (format_again s.0 resource.format s.4, short) refl, s.3)
 say_again words (Open path) p s = (ap read_of s.0, s.1)
 say_again words (Grant client scope not_before expires) p s = absurd p
 say_again words (Proxy proxy) p s = (ap read_of s ∙ rw (proxy_again proxy) refl, tt)

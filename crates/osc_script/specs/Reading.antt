@@ -1,5 +1,5 @@
 -- Reading a line from left to right. No public contract rests on this file.
-use Rattle.std.specs.Prelude.{◌≡◌, ℕ, ◌-◌, ◌^◌, ◌==◌, ◌&&◌, nat_lt, nat_le, Bool, true, false, refl, if◌then◌else◌, List, [], ◌∷◌, ◌++◌, length, take, drop, slice_index, replicate, codes, Option, Some, None, Result, Ok, Err}
+use Rattle.std.specs.Prelude.{◌≡◌, ℕ, ◌+◌, ◌-◌, ◌/◌, ◌^◌, ◌==◌, ◌&&◌, nat_lt, nat_le, Bool, true, false, refl, if◌then◌else◌, List, [], ◌∷◌, ◌++◌, length, take, drop, slice_index, replicate, codes, Option, Some, None, Result, Ok, Err}
 use Rattle.std.specs.List.{slice_split}
 use Rattle.std.specs.Option.{ForSome}
 use Rattle.std.specs.Str.{bytes_eq, all_ascii_digits}
@@ -83,6 +83,25 @@ parts_in (part ∷ parts) = do
 
 unfoldable pub bytes_in : List ℕ → Option (List ℕ)
 bytes_in word = if bytes_eq word (codes "-") then Some [] else parts_in (slice_split (λ b. b == 43) word)
+
+-- the bytes, if they are at most so many
+unfoldable pub short_bytes_in : ℕ → List ℕ → Option (List ℕ)
+short_bytes_in most word = do
+  bytes ← bytes_in word
+  if nat_le (length bytes) most then Some bytes else None
+
+abbrev pub or_none : Option ℕ → ℕ
+or_none (Some count) = count
+or_none None = 0
+
+-- how many bytes a part stands for, if it does
+unfoldable pub part_length : List ℕ → ℕ
+part_length (high ∷ low ∷ star ∷ digits) = if star == 42 then or_none (number_in digits) else length (high ∷ low ∷ star ∷ digits) / 2
+part_length part = length part / 2
+
+unfoldable pub total_length : List (List ℕ) → ℕ
+total_length [] = 0
+total_length (part ∷ parts) = part_length part + total_length parts
 
 -- eight bytes in hexadecimal digits
 unfoldable pub nonce_in : List ℕ → Option (List ℕ)
@@ -214,8 +233,8 @@ with_two_more f args = None
 unfoldable pub put_in : List ℕ → List ℕ → List ℕ → Option Line
 put_in path format bytes = do
   format ← format_in format
-  payload ← bytes_in bytes
-  if nat_le (length payload) longest_payload then Some (Put path (record { format = format; payload = payload })) else None
+  payload ← short_bytes_in longest_payload bytes
+  Some (Put path (record { format = format; payload = payload }))
 
 unfoldable pub proxy_line_in : List ℕ → Option Line
 proxy_line_in proxy = do

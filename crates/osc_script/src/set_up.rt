@@ -11,13 +11,13 @@ ghost use Rattle.osc_script.specs.Reading.{with_one, with_two, with_three, proxy
 
 use crate::grants::grant_claims;
 use crate::line::Line;
-use crate::words::{bytes, client, dates, format, proxy, scope};
+use crate::words::{client, dates, format, proxy, scope, short_bytes};
 use osc_model::{Bytes, Path, Resource};
 use osc_token::claims_text;
 use std::alloc::{AllocError, Global};
 
 // The most bytes that a resource has.
-const LONGEST_PAYLOAD: usize = 512;
+const LONGEST_PAYLOAD: u64 = 512;
 
 // The most bytes of claims that the cipher takes.
 const CLAIMS_LIMIT: usize = 65535;
@@ -36,12 +36,9 @@ pub(crate) fn put(alloc: Global, args: &[&str]) -> Result<Option<Line>, AllocErr
     let Some(format) = format(form.as_bytes()) else {
         return Ok(None);
     };
-    let Some(payload) = bytes(alloc, payload.as_bytes())? else {
+    let Some(payload) = short_bytes(alloc, payload.as_bytes(), LONGEST_PAYLOAD)? else {
         return Ok(None);
     };
-    if payload.len() > LONGEST_PAYLOAD {
-        return Ok(None);
-    }
     let resource = Resource { format, payload };
     Ok(Some(Line::Put { path, resource }))
 }

@@ -1,7 +1,7 @@
 //! Single words of a script.
 
-ghost use Rattle.std.specs.Prelude.{◌≡◌, ◌≢◌, ◌==◌, length, slice_index, IfOk, IfSome, IsNone, ◌∷◌, [], map, option_map};
-ghost use Rattle.osc_script.specs.Reading.{number_in, short_number_in, request_number_in, format_in, client_in, client_with, proxy_in, proxy_with, node_in, one_named, worker_in, method_in, hex_in, nonce_in, repeated_in, part_in, parts_in, bytes_in, date_in, dates_in, one_date, Reads};
+ghost use Rattle.std.specs.Prelude.{◌≡◌, ◌≢◌, ◌<◌, ◌==◌, ◌↔◌, length, slice_index, IfOk, IfSome, IsNone, IsTrue, ◌∷◌, [], map, option_map};
+ghost use Rattle.osc_script.specs.Reading.{number_in, short_number_in, request_number_in, format_in, client_in, client_with, proxy_in, proxy_with, node_in, one_named, worker_in, method_in, hex_in, nonce_in, repeated_in, part_in, part_length, parts_in, bytes_in, short_bytes_in, total_length, date_in, dates_in, one_date, Reads};
 ghost use Rattle.osc_script.specs.Words.{SpellsScope};
 
 use crate::client_name::ClientName;
@@ -219,6 +219,47 @@ pub(crate) fn bytes(alloc: Global, word: &[u8]) -> Result<Option<Bytes>, AllocEr
         return Ok(None);
     };
     Ok(Some(Bytes::from_slice(alloc, &items)?))
+}
+
+/// The same, if they are at most so many. The lengths are judged by the counts, before any bytes are made.
+pub(crate) fn short_bytes(
+    alloc: Global,
+    word: &[u8],
+    most: u64,
+) -> Result<Option<Bytes>, AllocError>
+    ensures { IfOk result (λ found. found ≡ short_bytes_in most word.now) }
+{
+    let parts = parts(alloc, word, b'+')?;
+    if are_longer(&parts, most) {
+        return Ok(None);
+    }
+    bytes(alloc, word)
+}
+
+// Whether the parts stand for more bytes, if they stand for any.
+fn are_longer(parts: &[&[u8]], most: u64) -> bool
+    ensures { IsTrue result ↔ (most < total_length (map (λ part. part.now) parts.now)) }
+{
+    let mut left = most;
+    for part in parts {
+        let length = part_length(part);
+        if length > left {
+            return true;
+        }
+        left -= length;
+    }
+    false
+}
+
+// How many bytes a part stands for, if it does.
+#[tactic(auto, unfolding(crate::specs::Reading::part_length))]
+fn part_length(part: &[u8]) -> u64
+    ensures { result ≡ part_length part.now }
+{
+    match part {
+        [_, _, b'*', digits @ ..] => number(digits).unwrap_or(0),
+        _ => part.len() as u64 / 2,
+    }
 }
 
 // The bytes of the parts, one after another.

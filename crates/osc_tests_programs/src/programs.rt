@@ -124,6 +124,12 @@ fn a_bad_line_is_all_that_is_written(rt: HostRuntime) -> Result<(), Fail> {
         ("put /e 65536 -", 1, "line 1: bad\n"),
         ("put /e none 0", 1, "line 1: bad\n"),
         ("put /e none 00*513", 1, "line 1: bad\n"),
+        ("put /t none 00*99999999999", 1, "line 1: bad\n"),
+        (
+            "put /t none 00*18446744073709551615+00*18446744073709551615",
+            1,
+            "line 1: bad\n",
+        ),
         ("put /e none -\nput /e none -", 2, "line 2: bad\n"),
         ("open /e  ", 1, "line 1: bad\n"),
         ("at 2\nat 1", 2, "line 2: bad\n"),
