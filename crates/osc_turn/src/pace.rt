@@ -1,0 +1,134 @@
+//! Turns that tick in time, whatever comes.
+ghost use Rattle.std.specs.Prelude.{◌≡◌, None, Option, false, IfErr, IfOk, OnErr, is_some};
+ghost use Rattle.osc_turn.specs.Pace.{CameIn, IsRefusedIn, busy_after, is_due};
+ghost use Rattle.osc_turn.specs.Ports.{Arrival, CountsFault, grown};
+
+use crate::error::TurnError;
+use crate::node::Node;
+use crate::port::Port;
+use crate::turning::{Turned, send_all, turn};
+use osc_ccm::Aead;
+use osc_model::{Draw, Moment};
+use std::alloc::{AllocError, Global};
+
+// How long a node takes what comes without a tick between, in milliseconds.
+const TICK_MILLIS: u64 = 10;
+
+/// Since when a node has taken what came, without a tick between.
+#[derive(Clone, Copy, Debug, PartialEq, Eq)]
+pub struct Pace {
+    /// The moment of its first turn after the last tick; none where its last turn ticked, or where it took none yet.
+    pub busy_since: Option<Moment>,
+}
+
+impl Pace {
+    /// That of a node which took no turn yet.
+    pub const START: Pace = Pace { busy_since: None };
+
+    /// Whether a tick is due at this moment: the node has taken what came for 10 milliseconds.
+    pub fn is_due(self, now: Moment) -> bool
+        ensures { result ≡ is_due self.busy_since now }
+    {
+        match self.busy_since {
+            Some(since) => since.ms + TICK_MILLIS <= now.ms,
+            None => false,
+        }
+    }
+
+    // After one more turn, in which a datagram came, or none.
+    fn after(self, now: Moment, received: bool) -> Pace
+        ensures { result.busy_since ≡ busy_after self.busy_since now received }
+    {
+        if !received {
+            return Pace::START;
+        }
+        Pace {
+            busy_since: Some(self.busy_since.unwrap_or(now)),
+        }
+    }
+}
+
+/// One turn of a node that keeps this pace: where it has taken what came for 10 milliseconds the node ticks, and what waits at the port
+/// stays there until the next turn; else it is a [`turn`]. So what is due goes out and what is over ends, whatever comes.
+///
+/// # Errors
+///
+/// As of [`turn`]; where the node ticks without asking the port, `Memory` alone, and nothing is lost.
+pub fn paced_turn<A: Aead, P: Port, N: Node<A>>(
+    alloc: Global,
+    port: &mut P,
+    node: &mut N,
+    pace: &mut Pace,
+    now: Moment,
+    draw: &Draw,
+) -> Result<Turned, TurnError>
+    ensures done { IfOk result (λ turned. (came : Option Arrival)
+        × CameIn (is_due pace.old.busy_since now) came (P.received port.old) (P.received port.new)
+        × (turned.received ≡ is_some came)
+        × N.is_step node.old now draw.now came turned.step node.new
+        × (P.sent port.new ≡ grown (P.sent port.old) turned.step.out)) }
+    ensures fault { IfOk result (λ turned. CountsFault turned.fault (P.failures port.old) (P.failures port.new)) }
+    ensures pace { IfOk result (λ turned. pace.new.busy_since ≡ busy_after pace.old.busy_since now turned.received) }
+    ensures refused { IfErr result (λ error. IsRefusedIn (is_due pace.old.busy_since now) error
+        (P.received port.old) (P.received port.new) (P.failures port.old) (P.failures port.new)) }
+    ensures err { OnErr result (node.new ≡ node.old) }
+    ensures not_sent { OnErr result (P.sent port.new ≡ P.sent port.old) }
+    ensures pace_kept { OnErr result (pace.new ≡ pace.old) }
+{
+    let turned = turn_by::<A, P, N>(alloc, port, node, pace.is_due(now), now, draw)?;
+    *pace = pace.after(now, turned.received);
+    Ok(turned)
+}
+
+// A turn that is a tick, or that takes what came.
+fn turn_by<A: Aead, P: Port, N: Node<A>>(
+    alloc: Global,
+    port: &mut P,
+    node: &mut N,
+    due: bool,
+    now: Moment,
+    draw: &Draw,
+) -> Result<Turned, TurnError>
+    ensures done { IfOk result (λ turned. (came : Option Arrival)
+        × CameIn due came (P.received port.old) (P.received port.new)
+        × (turned.received ≡ is_some came)
+        × N.is_step node.old now draw.now came turned.step node.new
+        × (P.sent port.new ≡ grown (P.sent port.old) turned.step.out)) }
+    ensures fault { IfOk result (λ turned. CountsFault turned.fault (P.failures port.old) (P.failures port.new)) }
+    ensures refused { IfErr result (λ error. IsRefusedIn due error
+        (P.received port.old) (P.received port.new) (P.failures port.old) (P.failures port.new)) }
+    ensures err { OnErr result (node.new ≡ node.old) }
+    ensures not_sent { OnErr result (P.sent port.new ≡ P.sent port.old) }
+{
+    if due {
+        Ok(ticked::<A, P, N>(alloc, port, node, now, draw)?)
+    } else {
+        turn::<A, P, N>(alloc, port, node, now, draw)
+    }
+}
+
+// A turn that is a tick: the port isn't asked for what came.
+fn ticked<A: Aead, P: Port, N: Node<A>>(
+    alloc: Global,
+    port: &mut P,
+    node: &mut N,
+    now: Moment,
+    draw: &Draw,
+) -> Result<Turned, AllocError>
+    ensures done { IfOk result (λ turned. N.is_step node.old now draw.now None turned.step node.new
+        × (P.sent port.new ≡ grown (P.sent port.old) turned.step.out)) }
+    ensures nothing { IfOk result (λ turned. turned.received ≡ false) }
+    ensures fault { IfOk result (λ turned. CountsFault turned.fault (P.failures port.old) (P.failures port.new)) }
+    ensures not_asked { P.received port.new ≡ P.received port.old }
+    ensures not_counted { OnErr result (P.failures port.new ≡ P.failures port.old) }
+    ensures err { OnErr result (node.new ≡ node.old) }
+    ensures not_sent { OnErr result (P.sent port.new ≡ P.sent port.old) }
+{
+    let step = node.tick(alloc, now, draw)?;
+    let fault = send_all(port, step.out.as_slice());
+    Ok(Turned {
+        received: false,
+        step,
+        fault,
+    })
+}
