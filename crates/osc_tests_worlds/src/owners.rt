@@ -61,7 +61,7 @@ fn material(alloc: Global, right: Right) -> Result<InputMaterial, AllocError> {
     })
 }
 
-fn claims(alloc: Global, right: Right) -> Result<Claims, AllocError> {
+pub(crate) fn claims(alloc: Global, right: Right) -> Result<Claims, AllocError> {
     let audience = Audience::new(alloc, "s")?;
     let material = material(alloc, right)?;
     Ok(Claims {
