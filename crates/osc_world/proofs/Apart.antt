@@ -2,13 +2,13 @@
 use Rattle.std.proofs.Common.{◌≡◌, ◌∙◌, sym, ap, subst, refl, ℕ, zero, suc, Bool, true, false, ◌||◌, List, [], ◌∷◌, ◌++◌, length, map, Option, Some, None, arith}
 use Rattle.std.specs.Prelude.{slice_get, slice_set}
 use Rattle.std.specs.List.{AllByRecursion, IsDistinct, list_any, position_or_len}
-use Rattle.std.proofs.lemmas.Bool.{lt-ltb}
+use Rattle.std.proofs.lemmas.Bool.{le-ltb, lt-ltb}
 use Rattle.std.proofs.lemmas.List.Folds.{list_any-append}
 use Rattle.std.proofs.lemmas.Option.{same_Some, slice_get_within}
 use Rattle.osc_model.specs.declared.node.Peer.{Peer}
 use Rattle.osc_message.specs.Confirmables.{same_peer}
 use Rattle.osc_client.specs.State.{skipped_to}
-use Rattle.osc_world.specs.Nodes.{NodeStates, StandApart, client_at, is_among, node_at, places, skipped, skipped_at}
+use Rattle.osc_world.specs.Nodes.{NodeStates, StandApart, client_at, is_among, node_at, places, proxy_at, skipped, skipped_at}
 use Rattle.osc_world.specs.Steps.{Takes, TakesOf, TakesOfProxy}
 use Rattle.osc_world.specs.declared.event.Event.{Event}
 use Rattle.osc_world.specs.declared.log.Sent.{Sent}
@@ -178,3 +178,42 @@ at_a_proxy_alone it server_at clients proxies result server client proxy =
     proxy
     ∙ sym (ap (λ (b : Bool). b || (list_any (λ (p : Placed). same_peer p.at it) clients || rest)) server ∙ ap (λ (b : Bool). b || rest) client)
     ∙ sym (among_places it server_at clients proxies)
+
+-- ---- who is found at a proxy's place
+
+all_behind : (P : Peer → Type 0) (xs ys : List Peer) → AllByRecursion P (xs ++ ys) → AllByRecursion P ys
+all_behind P [] ys all = all
+all_behind P (x ∷ xs) ys all = all_behind P xs ys all.1
+
+apart_behind : (xs ys : List Peer) → IsDistinct same_peer (xs ++ ys) → IsDistinct same_peer ys
+unfolding IsDistinct
+apart_behind [] ys apart = apart
+apart_behind (x ∷ xs) ys apart = apart_behind xs ys apart.1
+
+found_behind : (P : Peer → Type 0) (front : List Peer) (proxies : List PlacedProxy) (k : ℕ) (placed : PlacedProxy) → AllByRecursion P (front ++ map of_proxy proxies) → slice_get proxies k ≡ Some placed → P placed.at
+found_behind P front proxies k placed all there =
+    there_too P of_proxy proxies [] k placed (subst (λ (xs : List Peer). AllByRecursion P xs) (sym (no_more (map of_proxy proxies))) (all_behind P front (map of_proxy proxies) all)) there
+
+none_before : (clients : List Placed) (proxies : List PlacedProxy) (k : ℕ) (placed : PlacedProxy) → IsDistinct same_peer (map of_client clients ++ map of_proxy proxies) → slice_get proxies k ≡ Some placed
+    → position_or_len (λ (p : Placed). same_peer p.at placed.at) clients ≡ length clients
+unfolding IsDistinct
+none_before [] proxies k placed apart there = refl
+none_before (client ∷ clients) proxies k placed apart there =
+    let other : same_peer client.at placed.at ≡ false = found_behind (λ (p : Peer). same_peer client.at p ≡ false) (map of_client clients) proxies k placed apart.0 there in
+    rw other (omega (arith, none_before clients proxies k placed apart.1 there))
+
+pub proxy_stands_there : (itself : (a : Peer) → same_peer a a ≡ true) (nodes : NodeStates) (number : ℕ) (placed : PlacedProxy) → StandApart nodes → slice_get nodes.proxies number ≡ Some placed
+    → node_at nodes placed.at ≡ whose.Proxy number
+unfolding IsDistinct
+proxy_stands_there itself nodes number placed apart there =
+    let clients : List Peer = map of_client nodes.clients in
+    let not_server : same_peer nodes.server_at placed.at ≡ false = found_behind (λ (p : Peer). same_peer nodes.server_at p ≡ false) clients nodes.proxies number placed apart.0 there in
+    let none : position_or_len (λ (p : Placed). same_peer p.at placed.at) nodes.clients ≡ length nodes.clients = none_before nodes.clients nodes.proxies number placed apart.1 there in
+    let no_client : client_at nodes.clients placed.at ≡ None = rw (none, le-ltb (length nodes.clients) (length nodes.clients) (omega arith)) refl in
+    let first : position_or_len (λ (p : PlacedProxy). same_peer p.at placed.at) nodes.proxies ≡ number =
+    first_there itself of_proxy nodes.proxies [] number placed (subst (λ (xs : List Peer). IsDistinct same_peer xs) (sym (no_more (map of_proxy nodes.proxies))) (apart_behind clients (map of_proxy nodes.proxies) apart.1)) there in
+    let found : proxy_at nodes.proxies placed.at ≡ Some number = rw (first, lt-ltb number (length nodes.proxies) (slice_get_within nodes.proxies number placed there)) refl in
+    rw (not_server, no_client, found) refl
+
+pub server_stands_there : (itself : (a : Peer) → same_peer a a ≡ true) (nodes : NodeStates) → node_at nodes nodes.server_at ≡ whose.Server
+server_stands_there itself nodes = rw (itself nodes.server_at) refl

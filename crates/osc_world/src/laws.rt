@@ -1,5 +1,5 @@
 //! Laws of the definitions. These functions do nothing: whoever calls one has its clauses for a proof.
-ghost use Rattle.std.specs.Prelude.{◌≡◌, ◌≤◌, ◌==◌, ℕ, Bool, List, false};
+ghost use Rattle.std.specs.Prelude.{◌≡◌, ◌≤◌, ◌==◌, ℕ, Bool, List, Some, false, slice_get};
 ghost use Rattle.osc_model.specs.declared.node.Draw.{Draw as AnyDraw};
 ghost use Rattle.osc_model.specs.declared.node.Moment.{Moment as AnyMoment};
 ghost use Rattle.osc_model.specs.declared.request.Request.{Request as AnyRequest};
@@ -9,15 +9,28 @@ ghost use Rattle.osc_rounds.specs.AskRound.{IsLawfulServer, MayAsk, asked_text};
 ghost use Rattle.osc_rounds.specs.ExchangeRound.{MayExchange};
 ghost use Rattle.osc_scope.specs.Entries.{Entry};
 ghost use Rattle.osc_token.specs.declared.claims.Claims.{Claims as AnyClaims};
-ghost use Rattle.osc_world.specs.Nodes.{StandApart};
+ghost use Rattle.osc_world.specs.Nodes.{NodeStates, StandApart, node_at};
 ghost use Rattle.osc_world.specs.Quiet.{AreWhole, Rounds};
 ghost use Rattle.osc_world.specs.Ready.{HasAnswered, HasMade, IsAtRest, IsNotRefused, IsRoundOfTwo, asking, beginning};
 ghost use Rattle.osc_world.specs.Worlds.{Happens, State};
 ghost use Rattle.osc_world.specs.declared.nodes.Placed.{Placed as AnyPlaced};
+ghost use Rattle.osc_world.specs.declared.nodes.PlacedProxy.{PlacedProxy as AnyPlacedProxy};
+ghost use Rattle.osc_world.specs.declared.nodes.Whose.TheVariants as whose;
 
 use osc_ccm::Aead;
 use osc_message::laws::one_peer;
 use osc_rounds::laws::{a_request_is_answered, an_exchange_is_made};
+
+/// Where no two nodes stand at one address, what is sent to a node's address comes to that node.
+pub fn who_stands_there()
+    ensures server { (nodes : NodeStates) → node_at nodes nodes.server_at ≡ whose.Server }
+    ensures client { (nodes : NodeStates) (number : ℕ) (placed : AnyPlaced) → StandApart nodes → slice_get nodes.clients number ≡ Some placed
+        → node_at nodes placed.at ≡ whose.Client number }
+    ensures proxy { (nodes : NodeStates) (number : ℕ) (placed : AnyPlacedProxy) → StandApart nodes → slice_get nodes.proxies number ≡ Some placed
+        → node_at nodes placed.at ≡ whose.Proxy number }
+{
+    one_peer();
+}
 
 /// In a world at rest whose nodes stand apart, an exchange that goes straight to the server, of a client whose token is welcome there,
 /// and a quiet round of two deliveries or more behind it: both ends have a context of one name, which is live at the server, with the
