@@ -45,7 +45,7 @@ pub(crate) fn record_text(
 ) -> Result<Vec<u8>, AllocError>
     ensures { IfOk result (λ text. PrintsRecord with_bytes clients.now world.now event.now text.items) }
 {
-    let step = step_at(event.step, world.steps());
+    let step = step_of(world, event);
     let mut text = step_text(alloc, clients, world.minted(), step)?;
     let sent = sent_at(event, world.sent());
     let lines = sent_lines(alloc, with_bytes, event.first, sent)?;
@@ -54,6 +54,13 @@ pub(crate) fn record_text(
         text.extend_from_slice(b"nothing\n")?;
     }
     Ok(text)
+}
+
+/// The step that was taken at the event, if one was.
+fn step_of<'a>(world: &'a World, event: &Record) -> Option<&'a Noted>
+    ensures { option_map (λ step. step.now) result ≡ spec.step_at event.now.step world.now.steps }
+{
+    step_at(event.step, world.steps())
 }
 
 /// The step of this number, if one was taken; the steps are lent with the oldest first.
