@@ -1,4 +1,6 @@
 //! Tests of `osc_message`.
+ghost use Rattle.osc_message.specs.Sending.{IsSendableHandling};
+
 use osc_coap::{Kind, MessageBuilder};
 use osc_message::*;
 use osc_model::{Bytes, Draw, Moment, Peer};
@@ -39,7 +41,9 @@ fn hear(endpoint: &Endpoint, at: u32, from: Peer, datagram: &[u8]) -> (Is, u16) 
 }
 
 /// What was done with a message that nothing answers: it may count for a request.
-fn handling_of(request: Option<u16>) -> Handling {
+fn handling_of(request: Option<u16>) -> Handling
+    ensures { IsSendableHandling result }
+{
     match request {
         Some(request) => Handling::Counted(request, None),
         None => Handling::Answered(None),

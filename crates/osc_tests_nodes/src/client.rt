@@ -373,13 +373,18 @@ fn a_lie_and_the_last_number(rt: HostRuntime) -> Result<(), Fail> {
 fn waits_in_vain(rt: &impl Abort, alloc: Global, client: &mut Client) {
     let post = begun(alloc, client, 0);
     assert!(rt; post.starts_with(b"\x48\x02\0\0"));
+    assert!(rt; client.next_deadline() == Some(2_000));
     for ms in [1_999, 2_000, 6_000, 14_000, 30_000, 61_999] {
         assert!(rt; ticked(alloc, client, ms) == 0);
     }
+    assert!(rt; client.next_deadline() == Some(62_000));
     assert!(rt; ticked(alloc, client, 62_000) == 200);
+    assert!(rt; client.next_deadline().is_none());
     assert!(rt; begun(alloc, client, 0).starts_with(b"\x48\x02\0\x01"));
     client.restart();
     assert!(rt; begun(alloc, client, 0).starts_with(b"\x48\x02\0\0"));
+    assert!(rt; heard(alloc, client, b"\x60\0\0\0") == 0);
+    assert!(rt; client.next_deadline() == Some(247_000));
     assert!(rt; heard(alloc, client, b"\x70\0\0\x01") == 0);
     assert!(rt; begun(alloc, client, 0).is_empty());
     let step = client.on_datagram::<Ccm<8>>(alloc, Moment::START, SERVER, b"\x70\0\0\0");
@@ -405,4 +410,31 @@ fn an_exchange_that_nobody_answers(rt: HostRuntime) -> Result<(), Fail> {
     waits_in_vain(&rt, rt.alloc(), &mut client);
     drop(client);
     Ok(())
+}
+
+/// Whether the client sends anything for the datagram.
+fn is_answered(alloc: Global, client: &mut Client, datagram: &[u8]) -> bool {
+    match client.on_datagram::<Ccm<8>>(alloc, Moment::START, SERVER, datagram) {
+        Ok(step) => !sent(alloc, step).is_empty(),
+        Err(_) => true,
+    }
+}
+
+/// An answer that isn't confirmable is acknowledged by nothing, nor is a confirmable message of the same ID then, as its repeat.
+fn repeats_nothing(rt: &impl Abort, alloc: Global, client: &mut Client) -> Result<(), Fail> {
+    let post = begun(alloc, client, 1);
+    let mut answer = answering(alloc, 0x80, &post, b"")?;
+    *answer.first_mut().ok_or("no bytes")? = 0x58;
+    assert!(rt; heard(alloc, client, &answer) == 4);
+    *answer.first_mut().ok_or("no bytes")? = 0x48;
+    assert!(rt; !is_answered(alloc, client, &answer));
+    Ok(())
+}
+
+#[test]
+fn a_repeat_with_nothing_to_repeat(rt: HostRuntime) -> Result<(), Fail> {
+    let mut client = client(rt.alloc())?;
+    let repeated = repeats_nothing(&rt, rt.alloc(), &mut client);
+    drop(client);
+    repeated
 }

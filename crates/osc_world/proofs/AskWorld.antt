@@ -94,7 +94,7 @@ module _ (is_sealing : List ℕ → List ℕ → List ℕ → List ℕ → List 
     where
       by : AsksFor is_sealing tag placed.client asked_at draw request takes.step asked → Asks is_sealing tag placed.client asked_at request draw takes.step asked
       by (steps.AsksFor.is_none none idles) = absurd (eqb-false request.code.0 0 code none)
-      by (steps.AsksFor.is_asked some it) = it
+      by (steps.AsksFor.is_asked some it) = it.asks
 
   steps_1 : w1.steps ≡ by_client number false takes.step.notes ∷ old.steps
   steps_1 = ap (λ (w : State). w.steps) happens.is ∙ ap (λ (t : Option Taken). steps_with t old.steps) takes.taken_is

@@ -71,7 +71,7 @@ module _ (is_sealing : List ℕ → List ℕ → List ℕ → List ℕ → List 
   is : IsBegunAndMade is_sealing placed.client old.nodes.server now draw placed.at old.nodes.server_at entries takes.step asked
   is =
       law placed.client asked old.nodes.server asked_at now draw placed.at old.nodes.server_at claims entries takes.step may
-      (fits (by_client number false takes.step.notes) steps_1) takes.does
+      (fits (by_client number false takes.step.notes) steps_1) takes.does.exchanges
 
   abbrev one : Sent
   one = sent_from placed.at (datagram placed.client.next_hop is.message)

@@ -6,16 +6,15 @@ use Rattle.osc_model.specs.declared.node.Moment.{Moment}
 use Rattle.osc_model.specs.declared.request.Request.{Request}
 use Rattle.osc_model.specs.declared.step.Step.{Step}
 use Rattle.osc_context.specs.Nonce.{greatest_number}
-use Rattle.osc_message.specs.Endpoint.{after_tick, fresh}
+use Rattle.osc_message.specs.Endpoint.{fresh}
 use Rattle.osc_run.specs.ClientKinds.{ClientStep, IsSkipped}
 use Rattle.osc_run.specs.Notes.{by_server, by_client, by_proxy}
 use Rattle.osc_run.specs.ProxyKinds.{ProxyStep}
 use Rattle.osc_run.specs.ServerKinds.{ServerStep}
-use Rattle.osc_server.specs.Hearing.{Hears as ServerHears}
+use Rattle.osc_server.specs.Hearing.{Hears as ServerHears, Ticks as ServerTicks}
 use Rattle.osc_server.specs.State.{State as Server, core as core_of_server}
-use Rattle.osc_client.specs.Hearing.{Hears as ClientHears}
-use Rattle.osc_client.specs.Lying.{Lies}
-use Rattle.osc_client.specs.Sending.{Asks, Exchanges, Ticks as ClientTicks, restarted}
+use Rattle.osc_client.specs.Hearing.{Begins, Hears as ClientHears, Requests, TellsLie, Ticks as ClientTicks}
+use Rattle.osc_client.specs.Sending.{restarted}
 use Rattle.osc_client.specs.State.{State as Client, core as core_of_client}
 use Rattle.osc_proxy.specs.Exchanges.{count}
 use Rattle.osc_proxy.specs.Hearing.{Hears as ProxyHears}
@@ -72,11 +71,6 @@ pub record Idles {S : Type 0} (old : S) (step : Step) (new : S) : Type 0 where
 pub record StartsAgain {S : Type 0} (fresh_node : S) (step : Step) (new : S) : Type 0 where
   pub told : step ≡ sends []
   pub kept : new ≡ fresh_node
-
--- the time has come for what is due at the server: nothing of what it sends is ever due again
-pub record ServerTicks (old : Server) (now : Moment) (step : Step) (new : Server) : Type 0 where
-  pub told : step ≡ sends []
-  pub kept : new ≡ record old { endpoint = after_tick now old.endpoint }
 
 -- the server forgets its contexts and what it heard
 abbrev pub server_again : Server → Server
@@ -142,16 +136,16 @@ module _ (is_sealing : List ℕ → List ℕ → List ℕ → List ℕ → List 
   -- a request is asked; one with the code 0.00 is none
   pub data AsksFor (old : Client) (now : Moment) (draw : Draw) (request : Request) (step : Step) (new : Client) : Type 0 where
     is_none : request.code.0 ≡ 0 → Idles old step new → AsksFor old now draw request step new
-    is_asked : 0 < request.code.0 → Asks is_sealing tag old now request draw step new → AsksFor old now draw request step new
+    is_asked : 0 < request.code.0 → Requests is_sealing tag old now request draw step new → AsksFor old now draw request step new
 
   -- a text is sealed at a number of the holder's choice, and the client stays as it is; a number that none may have is none
   pub data LiesAt (old : Client) (number : ℕ) (text : List ℕ) (draw : Draw) (step : Step) (new : Client) : Type 0 where
     is_no_lie : greatest_number < number → Idles old step new → LiesAt old number text draw step new
-    is_lied : number ≤ greatest_number → Lies is_sealing tag old number text draw step → new ≡ old → LiesAt old number text draw step new
+    is_lied : number ≤ greatest_number → TellsLie is_sealing tag old number text draw step → new ≡ old → LiesAt old number text draw step new
 
   -- what a client does, where the event is its own
   abbrev pub ClientDoes : Client → Moment → Draw → List Sent → What → Step → Client → Type 0
-  ClientDoes old now draw sent (Exchange client) step new = Exchanges old now draw step new
+  ClientDoes old now draw sent (Exchange client) step new = Begins old now draw step new
   ClientDoes old now draw sent (Ask client request) step new = AsksFor old now draw request step new
   ClientDoes old now draw sent (Lie client number text) step new = LiesAt old number text draw step new
   ClientDoes old now draw sent (Tick node) step new = ClientTicks old now step new

@@ -2,7 +2,6 @@
 ghost use Rattle.std.specs.Prelude.{◌≡◌, ◌≤◌, [], IfOk, OnErr, false, true, length, option_map, position, slice_get};
 ghost use Rattle.osc_model.specs.Step.{sends};
 ghost use Rattle.osc_model.specs.StepNotes.{quiet};
-ghost use Rattle.osc_client.specs.Sending.{Ticks as ClientTicks};
 ghost use Rattle.osc_client.specs.State.{core as core_of_client};
 ghost use Rattle.osc_run.specs.ClientKinds.{ClientStep};
 ghost use Rattle.osc_run.specs.ServerKinds.{ServerStep};
@@ -11,7 +10,7 @@ ghost use Rattle.osc_world.specs.Log.{sent_by};
 ghost use Rattle.osc_world.specs.Nodes.{client_at, found, node_at, node_of, proxy_at, skipped, whose_step};
 ghost use Rattle.osc_rounds.specs.AskRound.{IsLawfulServer};
 ghost use Rattle.osc_server.specs.Hearing.{Hears as ServerHears};
-ghost use Rattle.osc_client.specs.Hearing.{Hears as ClientHears};
+ghost use Rattle.osc_client.specs.Hearing.{Hears as ClientHears, Ticks as ClientTicks};
 ghost use Rattle.osc_proxy.specs.Hearing.{Hears as ProxyHears};
 ghost use Rattle.osc_world.specs.Steps.{AsksFor, ClientDoes, ClientGets, IsStep, ProxyDoes, ProxyGets, ServerDoes, ServerGets, ServerTakes, Takes, TakesOf, TakesOfProxy, IsSkip, LiesAt, is_lie, most_of, most_of_placed, most_of_proxy, most_sent, one_or};
 
