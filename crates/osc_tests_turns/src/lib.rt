@@ -3,7 +3,11 @@
 #![tactic(auto)]
 
 #[cfg(test)]
+mod deadlines;
+#[cfg(test)]
 mod forwarding;
+#[cfg(test)]
+mod memory;
 #[cfg(test)]
 mod network;
 #[cfg(test)]

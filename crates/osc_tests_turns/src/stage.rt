@@ -72,6 +72,24 @@ pub(crate) fn hears(
     }
 }
 
+/// The same; where the bytes are refused memory they come again.
+pub(crate) fn hears_at_last(
+    alloc: Global,
+    proxy: &mut Proxy,
+    now: u64,
+    from: Peer,
+    bytes: &[u8],
+    expected: &[(Peer, &[u8])],
+) -> bool {
+    let Some(moment) = Moment::new(now) else {
+        return false;
+    };
+    match proxy.on_datagram(alloc, moment, from, bytes, &DRAW) {
+        Ok(step) => sends(step, expected),
+        Err(_) => hears(alloc, proxy, now, from, bytes, expected),
+    }
+}
+
 /// Whether it sends these once so many ms have gone.
 pub(crate) fn ticks(
     alloc: Global,
@@ -85,6 +103,22 @@ pub(crate) fn ticks(
     match proxy.on_tick(alloc, now, &DRAW) {
         Ok(step) => sends(step, expected),
         Err(_) => false,
+    }
+}
+
+/// The same; where the tick is refused memory it is made again.
+pub(crate) fn ticks_at_last(
+    alloc: Global,
+    proxy: &mut Proxy,
+    now: u64,
+    expected: &[(Peer, &[u8])],
+) -> bool {
+    let Some(moment) = Moment::new(now) else {
+        return false;
+    };
+    match proxy.on_tick(alloc, moment, &DRAW) {
+        Ok(step) => sends(step, expected),
+        Err(_) => ticks(alloc, proxy, now, expected),
     }
 }
 
