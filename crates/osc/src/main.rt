@@ -30,36 +30,36 @@ fn run(rt: &HostRuntime) -> io::Result<Ended> {
             bytes,
             only,
         )),
-        Ok(Words::Token(words)) => print_token(rt, &words),
-        Ok(Words::Server { turns }) => tell(rt, serve(alloc, rt, &mut rt.reader(), turns)),
-        Ok(Words::Proxy { turns }) => tell(rt, forward(alloc, rt, &mut rt.reader(), turns)),
-        Ok(Words::Client(words)) => tell(
+        Ok(Words::Token(words)) => Ok(print_token(rt, &words)),
+        Ok(Words::Server { turns }) => Ok(tell(rt, serve(alloc, rt, &mut rt.reader(), turns))),
+        Ok(Words::Proxy { turns }) => Ok(tell(rt, forward(alloc, rt, &mut rt.reader(), turns))),
+        Ok(Words::Client(words)) => Ok(tell(
             rt,
             ask(alloc, rt, &mut rt.reader(), &mut io::writer(rt), &words),
-        ),
-        Ok(Words::Lab { turns }) => tell(
+        )),
+        Ok(Words::Lab { turns }) => Ok(tell(
             rt,
             lab(alloc, rt, &mut rt.reader(), &mut io::writer(rt), turns),
-        ),
+        )),
         Err(error) => explain(rt, &error),
     }
 }
 
 /// The token goes to the standard output, and the one line of a fault to the standard error.
-fn print_token(rt: &HostRuntime, words: &TokenWords) -> io::Result<Ended> {
+fn print_token(rt: &HostRuntime, words: &TokenWords) -> Ended {
     let ended = issue_token(rt.alloc(), rt, words, &mut io::writer(rt));
     if let Some(line) = token_fault(ended) {
-        rt.eprintln(line)?;
+        notice(rt, line);
     }
-    Ok(ended)
+    ended
 }
 
 /// The one line of a fault of what runs on sockets goes to the standard error.
-fn tell(rt: &HostRuntime, ended: Ended) -> io::Result<Ended> {
-    if let Some(line) = running_fault(rt.alloc(), ended)? {
-        rt.eprintln(line.as_str())?;
+fn tell(rt: &HostRuntime, ended: Ended) -> Ended {
+    if let Ok(Some(line)) = running_fault(rt.alloc(), ended) {
+        notice(rt, line.as_str());
     }
-    Ok(ended)
+    ended
 }
 
 /// Help and the version go to the standard output, and the one line of a fault to the standard error.
@@ -67,16 +67,27 @@ fn explain(rt: &HostRuntime, error: &WordsError) -> io::Result<Ended> {
     let ended = ended_by(error);
     match (ended, error) {
         (Ended::Done, WordsError::Clap(help)) => rt.print(help)?,
-        _ => rt.eprintln(fault_line(rt.alloc(), error)?.as_str())?,
+        _ => {
+            if let Ok(line) = fault_line(rt.alloc(), error) {
+                notice(rt, line.as_str());
+            }
+        }
     }
     Ok(ended)
 }
 
-/// The command line could not be read, or nothing could be said of it.
+/// The command line could not be read, or help not be written.
 fn stopped(rt: &HostRuntime, error: &io::Error) -> Ended {
     let ended = started_by_io(error);
-    if ended == Ended::OutOfMemory {
-        let _written = rt.eprintln("out of memory");
+    match ended {
+        Ended::BadCommandLine => notice(rt, "error: a word of the command line isn't UTF-8"),
+        Ended::OutOfMemory => notice(rt, "out of memory"),
+        _ => {}
     }
     ended
+}
+
+/// One line on the standard error. One that can't be written is nobody's failure.
+fn notice(rt: &HostRuntime, line: &str) {
+    let _written = rt.eprintln(line);
 }

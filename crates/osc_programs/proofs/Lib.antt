@@ -1,1 +1,4 @@
 pub mod Talking
+pub mod Taken
+pub mod OpenPaths
+pub mod Printing

@@ -1,13 +1,14 @@
 -- What `osc client` does: it posts its token, and where that makes a security context it sends its request.
-use Rattle.std.specs.Prelude.{◌≡◌, ◌++◌, ◌/◌, ◌==◌, ℕ, List, Option, Some, None, codes, if◌then◌else◌, option_map}
+use Rattle.std.specs.Prelude.{◌≡◌, ◌++◌, ◌/◌, ◌==◌, ℕ, suc, List, [], Option, Some, None, codes, if◌then◌else◌, option_map}
 use Rattle.osc_model.specs.declared.node.Draw.{Draw}
 use Rattle.osc_model.specs.declared.node.Moment.{Moment}
 use Rattle.osc_model.specs.declared.request.Request.{Request}
 use Rattle.osc_model.specs.declared.step.ClientResult.{ClientResult}
 use Rattle.osc_model.specs.declared.step.ClientResult.TheVariants.{Made, Answer}
+use Rattle.osc_model.specs.declared.step.Datagram.{Datagram}
 use Rattle.osc_model.specs.declared.step.Step.{Step}
 use Rattle.osc_message.specs.Endpoint.{fresh}
-use Rattle.osc_client.specs.Sending.{Asks, Exchanges}
+use Rattle.osc_client.specs.Hearing.{Begins, Requests as Asks}
 use Rattle.osc_client.specs.State.{State as Client}
 use Rattle.osc_client.specs.Way.{HostAndPort}
 use Rattle.osc_settings.specs.declared.client.ClientSettings.{ClientSettings}
@@ -16,6 +17,7 @@ use Rattle.osc_turn.specs.Ports.{Arrival}
 use Rattle.osc_simulation.specs.Records.{learnt_text}
 use Rattle.osc_simulation.specs.Simulation.{is_sealing}
 use Rattle.osc_simulation.specs.Text.{line}
+use Rattle.osc_programs.specs.Turning.{Supply, IsSeeded, Running, Gives, TakesTurn}
 use Rattle.osc_programs.specs.declared.asking.Outcome.{Outcome}
 use Rattle.osc_programs.specs.declared.asking.Outcome.TheVariants.{Told, Open}
 use Rattle.osc_programs.specs.declared.ended.Ended.{Ended}
@@ -23,47 +25,78 @@ use Rattle.osc_programs.specs.declared.ended.Ended.TheVariants.{Done, NotDone}
 
 -- ---- its steps
 
--- the client posted its token, and learnt this at once, or nothing
-abbrev pub Posts : Client → Option ClientResult → Client → Type 0
-Posts old learnt new = (now : Moment) × (draw : Draw) × (step : Step) × Exchanges old now draw step new × (step.notes.result ≡ learnt)
+-- a client uses no draw in a turn
+abbrev pub client_steps : Client → Moment → Draw → Option Arrival → Step → Client → Type 0
+client_steps old now draw came step new = ClientSteps is_sealing old now came step new
 
--- it sent the request, protected, and learnt this at once, or nothing
-abbrev pub Sends : Request → Client → Option ClientResult → Client → Type 0
-Sends request old learnt new =
-    (now : Moment) × (draw : Draw) × (step : Step) × Asks is_sealing 8 old now request draw step new × (step.notes.result ≡ learnt)
+-- the client posted its token, at the next moment and with the next draw
+pub record Posts (old : Running Client) (step : Step) (new : Running Client) : Type 0 where
+  pub now : Moment
+  pub draw : Draw
+  pub gives : Gives old.supply now draw new.supply
+  pub posts : Begins old.node now draw step new.node
+  pub busy : new.busy ≡ old.busy
 
--- it took a turn, and learnt this by it, or nothing
-abbrev pub TakesTurn : Client → Option ClientResult → Client → Type 0
-TakesTurn old learnt new =
-    (now : Moment) × (came : Option Arrival) × (step : Step) × ClientSteps is_sealing old now came step new × (step.notes.result ≡ learnt)
+-- it sent the request, protected
+pub record Sends (request : Request) (old : Running Client) (step : Step) (new : Running Client) : Type 0 where
+  pub now : Moment
+  pub draw : Draw
+  pub gives : Gives old.supply now draw new.supply
+  pub asks : Asks is_sealing 8 old.node now request draw step new.node
+  pub busy : new.busy ≡ old.busy
 
 -- ---- what comes of them
 
--- It takes turns until it has learnt something, if it hasn't yet; `Open` where it still waits.
-pub data Waits : Option ClientResult → Client → Outcome → Client → Type 0 where
-  told : (client : Client) (result : ClientResult) → Waits (Some result) client (Told result) client
-  still : (client : Client) → Waits None client Open client
-  turns : (old next new : Client) (learnt : Option ClientResult) (outcome : Outcome) → TakesTurn old learnt next → Waits learnt next outcome new
-      → Waits None old outcome new
+-- With so many turns left it takes turns until it has learnt something, if it hasn't yet: what its steps sent, what came of it, and how
+-- many turns are left then. It is `Open` where it still waits and no turn is left, and only there.
+pub data Waits : ℕ → Option ClientResult → Running Client → List Datagram → Outcome → ℕ → Running Client → Type 0 where
+  told : (left : ℕ) (client : Running Client) (result : ClientResult) → Waits left (Some result) client [] (Told result) left client
+  still : (client : Running Client) → Waits 0 None client [] Open 0 client
+  turns : (left rest : ℕ) (old next new : Running Client) (step : Step) (sent : List Datagram) (outcome : Outcome)
+      → TakesTurn client_steps old step next → Waits left step.notes.result next sent outcome rest new
+      → Waits (suc left) None old (step.out ++ sent) outcome rest new
 
--- By what it learnt of its post: a context lets it send its request, and what it learns of that is last.
-abbrev pub GoesOnBy : Request → ClientResult → Client → Outcome → Client → Type 0
-GoesOnBy request Made old outcome new = (learnt : Option ClientResult) × (begun : Client) × Sends request old learnt begun × Waits learnt begun outcome new
-GoesOnBy request result old outcome new = (outcome ≡ Told result) × (new ≡ old)
+-- It sends its request, and what it learns of that is last.
+pub record Requests (left : ℕ) (request : Request) (old : Running Client) (sent : List Datagram) (outcome : Outcome) (new : Running Client) : Type 0 where
+  pub step : Step
+  pub begun : Running Client
+  pub sends : Sends request old step begun
+  pub waited : List Datagram
+  pub rest : ℕ
+  pub waits : Waits left step.notes.result begun waited outcome rest new
+  pub is_sent : sent ≡ step.out ++ waited
 
-abbrev pub GoesOn : Request → Outcome → Client → Outcome → Client → Type 0
-GoesOn request (Told result) old outcome new = GoesOnBy request result old outcome new
-GoesOn request Open old outcome new = (outcome ≡ Open) × (new ≡ old)
+-- By what it learnt of its post: a context lets it send its request.
+abbrev pub GoesOnBy : ℕ → Request → ClientResult → Running Client → List Datagram → Outcome → Running Client → Type 0
+GoesOnBy left request Made old sent outcome new = Requests left request old sent outcome new
+GoesOnBy left request result old sent outcome new = (outcome ≡ Told result) × (new ≡ old) × (sent ≡ [])
 
--- the last result, or none where it still waits
-pub record Converses (request : Request) (old : Client) (outcome : Outcome) (new : Client) : Type 0 where
-  pub learnt : Option ClientResult
-  pub begun : Client
-  pub posts : Posts old learnt begun
+abbrev pub GoesOn : ℕ → Request → Outcome → Running Client → List Datagram → Outcome → Running Client → Type 0
+GoesOn left request (Told result) old sent outcome new = GoesOnBy left request result old sent outcome new
+GoesOn left request Open old sent outcome new = (outcome ≡ Open) × (new ≡ old) × (sent ≡ [])
+
+-- In so many turns: the last result, or none where it still waits; and all that its steps sent, in order.
+pub record Converses (turns : ℕ) (request : Request) (old : Running Client) (sent : List Datagram) (outcome : Outcome) (new : Running Client) : Type 0 where
+  pub step : Step
+  pub begun : Running Client
+  pub posts : Posts old step begun
+  pub waited : List Datagram
   pub exchanged : Outcome
-  pub between : Client
-  pub waits : Waits learnt begun exchanged between
-  pub goes_on : GoesOn request exchanged between outcome new
+  pub left : ℕ
+  pub between : Running Client
+  pub waits : Waits turns step.notes.result begun waited exchanged left between
+  pub further : List Datagram
+  pub goes_on : GoesOn left request exchanged between further outcome new
+  pub is_sent : sent ≡ step.out ++ (waited ++ further)
+
+-- the same from the start on
+pub record Talks (turns : ℕ) (request : Request) (old : Client) (outcome : Outcome) (new : Client) : Type 0 where
+  pub start : Supply
+  pub seeded : IsSeeded start
+  pub sent : List Datagram
+  pub last : Running Client
+  pub talks : Converses turns request (record { node = old; busy = None; supply = start }) sent outcome last
+  pub ends : new ≡ last.node
 
 -- ---- the client at first, and what is told at last
 

@@ -1,10 +1,11 @@
 -- How the programs end: their exit statuses, and what ends them.
-use Rattle.std.specs.Prelude.{ℕ, List, ◌++◌, Option, Some, None, codes, decimal}
+use Rattle.std.specs.Prelude.{◌≡◌, ℕ, List, ◌++◌, Option, Some, None, codes, decimal}
 use Rattle.std.specs.declared.io.ErrorKind.{ErrorKind}
 use Rattle.std.specs.declared.io.ErrorKind.TheVariants as kind
 use Rattle.clap.specs.Words.{kind_of}
 use Rattle.clap.specs.declared.error.kind.ErrorKind.{ErrorKind as WordsKind}
 use Rattle.clap.specs.declared.error.kind.ErrorKind.TheVariants as words_kind
+use Rattle.osc_model.specs.declared.request.Request.{Request}
 use Rattle.osc_words.specs.declared.words.WordsError.{WordsError}
 use Rattle.osc_words.specs.declared.words.WordsError.TheVariants.{Clap, Value, Memory}
 use Rattle.osc_programs.specs.declared.ended.Ended.{Ended}
@@ -19,6 +20,73 @@ status_of OutOfMemory = 3
 status_of Failed = 4
 status_of PortFailed = 4
 status_of NotDone = 1
+
+-- ---- how each program may end
+
+-- memory wanted, or an input, an output, the clock, the generator or a port failed
+abbrev pub IsFault : Ended → Type 0
+IsFault OutOfMemory = Unit {0}
+IsFault Failed = Unit {0}
+IsFault PortFailed = Unit {0}
+IsFault other = ⊥
+
+-- no settings could be read
+abbrev pub NoSettings : Ended → Type 0
+NoSettings BadSettings = Unit {0}
+NoSettings other = IsFault other
+
+-- `osc sim`
+abbrev pub EndsSim : Ended → Type 0
+EndsSim Done = Unit {0}
+EndsSim (BadLine number) = Unit {0}
+EndsSim OutOfMemory = Unit {0}
+EndsSim Failed = Unit {0}
+EndsSim other = ⊥
+
+-- `osc token`
+abbrev pub EndsToken : Ended → Type 0
+EndsToken Done = Unit {0}
+EndsToken BadCommandLine = Unit {0}
+EndsToken OutOfMemory = Unit {0}
+EndsToken Failed = Unit {0}
+EndsToken other = ⊥
+
+-- `osc lab`
+abbrev pub EndsLab : Ended → Type 0
+EndsLab Done = Unit {0}
+EndsLab (BadLine number) = Unit {0}
+EndsLab other = IsFault other
+
+-- `osc server` and `osc proxy`
+abbrev pub EndsNode : Ended → Type 0
+EndsNode Done = Unit {0}
+EndsNode other = NoSettings other
+
+-- a request with the code 0.00 is none, and can't be sent
+abbrev pub CannotTalk : Request → Ended → Type 0
+CannotTalk request BadCommandLine = request.code.0 ≡ 0
+CannotTalk request other = IsFault other
+
+-- the client can't begin, or go on
+abbrev pub CannotAsk : Request → Ended → Type 0
+CannotAsk request BadSettings = Unit {0}
+CannotAsk request other = CannotTalk request other
+
+-- what came of it was told, or not
+abbrev pub EndsTold : Ended → Type 0
+EndsTold Done = Unit {0}
+EndsTold NotDone = Unit {0}
+EndsTold OutOfMemory = Unit {0}
+EndsTold Failed = Unit {0}
+EndsTold other = ⊥
+
+-- `osc client`: it alone ends with status 1
+abbrev pub EndsClient : Request → Ended → Type 0
+EndsClient request Done = Unit {0}
+EndsClient request NotDone = Unit {0}
+EndsClient request other = CannotAsk request other
+
+-- ---- what ends them
 
 -- how a program ends whose command line has this fault: who asks for help or the version gets it
 abbrev pub ended_by_kind : WordsKind → Ended

@@ -1,3 +1,5 @@
 pub mod Ended
 pub mod TokenLine
+pub mod Turning
+pub mod Serving
 pub mod Conversation

@@ -1,26 +1,31 @@
 //! A client that runs on a socket: one exchange, and one protected request.
-ghost use Rattle.std.specs.Prelude.{◌≡◌, ◌⊎◌, IfOk, IfSome, None, option_map, string_bytes};
+ghost use Rattle.std.specs.Prelude.{◌≡◌, ◌⊎◌, List, IfErr, IfOk, IfSome, None, option_map, string_bytes};
 ghost use Rattle.std.specs.Io.KnownBytes.{Appends};
 ghost use Rattle.osc_client.specs.State.{State as AnyClient};
 ghost use Rattle.osc_client.specs.Way.{HostAndPort};
+ghost use Rattle.osc_model.specs.declared.step.Datagram.{Datagram as AnyDatagram};
+ghost use Rattle.osc_model.specs.declared.step.Step.{Step as AnyStep};
+ghost use Rattle.osc_turn.specs.Ports.{grown};
 ghost use Rattle.osc_settings.specs.Document.{StandsFor};
 ghost use Rattle.osc_settings.specs.Settings.{AreClientSettings};
 ghost use Rattle.osc_settings.specs.declared.client.ClientSettings.{ClientSettings as AnySettings};
 ghost use Rattle.osc_programs.specs.Conversation as spec;
+ghost use Rattle.osc_programs.specs.Ended as ends;
+ghost use Rattle.osc_programs.specs.Turning as turning;
 ghost use Rattle.osc_programs.specs.declared.asking.Outcome.{Outcome as AnyOutcome};
 
-use crate::ended::{Ended, failed};
-use crate::ground::{Ground, ground_of, moment_and_draw};
+use crate::ended::Ended;
 use crate::issue::written;
-use crate::running::{bound, copy_of, ended_by_settings, ended_by_turn, send, text_of};
-use crate::udp::UdpPort;
+use crate::running::{bound, copy_of, ended_by_settings, send, text_of};
+use crate::supply::{Supply, Watch, moment_and_draw, supply_of};
+use crate::turns::take_turn;
 use osc_authz::ClientDesk;
 use osc_ccm::Ccm;
 use osc_client::{Client, Origin, Way};
 use osc_model::{Bytes, ClientResult, Peer, Request, Step};
 use osc_settings::{ClientSettings, read_client_settings};
 use osc_simulation::learnt_text;
-use osc_turn::{Turned, turn};
+use osc_turn::{Pace, Port, Turned};
 use osc_words::ClientWords;
 use std::alloc::{AllocError, Global};
 use std::io::{Eprint, Read, Write};
@@ -46,22 +51,24 @@ pub fn ask<R: Clock + Net + RandomSource, I: Read, W: Write>(
     writer: &mut W,
     words: &ClientWords,
 ) -> Ended
-    ensures told { (result ≡ Ended.Done) ⊎ (result ≡ Ended.NotDone) → (first last : AnyClient) × (outcome : AnyOutcome)
-        × IfSome (I.remaining reader.old) (λ text. (settings : AnySettings) × StandsFor AreClientSettings text settings × spec.IsClientOf settings first)
-        × spec.Converses words.now.request first outcome last × (result ≡ spec.ended_by_outcome outcome)
-        × Appends (W.contents writer.old) (W.contents writer.new) (spec.outcome_text outcome) }
+    ensures told { (result ≡ Ended.Done) ⊎ (result ≡ Ended.NotDone) → (first last : AnyClient) × (outcome : AnyOutcome) × (settings : AnySettings)
+        × IfSome (I.remaining reader.old) (λ text. StandsFor AreClientSettings text settings) × spec.IsClientOf settings first
+        × spec.Talks words.now.turns words.now.request first outcome last
+        × (result ≡ spec.ended_by_outcome outcome) × Appends (W.contents writer.old) (W.contents writer.new) (spec.outcome_text outcome) }
+    ensures ends { ends.EndsClient words.now.request result }
 {
     match outcome_of(alloc, runtime, reader, words) {
         Ok(outcome) => told(alloc, writer, &outcome),
-        Err(ended) => failed(ended),
+        Err(ended) => ended,
     }
 }
 
 // ---- the last result
 
 fn told<W: Write>(alloc: Global, writer: &mut W, outcome: &Outcome) -> Ended
-    ensures { (result ≡ Ended.Done) ⊎ (result ≡ Ended.NotDone) → (result ≡ spec.ended_by_outcome outcome.now)
+    ensures told { (result ≡ Ended.Done) ⊎ (result ≡ Ended.NotDone) → (result ≡ spec.ended_by_outcome outcome.now)
         × Appends (W.contents writer.old) (W.contents writer.new) (spec.outcome_text outcome.now) }
+    ensures ends { ends.EndsTold result }
 {
     let Ok(line) = outcome_line(alloc, outcome) else {
         return Ended::OutOfMemory;
@@ -102,9 +109,10 @@ fn outcome_of<R: Clock + Net + RandomSource, I: Read>(
     reader: &mut I,
     words: &ClientWords,
 ) -> Result<Outcome, Ended>
-    ensures { IfOk result (λ outcome. (first last : AnyClient)
-        × IfSome (I.remaining reader.old) (λ text. (settings : AnySettings) × StandsFor AreClientSettings text settings × spec.IsClientOf settings first)
-        × spec.Converses words.now.request first outcome last) }
+    ensures talks { IfOk result (λ outcome. (first last : AnyClient) × (settings : AnySettings)
+        × IfSome (I.remaining reader.old) (λ text. StandsFor AreClientSettings text settings) × spec.IsClientOf settings first
+        × spec.Talks words.now.turns words.now.request first outcome last) }
+    ensures ends { IfErr result (ends.CannotAsk words.now.request) }
 {
     let settings = client_settings(alloc, reader)?;
     let bind = settings.bind;
@@ -115,7 +123,8 @@ fn outcome_of<R: Clock + Net + RandomSource, I: Read>(
 }
 
 fn client_settings<I: Read>(alloc: Global, reader: &mut I) -> Result<ClientSettings, Ended>
-    ensures { IfOk result (λ settings. IfSome (I.remaining reader.old) (λ text. StandsFor AreClientSettings text settings)) }
+    ensures settings { IfOk result (λ settings. IfSome (I.remaining reader.old) (λ text. StandsFor AreClientSettings text settings)) }
+    ensures ends { IfErr result ends.NoSettings }
 {
     let text = text_of(alloc, reader)?;
     match read_client_settings(alloc, text.as_str()) {
@@ -126,7 +135,8 @@ fn client_settings<I: Read>(alloc: Global, reader: &mut I) -> Result<ClientSetti
 
 // A client with this grant. Settings have the lengths that a grant and an origin need.
 fn client_of(alloc: Global, settings: ClientSettings) -> Result<Client, Ended>
-    ensures { IfOk result (λ client. spec.IsClientOf settings client) }
+    ensures client { IfOk result (λ client. spec.IsClientOf settings client) }
+    ensures ends { IfErr result ends.NoSettings }
 {
     let ClientSettings {
         peer,
@@ -152,7 +162,8 @@ fn client_of(alloc: Global, settings: ClientSettings) -> Result<Client, Ended>
 
 // The server of this host and port, if one is named.
 fn origin_of(named: Option<(Bytes, u16)>) -> Result<Option<Origin>, Ended>
-    ensures { IfOk result (λ origin. option_map (λ (o : HostAndPort). (o.host, o.port)) origin ≡ named) }
+    ensures origin { IfOk result (λ origin. option_map (λ (o : HostAndPort). (o.host, o.port)) origin ≡ named) }
+    ensures ends { IfErr result ends.NoSettings }
 {
     let Some((host, port)) = named else {
         return Ok(None);
@@ -165,6 +176,7 @@ fn origin_of(named: Option<(Bytes, u16)>) -> Result<Option<Origin>, Ended>
 
 // ---- turns
 
+// The client's conversation at its own address.
 fn run_at<R: Clock + Net + RandomSource>(
     alloc: Global,
     runtime: &R,
@@ -172,78 +184,115 @@ fn run_at<R: Clock + Net + RandomSource>(
     client: &mut Client,
     words: &ClientWords,
 ) -> Result<Outcome, Ended>
-    ensures { IfOk result (λ outcome. spec.Converses words.now.request client.old outcome client.new) }
+    ensures talks { IfOk result (λ outcome. spec.Talks words.now.turns words.now.request client.old outcome client.new) }
+    ensures ends { IfErr result (ends.CannotTalk words.now.request) }
 {
     let mut port = bound(runtime, bind)?;
-    let mut ground = ground_of(runtime)?;
-    run(alloc, &mut ground, &mut port, client, words)
+    let mut supply = supply_of(runtime)?;
+    let mut pace = Pace::START;
+    run(alloc, &mut supply, &mut port, client, &mut pace, words)
 }
 
-// An exchange, and the request where that made a context.
-fn run<R: Clock + RandomSource>(
+// An exchange, and the request where that made a context; what the steps send is handed to the port.
+fn run<W: Watch + Drop, P: Port>(
     alloc: Global,
-    ground: &mut Ground<'_, R>,
-    port: &mut UdpPort,
+    supply: &mut Supply<W>,
+    port: &mut P,
     client: &mut Client,
+    pace: &mut Pace,
     words: &ClientWords,
 ) -> Result<Outcome, Ended>
-    ensures { IfOk result (λ outcome. spec.Converses words.now.request client.old outcome client.new) }
+    ensures converses { IfOk result (λ outcome. (sent : List AnyDatagram)
+        × spec.Converses words.now.turns words.now.request (record { node = client.old; busy = pace.old.busy_since; supply = supply.old }) sent outcome (record { node = client.new; busy = pace.new.busy_since; supply = supply.new })
+        × (P.sent port.new ≡ grown (P.sent port.old) sent)) }
+    ensures ends { IfErr result (ends.CannotTalk words.now.request) }
 {
     let mut turns = words.turns;
-    let learnt = post(alloc, ground, port, client)?;
-    let exchanged = awaited(alloc, ground, port, client, &mut turns, learnt)?;
-    go_on(alloc, ground, port, client, &mut turns, words, exchanged)
+    let learnt = post(alloc, supply, port, client, pace)?;
+    let exchanged = awaited(alloc, supply, port, client, pace, &mut turns, learnt)?;
+    go_on(
+        alloc, supply, port, client, pace, &mut turns, words, exchanged,
+    )
 }
 
 // The request, where what came of the post lets it be sent.
-fn go_on<R: Clock + RandomSource>(
+fn go_on<W: Watch + Drop, P: Port>(
     alloc: Global,
-    ground: &mut Ground<'_, R>,
-    port: &mut UdpPort,
+    supply: &mut Supply<W>,
+    port: &mut P,
     client: &mut Client,
+    pace: &mut Pace,
     turns: &mut u64,
     words: &ClientWords,
     exchanged: Outcome,
 ) -> Result<Outcome, Ended>
-    ensures { IfOk result (λ outcome. spec.GoesOn words.now.request exchanged client.old outcome client.new) }
+    ensures goes_on { IfOk result (λ outcome. (sent : List AnyDatagram)
+        × spec.GoesOn turns.old words.now.request exchanged (record { node = client.old; busy = pace.old.busy_since; supply = supply.old }) sent outcome (record { node = client.new; busy = pace.new.busy_since; supply = supply.new })
+        × (P.sent port.new ≡ grown (P.sent port.old) sent)) }
+    ensures ends { IfErr result (ends.CannotTalk words.now.request) }
 {
     match exchanged {
-        Outcome::Told(result) => go_on_by(alloc, ground, port, client, turns, words, result),
+        Outcome::Told(result) => {
+            go_on_by(alloc, supply, port, client, pace, turns, words, result)
+        }
         Outcome::Open => Ok(Outcome::Open),
     }
 }
 
 // The same, where the client has learnt this.
-fn go_on_by<R: Clock + RandomSource>(
+fn go_on_by<W: Watch + Drop, P: Port>(
     alloc: Global,
-    ground: &mut Ground<'_, R>,
-    port: &mut UdpPort,
+    supply: &mut Supply<W>,
+    port: &mut P,
     client: &mut Client,
+    pace: &mut Pace,
     turns: &mut u64,
     words: &ClientWords,
     told: ClientResult,
 ) -> Result<Outcome, Ended>
-    ensures { IfOk result (λ outcome. spec.GoesOnBy words.now.request told client.old outcome client.new) }
+    ensures goes_on { IfOk result (λ outcome. (sent : List AnyDatagram)
+        × spec.GoesOnBy turns.old words.now.request told (record { node = client.old; busy = pace.old.busy_since; supply = supply.old }) sent outcome (record { node = client.new; busy = pace.new.busy_since; supply = supply.new })
+        × (P.sent port.new ≡ grown (P.sent port.old) sent)) }
+    ensures ends { IfErr result (ends.CannotTalk words.now.request) }
 {
     match told {
-        ClientResult::Made => {
-            let learnt = send_request(alloc, ground, port, client, &words.request)?;
-            awaited(alloc, ground, port, client, turns, learnt)
-        }
+        ClientResult::Made => ask_and_wait(alloc, supply, port, client, pace, turns, words),
         other => Ok(Outcome::Told(other)),
     }
 }
 
-// Posts the token.
-fn post<R: Clock + RandomSource>(
+// Sends the request, and waits for what comes of it.
+fn ask_and_wait<W: Watch + Drop, P: Port>(
     alloc: Global,
-    ground: &mut Ground<'_, R>,
-    port: &mut UdpPort,
+    supply: &mut Supply<W>,
+    port: &mut P,
     client: &mut Client,
-) -> Result<Option<ClientResult>, Ended>
-    ensures { IfOk result (λ learnt. spec.Posts client.old learnt client.new) }
+    pace: &mut Pace,
+    turns: &mut u64,
+    words: &ClientWords,
+) -> Result<Outcome, Ended>
+    ensures requests { IfOk result (λ outcome. (sent : List AnyDatagram)
+        × spec.Requests turns.old words.now.request (record { node = client.old; busy = pace.old.busy_since; supply = supply.old }) sent outcome (record { node = client.new; busy = pace.new.busy_since; supply = supply.new })
+        × (P.sent port.new ≡ grown (P.sent port.old) sent)) }
+    ensures ends { IfErr result (ends.CannotTalk words.now.request) }
 {
-    let (now, draw) = moment_and_draw(ground)?;
+    let learnt = send_request(alloc, supply, port, client, pace, &words.request)?;
+    awaited(alloc, supply, port, client, pace, turns, learnt)
+}
+
+// Posts the token.
+fn post<W: Watch + Drop, P: Port>(
+    alloc: Global,
+    supply: &mut Supply<W>,
+    port: &mut P,
+    client: &mut Client,
+    pace: &mut Pace,
+) -> Result<Option<ClientResult>, Ended>
+    ensures posts { IfOk result (λ learnt. (step : AnyStep) × spec.Posts (record { node = client.old; busy = pace.old.busy_since; supply = supply.old }) step (record { node = client.new; busy = pace.new.busy_since; supply = supply.new })
+        × (step.notes.result ≡ learnt) × (P.sent port.new ≡ grown (P.sent port.old) step.out)) }
+    ensures fault { IfErr result ends.IsFault }
+{
+    let (now, draw) = moment_and_draw(supply)?;
     match client.exchange(alloc, now, &draw) {
         Ok(step) => sent(port, step),
         Err(_) => Err(Ended::OutOfMemory),
@@ -251,19 +300,22 @@ fn post<R: Clock + RandomSource>(
 }
 
 // Sends the request, protected. One with the code 0.00 is none.
-fn send_request<R: Clock + RandomSource>(
+fn send_request<W: Watch + Drop, P: Port>(
     alloc: Global,
-    ground: &mut Ground<'_, R>,
-    port: &mut UdpPort,
+    supply: &mut Supply<W>,
+    port: &mut P,
     client: &mut Client,
+    pace: &mut Pace,
     request: &Request,
 ) -> Result<Option<ClientResult>, Ended>
-    ensures { IfOk result (λ learnt. spec.Sends request.now client.old learnt client.new) }
+    ensures sends { IfOk result (λ learnt. (step : AnyStep) × spec.Sends request.now (record { node = client.old; busy = pace.old.busy_since; supply = supply.old }) step (record { node = client.new; busy = pace.new.busy_since; supply = supply.new })
+        × (step.notes.result ≡ learnt) × (P.sent port.new ≡ grown (P.sent port.old) step.out)) }
+    ensures ends { IfErr result (ends.CannotTalk request.now) }
 {
     if request.code.0 == 0 {
         return Err(Ended::BadCommandLine);
     }
-    let (now, draw) = moment_and_draw(ground)?;
+    let (now, draw) = moment_and_draw(supply)?;
     match client.ask::<Ccm<8>>(alloc, now, request, &draw) {
         Ok(step) => sent(port, step),
         Err(_) => Err(Ended::OutOfMemory),
@@ -271,8 +323,10 @@ fn send_request<R: Clock + RandomSource>(
 }
 
 // Sends what the step sends: what the client learnt by it, if it did.
-fn sent(port: &mut UdpPort, step: Step) -> Result<Option<ClientResult>, Ended>
-    ensures { IfOk result (λ learnt. learnt ≡ step.notes.result) }
+fn sent<P: Port>(port: &mut P, step: Step) -> Result<Option<ClientResult>, Ended>
+    ensures learnt { IfOk result (λ learnt. learnt ≡ step.notes.result) }
+    ensures sent { IfOk result (λ _. P.sent port.new ≡ grown (P.sent port.old) step.out) }
+    ensures fault { IfErr result ends.IsFault }
 {
     let learnt = sent_by(port, &step);
     drop(step);
@@ -280,49 +334,56 @@ fn sent(port: &mut UdpPort, step: Step) -> Result<Option<ClientResult>, Ended>
 }
 
 // The same of a step that somebody else drops.
-fn sent_by(port: &mut UdpPort, step: &Step) -> Result<Option<ClientResult>, Ended>
-    ensures { IfOk result (λ learnt. learnt ≡ step.now.notes.result) }
+fn sent_by<P: Port>(port: &mut P, step: &Step) -> Result<Option<ClientResult>, Ended>
+    ensures learnt { IfOk result (λ learnt. learnt ≡ step.now.notes.result) }
+    ensures sent { IfOk result (λ _. P.sent port.new ≡ grown (P.sent port.old) step.now.out) }
+    ensures fault { IfErr result ends.IsFault }
 {
     send(port, &step.out)?;
     copy_of(step.notes.result())
 }
 
 // Turns until the client has learnt something, if it hasn't yet.
-fn awaited<R: Clock + RandomSource>(
+fn awaited<W: Watch + Drop, P: Port>(
     alloc: Global,
-    ground: &mut Ground<'_, R>,
-    port: &mut UdpPort,
+    supply: &mut Supply<W>,
+    port: &mut P,
     client: &mut Client,
+    pace: &mut Pace,
     turns: &mut u64,
     learnt: Option<ClientResult>,
 ) -> Result<Outcome, Ended>
-    ensures { IfOk result (λ outcome. spec.Waits learnt client.old outcome client.new) }
+    ensures waits { IfOk result (λ outcome. (sent : List AnyDatagram)
+        × spec.Waits turns.old learnt (record { node = client.old; busy = pace.old.busy_since; supply = supply.old }) sent outcome turns.new (record { node = client.new; busy = pace.new.busy_since; supply = supply.new })
+        × (P.sent port.new ≡ grown (P.sent port.old) sent)) }
+    ensures fault { IfErr result ends.IsFault }
 {
     match learnt {
         Some(result) => Ok(Outcome::Told(result)),
-        None => wait(alloc, ground, port, client, turns),
+        None => wait(alloc, supply, port, client, pace, turns),
     }
 }
 
-// Turns until the client has learnt something.
-fn wait<R: Clock + RandomSource>(
+// Turns until the client has learnt something, as long as turns are left.
+fn wait<W: Watch + Drop, P: Port>(
     alloc: Global,
-    ground: &mut Ground<'_, R>,
-    port: &mut UdpPort,
+    supply: &mut Supply<W>,
+    port: &mut P,
     client: &mut Client,
+    pace: &mut Pace,
     turns: &mut u64,
 ) -> Result<Outcome, Ended>
-    ensures { IfOk result (λ outcome. spec.Waits None client.old outcome client.new) }
+    ensures waits { IfOk result (λ outcome. (sent : List AnyDatagram)
+        × spec.Waits turns.old None (record { node = client.old; busy = pace.old.busy_since; supply = supply.old }) sent outcome turns.new (record { node = client.new; busy = pace.new.busy_since; supply = supply.new })
+        × (P.sent port.new ≡ grown (P.sent port.old) sent)) }
+    ensures fault { IfErr result ends.IsFault }
 {
     let most = *turns;
     for taken in 0..most {
-        let learnt = client_turn(alloc, ground, port, client)?;
-        match learnt {
-            Some(result) => {
-                *turns = most - taken - 1;
-                return Ok(Outcome::Told(result));
-            }
-            None => {}
+        let learnt = client_turn(alloc, supply, port, client, pace)?;
+        if let Some(result) = learnt {
+            *turns = most - taken - 1;
+            return Ok(Outcome::Told(result));
         }
     }
     *turns = 0;
@@ -330,24 +391,27 @@ fn wait<R: Clock + RandomSource>(
 }
 
 // What the client learnt by a turn, if it did.
-fn client_turn<R: Clock + RandomSource>(
+fn client_turn<W: Watch + Drop, P: Port>(
     alloc: Global,
-    ground: &mut Ground<'_, R>,
-    port: &mut UdpPort,
+    supply: &mut Supply<W>,
+    port: &mut P,
     client: &mut Client,
+    pace: &mut Pace,
 ) -> Result<Option<ClientResult>, Ended>
-    ensures { IfOk result (λ learnt. spec.TakesTurn client.old learnt client.new) }
+    ensures takes { IfOk result (λ learnt. (step : AnyStep) × turning.TakesTurn spec.client_steps (record { node = client.old; busy = pace.old.busy_since; supply = supply.old }) step (record { node = client.new; busy = pace.new.busy_since; supply = supply.new })
+        × (step.notes.result ≡ learnt) × (P.sent port.new ≡ grown (P.sent port.old) step.out)) }
+    ensures fault { IfErr result ends.IsFault }
 {
-    let (now, draw) = moment_and_draw(ground)?;
-    match turn::<Ccm<8>, _, _>(alloc, port, client, now, &draw) {
+    match take_turn(alloc, supply, port, client, pace) {
         Ok(turned) => learnt_of(turned),
-        Err(error) => Err(ended_by_turn(error)),
+        Err(ended) => Err(ended),
     }
 }
 
 // What the client learnt, if all that it sent went out.
 fn learnt_of(turned: Turned) -> Result<Option<ClientResult>, Ended>
-    ensures { IfOk result (λ learnt. learnt ≡ turned.step.notes.result) }
+    ensures learnt { IfOk result (λ learnt. learnt ≡ turned.step.notes.result) }
+    ensures fault { IfErr result ends.IsFault }
 {
     let learnt = learnt_by(&turned);
     drop(turned);
@@ -356,7 +420,8 @@ fn learnt_of(turned: Turned) -> Result<Option<ClientResult>, Ended>
 
 // The same of a turn that somebody else drops.
 fn learnt_by(turned: &Turned) -> Result<Option<ClientResult>, Ended>
-    ensures { IfOk result (λ learnt. learnt ≡ turned.now.step.notes.result) }
+    ensures learnt { IfOk result (λ learnt. learnt ≡ turned.now.step.notes.result) }
+    ensures fault { IfErr result ends.IsFault }
 {
     match turned.fault {
         None => copy_of(turned.step.notes.result()),

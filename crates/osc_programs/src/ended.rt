@@ -1,6 +1,6 @@
 //! How a program ends.
 ghost use Rattle.std.specs.IoError.{error_kind};
-ghost use Rattle.std.specs.Prelude.{◌≡◌, ◌≢◌, Some, IfOk, option_map, string_bytes};
+ghost use Rattle.std.specs.Prelude.{◌≡◌, ◌⊎◌, Some, IfOk, option_map, string_bytes};
 ghost use Rattle.osc_programs.specs.Ended as spec;
 
 use clap::error::ErrorKind as WordsKind;
@@ -63,7 +63,9 @@ fn ended_by_kind(kind: WordsKind) -> Ended
 
 /// How a program ends whose input or output failed so: want of memory is told apart.
 pub fn ended_by_io(error: &io::Error) -> Ended
-    ensures { result ≡ spec.ended_by_io (error_kind error.now) }
+    ensures value { result ≡ spec.ended_by_io (error_kind error.now) }
+    ensures either { (result ≡ Ended.OutOfMemory) ⊎ (result ≡ Ended.Failed) }
+    ensures fault { spec.IsFault result }
 {
     match error.kind() {
         ErrorKind::OutOfMemory => Ended::OutOfMemory,
@@ -78,17 +80,6 @@ pub fn started_by_io(error: &io::Error) -> Ended
     match error.kind() {
         ErrorKind::InvalidData => Ended::BadCommandLine,
         _ => ended_by_io(error),
-    }
-}
-
-/// The fault of a program that didn't come to its end.
-pub(crate) fn failed(ended: Ended) -> Ended
-    ensures done { result ≢ Ended.Done }
-    ensures not_done { result ≢ Ended.NotDone }
-{
-    match ended {
-        Ended::Done | Ended::NotDone => Ended::Failed,
-        fault => fault,
     }
 }
 

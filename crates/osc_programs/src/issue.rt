@@ -5,6 +5,7 @@ ghost use Rattle.rand_core.specs.Stream.{fill_bytes};
 ghost use Rattle.osc_cbor.specs.Spelling.{spelling};
 ghost use Rattle.osc_token.specs.Minted.{most_claims};
 ghost use Rattle.osc_token.specs.Token.{claims_item};
+ghost use Rattle.osc_programs.specs.Ended as ends;
 ghost use Rattle.osc_programs.specs.TokenLine as spec;
 
 use crate::ended::{Ended, ended_by_io};
@@ -29,6 +30,7 @@ pub fn token<W: Write>(alloc: Global, words: &TokenWords, iv: &[u8; 13], writer:
     ensures never_too_long { most_claims < length (spelling (claims_item words.now.claims)) → result ≡ Ended.BadCommandLine }
     ensures memory { result ≡ Ended.OutOfMemory → Appends (W.contents writer.old) (W.contents writer.new) [] }
     ensures lines { (n : ℕ) → result ≢ Ended.BadLine n }
+    ensures ends { ends.EndsToken result }
 {
     match token_line(alloc, words, iv) {
         Ok(line) => written(writer, line.as_bytes()),
@@ -87,7 +89,10 @@ pub fn issue_token<S: RandomSource, W: Write>(
         × Appends (W.contents writer.old) (W.contents writer.new) text) }
     ensures too_long { result ≡ Ended.BadCommandLine → (most_claims < length (spelling (claims_item words.now.claims)))
         × Appends (W.contents writer.old) (W.contents writer.new) [] }
+    ensures never_too_long { most_claims < length (spelling (claims_item words.now.claims)) → result ≢ Ended.Done }
+    ensures memory { result ≡ Ended.OutOfMemory → Appends (W.contents writer.old) (W.contents writer.new) [] }
     ensures lines { (n : ℕ) → result ≢ Ended.BadLine n }
+    ensures ends { ends.EndsToken result }
 {
     match iv_of(source, words) {
         Ok(iv) => token(alloc, words, &iv, writer),
@@ -99,6 +104,7 @@ pub fn issue_token<S: RandomSource, W: Write>(
 pub(crate) fn written<W: Write>(writer: &mut W, text: &[u8]) -> Ended
     ensures done { result ≡ Ended.Done → Appends (W.contents writer.old) (W.contents writer.new) text.now }
     ensures cases { (result ≡ Ended.Done) ⊎ (result ≡ Ended.Failed) }
+    ensures ends { ends.EndsToken result }
 {
     if writer.write_all(text).is_err() || writer.flush().is_err() {
         return Ended::Failed;

@@ -1,10 +1,13 @@
 //! The nodes of a lab, which take their turns one after another.
-ghost use Rattle.std.specs.Prelude.{◌<◌, OnOk};
+ghost use Rattle.std.specs.Prelude.{◌≡◌, ◌<◌, ◌↔◌, length, IfOk, IsTrue, OnOk};
+ghost use Rattle.osc_run.specs.History.{history};
+ghost use Rattle.osc_run.specs.Premise.{Premise};
 
 use crate::ended::Ended;
-use crate::ground::{Ground, moment_and_draw};
 use crate::lab_port::{Book, Known, LabPort};
-use crate::running::{bound, copy_of, ended_by_turn, send};
+use crate::running::{bound, copy_of, send};
+use crate::supply::{Supply, Watch, moment_and_draw};
+use crate::turns::take_turn;
 use crate::udp::UdpPort;
 use osc_ccm::Ccm;
 use osc_client::Client;
@@ -14,12 +17,10 @@ use osc_run::{Minted, Noted, Notes};
 use osc_script::Node;
 use osc_server::Server;
 use osc_tree::Tree;
-use osc_turn::{PortFault, Turned, turn};
+use osc_turn::{Pace, PortFault, Turned};
 use osc_world::{Parts, Placed, PlacedProxy};
 use std::alloc::{AllocError, Global};
 use std::net::Net;
-use std::random::RandomSource;
-use std::time::Clock;
 
 // An address of this machine, whose port the system picks.
 const ANY_PORT: Peer = Peer {
@@ -27,12 +28,19 @@ const ANY_PORT: Peer = Peer {
     port: 0,
 };
 
-/// The server's socket, and those of the proxies and of the clients.
+/// Where a node stands: its socket, and the pace that it keeps.
 #[derive(Drop)]
-struct Ports {
-    server: LabPort,
-    proxies: Vec<LabPort>,
-    clients: Vec<LabPort>,
+struct Berth {
+    port: LabPort,
+    pace: Pace,
+}
+
+/// Where the server stands, the proxies and the clients.
+#[derive(Drop)]
+struct Berths {
+    server: Berth,
+    proxies: Vec<Berth>,
+    clients: Vec<Berth>,
 }
 
 /// The nodes of a lab, their sockets, and what their steps noted.
@@ -41,7 +49,7 @@ pub(crate) struct LabNodes {
     server: Server,
     proxies: Vec<PlacedProxy>,
     clients: Vec<Placed>,
-    ports: Ports,
+    berths: Berths,
     minted: Vec<Minted>,
     notes: Notes,
 }
@@ -55,18 +63,20 @@ pub(crate) enum Task<'a> {
     Ask(&'a Request),
 }
 
-/// What a whole turn came to: whether a datagram came to a node, and what the client learnt that is waited for.
+/// What a client learnt.
 #[derive(Debug, Drop)]
-pub(crate) struct Round {
-    pub received: bool,
-    pub learnt: Option<ClientResult>,
+pub(crate) struct Learnt {
+    /// The client's number, from 0.
+    pub client: usize,
+    /// What it learnt.
+    pub result: ClientResult,
 }
 
 impl LabNodes {
     /// The nodes that the parts of a world are, on sockets of this machine.
     pub fn new<R: Net>(alloc: Global, runtime: &R, parts: Parts) -> Result<LabNodes, Ended> {
         match bind_all(alloc, runtime, &parts) {
-            Ok(ports) => Ok(with_ports(alloc, parts, ports)),
+            Ok(berths) => Ok(with_berths(alloc, parts, berths)),
             Err(ended) => {
                 drop(parts);
                 Err(ended)
@@ -75,64 +85,78 @@ impl LabNodes {
     }
 
     /// The resources.
-    pub fn tree(&self) -> &Tree {
+    pub fn tree(&self) -> &Tree
+        ensures { result.now ≡ self.now.server.tree }
+    {
         self.server.tree()
     }
 
     /// How many requests were served.
-    pub fn count_entries(&self, alloc: Global) -> Result<usize, AllocError> {
+    pub fn count_entries(&self, alloc: Global) -> Result<usize, AllocError>
+        ensures { IfOk result (λ entries. entries ≡ length (history self.now.notes.steps)) }
+    {
         Ok(self.notes.history(alloc)?.len())
     }
 
     /// Whether what is assumed of a run held.
-    pub fn premise_holds(&self) -> bool {
+    pub fn premise_holds(&self) -> bool
+        ensures { IsTrue result ↔ Premise self.now.minted.items self.now.notes.steps }
+    {
         self.notes.premise_holds(&self.minted)
     }
 
-    /// The client of this number begins its task: what it learnt at once, if it did.
-    pub fn begin<R: Clock + RandomSource>(
+    /// Whether the client of this number waits for something.
+    pub fn is_waiting(&self, number: usize) -> bool {
+        match self.clients.get(number) {
+            Some(placed) => placed.client.is_waiting(),
+            None => false,
+        }
+    }
+
+    /// The client of this number begins its task. What it learnt at once, if it did, goes behind what was learnt.
+    pub fn begin<W: Watch + Drop>(
         &mut self,
         alloc: Global,
-        ground: &mut Ground<'_, R>,
+        supply: &mut Supply<W>,
         number: usize,
         task: Task<'_>,
-    ) -> Result<Option<ClientResult>, Ended> {
+        learnt: &mut Vec<Learnt>,
+    ) -> Result<(), Ended> {
         reserve(&mut self.notes)?;
         let Some(placed) = self.clients.get_mut(number) else {
-            return Ok(None);
+            return Ok(());
         };
-        let step = begun(alloc, ground, &mut placed.client, task)?;
-        let learnt = copy_of(step.notes.result());
-        let sent = send_from(&mut self.ports.clients, number, &step.out);
+        let step = begun(alloc, supply, &mut placed.client, task)?;
+        let told = copy_of(step.notes.result());
+        let sent = send_from(&mut self.berths.clients, number, &step.out);
         let Step { notes, .. } = step;
         self.notes.add(Noted::by_client(number, false, notes));
-        unless_failed(sent, learnt)
+        kept(learnt, number, told)?;
+        sent
     }
 
-    /// Each node takes one turn; the client of this number is waited for.
-    pub fn round<R: Clock + RandomSource>(
+    /// Each node takes one turn: whether one of them was busy. What clients learnt goes behind what was learnt, in order.
+    pub fn round<W: Watch + Drop>(
         &mut self,
         alloc: Global,
-        ground: &mut Ground<'_, R>,
-        waited_for: usize,
-    ) -> Result<Round, Ended> {
-        let server = self.server_turn(alloc, ground)?;
-        let proxies = self.proxy_turns(alloc, ground)?;
-        let clients = self.client_turns(alloc, ground, waited_for)?;
-        Ok(Round {
-            received: server || proxies || clients.received,
-            ..clients
-        })
+        supply: &mut Supply<W>,
+        learnt: &mut Vec<Learnt>,
+    ) -> Result<bool, Ended> {
+        let server = self.server_turn(alloc, supply)?;
+        let proxies = self.proxy_turns(alloc, supply)?;
+        let clients = self.client_turns(alloc, supply, learnt)?;
+        Ok(server || proxies || clients)
     }
 
-    // Whether a datagram came.
-    fn server_turn<R: Clock + RandomSource>(
+    // Whether it was busy.
+    fn server_turn<W: Watch + Drop>(
         &mut self,
         alloc: Global,
-        ground: &mut Ground<'_, R>,
+        supply: &mut Supply<W>,
     ) -> Result<bool, Ended> {
         reserve(&mut self.notes)?;
-        let turned = turn_of(alloc, ground, &mut self.ports.server, &mut self.server)?;
+        let was_busy = is_busy(&self.berths.server);
+        let turned = turn_of(alloc, supply, &mut self.berths.server, &mut self.server)?;
         let Turned {
             received,
             step,
@@ -140,97 +164,91 @@ impl LabNodes {
         } = turned;
         let Step { notes, .. } = step;
         self.notes.add(Noted::by_server(notes));
-        unless_lost(fault, received)
+        unless_lost(fault, was_busy || received)
     }
 
-    // Whether a datagram came to one of them. What proxies do isn't noted, since they seal and open nothing.
-    fn proxy_turns<R: Clock + RandomSource>(
+    // Whether one of them was busy. What proxies do isn't noted, since they seal and open nothing.
+    fn proxy_turns<W: Watch + Drop>(
         &mut self,
         alloc: Global,
-        ground: &mut Ground<'_, R>,
+        supply: &mut Supply<W>,
     ) -> Result<bool, Ended> {
-        let mut received = false;
+        let mut busy = false;
         for number in 0..self.proxies.len() {
-            let came = self.proxy_turn(alloc, ground, number)?;
-            received = received || came;
+            let one = self.proxy_turn(alloc, supply, number)?;
+            busy = busy || one;
         }
-        Ok(received)
+        Ok(busy)
     }
 
-    fn proxy_turn<R: Clock + RandomSource>(
+    fn proxy_turn<W: Watch + Drop>(
         &mut self,
         alloc: Global,
-        ground: &mut Ground<'_, R>,
+        supply: &mut Supply<W>,
         number: usize,
     ) -> Result<bool, Ended> {
         let Some(placed) = self.proxies.get_mut(number) else {
             return Ok(false);
         };
-        let Some(port) = self.ports.proxies.get_mut(number) else {
+        let Some(berth) = self.berths.proxies.get_mut(number) else {
             return Ok(false);
         };
-        came(turn_of(alloc, ground, port, &mut placed.proxy)?)
+        let was_busy = is_busy(berth);
+        came(was_busy, turn_of(alloc, supply, berth, &mut placed.proxy)?)
     }
 
-    fn client_turns<R: Clock + RandomSource>(
+    fn client_turns<W: Watch + Drop>(
         &mut self,
         alloc: Global,
-        ground: &mut Ground<'_, R>,
-        waited_for: usize,
-    ) -> Result<Round, Ended> {
-        let mut received = false;
-        let mut learnt = None;
+        supply: &mut Supply<W>,
+        learnt: &mut Vec<Learnt>,
+    ) -> Result<bool, Ended> {
+        let mut busy = false;
         for number in 0..self.clients.len() {
-            let turned = self.client_turn(alloc, ground, number)?;
-            received = received || turned.received;
-            if number == waited_for {
-                learnt = turned.learnt;
-            }
+            let one = self.client_turn(alloc, supply, number, learnt)?;
+            busy = busy || one;
         }
-        Ok(Round { received, learnt })
+        Ok(busy)
     }
 
-    fn client_turn<R: Clock + RandomSource>(
+    fn client_turn<W: Watch + Drop>(
         &mut self,
         alloc: Global,
-        ground: &mut Ground<'_, R>,
+        supply: &mut Supply<W>,
         number: usize,
-    ) -> Result<Round, Ended> {
+        learnt: &mut Vec<Learnt>,
+    ) -> Result<bool, Ended> {
         reserve(&mut self.notes)?;
         let Some(placed) = self.clients.get_mut(number) else {
-            return Ok(NOTHING);
+            return Ok(false);
         };
-        let Some(port) = self.ports.clients.get_mut(number) else {
-            return Ok(NOTHING);
+        let Some(berth) = self.berths.clients.get_mut(number) else {
+            return Ok(false);
         };
-        let turned = turn_of(alloc, ground, port, &mut placed.client)?;
+        let was_busy = is_busy(berth);
+        let turned = turn_of(alloc, supply, berth, &mut placed.client)?;
         let Turned {
             received,
             step,
             fault,
         } = turned;
-        let learnt = copy_of(step.notes.result());
+        let told = copy_of(step.notes.result());
         let Step { notes, .. } = step;
         self.notes.add(Noted::by_client(number, false, notes));
-        told(unless_lost(fault, received), learnt)
+        kept(learnt, number, told)?;
+        unless_lost(fault, was_busy || received)
     }
 }
-
-// Nothing came, and nothing was learnt.
-const NOTHING: Round = Round {
-    received: false,
-    learnt: None,
-};
 
 // ---- sockets
 
 // A socket for each node.
-fn bind_all<R: Net>(alloc: Global, runtime: &R, parts: &Parts) -> Result<Ports, Ended> {
+fn bind_all<R: Net>(alloc: Global, runtime: &R, parts: &Parts) -> Result<Berths, Ended> {
     let mut book = Book::new(alloc);
     let server = bind_at(runtime, &mut book, Node::Server.address())?;
     let proxies = bind_proxies(alloc, runtime, &mut book, parts.proxies.as_slice())?;
     let clients = bind_clients(alloc, runtime, &mut book, parts.clients.as_slice())?;
-    ports_of(alloc, server, proxies, clients, &book)
+    berths_of(alloc, server, proxies, clients, &book)
 }
 
 fn bind_proxies<R: Net>(
@@ -260,16 +278,16 @@ fn bind_clients<R: Net>(
 }
 
 // These sockets, each with the book of all addresses.
-fn ports_of(
+fn berths_of(
     alloc: Global,
     server: UdpPort,
     proxies: Vec<UdpPort>,
     clients: Vec<UdpPort>,
     book: &Book,
-) -> Result<Ports, Ended> {
+) -> Result<Berths, Ended> {
     let proxies = with_books(alloc, proxies, book)?;
     let clients = with_books(alloc, clients, book)?;
-    Ok(Ports {
+    Ok(Berths {
         server: with_book(alloc, server, book)?,
         proxies,
         clients,
@@ -295,25 +313,28 @@ fn push(ports: &mut Vec<UdpPort>, port: UdpPort) -> Result<(), Ended> {
     }
 }
 
-fn with_books(alloc: Global, ports: Vec<UdpPort>, book: &Book) -> Result<Vec<LabPort>, Ended> {
+fn with_books(alloc: Global, ports: Vec<UdpPort>, book: &Book) -> Result<Vec<Berth>, Ended> {
     let mut all = Vec::new(alloc);
     for port in ports {
-        let port = with_book(alloc, port, book)?;
-        if all.push(port).is_err() {
+        let berth = with_book(alloc, port, book)?;
+        if all.push(berth).is_err() {
             return Err(Ended::OutOfMemory);
         }
     }
     Ok(all)
 }
 
-fn with_book(alloc: Global, port: UdpPort, book: &Book) -> Result<LabPort, Ended> {
+fn with_book(alloc: Global, port: UdpPort, book: &Book) -> Result<Berth, Ended> {
     match book.copy(alloc) {
-        Ok(book) => Ok(LabPort::new(port, book)),
+        Ok(book) => Ok(Berth {
+            port: LabPort::new(port, book),
+            pace: Pace::START,
+        }),
         Err(_) => Err(Ended::OutOfMemory),
     }
 }
 
-fn with_ports(alloc: Global, parts: Parts, ports: Ports) -> LabNodes {
+fn with_berths(alloc: Global, parts: Parts, berths: Berths) -> LabNodes {
     let Parts {
         minted,
         server,
@@ -324,7 +345,7 @@ fn with_ports(alloc: Global, parts: Parts, ports: Ports) -> LabNodes {
         server,
         proxies,
         clients,
-        ports,
+        berths,
         minted,
         notes: Notes::new(alloc),
     }
@@ -341,75 +362,64 @@ fn reserve(notes: &mut Notes) -> Result<(), Ended>
     }
 }
 
+// Whether it took what came in its last turn. Then the next one may be a tick though something waits.
+fn is_busy(berth: &Berth) -> bool {
+    berth.pace.busy_since.is_some()
+}
+
 // A turn of the node.
-fn turn_of<R: Clock + RandomSource, N: osc_turn::Node<Ccm<8>>>(
+fn turn_of<W: Watch + Drop, N: osc_turn::Node<Ccm<8>>>(
     alloc: Global,
-    ground: &mut Ground<'_, R>,
-    port: &mut LabPort,
+    supply: &mut Supply<W>,
+    berth: &mut Berth,
     node: &mut N,
 ) -> Result<Turned, Ended> {
-    let (now, draw) = moment_and_draw(ground)?;
-    match turn::<Ccm<8>, _, _>(alloc, port, node, now, &draw) {
-        Ok(turned) => Ok(turned),
-        Err(error) => Err(ended_by_turn(error)),
-    }
+    take_turn(alloc, supply, &mut berth.port, node, &mut berth.pace)
 }
 
-// Whether a datagram came by the turn.
-fn came(turned: Turned) -> Result<bool, Ended> {
+// Whether a node was busy that was so before this turn, or not.
+fn came(was_busy: bool, turned: Turned) -> Result<bool, Ended> {
     let (received, fault) = (turned.received, turned.fault);
     drop(turned);
-    unless_lost(fault, received)
+    unless_lost(fault, was_busy || received)
 }
 
-// Whether a datagram came by a turn, unless one of its own was lost.
-fn unless_lost(fault: Option<PortFault>, received: bool) -> Result<bool, Ended> {
+// Whether a node was busy, unless one of its datagrams was lost.
+fn unless_lost(fault: Option<PortFault>, busy: bool) -> Result<bool, Ended> {
     match fault {
-        None => Ok(received),
+        None => Ok(busy),
         Some(_) => Err(Ended::PortFailed),
     }
 }
 
-// What a client learnt, unless its sending failed.
-fn unless_failed(
-    sent: Result<(), Ended>,
-    learnt: Result<Option<ClientResult>, Ended>,
-) -> Result<Option<ClientResult>, Ended> {
-    match sent {
-        Ok(()) => learnt,
-        Err(ended) => {
-            drop(learnt);
-            Err(ended)
-        }
-    }
-}
-
-// Whether a datagram came to a client, and what it learnt.
-fn told(
-    received: Result<bool, Ended>,
-    learnt: Result<Option<ClientResult>, Ended>,
-) -> Result<Round, Ended> {
-    match learnt {
-        Ok(learnt) => told_of(received, learnt),
+// Keeps what the client of this number learnt, if it did.
+fn kept(
+    learnt: &mut Vec<Learnt>,
+    client: usize,
+    told: Result<Option<ClientResult>, Ended>,
+) -> Result<(), Ended> {
+    match told {
+        Ok(Some(result)) => keep(learnt, Learnt { client, result }),
+        Ok(None) => Ok(()),
         Err(ended) => Err(ended),
     }
 }
 
-fn told_of(received: Result<bool, Ended>, learnt: Option<ClientResult>) -> Result<Round, Ended> {
-    match received {
-        Ok(received) => Ok(Round { received, learnt }),
-        Err(ended) => Err(ended),
+fn keep(learnt: &mut Vec<Learnt>, one: Learnt) -> Result<(), Ended> {
+    match learnt.push(one) {
+        Ok(()) => Ok(()),
+        Err(_) => Err(Ended::OutOfMemory),
     }
 }
 
 // The step by which the client begins its task. No request of a script has the code 0.00.
-fn begun<R: Clock + RandomSource>(
+fn begun<W: Watch + Drop>(
     alloc: Global,
-    ground: &mut Ground<'_, R>,
+    supply: &mut Supply<W>,
     client: &mut Client,
     task: Task<'_>,
 ) -> Result<Step, Ended> {
-    let (now, draw) = moment_and_draw(ground)?;
+    let (now, draw) = moment_and_draw(supply)?;
     let step = match task {
         Task::Exchange => client.exchange(alloc, now, &draw),
         Task::Ask(request) if request.code.0 > 0 => {
@@ -424,9 +434,9 @@ fn begun<R: Clock + RandomSource>(
 }
 
 // What the client of this number sends.
-fn send_from(ports: &mut [LabPort], number: usize, out: &Datagrams) -> Result<(), Ended> {
-    match ports.get_mut(number) {
-        Some(port) => send(port, out),
+fn send_from(berths: &mut [Berth], number: usize, out: &Datagrams) -> Result<(), Ended> {
+    match berths.get_mut(number) {
+        Some(berth) => send(&mut berth.port, out),
         None => Ok(()),
     }
 }

@@ -1,12 +1,18 @@
 //! A lab: what a script's clients ask, over sockets of this machine.
-ghost use Rattle.std.specs.Prelude.{IfOk};
+ghost use Rattle.std.specs.Prelude.{◌≡◌, ◌++◌, ◌↔◌, Bool, codes, length, string_bytes, IfOk, IsTrue, OnOk};
+ghost use Rattle.osc_run.specs.History.{history};
+ghost use Rattle.osc_run.specs.Premise.{Premise};
+ghost use Rattle.osc_simulation.specs.Trace.{end_text};
+ghost use Rattle.osc_programs.specs.Ended as ends;
+ghost use Rattle.osc_simulation.specs.Records.{learnt_text};
+ghost use Rattle.osc_simulation.specs.Text.{line};
 ghost use Rattle.std.specs.FinMap as map;
 ghost use Rattle.osc_simulation.specs.SetUp.{CanPutAll};
 
 use crate::ended::{Ended, ended_by_io};
-use crate::ground::{Ground, ground_of};
-use crate::lab_nodes::{LabNodes, Round, Task};
+use crate::lab_nodes::{LabNodes, Learnt, Task};
 use crate::simulate::ended_when_written;
+use crate::supply::{Supply, Watch, supply_of};
 use osc_model::ClientResult;
 use osc_script::{ClientName, Line, Script, ScriptError, read_script};
 use osc_simulation::laws::a_script_fits;
@@ -19,9 +25,9 @@ use std::time::Clock;
 
 /// Runs the script that the reader gives with a server, clients and proxies on sockets of this machine, in one process, which take
 /// their turns one after another: moments are those of the clock, and random bytes are drawn. Its lines are `put`, `open`, `grant`,
-/// `via`, `exchange` and `ask`. After each exchange or request the nodes take turns until the client has its result and no datagram
-/// came to a node in a whole turn, or until so many whole turns are gone; a client without a result is `open` then. It writes the
-/// clients' results, and the end lines.
+/// `via`, `exchange` and `ask`. After each exchange or request the nodes take turns until its client waits for nothing and no node was
+/// busy in a whole turn, or until so many whole turns are gone; a client that waits still is `open` then. It writes what the clients
+/// learn, as it comes, and the end lines.
 ///
 /// A script with another line, or one that stands for nothing, does nothing: `BadLine` has the number of the first such line.
 pub fn lab<R: Clock + Net + RandomSource, I: Read, W: Write>(
@@ -30,13 +36,25 @@ pub fn lab<R: Clock + Net + RandomSource, I: Read, W: Write>(
     reader: &mut I,
     writer: &mut W,
     turns: u64,
-) -> Ended {
+) -> Ended
+    ensures ends { ends.EndsLab result }
+{
     let mut text = Vec::new(alloc);
     let ended = match lab_text(alloc, runtime, reader, turns, &mut text) {
         Ok(()) => Ended::Done,
-        Err(ended) => ended,
+        Err(ended) => fault_of(ended),
     };
     ended_when_written(writer, &text, ended)
+}
+
+// How a lab ends that didn't come to its end.
+fn fault_of(ended: Ended) -> Ended
+    ensures { ends.EndsLab result }
+{
+    match ended {
+        Ended::BadLine(_) | Ended::OutOfMemory | Ended::PortFailed => ended,
+        _ => Ended::Failed,
+    }
 }
 
 // The lines that a lab writes, behind what `text` has; those so far where it ends before.
@@ -155,15 +173,14 @@ fn run<R: Clock + RandomSource>(
     turns: u64,
     text: &mut Vec<u8>,
 ) -> Result<(), Ended> {
-    let mut ground = ground_of(runtime)?;
+    let mut supply = supply_of(runtime)?;
     let Ok(names) = Names::of(alloc, script.lines()) else {
         return Err(Ended::OutOfMemory);
     };
     for line in script.lines() {
         if let Some((client, task)) = task_of(line) {
             let number = number_of(names.clients(), client);
-            let learnt = perform(alloc, &mut ground, nodes, number, task, turns)?;
-            tell(alloc, name_of_number(names.clients(), number), learnt, text)?;
+            perform(alloc, &mut supply, nodes, &names, number, task, turns, text)?;
         }
     }
     tell_end(alloc, nodes, text)
@@ -178,71 +195,126 @@ fn task_of(line: &Line) -> Option<(ClientName, Task<'_>)> {
     }
 }
 
-// The client's result, or none where the turns are gone before.
-fn perform<R: Clock + RandomSource>(
+// The client's task, and turns; what clients learn is told as it comes, and that the client waits still, where it does.
+fn perform<W: Watch + Drop>(
     alloc: Global,
-    ground: &mut Ground<'_, R>,
+    supply: &mut Supply<W>,
     nodes: &mut LabNodes,
+    names: &Names,
     number: usize,
     task: Task<'_>,
     turns: u64,
-) -> Result<Option<ClientResult>, Ended> {
-    let mut learnt = nodes.begin(alloc, ground, number, task)?;
-    for _ in 0..turns {
-        let round = nodes.round(alloc, ground, number)?;
-        let Round {
-            received,
-            learnt: more,
-        } = round;
-        if more.is_some() {
-            learnt = more;
-        }
-        if learnt.is_some() && !received {
-            return Ok(learnt);
-        }
-    }
-    Ok(learnt)
-}
-
-// `CLIENT RESULT`, or `CLIENT open`.
-fn tell(
-    alloc: Global,
-    client: &str,
-    learnt: Option<ClientResult>,
     text: &mut Vec<u8>,
 ) -> Result<(), Ended> {
-    let Ok(line) = told_line(alloc, client, learnt) else {
+    begin(alloc, supply, nodes, names, number, task, text)?;
+    for _ in 0..turns {
+        let busy = round(alloc, supply, nodes, names, text)?;
+        if !busy && !nodes.is_waiting(number) {
+            return Ok(());
+        }
+    }
+    if nodes.is_waiting(number) {
+        return tell_open(alloc, name_of_number(names.clients(), number), text);
+    }
+    Ok(())
+}
+
+// The client begins its task; what it learnt at once is told.
+fn begin<W: Watch + Drop>(
+    alloc: Global,
+    supply: &mut Supply<W>,
+    nodes: &mut LabNodes,
+    names: &Names,
+    number: usize,
+    task: Task<'_>,
+    text: &mut Vec<u8>,
+) -> Result<(), Ended> {
+    let mut learnt = Vec::new(alloc);
+    let begun = nodes.begin(alloc, supply, number, task, &mut learnt);
+    tell_all(alloc, names, &learnt, text)?;
+    begun
+}
+
+// Each node takes a turn, and what clients learnt is told: whether a node was busy.
+fn round<W: Watch + Drop>(
+    alloc: Global,
+    supply: &mut Supply<W>,
+    nodes: &mut LabNodes,
+    names: &Names,
+    text: &mut Vec<u8>,
+) -> Result<bool, Ended> {
+    let mut learnt = Vec::new(alloc);
+    let busy = nodes.round(alloc, supply, &mut learnt);
+    tell_all(alloc, names, &learnt, text)?;
+    busy
+}
+
+// `CLIENT RESULT` for each.
+fn tell_all(
+    alloc: Global,
+    names: &Names,
+    learnt: &[Learnt],
+    text: &mut Vec<u8>,
+) -> Result<(), Ended> {
+    for one in learnt {
+        tell(
+            alloc,
+            name_of_number(names.clients(), one.client),
+            one,
+            text,
+        )?;
+    }
+    Ok(())
+}
+
+fn tell(alloc: Global, client: &str, learnt: &Learnt, text: &mut Vec<u8>) -> Result<(), Ended> {
+    let Ok(line) = told_line(alloc, client, &learnt.result) else {
         return Err(Ended::OutOfMemory);
     };
-    match text.extend_from_slice(line.as_bytes()) {
+    add(text, line.as_bytes())
+}
+
+fn told_line(alloc: Global, client: &str, learnt: &ClientResult) -> Result<String, AllocError>
+    ensures { IfOk result (λ text. string_bytes text ≡ line (client.now ++ codes " " ++ learnt_text learnt.now)) }
+{
+    let learnt = learnt_text(alloc, learnt)?;
+    format!(in alloc; "{client} {learnt}\n")
+}
+
+// `CLIENT open`.
+fn tell_open(alloc: Global, client: &str, text: &mut Vec<u8>) -> Result<(), Ended> {
+    let Ok(line) = open_line(alloc, client) else {
+        return Err(Ended::OutOfMemory);
+    };
+    add(text, line.as_bytes())
+}
+
+fn open_line(alloc: Global, client: &str) -> Result<String, AllocError>
+    ensures { IfOk result (λ text. string_bytes text ≡ line (client.now ++ codes " open")) }
+{
+    format!(in alloc; "{client} open\n")
+}
+
+fn add(text: &mut Vec<u8>, more: &[u8]) -> Result<(), Ended>
+    ensures { OnOk result (text.new.items ≡ text.old.items ++ more.now) }
+{
+    match text.extend_from_slice(more) {
         Ok(()) => Ok(()),
         Err(_) => Err(Ended::OutOfMemory),
     }
 }
 
-fn told_line(
-    alloc: Global,
-    client: &str,
-    learnt: Option<ClientResult>,
-) -> Result<String, AllocError> {
-    match learnt {
-        Some(learnt) => {
-            let learnt = learnt_text(alloc, &learnt)?;
-            format!(in alloc; "{client} {learnt}\n")
-        }
-        None => format!(in alloc; "{client} open\n"),
-    }
-}
-
-fn tell_end(alloc: Global, nodes: &LabNodes, text: &mut Vec<u8>) -> Result<(), Ended> {
+// The end lines.
+fn tell_end(alloc: Global, nodes: &LabNodes, text: &mut Vec<u8>) -> Result<(), Ended>
+    ensures { OnOk result ((held : Bool) × (IsTrue held ↔ Premise nodes.now.minted.items nodes.now.notes.steps)
+        × (text.new.items ≡ text.old.items ++ end_text nodes.now.server.tree (length (history nodes.now.notes.steps)) held)) }
+{
     let Ok(entries) = nodes.count_entries(alloc) else {
         return Err(Ended::OutOfMemory);
     };
-    let Ok(lines) = end_text(alloc, nodes.tree(), entries, nodes.premise_holds()) else {
+    let held = nodes.premise_holds();
+    let Ok(lines) = end_text(alloc, nodes.tree(), entries, held) else {
         return Err(Ended::OutOfMemory);
     };
-    match text.extend_from_slice(&lines) {
-        Ok(()) => Ok(()),
-        Err(_) => Err(Ended::OutOfMemory),
-    }
+    add(text, &lines)
 }

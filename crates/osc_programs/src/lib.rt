@@ -3,13 +3,14 @@
 
 mod asking;
 mod ended;
-mod ground;
 mod issue;
 mod lab_nodes;
 mod lab_port;
 mod lab_run;
 mod running;
 mod simulate;
+mod supply;
+mod turns;
 mod udp;
 
 pub use asking::ask;

@@ -1,15 +1,23 @@
 //! Nodes that run on a socket: a server, and a proxy.
-ghost use Rattle.std.specs.Prelude.{◌≡◌, IfOk, IfSome, option_map, string_bytes};
+ghost use Rattle.std.specs.FinSet as set;
+ghost use Rattle.std.specs.Prelude.{◌≡◌, IfErr, IfOk, IfSome, map, option_map, string_bytes};
+ghost use Rattle.osc_model.specs.declared.code.Method.TheVariants as AnyMethod;
+ghost use Rattle.osc_turn.specs.Ports.{grown};
+ghost use Rattle.osc_programs.specs.Ended as ends;
+ghost use Rattle.osc_programs.specs.Serving as spec;
+ghost use Rattle.osc_programs.specs.Turning as turning;
 ghost use Rattle.osc_settings.specs.Document.{StandsFor};
 ghost use Rattle.osc_settings.specs.Settings.{AreProxySettings, AreServerSettings};
 ghost use Rattle.osc_settings.specs.declared.proxy.ProxySettings.{ProxySettings as ForwardedBy};
 ghost use Rattle.osc_settings.specs.declared.server.ServerSettings.{ServerSettings as ServedBy};
 
-use crate::ended::{Ended, ended_by_io, failed};
-use crate::ground::{Ground, ground_of, moment_and_draw};
+use crate::ended::{Ended, ended_by_io};
+use crate::supply::supply_of;
+use crate::turns::take_turns;
 use crate::udp::UdpPort;
 use osc_authz::ServerDesk;
 use osc_ccm::Ccm;
+use osc_model::laws::permissions_are_ordered;
 use osc_model::{ClientResult, Datagrams, Method, Path, Peer};
 use osc_proxy::{Proxy, Target, Targets};
 use osc_scope::Scope;
@@ -19,7 +27,7 @@ use osc_settings::{
     read_server_settings,
 };
 use osc_tree::Tree;
-use osc_turn::{Node, Port, TurnError, send_all, turn};
+use osc_turn::{Node, Port, send_all};
 use std::alloc::{AllocError, Global};
 use std::io::{self, Eprint, Read};
 use std::net::Net;
@@ -27,18 +35,20 @@ use std::random::RandomSource;
 use std::time::Clock;
 
 /// Runs a server with the settings that the reader gives, for so many turns. It tells once, on the standard error, where it
-/// listens. A datagram that can't be sent is lost, as on the way.
+/// listens, if that can be written. A datagram that can't be sent is lost, as on the way; a turn that fails ends it.
 pub fn serve<R: Clock + Eprint + Net + RandomSource, I: Read>(
     alloc: Global,
     runtime: &R,
     reader: &mut I,
     turns: u64,
 ) -> Ended
-    ensures done { result ≡ Ended.Done → IfSome (I.remaining reader.old) (λ text. (settings : ServedBy) × StandsFor AreServerSettings text settings) }
+    ensures done { result ≡ Ended.Done → (settings : ServedBy) × IfSome (I.remaining reader.old) (λ text. StandsFor AreServerSettings text settings)
+        × spec.Serves settings turns }
+    ensures ends { ends.EndsNode result }
 {
     match server_settings(alloc, reader) {
         Ok(settings) => serve_by(alloc, runtime, settings, turns),
-        Err(ended) => failed(ended),
+        Err(ended) => ended,
     }
 }
 
@@ -49,11 +59,13 @@ pub fn forward<R: Clock + Eprint + Net + RandomSource, I: Read>(
     reader: &mut I,
     turns: u64,
 ) -> Ended
-    ensures done { result ≡ Ended.Done → IfSome (I.remaining reader.old) (λ text. (settings : ForwardedBy) × StandsFor AreProxySettings text settings) }
+    ensures done { result ≡ Ended.Done → (settings : ForwardedBy) × IfSome (I.remaining reader.old) (λ text. StandsFor AreProxySettings text settings)
+        × spec.Forwards settings turns }
+    ensures ends { ends.EndsNode result }
 {
     match proxy_settings(alloc, reader) {
         Ok(settings) => forward_by(alloc, runtime, settings, turns),
-        Err(ended) => failed(ended),
+        Err(ended) => ended,
     }
 }
 
@@ -61,7 +73,8 @@ pub fn forward<R: Clock + Eprint + Net + RandomSource, I: Read>(
 
 /// The text that the reader gives; one that isn't UTF-8 is no settings.
 pub(crate) fn text_of<I: Read>(alloc: Global, reader: &mut I) -> Result<String, Ended>
-    ensures { IfOk result (λ text. IfSome (I.remaining reader.old) (λ bytes. string_bytes text ≡ bytes)) }
+    ensures text { IfOk result (λ text. IfSome (I.remaining reader.old) (λ bytes. string_bytes text ≡ bytes)) }
+    ensures ends { IfErr result ends.NoSettings }
 {
     match io::read_to_string(alloc, reader) {
         Ok(text) => Ok(text),
@@ -73,7 +86,9 @@ pub(crate) fn text_of<I: Read>(alloc: Global, reader: &mut I) -> Result<String, 
 }
 
 /// How a program ends without settings.
-pub(crate) fn ended_by_settings(error: SettingsError) -> Ended {
+pub(crate) fn ended_by_settings(error: SettingsError) -> Ended
+    ensures { ends.NoSettings result }
+{
     match error {
         SettingsError::Bad => Ended::BadSettings,
         SettingsError::Memory => Ended::OutOfMemory,
@@ -81,7 +96,8 @@ pub(crate) fn ended_by_settings(error: SettingsError) -> Ended {
 }
 
 fn server_settings<I: Read>(alloc: Global, reader: &mut I) -> Result<ServerSettings, Ended>
-    ensures { IfOk result (λ settings. IfSome (I.remaining reader.old) (λ text. StandsFor AreServerSettings text settings)) }
+    ensures settings { IfOk result (λ settings. IfSome (I.remaining reader.old) (λ text. StandsFor AreServerSettings text settings)) }
+    ensures ends { IfErr result ends.NoSettings }
 {
     let text = text_of(alloc, reader)?;
     match read_server_settings(alloc, text.as_str()) {
@@ -91,7 +107,8 @@ fn server_settings<I: Read>(alloc: Global, reader: &mut I) -> Result<ServerSetti
 }
 
 fn proxy_settings<I: Read>(alloc: Global, reader: &mut I) -> Result<ProxySettings, Ended>
-    ensures { IfOk result (λ settings. IfSome (I.remaining reader.old) (λ text. StandsFor AreProxySettings text settings)) }
+    ensures settings { IfOk result (λ settings. IfSome (I.remaining reader.old) (λ text. StandsFor AreProxySettings text settings)) }
+    ensures ends { IfErr result ends.NoSettings }
 {
     let text = text_of(alloc, reader)?;
     match read_proxy_settings(alloc, text.as_str()) {
@@ -107,7 +124,10 @@ fn serve_by<R: Clock + Eprint + Net + RandomSource>(
     runtime: &R,
     settings: ServerSettings,
     turns: u64,
-) -> Ended {
+) -> Ended
+    ensures done { result ≡ Ended.Done → spec.Serves settings turns }
+    ensures ends { ends.EndsNode result }
+{
     let bind = settings.bind;
     match server_of(alloc, settings) {
         Ok(mut server) => run(alloc, runtime, bind, &mut server, turns),
@@ -120,7 +140,10 @@ fn forward_by<R: Clock + Eprint + Net + RandomSource>(
     runtime: &R,
     settings: ProxySettings,
     turns: u64,
-) -> Ended {
+) -> Ended
+    ensures done { result ≡ Ended.Done → spec.Forwards settings turns }
+    ensures ends { ends.EndsNode result }
+{
     let bind = settings.bind;
     match proxy_of(alloc, settings) {
         Ok(mut proxy) => run(alloc, runtime, bind, &mut proxy, turns),
@@ -129,7 +152,9 @@ fn forward_by<R: Clock + Eprint + Net + RandomSource>(
 }
 
 // A server without resources, and without contexts.
-fn server_of(alloc: Global, settings: ServerSettings) -> Result<Server, AllocError> {
+fn server_of(alloc: Global, settings: ServerSettings) -> Result<Server, AllocError>
+    ensures { IfOk result (λ server. spec.IsServerOf settings server) }
+{
     let ServerSettings {
         key,
         audience,
@@ -142,24 +167,43 @@ fn server_of(alloc: Global, settings: ServerSettings) -> Result<Server, AllocErr
 }
 
 // A GET of these paths needs no protection.
-fn open_scope(alloc: Global, open: &[Path]) -> Result<Scope, AllocError> {
+fn open_scope(alloc: Global, paths: &[Path]) -> Result<Scope, AllocError>
+    ensures { IfOk result (λ scope. scope ≡ set.from_list (map (λ path. (path, AnyMethod.Get)) paths.now)) }
+{
+    permissions_are_ordered();
     let mut scope = Scope::new(alloc);
-    for path in open {
+    for path in paths {
         scope.allow(alloc, path.clone()?, Method::Get)?;
     }
     Ok(scope)
 }
 
-fn proxy_of(alloc: Global, settings: ProxySettings) -> Result<Proxy, AllocError> {
-    let mut targets = Targets::new(alloc);
-    for TargetSetting { host, port, to } in settings.targets {
-        targets.push(Target {
-            host,
-            port,
-            peer: to,
-        })?;
-    }
+fn proxy_of(alloc: Global, settings: ProxySettings) -> Result<Proxy, AllocError>
+    ensures { IfOk result (λ proxy. spec.IsProxyOf settings proxy) }
+{
+    let targets = targets_of(alloc, &settings.targets)?;
+    drop(settings);
     Proxy::new(alloc, targets)
+}
+
+fn targets_of(alloc: Global, settings: &[TargetSetting]) -> Result<Targets, AllocError>
+    ensures { IfOk result (λ targets. targets ≡ map spec.target_of settings.now) }
+{
+    let mut targets = Targets::new(alloc);
+    for setting in settings {
+        targets.push(target_of(setting)?)?;
+    }
+    Ok(targets)
+}
+
+fn target_of(setting: &TargetSetting) -> Result<Target, AllocError>
+    ensures { IfOk result (λ target. target ≡ spec.target_of setting.now) }
+{
+    Ok(Target {
+        host: setting.host.clone()?,
+        port: setting.port,
+        peer: setting.to,
+    })
 }
 
 // ---- turns
@@ -171,7 +215,11 @@ fn run<R: Clock + Eprint + Net + RandomSource, N: Node<Ccm<8>>>(
     bind: Peer,
     node: &mut N,
     turns: u64,
-) -> Ended {
+) -> Ended
+    ensures done { result ≡ Ended.Done
+        → turning.Runs N.is_step turns node.old node.new }
+    ensures ends { ends.EndsNode result }
+{
     match bound(runtime, bind) {
         Ok(mut port) => started(alloc, runtime, &mut port, node, turns),
         Err(ended) => ended,
@@ -179,7 +227,9 @@ fn run<R: Clock + Eprint + Net + RandomSource, N: Node<Ccm<8>>>(
 }
 
 /// A port at this address.
-pub(crate) fn bound<R: Net>(runtime: &R, bind: Peer) -> Result<UdpPort, Ended> {
+pub(crate) fn bound<R: Net>(runtime: &R, bind: Peer) -> Result<UdpPort, Ended>
+    ensures fault { IfErr result ends.IsFault }
+{
     match UdpPort::bind(runtime, bind) {
         Ok(port) => Ok(port),
         Err(error) => match ended_by_io(&error) {
@@ -195,68 +245,38 @@ fn started<R: Clock + Eprint + RandomSource, N: Node<Ccm<8>>>(
     port: &mut UdpPort,
     node: &mut N,
     turns: u64,
-) -> Ended {
-    if let Err(error) = tell_address(alloc, runtime, port) {
-        return ended_by_io(&error);
-    }
-    match ground_of(runtime) {
-        Ok(mut ground) => take_turns(alloc, &mut ground, port, node, turns),
+) -> Ended
+    ensures done { result ≡ Ended.Done
+        → turning.Runs N.is_step turns node.old node.new }
+    ensures ends { ends.EndsNode result }
+{
+    tell_address(alloc, runtime, port);
+    match supply_of(runtime) {
+        Ok(mut supply) => take_turns(alloc, &mut supply, port, node, turns),
         Err(ended) => ended,
     }
 }
 
-// `listening on A.B.C.D:PORT`, on the standard error.
-fn tell_address<R: Eprint>(alloc: Global, runtime: &R, port: &UdpPort) -> io::Result<()> {
-    let Some(peer) = port.address() else {
-        return Ok(());
-    };
+// `listening on A.B.C.D:PORT`, on the standard error. A notice that can't be written is nobody's failure.
+fn tell_address<R: Eprint>(alloc: Global, runtime: &R, port: &UdpPort) {
+    if let Some(peer) = port.address() {
+        if let Ok(line) = address_line(alloc, peer) {
+            let _told = runtime.eprintln(line.as_str());
+        }
+    }
+}
+
+fn address_line(alloc: Global, peer: Peer) -> Result<String, AllocError> {
     let number = peer.port;
     let [a, b, c, d] = peer.address;
-    let line = format!(in alloc; "listening on {a}.{b}.{c}.{d}:{number}")?;
-    runtime.eprintln(line.as_str())
-}
-
-fn take_turns<R: Clock + RandomSource, N: Node<Ccm<8>>>(
-    alloc: Global,
-    ground: &mut Ground<'_, R>,
-    port: &mut UdpPort,
-    node: &mut N,
-    turns: u64,
-) -> Ended {
-    for _ in 0..turns {
-        if let Err(ended) = take_turn(alloc, ground, port, node) {
-            return ended;
-        }
-    }
-    Ended::Done
-}
-
-fn take_turn<R: Clock + RandomSource, N: Node<Ccm<8>>>(
-    alloc: Global,
-    ground: &mut Ground<'_, R>,
-    port: &mut UdpPort,
-    node: &mut N,
-) -> Result<(), Ended> {
-    let (now, draw) = moment_and_draw(ground)?;
-    match turn::<Ccm<8>, _, _>(alloc, port, node, now, &draw) {
-        Ok(turned) => {
-            drop(turned);
-            Ok(())
-        }
-        Err(error) => Err(ended_by_turn(error)),
-    }
-}
-
-/// How a program ends that couldn't take a turn.
-pub(crate) fn ended_by_turn(error: TurnError) -> Ended {
-    match error {
-        TurnError::Port(_) => Ended::PortFailed,
-        TurnError::Memory => Ended::OutOfMemory,
-    }
+    format!(in alloc; "listening on {a}.{b}.{c}.{d}:{number}")
 }
 
 /// Sends these datagrams.
-pub(crate) fn send<P: Port>(port: &mut P, out: &Datagrams) -> Result<(), Ended> {
+pub(crate) fn send<P: Port>(port: &mut P, out: &Datagrams) -> Result<(), Ended>
+    ensures sent { P.sent port.new ≡ grown (P.sent port.old) out.now }
+    ensures fault { IfErr result ends.IsFault }
+{
     match send_all(port, out.as_slice()) {
         None => Ok(()),
         Some(_) => Err(Ended::PortFailed),
@@ -265,7 +285,8 @@ pub(crate) fn send<P: Port>(port: &mut P, out: &Datagrams) -> Result<(), Ended> 
 
 /// What a client learnt, if it did, once more.
 pub(crate) fn copy_of(learnt: Option<&ClientResult>) -> Result<Option<ClientResult>, Ended>
-    ensures { IfOk result (λ copied. copied ≡ option_map (λ it. it.now) learnt.entry) }
+    ensures copied { IfOk result (λ copied. copied ≡ option_map (λ it. it.now) learnt.entry) }
+    ensures fault { IfErr result ends.IsFault }
 {
     match learnt {
         None => Ok(None),

@@ -1,6 +1,7 @@
 //! A script in, its trace out.
 ghost use Rattle.std.specs.Prelude.{◌≡◌, ◌≢◌, ◌⊎◌, ◌++◌, ℕ, List, IfSome};
 ghost use Rattle.std.specs.Io.KnownBytes.{Appends};
+ghost use Rattle.osc_programs.specs.Ended as ends;
 ghost use Rattle.osc_script.specs.Script.{IsFirstBad};
 ghost use Rattle.osc_simulation.specs.Simulation.{Simulates};
 ghost use Rattle.osc_simulation.specs.Trace.{bad_line_text};
@@ -28,6 +29,7 @@ pub fn sim<R: Read, W: Write>(
     ensures bad { (n : ℕ) → result ≡ Ended.BadLine n → IfSome (R.remaining reader.old) (λ script. IsFirstBad script n
         × Appends (W.contents writer.old) (W.contents writer.new) (bad_line_text n)) }
     ensures words { result ≢ Ended.BadCommandLine }
+    ensures ends { ends.EndsSim result }
 {
     let (ended, text) = run(alloc, reader, with_bytes, only);
     match ended {
@@ -66,6 +68,7 @@ fn run<R: Read>(
     ensures done { result.0 ≡ Ended.Done → IfSome (R.remaining reader.old) (λ script. Simulates with_bytes only script result.1.items) }
     ensures bad { (n : ℕ) → result.0 ≡ Ended.BadLine n → IfSome (R.remaining reader.old) (λ script. IsFirstBad script n × (result.1.items ≡ bad_line_text n)) }
     ensures words { result.0 ≢ Ended.BadCommandLine }
+    ensures ends { ends.EndsSim result.0 }
 {
     let mut script = Vec::new(alloc);
     match reader.read_to_end(&mut script) {
@@ -83,6 +86,7 @@ fn run_bytes(
     ensures done { result.0 ≡ Ended.Done → Simulates with_bytes only script.now result.1.items }
     ensures bad { (n : ℕ) → result.0 ≡ Ended.BadLine n → IsFirstBad script.now n × (result.1.items ≡ bad_line_text n) }
     ensures words { result.0 ≢ Ended.BadCommandLine }
+    ensures ends { ends.EndsSim result.0 }
 {
     let mut text = Vec::new(alloc);
     let ended = run_script(alloc, script, with_bytes, only, &mut text);
@@ -104,6 +108,7 @@ pub fn run_script(
     ensures bad { (n : ℕ) → result ≡ Ended.BadLine n → IsFirstBad script.now n × (text.new.items ≡ text.old.items ++ bad_line_text n) }
     ensures words { result ≢ Ended.BadCommandLine }
     ensures streams { result ≢ Ended.Failed }
+    ensures ends { ends.EndsSim result }
 {
     match trace_script(alloc, script, with_bytes, only, text) {
         Ok(()) => Ended::Done,
@@ -115,6 +120,7 @@ pub fn run_script(
 fn trace_bad_line(alloc: Global, number: u64, text: &mut Vec<u8>) -> Ended
     ensures bad { (n : ℕ) → result ≡ Ended.BadLine n → (number ≡ n) × (text.new.items ≡ text.old.items ++ bad_line_text n) }
     ensures cases { (result ≡ Ended.BadLine number) ⊎ (result ≡ Ended.OutOfMemory) }
+    ensures ends { ends.EndsSim result }
 {
     let Ok(line) = bad_line_text(alloc, number) else {
         return Ended::OutOfMemory;

@@ -10,8 +10,12 @@ const SCRIPT: &str =
 const PRINTED: &str =
     "c1 context\nc1 answer 2.01 none -\nc1 answer 2.05 none 61\ntree /log none 61\nhistory 2\npremise: held\n";
 
-/// Without turns nothing comes back.
-const LEFT: &str = "c1 open\nc1 refused 17\nc1 refused 17\nhistory 0\npremise: held\n";
+/// Without turns nothing comes back: what was begun first is open still.
+const LEFT: &str =
+    "c1 open\nc1 refused 17\nc1 open\nc1 refused 17\nc1 open\nhistory 0\npremise: held\n";
+
+/// An exchange that takes more turns than one: what is refused meanwhile is told, and then what becomes of the exchange.
+const LATER: &str = "grant c1 /log:GET\nvia c1 p1\nexchange c1\nask c1 GET /log -\n";
 
 /// How a lab with the script ends, and what it writes.
 fn run(rt: &HostRuntime, script: &str, turns: u64) -> (Ended, Vec<u8>) {
@@ -35,6 +39,13 @@ fn two_requests_through_a_proxy(rt: HostRuntime) {
 #[test]
 fn no_turns(rt: HostRuntime) {
     assert!(rt; writes(&rt, SCRIPT, 0, Ended::Done, LEFT));
+}
+
+#[test]
+fn each_result_is_told(rt: HostRuntime) {
+    let (ended, written) = run(&rt, LATER, 1);
+    assert!(rt; ended == Ended::Done);
+    assert!(rt; written.as_slice().starts_with(b"c1 open\nc1 refused 17\n"));
 }
 
 /// Scripts, and the first line of each that a lab doesn't heed.

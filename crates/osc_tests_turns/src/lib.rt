@@ -5,6 +5,8 @@
 #[cfg(test)]
 mod deadlines;
 #[cfg(test)]
+mod flooded;
+#[cfg(test)]
 mod forwarding;
 #[cfg(test)]
 mod memory;

@@ -1,10 +1,20 @@
 use Rattle.std.proofs.Common.{⊎_elim}
+use Rattle.osc_programs.proofs.Taken.{ask_client, ask_no_end, ask_not_done, told_client}
 use Rattle.osc_programs.proofs.asking.ask.Goals as goal
 
 pub returns-in-Ok : goal.returns-in-Ok
 returns-in-Ok g c =
-    let found = c.in-Ok.ensures in
-    record { told = λ done. let told = c.told.ensures done in (found.0, found.1, c.in-Ok.outcome, found.2, found.3, told.0, told.1) }
+    let found = c.in-Ok.ensures.talks in
+    record {
+      told = λ done. let told = c.told.ensures.told done in (found.0, found.1, c.in-Ok.outcome, found.2, found.3, found.4, found.5, told.0, told.1);
+      ends = told_client c.args.words.now.request _ c.told.ensures.ends;
+    }
 
 pub returns-in-Err : goal.returns-in-Err
-returns-in-Err g c = record { told = λ done. absurd (⊎_elim c.failed.ensures.done c.failed.ensures.not_done done) }
+returns-in-Err g c =
+    let request = c.args.words.now.request in
+    let ends = c.in-Err.ensures.ends in
+    record {
+      told = λ done. absurd (⊎_elim (ask_no_end request c.in-Err.ended ends) (ask_not_done request c.in-Err.ended ends) done);
+      ends = ask_client request c.in-Err.ended ends;
+    }

@@ -1,10 +1,13 @@
-use Rattle.std.proofs.Common.{subst, sym}
+use Rattle.std.proofs.Common.{[], subst, sym}
 use Rattle.osc_programs.specs.Conversation.{Waits, told}
+use Rattle.osc_programs.specs.Turning.{Running}
 use Rattle.osc_programs.specs.declared.asking.Outcome.TheVariants.{Told}
+use Rattle.osc_client.specs.State.{State as Client}
+use Rattle.osc_programs.proofs.Taken.{grown_none}
 use Rattle.osc_programs.proofs.asking.awaited.Goals as goal
 
-pub returns-in-Some : goal.returns-in-Some
-returns-in-Some g c =
-    let client = c.args.client.now in
+pub returns-in-Some-clause-waits : goal.returns-in-Some-clause-waits
+returns-in-Some-clause-waits g c =
+    let client : Running Client = (record { node = c.args.client.now; busy = c.args.pace.now.busy_since; supply = c.args.supply.now }) in
     let result = c.in-Some.result in
-    subst (λ learnt. Waits learnt client (Told result) client) (sym c.in-Some.is) (told client result)
+    ([], subst (λ learnt. Waits c.args.turns.now learnt client [] (Told result) c.args.turns.now client) (sym c.in-Some.is) (told c.args.turns.now client result), grown_none _)

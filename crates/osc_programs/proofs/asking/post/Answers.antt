@@ -1,6 +1,14 @@
-use Rattle.std.proofs.Common.{sym}
-use Rattle.std.proofs.lemmas.Result.{IfOk-weaker}
+use Rattle.std.proofs.Common.{refl, sym}
+use Rattle.osc_programs.proofs.Talking.{both_ok}
 use Rattle.osc_programs.proofs.asking.post.Goals as goal
 
-pub returns-in-Ok : goal.returns-in-Ok
-returns-in-Ok g c = IfOk-weaker c.sent.result _ _ (λ _ is. (_, _, _, c.in-Ok.ensures.begun.exchanges, sym is)) c.sent.ensures
+pub returns-in-Ok-clause-posts : goal.returns-in-Ok-clause-posts
+returns-in-Ok-clause-posts g c =
+    both_ok c.sent.result _ _ _
+    (λ _ is gone. (
+      c.in-Ok.step,
+      record { now = c.in_ok-now.now; draw = c.in_ok-now.draw; gives = c.in_ok-now.ensures.gives; posts = c.in-Ok.ensures.begun; busy = refl },
+      sym is,
+      gone,
+    ))
+    c.sent.ensures.learnt c.sent.ensures.sent

@@ -1,16 +1,29 @@
+use Rattle.std.proofs.Common.{◌++◌, refl}
 use Rattle.std.proofs.lemmas.Result.{IfOk-weaker}
+use Rattle.osc_programs.proofs.Taken.{grown_more}
+use Rattle.osc_programs.proofs.Talking.{waits_as}
 use Rattle.osc_programs.proofs.asking.run.Goals as goal
 
-pub returns : goal.returns
-returns g c =
+pub returns-clause-converses : goal.returns-clause-converses
+returns-clause-converses g c =
+    let posted = c.in_ok-learnt.ensures.posts in
+    let waited = c.in_ok-exchanged.ensures.waits in
     IfOk-weaker c.go_on.result _ _
-    (λ outcome goes. record {
-      learnt = c.in_ok-learnt.learnt;
-      begun = c.post.new.client;
-      posts = c.in_ok-learnt.ensures;
-      exchanged = c.in_ok-exchanged.exchanged;
-      between = c.awaited.new.client;
-      waits = c.in_ok-exchanged.ensures;
-      goes_on = goes;
-    })
-    c.go_on.ensures
+    (λ outcome goes. (
+      posted.0.out ++ (waited.0 ++ goes.0),
+      record {
+        step = posted.0;
+        begun = _;
+        posts = posted.1;
+        waited = waited.0;
+        exchanged = c.in_ok-exchanged.exchanged;
+        left = _;
+        between = _;
+        waits = waits_as _ _ _ _ _ _ _ _ posted.2 waited.1;
+        further = goes.0;
+        goes_on = goes.1;
+        is_sent = refl;
+      },
+      grown_more _ _ _ posted.0.out (waited.0 ++ goes.0) posted.3 (grown_more _ _ _ waited.0 goes.0 waited.2 goes.2),
+    ))
+    c.go_on.ensures.goes_on

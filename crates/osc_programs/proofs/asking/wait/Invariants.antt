@@ -1,9 +1,12 @@
-use Rattle.std.specs.Prelude.{None}
-use Rattle.osc_client.specs.State.{State as Client}
-use Rattle.osc_programs.specs.Conversation.{Waits}
-use Rattle.osc_programs.specs.declared.asking.Outcome.{Outcome}
+use Rattle.std.proofs.Common.{◌≡◌, ◌-◌, ◌≤◌, List}
+use Rattle.osc_model.specs.declared.step.Datagram.{Datagram}
+use Rattle.osc_turn.specs.Ports.{grown}
+use Rattle.osc_programs.proofs.Talking.{GoOn}
 use Rattle.osc_programs.proofs.asking.wait.Given as goal
 
--- what comes of the turns that are left comes of all
+-- what comes of the turns that are left comes of all, and what was sent so far was handed to the port
 abbrev pub invariant-loop-taken : goal.invariant-loop-taken
-invariant-loop-taken g l = (outcome : Outcome) → (last : Client) → Waits None l.client outcome last → Waits None l.initial.client outcome last
+invariant-loop-taken g l =
+    (l.taken ≤ l.most) × (sent : List Datagram) × (g.P.Port.sent l.port ≡ grown (g.P.Port.sent l.initial.port) sent)
+    × GoOn l.most (l.most - l.taken) (record { node = l.initial.client; busy = l.initial.pace.busy_since; supply = l.initial.supply })
+    (record { node = l.client; busy = l.pace.busy_since; supply = l.supply }) sent

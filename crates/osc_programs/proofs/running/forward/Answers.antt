@@ -1,10 +1,14 @@
-use Rattle.osc_programs.proofs.Talking.{some_more}
+use Rattle.osc_programs.proofs.Taken.{settings_no_end, settings_node}
 use Rattle.osc_programs.proofs.running.forward.Goals as goal
 
 pub returns-in-Ok : goal.returns-in-Ok
 returns-in-Ok g c = record {
-  done = λ _. some_more (g.I.Read.remaining c.args.reader.now) _ _ (λ text stands. (c.in-Ok.settings, stands)) c.in-Ok.ensures;
+  done = λ done. (c.in-Ok.settings, c.in-Ok.ensures.settings, c.forward_by.ensures.done done);
+  ends = c.forward_by.ensures.ends;
 }
 
 pub returns-in-Err : goal.returns-in-Err
-returns-in-Err g c = record { done = λ done. absurd (c.failed.ensures.done done) }
+returns-in-Err g c = record {
+  done = λ done. absurd (settings_no_end c.in-Err.ended c.in-Err.ensures.ends done);
+  ends = settings_node c.in-Err.ended c.in-Err.ensures.ends;
+}

@@ -12,4 +12,5 @@ returns c = record {
       let run = c.run_script-ended.ensures.bad n e in
       (run.0, run.1 ∙ ap (λ bytes. bytes ++ bad_line_text n) c.new-text.ensures.items);
   words = c.run_script-ended.ensures.words;
+  ends = c.run_script-ended.ensures.ends;
 }

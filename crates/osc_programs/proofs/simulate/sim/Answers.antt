@@ -1,5 +1,6 @@
 use Rattle.std.proofs.Common.{◌≡◌, ◌≢◌, ◌∙◌, ◌⊎◌, inl, inr, sym, subst, Option, Some, None, List, ℕ, IfSome}
 use Rattle.std.specs.Io.KnownBytes.{Appends}
+use Rattle.osc_programs.specs.Ended.{EndsSim}
 use Rattle.osc_programs.specs.declared.ended.Ended.{Ended}
 use Rattle.osc_programs.specs.declared.ended.Ended.TheVariants.{Done, BadCommandLine, BadLine, Failed}
 use Rattle.osc_programs.proofs.simulate.sim.Goals as goal
@@ -25,6 +26,10 @@ bad_stands n e = cc
 words_stand : BadCommandLine ≢ Failed
 words_stand e = cc
 
+written_ends : (result ended : Ended) → (result ≡ ended) ⊎ (result ≡ Failed) → EndsSim ended → EndsSim result
+written_ends result ended (inl same) e = subst EndsSim (sym same) e
+written_ends result ended (inr failed) e = subst EndsSim (sym failed) tt
+
 pub returns : goal.returns
 returns g c =
     let result = c.ended_when_written.result in
@@ -42,6 +47,7 @@ returns g c =
           let stands = not_failed result (BadLine n) e (bad_stands n) in
           if_some (g.R.Read.remaining c.args.reader.now) _ _ (λ script s. (s.0, subst (λ bytes. Appends before after bytes) s.1 (written stands)))
           (c.run-ended.ensures.bad n (same_end result ended c.ended_when_written.ensures.same stands ∙ e));
+      ends = written_ends result ended c.ended_when_written.ensures.same c.run-ended.ensures.ends;
       words = λ e.
           let stands = not_failed result BadCommandLine e words_stand in
           c.run-ended.ensures.words (same_end result ended c.ended_when_written.ensures.same stands ∙ e);

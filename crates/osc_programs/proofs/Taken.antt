@@ -1,0 +1,165 @@
+-- What ports tell over several turns, and how programs end.
+use Rattle.std.proofs.Common.{◌≡◌, ◌≢◌, ◌⊎◌, inl, inr, ◌+◌, ◌<◌, ℕ, add-one, subst, Bool, true, false, List, [], ◌++◌, Option, None, Some, refl, ap, sym, ◌∙◌, append_assoc, append-nil}
+use Rattle.osc_model.specs.declared.node.Draw.{Draw}
+use Rattle.osc_model.specs.declared.node.Moment.{Moment}
+use Rattle.osc_model.specs.declared.request.Request.{Request}
+use Rattle.osc_model.specs.declared.step.Datagram.{Datagram}
+use Rattle.osc_model.specs.declared.step.Step.{Step}
+use Rattle.osc_programs.specs.Ended.{IsFault, NoSettings, EndsNode, EndsTold, EndsClient, CannotTalk, CannotAsk}
+use Rattle.osc_programs.specs.Turning.{IsSeeded, Running, Runs, Supply, TakesTurn, Turns}
+use Rattle.osc_programs.specs.Turning as turning
+use Rattle.osc_programs.specs.declared.ended.Ended.{Ended}
+use Rattle.osc_programs.specs.declared.ended.Ended.TheVariants.{Done, BadCommandLine, BadLine, BadSettings, OutOfMemory, Failed, PortFailed, NotDone}
+use Rattle.osc_turn.specs.Pace.{CameIn}
+use Rattle.osc_turn.specs.Ports.{Arrival, grown}
+
+-- where a tick is due, nothing came
+pub came_in : (due : Bool) (came : Option Arrival) (before after : Option (List (Option Arrival))) → CameIn due came before after → due ≡ true → came ≡ None
+came_in true came before after c e = c.0
+came_in false came before after c e = absurd cc
+
+-- ---- how programs end
+
+pub no_end : (ended : Ended) → IsFault ended → ended ≢ Done
+no_end Done f e = f
+no_end BadCommandLine f e = absurd cc
+no_end (BadLine n) f e = absurd cc
+no_end BadSettings f e = absurd cc
+no_end OutOfMemory f e = absurd cc
+no_end Failed f e = absurd cc
+no_end PortFailed f e = absurd cc
+no_end NotDone f e = absurd cc
+
+pub settings_no_end : (ended : Ended) → NoSettings ended → ended ≢ Done
+settings_no_end Done f e = f
+settings_no_end BadCommandLine f e = absurd cc
+settings_no_end (BadLine n) f e = absurd cc
+settings_no_end BadSettings f e = absurd cc
+settings_no_end OutOfMemory f e = absurd cc
+settings_no_end Failed f e = absurd cc
+settings_no_end PortFailed f e = absurd cc
+settings_no_end NotDone f e = absurd cc
+
+pub ask_no_end : (request : Request) (ended : Ended) → CannotAsk request ended → ended ≢ Done
+ask_no_end request Done f e = f
+ask_no_end request BadCommandLine f e = absurd cc
+ask_no_end request (BadLine n) f e = absurd cc
+ask_no_end request BadSettings f e = absurd cc
+ask_no_end request OutOfMemory f e = absurd cc
+ask_no_end request Failed f e = absurd cc
+ask_no_end request PortFailed f e = absurd cc
+ask_no_end request NotDone f e = absurd cc
+
+pub ask_not_done : (request : Request) (ended : Ended) → CannotAsk request ended → ended ≢ NotDone
+ask_not_done request Done f e = absurd cc
+ask_not_done request BadCommandLine f e = absurd cc
+ask_not_done request (BadLine n) f e = absurd cc
+ask_not_done request BadSettings f e = absurd cc
+ask_not_done request OutOfMemory f e = absurd cc
+ask_not_done request Failed f e = absurd cc
+ask_not_done request PortFailed f e = absurd cc
+ask_not_done request NotDone f e = f
+
+pub fault_node : (ended : Ended) → IsFault ended → EndsNode ended
+fault_node Done f = absurd f
+fault_node BadCommandLine f = absurd f
+fault_node (BadLine n) f = absurd f
+fault_node BadSettings f = absurd f
+fault_node OutOfMemory f = f
+fault_node Failed f = f
+fault_node PortFailed f = f
+fault_node NotDone f = absurd f
+
+pub settings_node : (ended : Ended) → NoSettings ended → EndsNode ended
+settings_node Done f = absurd f
+settings_node BadCommandLine f = absurd f
+settings_node (BadLine n) f = absurd f
+settings_node BadSettings f = f
+settings_node OutOfMemory f = f
+settings_node Failed f = f
+settings_node PortFailed f = f
+settings_node NotDone f = absurd f
+
+pub fault_talk : (request : Request) (ended : Ended) → IsFault ended → CannotTalk request ended
+fault_talk request Done f = absurd f
+fault_talk request BadCommandLine f = absurd f
+fault_talk request (BadLine n) f = absurd f
+fault_talk request BadSettings f = absurd f
+fault_talk request OutOfMemory f = f
+fault_talk request Failed f = f
+fault_talk request PortFailed f = f
+fault_talk request NotDone f = absurd f
+
+pub talk_ask : (request : Request) (ended : Ended) → CannotTalk request ended → CannotAsk request ended
+talk_ask request Done f = absurd f
+talk_ask request BadCommandLine f = f
+talk_ask request (BadLine n) f = absurd f
+talk_ask request BadSettings f = absurd f
+talk_ask request OutOfMemory f = f
+talk_ask request Failed f = f
+talk_ask request PortFailed f = f
+talk_ask request NotDone f = absurd f
+
+pub settings_ask : (request : Request) (ended : Ended) → NoSettings ended → CannotAsk request ended
+settings_ask request Done f = absurd f
+settings_ask request BadCommandLine f = absurd f
+settings_ask request (BadLine n) f = absurd f
+settings_ask request BadSettings f = f
+settings_ask request OutOfMemory f = f
+settings_ask request Failed f = f
+settings_ask request PortFailed f = f
+settings_ask request NotDone f = absurd f
+
+pub ask_client : (request : Request) (ended : Ended) → CannotAsk request ended → EndsClient request ended
+ask_client request Done f = absurd f
+ask_client request BadCommandLine f = f
+ask_client request (BadLine n) f = absurd f
+ask_client request BadSettings f = f
+ask_client request OutOfMemory f = f
+ask_client request Failed f = f
+ask_client request PortFailed f = f
+ask_client request NotDone f = absurd f
+
+pub told_client : (request : Request) (ended : Ended) → EndsTold ended → EndsClient request ended
+told_client request Done f = f
+told_client request BadCommandLine f = absurd f
+told_client request (BadLine n) f = absurd f
+told_client request BadSettings f = absurd f
+told_client request OutOfMemory f = f
+told_client request Failed f = f
+told_client request PortFailed f = absurd f
+told_client request NotDone f = f
+
+-- ---- turns
+
+pub grown_none : {A : Type 0} (told : Option (List A)) → told ≡ grown told []
+grown_none None = refl
+grown_none (Some items) = ap Some (sym (append-nil items))
+
+-- one after another
+pub grown_more : {A : Type 0} (first between last : Option (List A)) (some more : List A) → between ≡ grown first some → last ≡ grown between more → last ≡ grown first (some ++ more)
+grown_more first between last some more e f = f ∙ ap (λ told. grown told more) e ∙ joined first
+  where
+    joined : (told : Option (List _)) → grown (grown told some) more ≡ grown told (some ++ more)
+    joined None = refl
+    joined (Some items) = ap Some (append_assoc items some more)
+
+-- one turn more
+pub one_more : {N : Type 0} (is_step : N → Moment → Draw → Option Arrival → Step → N → Type 0) (n : ℕ) (first between last : Running N) (out : List Datagram) (step : Step)
+    → Turns is_step n first out between → TakesTurn is_step between step last → Turns is_step (n + 1) first (out ++ step.out) last
+one_more is_step n first between last out step taken turn =
+    subst (λ (k : ℕ). Turns is_step k first (out ++ step.out) last) (sym (add-one n)) (turning.more n first between last out step taken turn)
+
+-- who ended well took all turns
+pub runs : {N : Type 0} (is_step : N → Moment → Draw → Option Arrival → Step → N → Type 0) (turns taken : ℕ) (old new : N) (start : Supply) (out : List Datagram) (last : Running N) (ended : Ended)
+    → IsSeeded start → Turns is_step taken (record { node = old; busy = None; supply = start }) out last → new ≡ last.node
+    → ((ended ≡ Done) × (taken ≡ turns)) ⊎ ((ended ≢ Done) × (taken < turns)) → ended ≡ Done → Runs is_step turns old new
+runs is_step turns taken old new start out last ended seeded all is_last (inl done) e = record {
+  start = start;
+  seeded = seeded;
+  sent = out;
+  last = last;
+  takes = subst (λ (n : ℕ). Turns is_step n (record { node = old; busy = None; supply = start }) out last) done.1 all;
+  ends = is_last;
+}
+runs is_step turns taken old new start out last ended seeded all is_last (inr other) e = absurd (other.0 e)

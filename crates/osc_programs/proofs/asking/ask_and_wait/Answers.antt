@@ -1,0 +1,27 @@
+use Rattle.std.proofs.Common.{◌++◌, refl}
+use Rattle.std.proofs.lemmas.Result.{IfOk-weaker, IfErr-weaker}
+use Rattle.osc_programs.proofs.Taken.{grown_more, fault_talk}
+use Rattle.osc_programs.proofs.Talking.{waits_as}
+use Rattle.osc_programs.proofs.asking.ask_and_wait.Goals as goal
+
+pub returns-clause-requests : goal.returns-clause-requests
+returns-clause-requests g c =
+    let sent = c.in_ok-learnt.ensures.sends in
+    IfOk-weaker c.awaited.result _ _
+    (λ outcome waited. (
+      sent.0.out ++ waited.0,
+      record {
+        step = sent.0;
+        begun = _;
+        sends = sent.1;
+        waited = waited.0;
+        rest = _;
+        waits = waits_as _ _ _ _ _ _ _ _ sent.2 waited.1;
+        is_sent = refl;
+      },
+      grown_more _ _ _ sent.0.out waited.0 sent.3 waited.2,
+    ))
+    c.awaited.ensures.waits
+
+pub returns-clause-ends : goal.returns-clause-ends
+returns-clause-ends g c = IfErr-weaker c.awaited.result _ _ (fault_talk c.args.words.now.request) c.awaited.ensures.fault

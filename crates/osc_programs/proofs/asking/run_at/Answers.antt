@@ -1,0 +1,16 @@
+use Rattle.std.proofs.Common.{refl}
+use Rattle.std.proofs.lemmas.Result.{IfOk-weaker}
+use Rattle.osc_programs.proofs.asking.run_at.Goals as goal
+
+pub returns-clause-talks : goal.returns-clause-talks
+returns-clause-talks g c =
+    IfOk-weaker c.run.result _ _
+    (λ outcome talked. record {
+      start = c.in_ok-supply.supply;
+      seeded = c.in_ok-supply.ensures.seeded;
+      sent = talked.0;
+      last = _;
+      talks = talked.1;
+      ends = refl;
+    })
+    c.run.ensures.converses

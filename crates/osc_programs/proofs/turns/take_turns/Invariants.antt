@@ -1,0 +1,12 @@
+use Rattle.std.proofs.Common.{◌≡◌, ◌≤◌, List, None}
+use Rattle.osc_model.specs.declared.step.Datagram.{Datagram}
+use Rattle.osc_turn.specs.Ports.{grown}
+use Rattle.osc_programs.specs.Turning as spec
+use Rattle.osc_programs.proofs.turns.take_turns.Given as goal
+
+-- so many turns were taken, and what they sent was handed to the port
+abbrev pub invariant-loop : goal.invariant-loop
+invariant-loop g l =
+    (l.counter ≤ l.turns) × (out : List Datagram)
+    × spec.Turns g.N.Node.is_step l.counter (record { node = l.initial.node; busy = None; supply = l.initial.supply }) out (record { node = l.node; busy = l.pace.busy_since; supply = l.supply })
+    × (g.P.Port.sent l.port ≡ grown (g.P.Port.sent l.initial.port) out)

@@ -1,0 +1,52 @@
+-- What `osc server` and `osc proxy` do: the node of the settings takes its turns.
+use Rattle.std.specs.Prelude.{◌≡◌, ℕ, [], map}
+use Rattle.std.specs.FinMap as map
+use Rattle.std.specs.FinSet as set
+use Rattle.osc_model.specs.declared.code.Method.TheVariants.{Get}
+use Rattle.osc_message.specs.Endpoint.{fresh}
+use Rattle.osc_proxy.specs.Exchanges.{none_open}
+use Rattle.osc_proxy.specs.State.{State as Proxy}
+use Rattle.osc_proxy.specs.declared.targets.Target.{Target}
+use Rattle.osc_server.specs.State.{State as Server}
+use Rattle.osc_settings.specs.declared.proxy.ProxySettings.{ProxySettings}
+use Rattle.osc_settings.specs.declared.proxy.TargetSetting.{TargetSetting}
+use Rattle.osc_settings.specs.declared.server.ServerSettings.{ServerSettings}
+use Rattle.osc_turn.specs.Nodes.{ProxySteps, ServerSteps}
+use Rattle.osc_simulation.specs.Simulation.{is_sealing}
+use Rattle.osc_programs.specs.Turning.{Runs}
+
+-- ---- the nodes at first
+
+-- the server of these settings, which did nothing yet: it has no resources and no contexts, and a GET of the open paths needs no protection
+pub record IsServerOf (settings : ServerSettings) (server : Server) : Type 0 where
+  pub key : server.desk.key ≡ settings.key
+  pub audience : server.desk.audience ≡ settings.audience
+  pub contexts : server.desk.table ≡ []
+  pub open_paths : server.open_scope ≡ set.from_list (map (λ path. (path, Get)) settings.open.items)
+  pub tree : server.tree ≡ map.empty
+  pub endpoint : server.endpoint ≡ fresh
+
+abbrev pub target_of : TargetSetting → Target
+target_of setting = record { host = setting.host; port = setting.port; peer = setting.to }
+
+-- the proxy of these settings, which did nothing yet: it forwards to their targets
+pub record IsProxyOf (settings : ProxySettings) (proxy : Proxy) : Type 0 where
+  pub targets : proxy.targets ≡ map target_of settings.targets.items
+  pub exchanges : proxy.exchanges ≡ none_open
+  pub endpoint : proxy.endpoint ≡ fresh
+
+-- ---- their turns
+
+-- The server of these settings takes so many turns.
+pub record Serves (settings : ServerSettings) (turns : ℕ) : Type 0 where
+  pub first : Server
+  pub last : Server
+  pub is_server : IsServerOf settings first
+  pub runs : Runs (ServerSteps is_sealing) turns first last
+
+-- The proxy of these settings takes so many turns.
+pub record Forwards (settings : ProxySettings) (turns : ℕ) : Type 0 where
+  pub first : Proxy
+  pub last : Proxy
+  pub is_proxy : IsProxyOf settings first
+  pub runs : Runs ProxySteps turns first last

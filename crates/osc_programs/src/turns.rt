@@ -1,0 +1,95 @@
+//! Turns of a node at a port, at the moments of a clock and with the bytes of a generator.
+ghost use Rattle.std.specs.Prelude.{◌≡◌, ◌≢◌, ◌⊎◌, ◌<◌, ℕ, List, None, IfErr, IfOk, OnErr, OnOk};
+ghost use Rattle.osc_model.specs.declared.step.Datagram.{Datagram as AnyDatagram};
+ghost use Rattle.osc_model.specs.declared.step.Step.{Step as AnyStep};
+ghost use Rattle.osc_turn.specs.Ports.{grown};
+ghost use Rattle.osc_programs.specs.Ended as ends;
+ghost use Rattle.osc_programs.specs.Turning as spec;
+
+use crate::ended::Ended;
+use crate::supply::{Supply, Watch, moment_and_draw};
+use osc_ccm::Ccm;
+use osc_turn::{Node, Pace, Port, TurnError, Turned, paced_turn};
+use std::alloc::Global;
+
+/// The node takes so many turns, unless one fails. A datagram that can't be sent is lost, as on the way.
+pub(crate) fn take_turns<W: Watch + Drop, P: Port, N: Node<Ccm<8>>>(
+    alloc: Global,
+    supply: &mut Supply<W>,
+    port: &mut P,
+    node: &mut N,
+    turns: u64,
+) -> Ended
+    ensures turns { (taken : ℕ) × (out : List AnyDatagram) × (last : spec.Running N)
+        × spec.Turns N.is_step taken
+        (record { node = node.old; busy = None; supply = supply.old }) out last
+        × (node.new ≡ last.node) × (P.sent port.new ≡ grown (P.sent port.old) out)
+        × (((result ≡ Ended.Done) × (taken ≡ turns)) ⊎ ((result ≢ Ended.Done) × (taken < turns))) }
+    ensures ends { ends.EndsNode result }
+{
+    let mut pace = Pace::START;
+    for _ in 0..turns {
+        match one_turn(alloc, supply, port, node, &mut pace) {
+            Ok(()) => {}
+            Err(ended) => return ended,
+        }
+    }
+    Ended::Done
+}
+
+// One turn, whose step is let go.
+fn one_turn<W: Watch + Drop, P: Port, N: Node<Ccm<8>>>(
+    alloc: Global,
+    supply: &mut Supply<W>,
+    port: &mut P,
+    node: &mut N,
+    pace: &mut Pace,
+) -> Result<(), Ended>
+    ensures ok { OnOk result ((step : AnyStep)
+        × spec.TakesTurn N.is_step
+        (record { node = node.old; busy = pace.old.busy_since; supply = supply.old }) step
+        (record { node = node.new; busy = pace.new.busy_since; supply = supply.new })
+        × (P.sent port.new ≡ grown (P.sent port.old) step.out)) }
+    ensures err { OnErr result ((node.new ≡ node.old) × (P.sent port.new ≡ P.sent port.old)) }
+    ensures fault { IfErr result ends.IsFault }
+{
+    match take_turn(alloc, supply, port, node, pace) {
+        Ok(turned) => {
+            drop(turned);
+            Ok(())
+        }
+        Err(ended) => Err(ended),
+    }
+}
+
+/// One turn of the node, at the next moment and with the next draw.
+pub(crate) fn take_turn<W: Watch + Drop, P: Port, N: Node<Ccm<8>>>(
+    alloc: Global,
+    supply: &mut Supply<W>,
+    port: &mut P,
+    node: &mut N,
+    pace: &mut Pace,
+) -> Result<Turned, Ended>
+    ensures takes { IfOk result (λ turned. spec.TakesTurn N.is_step
+        (record { node = node.old; busy = pace.old.busy_since; supply = supply.old }) turned.step
+        (record { node = node.new; busy = pace.new.busy_since; supply = supply.new })) }
+    ensures sent { IfOk result (λ turned. P.sent port.new ≡ grown (P.sent port.old) turned.step.out) }
+    ensures err { OnErr result ((node.new ≡ node.old) × (P.sent port.new ≡ P.sent port.old)) }
+    ensures fault { IfErr result ends.IsFault }
+{
+    let (now, draw) = moment_and_draw(supply)?;
+    match paced_turn::<Ccm<8>, _, _>(alloc, port, node, pace, now, &draw) {
+        Ok(turned) => Ok(turned),
+        Err(error) => Err(ended_by_turn(error)),
+    }
+}
+
+// How a program ends that couldn't take a turn.
+fn ended_by_turn(error: TurnError) -> Ended
+    ensures { ends.IsFault result }
+{
+    match error {
+        TurnError::Port(_) => Ended::PortFailed,
+        TurnError::Memory => Ended::OutOfMemory,
+    }
+}
