@@ -4,6 +4,7 @@ pub mod SplitLaws
 pub mod AddLaws
 pub mod ReplyAgainLaws
 pub mod SplitLengths
+pub mod Lengthening
 pub mod OnePassLaws
 pub mod RequestAgainLaws
 pub mod WrittenRequestLaws

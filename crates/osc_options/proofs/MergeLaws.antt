@@ -40,10 +40,10 @@ AreInOrder-filter keeps before (option ∷ options) p =
 
 -- ---- one option put in
 
-insert_before : (option first : NumberAndValue) (options : List NumberAndValue) → option.0 < first.0 → insert option (first ∷ options) ≡ option ∷ first ∷ options
+pub insert_before : (option first : NumberAndValue) (options : List NumberAndValue) → option.0 < first.0 → insert option (first ∷ options) ≡ option ∷ first ∷ options
 insert_before option first options lt = rw (lt-ltb option.0 first.0 lt) refl
 
-insert_behind : (option first : NumberAndValue) (options : List NumberAndValue) → first.0 ≤ option.0 → insert option (first ∷ options) ≡ first ∷ insert option options
+pub insert_behind : (option first : NumberAndValue) (options : List NumberAndValue) → first.0 ≤ option.0 → insert option (first ∷ options) ≡ first ∷ insert option options
 insert_behind option first options le = rw (le-ltb option.0 first.0 le) refl
 
 pub AreInOrder-insert : (option : NumberAndValue) (before : ℕ) (options : List NumberAndValue) → before ≤ option.0 → AreInOrder before options → AreInOrder before (insert option options)
@@ -132,7 +132,7 @@ extension_length_rises m n le =
     ]
 
 -- an option behind a larger number is no longer
-option_length_closer : (low high : ℕ) (option : NumberAndValue) → low ≤ high → option_length high option ≤ option_length low option
+pub option_length_closer : (low high : ℕ) (option : NumberAndValue) → low ≤ high → option_length high option ≤ option_length low option
 option_length_closer low high option le = omega (arith, extension_length_rises (option.0 - high) (option.0 - low) (omega arith))
 
 abbrev IsShort : List NumberAndValue → Type 0

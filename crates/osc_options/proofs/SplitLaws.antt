@@ -34,14 +34,14 @@ outer_left option options is =
       | inr inner ↦ rw inner refl
     ]
 
-inner_taken : (option : NumberAndValue) (options : List NumberAndValue) → is_inner option.0 ≡ true → inner_options (option ∷ options) ≡ option ∷ inner_options options
+pub inner_taken : (option : NumberAndValue) (options : List NumberAndValue) → is_inner option.0 ≡ true → inner_options (option ∷ options) ≡ option ∷ inner_options options
 inner_taken option options is = rw is refl
 
-inner_left : (option : NumberAndValue) (options : List NumberAndValue) → is_inner option.0 ≡ false → inner_options (option ∷ options) ≡ inner_options options
+pub inner_left : (option : NumberAndValue) (options : List NumberAndValue) → is_inner option.0 ≡ false → inner_options (option ∷ options) ≡ inner_options options
 inner_left option options is = rw is refl
 
 -- an option stays outside, is encrypted, or is OSCORE's own
-class_cases : (number : ℕ) → (number == 9) ≡ false → (is_outer number ≡ true) × (is_inner number ≡ false) ⊎ (is_outer number ≡ false) × (is_inner number ≡ true)
+pub class_cases : (number : ℕ) → (number == 9) ≡ false → (is_outer number ≡ true) × (is_inner number ≡ false) ⊎ (is_outer number ≡ false) × (is_inner number ≡ true)
 class_cases number other =
     elim (class_of number) as (λ class. ((same_class U class && not (number == 9)) ≡ true) × (same_class E class ≡ false) ⊎ ((same_class U class && not (number == 9)) ≡ false) × (same_class E class ≡ true)) [
       | E ↦ inr (refl, refl)

@@ -86,6 +86,17 @@ pub fn length_of_split()
     length_of_plaintext();
 }
 
+/// A message that is sent in place of one is longer, where its payload is as long as what is encrypted, or longer.
+pub fn protecting_lengthens()
+    ensures { (m : Message) (code : ℕ) (value payload : List ℕ)
+        → AreInOrder 0 m.options → has_oscore m.options ≡ false
+        → length (plaintext_spelling (plaintext_of m)) ≤ length payload
+        → length (spelling m) < length (spelling (protected m code value payload)) }
+{
+    length_of_spelling();
+    length_of_plaintext();
+}
+
 /// The constants of `numbers` are the registered numbers (RFC 7252 section 12.2, RFC 8613 section 11.1).
 pub fn registered_numbers()
     ensures if_match { IF_MATCH ≡ 1 }

@@ -1,21 +1,22 @@
 //! Laws of the definitions, for the crates above. These functions do nothing: whoever calls one has its clauses for a proof.
 
-ghost use Rattle.std.specs.Prelude.{◌≡◌, ◌≤◌, ℕ, List, Option, None, IfSome, length, false};
+ghost use Rattle.std.specs.Prelude.{◌≡◌, ◌<◌, ◌≤◌, ℕ, List, Option, None, IfSome, length, false};
 ghost use Rattle.osc_model.specs.declared.context.ContextName.{ContextName as AnyName};
-ghost use Rattle.osc_coap.specs.Message.{Message, HasSpelling};
+ghost use Rattle.osc_coap.specs.Message.{Message, HasSpelling, spelling};
 ghost use Rattle.osc_coap.specs.Plaintext.{SpellsPlaintext};
-ghost use Rattle.osc_options.specs.Split.{plaintext_of, unprotected, has_oscore};
+ghost use Rattle.osc_options.specs.Split.{AreInOrder, plaintext_of, unprotected, has_oscore};
 ghost use Rattle.osc_model.specs.declared.context.Side.TheVariants.{Client, Server};
 ghost use Rattle.osc_context.specs.Derivation.{key_of};
 ghost use Rattle.osc_context.specs.Nonce.{longest_id, greatest_number};
 ghost use Rattle.osc_protect.specs.Aad.{aad_of};
 ghost use Rattle.osc_protect.specs.Value.{Compressed, SpellsValue};
-ghost use Rattle.osc_protect.specs.Protection.{HasShortContext, plain_bytes, request_nonce, request_value, response_nonce, response_value, IsProtectedRequest, IsProtectedResponse, SealedRequest, IsRequest, SealedResponse, IsResponse, IsFor};
+ghost use Rattle.osc_protect.specs.Protection.{HasShortContext, plain_bytes, request_nonce, request_value, response_nonce, response_value, request_length, response_length, IsProtectedRequest, IsProtectedResponse, SealedRequest, IsRequest, SealedResponse, IsResponse, IsFor};
 
 use osc_ccm::Aead;
 use osc_coap::laws::one_plaintext;
 use osc_options::laws::{
-    merging_what_was_split, option_of_a_protected_message, splitting_what_is_lawful,
+    merging_what_was_split, option_of_a_protected_message, protecting_lengthens,
+    splitting_what_is_lawful,
 };
 
 /// Associated data tells the request's number.
@@ -36,6 +37,16 @@ pub fn lengths_of_values()
         → length (request_value name number) ≤ 255 }
     ensures response { length (response_value None) ≤ 255 }
 {}
+
+/// Protecting a message makes it longer, under any name and number, however long the cipher's tag is.
+pub fn protected_messages_are_longer()
+    ensures request { (tag number : ℕ) (name : AnyName) (m : Message)
+        → AreInOrder 0 m.options → has_oscore m.options ≡ false → length (spelling m) < request_length tag name number m }
+    ensures response { (tag : ℕ) (own : Option ℕ) (m : Message)
+        → AreInOrder 0 m.options → has_oscore m.options ≡ false → length (spelling m) < response_length tag own m }
+{
+    protecting_lengthens();
+}
 
 /// A message is one protected request at most.
 pub fn one_request()

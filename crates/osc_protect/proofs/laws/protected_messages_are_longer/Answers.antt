@@ -1,0 +1,16 @@
+use Rattle.std.proofs.Common.{ℕ, ◌+◌, ◌≤◌, List, length, arith, replicate}
+use Rattle.std.proofs.lemmas.List.{length-replicate}
+use Rattle.osc_protect.specs.Protection.{plain_bytes, request_value, response_value}
+use Rattle.osc_protect.proofs.laws.protected_messages_are_longer.Goals as goal
+
+-- so many bytes and a tag are no fewer
+with_tag : (text : List ℕ) (tag : ℕ) → length text ≤ length {A = ℕ} (replicate (length text + tag) 0)
+with_tag text tag = omega (arith, length-replicate {A = ℕ} (length text + tag) 0)
+
+pub returns-clause-request : goal.returns-clause-request
+returns-clause-request c = λ tag number name m order none.
+    c.protecting_lengthens.ensures m 2 (request_value name number) (replicate (length (plain_bytes m) + tag) 0) order none (with_tag (plain_bytes m) tag)
+
+pub returns-clause-response : goal.returns-clause-response
+returns-clause-response c = λ tag own m order none.
+    c.protecting_lengthens.ensures m 68 (response_value own) (replicate (length (plain_bytes m) + tag) 0) order none (with_tag (plain_bytes m) tag)
