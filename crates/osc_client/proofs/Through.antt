@@ -1,8 +1,8 @@
 -- Messages to a server behind a proxy: what is encrypted of them, and how long they are.
-use Rattle.std.proofs.Common.{◌≡◌, ℕ, ◌+◌, ◌-◌, ◌<◌, ◌≤◌, Bool, true, false, ◌==◌, if◌then◌else◌, List, [], ◌∷◌, ◌++◌, length, Option, Some, None, Result, Ok, Err, codes, refl, sym, ap, ap₂, subst, ◌∙◌, append_assoc, arith, inl, inr}
+use Rattle.std.proofs.Common.{◌≡◌, ℕ, ◌+◌, ◌-◌, ◌<◌, ◌≤◌, Bool, true, false, ◌==◌, nat_lt, if◌then◌else◌, List, [], ◌∷◌, ◌++◌, length, Option, Some, None, Result, Ok, Err, codes, refl, sym, ap, ap₂, subst, ◌∙◌, append_assoc, arith, inl, inr}
 use Rattle.std.specs.Prelude.{filter}
 use Rattle.std.specs.Result.{IsErr, IsOk}
-use Rattle.std.proofs.lemmas.Bool.{both_ways, cases_Bool, cases_lt, lt-ltb, le-ltb}
+use Rattle.std.proofs.lemmas.Bool.{both_ways, cases_Bool, cases_lt, eqb-true, lt-ltb, le-ltb}
 use Rattle.std.proofs.lemmas.List.Elements.{filter-append}
 use Rattle.osc_model.specs.declared.request.Request.{Request}
 use Rattle.osc_coap.specs.Message.{NumberAndValue, Message, spelling}
@@ -11,7 +11,7 @@ use Rattle.osc_coap.specs.Length.{extension_length, option_length, options_lengt
 use Rattle.osc_options.specs.declared.table.Class.TheVariants.{E}
 use Rattle.osc_options.specs.Replies.{uint_bytes}
 use Rattle.osc_options.specs.Requests.{each, none_match_options, path_options, request_options, segments_of, uint_options}
-use Rattle.osc_options.specs.Split.{AreInOrder, has_oscore, inner_options, merge, of_number, plaintext_of, same_class}
+use Rattle.osc_options.specs.Split.{AreInOrder, has_oscore, inner_options, insert, merge, of_number, plaintext_of, same_class}
 use Rattle.osc_options.specs.Table.{class_of}
 use Rattle.osc_client.specs.Sending.{plain_request, post_with}
 use Rattle.osc_client.specs.Way.{HostAndPort, proxy_options, through}
@@ -244,6 +244,50 @@ request_inside id token request = all_inside 0 (request_options request) (reques
 
 pub post_order : (id : ℕ) (token body : List ℕ) → AreInOrder 0 (post_with id token body).options
 post_order id token body = (omega arith, (omega arith, tt))
+
+-- what is encrypted isn't OSCORE's own option
+none_own : (before : ℕ) (options : List NumberAndValue) → AreEncrypted before options → has_oscore options ≡ false
+none_own before [] p = refl
+none_own before (option ∷ options) p =
+    elim (cases_Bool (option.0 == 9)) [
+      | inl own ↦ let outer : same_class E (class_of option.0) ≡ false = rw (eqb-true option.0 9 own) refl in absurd cc
+      | inr other ↦ rw other (none_own option.0 options p.2)
+    ]
+
+own_inserted : (option : NumberAndValue) (options : List NumberAndValue) → (option.0 == 9) ≡ false → has_oscore options ≡ false → has_oscore (insert option options) ≡ false
+own_inserted option [] other none = rw other refl
+own_inserted option (first ∷ options) other none =
+    elim (cases_Bool (nat_lt option.0 first.0)) [
+      | inl lt ↦ rw (lt, other) none
+      | inr le ↦ elim (cases_Bool (first.0 == 9)) [
+        | inl own ↦ let no = rw own at none in absurd cc
+        | inr not_own ↦ rw (le, not_own) (own_inserted option options other (rw not_own at none))
+      ]
+    ]
+
+own_merged : (outer inner : List NumberAndValue) → has_oscore outer ≡ false → has_oscore inner ≡ false → has_oscore (merge outer inner) ≡ false
+own_merged outer [] p q = p
+own_merged outer (option ∷ inner) p q =
+    elim (cases_Bool (option.0 == 9)) [
+      | inl own ↦ let no = rw own at q in absurd cc
+      | inr other ↦ own_merged (insert option outer) inner (own_inserted option outer other p) (rw other at q)
+    ]
+
+found_unprotected : (default : Bool) (origin : HostAndPort) → has_oscore (found_by default origin) ≡ false
+found_unprotected true origin = refl
+found_unprotected false origin = refl
+
+-- a request isn't protected yet, through a proxy either
+pub request_unprotected : (origin : Option HostAndPort) (id : ℕ) (token : List ℕ) (request : Request) → has_oscore (through origin (plain_request id token request)).options ≡ false
+request_unprotected None id token request = none_own 0 (request_options request) (request_encrypted request)
+request_unprotected (Some origin) id token request =
+    own_merged (proxy_options (Some origin)) (request_options request) (found_unprotected (origin.port == 5683) origin) (none_own 0 (request_options request) (request_encrypted request))
+
+-- its options are in order, through a proxy too
+pub request_through_order : OrderLaw → (origin : Option HostAndPort) (id : ℕ) (token : List ℕ) (request : Request) → AreInOrder 0 (through origin (plain_request id token request)).options
+request_through_order order None id token request = request_order id token request
+request_through_order order (Some origin) id token request =
+    order 0 (proxy_options (Some origin)) (request_options request) (found_order (origin.port == 5683) origin) (request_order id token request)
 
 -- a post isn't protected, through a proxy either
 pub post_unprotected : (origin : Option HostAndPort) (id : ℕ) (token body : List ℕ) → has_oscore (through origin (post_with id token body)).options ≡ false

@@ -7,5 +7,6 @@ pub mod Answering
 pub mod Case
 pub mod Table
 pub mod Hearing
+pub mod Lawful
 pub mod Bounds
 pub mod Opened

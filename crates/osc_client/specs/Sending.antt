@@ -128,27 +128,22 @@ plain_of old draw request = through old.origin (plain_request (own_id draw old.e
 
 -- `is_sealing key nonce aad text sealed` is the cipher's relation, and `tag` how long its tag is
 module _ (is_sealing : List ℕ → List ℕ → List ℕ → List ℕ → List ℕ → Type 0) (tag : ℕ) where
-  -- The request, protected under the next number of the context, is as long as a datagram may be at most.
-  pub record Fits (old : State) (draw : Draw) (request : Request) (context : ClientContext) : Type 0 where
-    pub plain : length (spelling (plain_of old draw request)) ≤ longest_message
-    pub sealed : request_length tag context.name context.next (plain_of old draw request) ≤ longest_message
-
-  -- why a request isn't sent, by its number: something is open; there is no context; its numbers are used up; the datagram would be
-  -- too long
+  -- why a request isn't sent, by its number: something is open; there is no context; its numbers are used up; protected under the next
+  -- one it would be longer than a datagram may be
   pub data IsHindered (old : State) (request : Request) (draw : Draw) (number : ℕ) : Type 0 where
     busy : number ≡ 17 → old.waiting ≢ None → IsHindered old request draw number
     no_context : number ≡ 22 → old.waiting ≡ None → old.context ≡ None → IsHindered old request draw number
     exhausted : number ≡ 18 → (context : ClientContext) → old.waiting ≡ None → old.context ≡ Some context → greatest_number < context.next
         → IsHindered old request draw number
     too_long : number ≡ 14 → (context : ClientContext) → old.waiting ≡ None → old.context ≡ Some context → context.next ≤ greatest_number
-        → (¬ Fits old draw request context) → IsHindered old request draw number
+        → longest_message < request_length tag context.name context.next (plain_of old draw request) → IsHindered old request draw number
 
   -- nothing hinders it, under this context
   pub record IsFree (old : State) (request : Request) (draw : Draw) (context : ClientContext) : Type 0 where
     pub idle : old.waiting ≡ None
     pub held : old.context ≡ Some context
     pub lawful : context.next ≤ greatest_number
-    pub fits : Fits old draw request context
+    pub fits : request_length tag context.name context.next (plain_of old draw request) ≤ longest_message
 
   -- It is refused; or the next number is taken, and the protected request goes out, as bytes that are read again as it.
   pub data Asks (old : State) (now : Moment) (request : Request) (draw : Draw) (step : Step) (new : State) : Type 0 where

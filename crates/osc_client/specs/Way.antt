@@ -1,5 +1,5 @@
 -- The way to the server: through a forward proxy, where it goes through one (RFC 7252 section 5.7.2).
-use Rattle.std.specs.Prelude.{ℕ, ◌≤◌, ◌==◌, if◌then◌else◌, List, [], ◌∷◌, ◌++◌, length, Option, Some, None, codes}
+use Rattle.std.specs.Prelude.{ℕ, ◌≤◌, ◌<◌, ◌==◌, if◌then◌else◌, List, [], ◌∷◌, ◌++◌, length, Option, Some, None, codes}
 use Rattle.osc_coap.specs.Message.{NumberAndValue, Message}
 use Rattle.osc_options.specs.Replies.{uint_bytes}
 use Rattle.osc_options.specs.Split.{merge}
@@ -12,6 +12,11 @@ pub record HostAndPort : Type 0 where
 -- what a Uri-Host can be: 1 to 255 bytes (section 5.10, table 4)
 abbrev pub IsHost : List ℕ → Type 0
 IsHost host = (1 ≤ length host) × (length host ≤ 255)
+
+-- what is true of each, as its type says
+pub record IsLawfulOrigin (origin : HostAndPort) : Type 0 where
+  pub host : IsHost origin.host
+  pub port : origin.port < 65536
 
 -- Uri-Port, option 7, where the port isn't that of the scheme (sections 5.10.1 and 6.1)
 abbrev pub port_options : ℕ → List NumberAndValue

@@ -20,6 +20,7 @@ use osc_message::{Buffer, ReplyRoom};
 use osc_model::{Note, Request};
 use osc_options::laws::merged_options;
 use osc_options::request_message;
+use osc_protect::laws::protected_messages_are_longer;
 use osc_protect::{ProtectedRequest, Room, fits, protect_request};
 use std::alloc::{AllocError, Global};
 
@@ -52,9 +53,11 @@ pub(crate) fn fitting<A: Aead>(
     requires number { context.now.next ≤ greatest_number }
     requires short { HasShortContext context.now.name }
     ensures plain { IfSome result (λ plain. plain ≡ through_of origin.now (plain_request id token.now request.now)) }
-    ensures fits { IsSome result ↔ ((length (spelling (through_of origin.now (plain_request id token.now request.now))) ≤ longest_message)
-        × (request_length A.TAG context.now.name context.now.next (through_of origin.now (plain_request id token.now request.now)) ≤ longest_message)) }
+    ensures fits { IsSome result
+        ↔ (request_length A.TAG context.now.name context.now.next (through_of origin.now (plain_request id token.now request.now)) ≤ longest_message) }
 {
+    merged_options();
+    protected_messages_are_longer();
     // For the proof alone: the call tells how long the ID is.
     let _id = context.sender().id();
     let plain = plain_message(origin, id, token, request).ok()?;

@@ -23,6 +23,8 @@ ghost use Rattle.osc_run.specs.ClientKinds.{ClientStep, IsSkipped};
 ghost use Rattle.osc_client.specs.State.{core, skipped_to};
 ghost use Rattle.osc_client.specs.Sending.{IsFree, IsHindered, acts_at, is_over_by, opened, plain_of, restarted};
 ghost use Rattle.osc_client.specs.Bounds.{AsksFor, IsLawful, IsRoomFor, NeedsContext};
+ghost use Rattle.osc_client.specs.Lawful.{IsLawfulClient};
+ghost use Rattle.osc_client.specs.Way.{IsLawfulOrigin};
 
 use crate::answering::{Learnt, learn, outcome_of};
 use crate::asking::{AskRoom, Asked, fitting, protected};
@@ -95,6 +97,32 @@ fn is_over(now: Moment, acknowledged: bool, none_left: bool, waiting: &Option<Wa
     }
 }
 
+// For proofs: what the type of an origin says.
+fn has_lawful_origin(origin: &Option<Origin>)
+    ensures { IfSome origin.now IsLawfulOrigin }
+{
+    if let Some(origin) = origin {
+        let _host = origin.host();
+        let _port = origin.port();
+    }
+}
+
+// For proofs: how long the token is of what waits.
+fn has_whole_token(waiting: &Option<Waiting>)
+    ensures { IfSome waiting.now (λ waiting. length waiting.token ≡ 8) }
+{
+    if let Some(waiting) = waiting {
+        is_whole(&waiting.token);
+    }
+}
+
+// For proofs: how many bytes a token has.
+fn is_whole(token: &[u8; 8])
+    ensures { length token.now ≡ 8 }
+{
+    let _bytes = token.as_slice();
+}
+
 impl Client {
     /// A client that was granted this, and reaches its server this way; it has no context and waits for nothing.
     pub fn new(alloc: Global, desk: ClientDesk, way: Way) -> Result<Client, AllocError>
@@ -141,6 +169,15 @@ impl Client {
         ensures { result ≡ is_some self.now.waiting }
     {
         self.waiting.is_some()
+    }
+
+    /// For proofs: what is true of each client. Does nothing.
+    pub fn has_lawful_parts(&self)
+        ensures { IsLawfulClient self.now }
+    {
+        has_lawful_origin(&self.origin);
+        has_whole_token(&self.waiting);
+        let _desk = &self.desk;
     }
 
     /// How many messages of its own are open: outstanding, or waiting.

@@ -162,7 +162,7 @@ module _ (is_sealing : List ℕ → List ℕ → List ℕ → List ℕ → List 
   not_hindered number fits refused (exhausted is other idle has above) =
       let same : context ≡ other = same_Some context other (sym may.has ∙ has) in
       omega (arith, above, may.number, ap (λ (k : ClientContext). k.next) same)
-  not_hindered number fits refused (too_long is other idle has lawful unfit) =
+  not_hindered number fits refused (too_long is other idle has lawful long) =
       fits (ap (λ (s : Step). s.notes.result) refused.told ∙ ap (λ (n : ℕ). Some (result.Refused n)) is)
 
   abbrev bare_request : Message
@@ -198,7 +198,7 @@ module _ (is_sealing : List ℕ → List ℕ → List ℕ → List ℕ → List 
     fits : request_length tag held.name context.next bare_request ≤ longest_message
     fits =
         subst (λ (m : Message). request_length tag held.name context.next m ≤ longest_message) plain_is
-        (subst (λ (n : ContextName). request_length tag n context.next (plain_of client draw request) ≤ longest_message) (sym may.one_name) free.fits.sealed)
+        (subst (λ (n : ContextName). request_length tag n context.next (plain_of client draw request) ≤ longest_message) (sym may.one_name) free.fits)
 
     sendable : IsSendable protected
     sendable =

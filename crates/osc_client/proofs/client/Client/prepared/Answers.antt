@@ -1,8 +1,10 @@
-use Rattle.std.proofs.Common.{rules, ◌≡◌, ◌<◌, ◌≤◌, Some, None, refl, ap, ◌∙◌, false, true, arith}
+use Rattle.std.proofs.Common.{rules, ◌≡◌, ℕ, ◌<◌, ◌≤◌, Some, None, refl, ap, ◌∙◌, false, true, arith, inl, inr}
+use Rattle.std.proofs.lemmas.Bool.{cases_lt}
 use Rattle.std.specs.Option.{IsSome}
 use Rattle.osc_context.specs.Nonce.{greatest_number}
 use Rattle.osc_message.specs.Endpoint.{own_id}
-use Rattle.osc_client.specs.Sending.{Fits, exhausted, too_long}
+use Rattle.osc_protect.specs.Protection.{longest_message, request_length}
+use Rattle.osc_client.specs.Sending.{exhausted, plain_of, too_long}
 use Rattle.osc_client.proofs.client.Client.prepared.Goals as goal
 
 pub returns-then-next_number-gt-NUMBER_LIMIT-clause-hindered : goal.returns-then-next_number-gt-NUMBER_LIMIT-clause-hindered
@@ -20,8 +22,13 @@ returns-in-None-clause-hindered g c =
     let id : c.own_id-id.result ≡ own_id c.args.draw.now c.args.self.now.endpoint.next_id =
     c.own_id-id.ensures ∙ ap (λ s. own_id c.args.draw.now s.endpoint.next_id) c.self.view_is in
     let origin : c.self.inside.origin ≡ c.args.self.now.origin = ap (λ s. s.origin) c.self.view_is in
-    let none : Fits g.A.Aead.is_sealing g.A.Aead.TAG c.args.self.now c.args.draw.now c.args.request.now c.in-Some.context → ⊥ = λ fits.
-    let some : IsSome c.fitting.result = c.fitting.ensures.fits.1 (rw (id, origin, c.token.ensures) (fits.plain, fits.sealed)) in
-    let wrong : false ≡ true = rw c.in-None.is at some in
-    absurd (cc) in
-    too_long refl c.in-Some.context idle held early none
+    let size : ℕ = request_length g.A.Aead.TAG c.in-Some.context.name c.in-Some.context.next (plain_of c.args.self.now c.args.draw.now c.args.request.now) in
+    let long : longest_message < size =
+    elim (cases_lt longest_message size) [
+      | inl lt ↦ lt
+      | inr le ↦
+          let some : IsSome c.fitting.result = c.fitting.ensures.fits.1 (rw (id, origin, c.token.ensures) le) in
+          let wrong : false ≡ true = rw c.in-None.is at some in
+          absurd (cc)
+    ] in
+    too_long refl c.in-Some.context idle held early long
