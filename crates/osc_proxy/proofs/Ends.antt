@@ -47,7 +47,7 @@ one_peer a b same =
     let port : a.port ≡ b.port = eqb-true a.port b.port both.1 in
     subst (λ (x : List ℕ). a ≡ record { address = x; port = b.port }) address (ap (λ n. record { address = a.address; port = n }) port)
 
-peer_same : (a b : Peer) → a ≡ b → same_peer a b ≡ true
+pub peer_same : (a b : Peer) → a ≡ b → same_peer a b ≡ true
 peer_same a b e =
     and_from (bytes_eq a.address b.address) (nat_eq a.port b.port) ((bytes_eq-Decides a.address b.address).1 (ap (λ (p : Peer). p.address) e))
     (eq-eqb a.port b.port (ap (λ (p : Peer). p.port) e))

@@ -12,3 +12,7 @@ mod Idle
 mod Forwarded
 mod Fits
 mod Steps
+mod Heard
+mod Left
+mod Unheard
+mod ThereAndBack

@@ -16,3 +16,4 @@ pub mod Going
 pub mod Table
 pub mod Ticks
 pub mod Hearing
+pub mod ThereAndBack

@@ -1,7 +1,9 @@
 //! Laws of the definitions, for the crates above. These functions do nothing: whoever calls one has its clauses for a proof.
-ghost use Rattle.std.specs.Prelude.{◌≡◌, ◌<◌, ◌≤◌, ◌+◌, ◌⊎◌, ℕ, true, false, List, [], length, Option, Some, None, IsSomeAnd, codes};
+ghost use Rattle.std.specs.Prelude.{◌≡◌, ◌≢◌, ◌<◌, ◌≤◌, ◌+◌, ◌⊎◌, ℕ, true, false, List, [], length, Option, Some, None, IsSomeAnd, codes};
 ghost use Rattle.osc_model.specs.declared.node.Draw.{Draw as AnyDraw};
 ghost use Rattle.osc_coap.specs.Message.{HasSpelling, Message as AnyMessage, NumberAndValue, spelling};
+ghost use Rattle.osc_dedup.specs.Table.{looked};
+ghost use Rattle.osc_message.specs.Sending.{empty_acknowledgement};
 ghost use Rattle.osc_options.specs.Recognised.{recognised};
 ghost use Rattle.osc_options.specs.Requests.{value as value_in};
 ghost use Rattle.osc_options.specs.Split.{AreInOrder, of_number};
@@ -11,13 +13,17 @@ ghost use Rattle.osc_model.specs.declared.step.Step.{Step as AnyStep};
 ghost use Rattle.osc_proxy.specs.Ends.{EachHasAnEnd, is_open};
 ghost use Rattle.osc_proxy.specs.Exchanges.{HasOwnTokens, Table, answers, first_key, get, is_overdue, lifetime};
 ghost use Rattle.osc_proxy.specs.Forwarding.{forwarded, forwarded_options, has_proxy_uri, is_taken_out};
+ghost use Rattle.osc_proxy.specs.Hearing.{Hears};
 ghost use Rattle.osc_proxy.specs.ProxyUri.{HostAndPort};
 ghost use Rattle.osc_proxy.specs.Route.{Names, port_in};
 ghost use Rattle.osc_proxy.specs.State.{State};
+ghost use Rattle.osc_proxy.specs.Table.{forwarded_by};
+ghost use Rattle.osc_proxy.specs.ThereAndBack.{CanSendTo, GoesThereAndBack, IsAnswerTo, IsAtRest, IsBroughtBack, IsLawfulProxy, IsPassedOn, TakesUp, answer_id, heard_with};
 ghost use Rattle.osc_proxy.specs.Ticks.{Ticks};
 ghost use Rattle.osc_proxy.specs.declared.exchanges.Exchange.{Exchange as AnyExchange};
 
 use osc_coap::laws::{fewer_options, length_of_spelling};
+use osc_message::laws::{one_reception, what_nodes_send};
 
 /// A tick leaves no exchange that is over: of each that is left the forwarded message is open still, or the end is less than 247 seconds
 /// away.
@@ -58,4 +64,61 @@ pub fn named_by_options()
     ensures { (options : List NumberAndValue) (named : Option HostAndPort) (host : List ℕ) → value_in 35 (recognised 0 options) ≡ None
         → value_in 39 (recognised 0 options) ≡ Some (codes "coap") → value_in 3 (recognised 0 options) ≡ Some host → Names options named
         → named ≡ Some (host, port_in (value_in 7 (recognised 0 options))) }
+{}
+
+/// A confirmable request that nothing hinders is acknowledged to the client, and forwarded to its target, at once.
+pub fn a_request_is_forwarded()
+    ensures { (proxy passed : State) (now : AnyMoment) (draw : AnyDraw) (from to : AnyPeer) (message : AnyMessage) (key : ℕ) (step : AnyStep)
+        → TakesUp proxy now from to message key → Hears proxy now draw from (spelling message) step passed
+        → IsPassedOn proxy now draw from to message key step passed }
+{
+    one_reception();
+    what_nodes_send();
+    forwarding_adds_nothing();
+}
+
+/// Where the answer to what was forwarded comes from the target, it goes back to the client at once, with the client's token, and the
+/// exchange is closed.
+pub fn an_answer_goes_back()
+    ensures { (proxy passed brought : State) (now later : AnyMoment) (draw later_draw : AnyDraw) (from to : AnyPeer) (message response : AnyMessage)
+        (key : ℕ) (first second : AnyStep)
+        → IsLawfulProxy proxy → TakesUp proxy now from to message key → CanSendTo proxy from
+        → IsPassedOn proxy now draw from to message key first passed → IsAnswerTo (forwarded_by proxy draw key message) response
+        → Hears passed later later_draw to (spelling response) second brought
+        → IsBroughtBack proxy now draw from message key response second brought }
+{
+    one_reception();
+    what_nodes_send();
+    forwarding_adds_nothing();
+}
+
+/// Where the client acknowledges that answer, nothing goes out, and what is open is what was open before the request came.
+pub fn an_acknowledgement_ends_it()
+    ensures { (proxy brought rested : State) (now last : AnyMoment) (draw last_draw : AnyDraw) (from : AnyPeer) (message response : AnyMessage) (key : ℕ)
+        (second third : AnyStep)
+        → IsBroughtBack proxy now draw from message key response second brought
+        → Hears brought last last_draw from (spelling (empty_acknowledgement (answer_id proxy draw))) third rested
+        → IsAtRest proxy now draw from message key third rested }
+{
+    one_reception();
+}
+
+/// A request goes through the proxy, and its answer comes back: where the request comes from the client, it is acknowledged and
+/// forwarded; where the answer to that comes from the target, it goes back to the client; and where the client acknowledges it, nothing
+/// goes out.
+pub fn a_request_goes_there_and_back()
+    ensures { (proxy passed : State) (now : AnyMoment) (draw : AnyDraw) (from to : AnyPeer) (message : AnyMessage) (key : ℕ) (step : AnyStep)
+        → IsLawfulProxy proxy → TakesUp proxy now from to message key → CanSendTo proxy from
+        → Hears proxy now draw from (spelling message) step passed
+        → GoesThereAndBack proxy now draw from to message key step passed }
+{
+    a_request_is_forwarded();
+    an_answer_goes_back();
+    an_acknowledgement_ends_it();
+}
+
+/// Where the proxy noted a request, a message that wasn't heard before and has another message ID isn't heard either.
+pub fn others_stay_unheard()
+    ensures { (proxy : State) (now at : AnyMoment) (from peer : AnyPeer) (message : AnyMessage) (id : ℕ) → id ≢ message.id
+        → looked at peer id proxy.endpoint.seen ≡ None → looked at peer id (heard_with proxy now from message) ≡ None }
 {}

@@ -1,0 +1,13 @@
+use Rattle.osc_proxy.proofs.ThereAndBack.{PassingLaws, is_brought_back}
+use Rattle.osc_proxy.proofs.laws.an_answer_goes_back.Goals as goal
+
+pub returns : goal.returns
+returns c =
+    let laws : PassingLaws = record {
+      one_reception = c.one_reception.ensures;
+      acknowledgement = c.what_nodes_send.ensures.acknowledgement;
+      short = λ id. (c.what_nodes_send.ensures.short id).1;
+      no_longer = c.forwarding_adds_nothing.ensures;
+    } in
+    λ proxy passed brought now later draw later_draw from to message response key first second lawful takes_up back is answers_it hears.
+    is_brought_back laws proxy passed brought now later draw later_draw from to message response key first second lawful takes_up back is answers_it hears
