@@ -12,11 +12,11 @@ use Rattle.osc_model.specs.declared.reply.Reply.{Reply}
 use Rattle.osc_model.specs.declared.step.Step.{Step}
 use Rattle.osc_coap.specs.Message.{Message, NumberAndValue, spelling}
 use Rattle.osc_coap.specs.Plaintext.{Plaintext, SpellsPlaintext, HasPlaintextSpelling, plaintext_spelling}
-use Rattle.osc_coap.specs.declared.kind.Kind.TheVariants.{Acknowledgement}
+use Rattle.osc_coap.specs.declared.kind.Kind.TheVariants.{Acknowledgement, Confirmable}
 use Rattle.osc_options.specs.PlaintextReplies.{reply_in, reply_plaintext}
 use Rattle.osc_options.specs.Requests.{value}
 use Rattle.osc_options.specs.Split.{has_oscore, outer_options, plaintext_of, protected, merge}
-use Rattle.osc_dedup.specs.Table.{Entry}
+use Rattle.osc_dedup.specs.Table.{Entry, looked}
 use Rattle.osc_message.specs.Confirmables.{same_peer}
 use Rattle.osc_message.specs.Heard.{heard}
 use Rattle.osc_message.specs.Received.{Receives}
@@ -45,8 +45,8 @@ use Rattle.osc_client.specs.declared.waiting.Awaited.{Awaited}
 use Rattle.osc_client.specs.declared.waiting.Awaited.TheVariants.{Ask}
 use Rattle.osc_client.specs.declared.waiting.OpenAsk.{OpenAsk}
 use Rattle.osc_client.specs.declared.waiting.Waiting.{Waiting}
-use Rattle.osc_rounds.specs.Asked.{AwaitsReply, CarriesReply, IsAnswered}
-use Rattle.osc_rounds.specs.Sendable.{IsSendable}
+use Rattle.osc_rounds.specs.Asked.{AwaitsReply, CarriesReply, ComesBack, IsAnsweredWith, in_acknowledgement, in_confirmable}
+use Rattle.osc_proxy.specs.ThereAndBack.{IsCarried}
 use Rattle.osc_client.specs.Hearing.{Hears as ClientHears}
 use Rattle.osc_rounds.proofs.Asking.{received_as, one_option, in_place, payload_is}
 
@@ -80,25 +80,37 @@ heard_in_acknowledgement : (seen : List Entry) (now : Moment) (from : Peer) (m :
     → heard seen now from (received.Message (in_place m 68 options sealed)) ≡ heard_as.Message (in_place m 68 options sealed)
 heard_in_acknowledgement seen now from m options sealed kind = rw kind refl
 
-counts_for : (next_hop from : Peer) (waiting : Waiting) (m : Message) (v sealed : List ℕ)
-    → length v ≤ 255 → same_peer next_hop from ≡ true → m.kind ≡ Acknowledgement → waiting.id ≡ m.id → waiting.token ≡ m.token
-    → client_case next_hop from (Some waiting) (heard_as.Message (in_place m 68 ((9, v) ∷ []) sealed)) ≡ Counted (in_place m 68 ((9, v) ∷ []) sealed)
-counts_for next_hop from waiting m v sealed short peer kind id token =
-    rw (one_option v short, peer, kind, id, token, same_bytes m.token, same_number m.id) refl
+heard_in_confirmable : (seen : List Entry) (now : Moment) (from : Peer) (m : Message) (options : List NumberAndValue) (sealed : List ℕ)
+    → m.kind ≡ Confirmable → looked now from m.id seen ≡ None
+    → heard seen now from (received.Message (in_place m 68 options sealed)) ≡ heard_as.Message (in_place m 68 options sealed)
+heard_in_confirmable seen now from m options sealed kind unheard = rw (kind, unheard) refl
 
-reply_case : (next_hop from : Peer) (waiting : Waiting) (seen : List Entry) (now : Moment) (m : Message) (v sealed : List ℕ)
-    → outer_options m.options ≡ [] → length v ≤ 255 → same_peer next_hop from ≡ true → m.kind ≡ Acknowledgement → waiting.id ≡ m.id → waiting.token ≡ m.token
-    → client_case next_hop from (Some waiting) (heard seen now from (received.Message (protected m 68 v sealed))) ≡ Counted (protected m 68 v sealed)
-reply_case next_hop from waiting seen now m v sealed inside short peer kind id token =
+heard_as_message : (client : Client) (now : Moment) (from : Peer) (request m : Message) (options : List NumberAndValue) (sealed : List ℕ)
+    → ComesBack client now from request m
+    → heard client.endpoint.seen now from (received.Message (in_place m 68 options sealed)) ≡ heard_as.Message (in_place m 68 options sealed)
+heard_as_message client now from request m options sealed (in_acknowledgement kind id) = heard_in_acknowledgement client.endpoint.seen now from m options sealed kind
+heard_as_message client now from request m options sealed (in_confirmable kind unheard) =
+    heard_in_confirmable client.endpoint.seen now from m options sealed kind unheard
+
+counts_for : (client : Client) (now : Moment) (from : Peer) (waiting : Waiting) (request m : Message) (v sealed : List ℕ)
+    → length v ≤ 255 → same_peer client.next_hop from ≡ true → ComesBack client now from request m → waiting.id ≡ request.id → waiting.token ≡ m.token
+    → client_case client.next_hop from (Some waiting) (heard_as.Message (in_place m 68 ((9, v) ∷ []) sealed)) ≡ Counted (in_place m 68 ((9, v) ∷ []) sealed)
+counts_for client now from waiting request m v sealed short peer (in_acknowledgement kind id) sent token =
+    rw (one_option v short, peer, kind, sent, id, token, same_bytes m.token, same_number request.id) refl
+counts_for client now from waiting request m v sealed short peer (in_confirmable kind unheard) sent token =
+    rw (one_option v short, peer, kind, token, same_bytes m.token) refl
+
+reply_case : (client : Client) (now : Moment) (from : Peer) (waiting : Waiting) (request m : Message) (v sealed : List ℕ)
+    → outer_options m.options ≡ [] → length v ≤ 255 → same_peer client.next_hop from ≡ true → ComesBack client now from request m
+    → waiting.id ≡ request.id → waiting.token ≡ m.token
+    → client_case client.next_hop from (Some waiting) (heard client.endpoint.seen now from (received.Message (protected m 68 v sealed))) ≡ Counted (protected m 68 v sealed)
+reply_case client now from waiting request m v sealed inside short peer comes id token =
     let options : merge (outer_options m.options) ((9, v) ∷ []) ≡ (9, v) ∷ [] = ap (λ (outer : List NumberAndValue). merge outer ((9, v) ∷ [])) inside in
-    rw options (ap (client_case next_hop from (Some waiting)) (heard_in_acknowledgement seen now from m ((9, v) ∷ []) sealed kind)
-    ∙ counts_for next_hop from waiting m v sealed short peer kind id token)
+    rw options (ap (client_case client.next_hop from (Some waiting)) (heard_as_message client now from request m ((9, v) ∷ []) sealed comes)
+    ∙ counts_for client now from waiting request m v sealed short peer comes id token)
 
 protects : (m : Message) (v sealed : List ℕ) → outer_options m.options ≡ [] → has_oscore (protected m 68 v sealed).options ≡ true
 protects m v sealed inside = rw inside refl
-
-no_acknowledgement : (from : Peer) (m : Message) (v sealed : List ℕ) → m.kind ≡ Acknowledgement → sent_to from (acknowledgement (protected m 68 v sealed)) ≡ []
-no_acknowledgement from m v sealed kind = rw kind refl
 
 -- ---- what it says
 
@@ -210,7 +222,7 @@ module _ (is_sealing : List ℕ → List ℕ → List ℕ → List ℕ → List 
 
 module _ (is_sealing : List ℕ → List ℕ → List ℕ → List ℕ → List ℕ → Type 0) (laws : ReplyLaws is_sealing)
     (old : Client) (now : Moment) (from : Peer) (name : ContextName) (number : ℕ) (request m p : Message) (reply : Reply) (step : Step) (new : Client)
-    (awaits : AwaitsReply old from name number request) (carries : CarriesReply request reply m)
+    (awaits : AwaitsReply old from name number request) (carries : CarriesReply old now from request reply m)
     (made : IsProtectedResponse is_sealing name number None m p) where
   abbrev ask : OpenAsk
   ask = record { number = number; plaintext = awaits.plaintext }
@@ -221,7 +233,7 @@ module _ (is_sealing : List ℕ → List ℕ → List ℕ → List ℕ → List 
   abbrev due : Outcome
   due = Answers (response_note name number None (reply_text reply)) reply
 
-  counted : Counts is_sealing old now from p step new → IsAnswered old name number reply step new
+  counted : Counts is_sealing old now from p step new → IsAnsweredWith (sent_to from (acknowledgement p)) old name number reply step new
   counted it =
       let waiting_is : it.waiting ≡ awaits.waiting = same_Some it.waiting awaits.waiting (sym it.waits ∙ awaits.waits) in
       let what_is : it.waiting.what ≡ Ask ask = ap (λ (w : Waiting). w.what) waiting_is ∙ awaits.asks in
@@ -229,12 +241,8 @@ module _ (is_sealing : List ℕ → List ℕ → List ℕ → List ℕ → List 
       subst (λ (k : Option ClientContext). Comes is_sealing old.desk k (Ask ask) p it.outcome) awaits.held
       (subst (λ (w : Awaited). Comes is_sealing old.desk old.context w p it.outcome) what_is it.comes) in
       let outcome_is : it.outcome ≡ due = answers_so is_sealing laws name number m p made reply carries.within carries.least carries.most carries.plaintext carries.inside context ask refl refl it.outcome comes_to in
-      let nothing_out : sent_to from (acknowledgement p) ≡ [] =
-      ap (λ (q : Message). sent_to from (acknowledgement q)) made.whole ∙ no_acknowledgement from m (response_value None) made.sealed carries.kind in
       record {
-        told = it.told
-            ∙ ap (λ out. let s : Step = record { out = out; notes = notes_of it.outcome } in s) nothing_out
-            ∙ ap (λ (o : Outcome). let s : Step = record { out = []; notes = notes_of o } in s) outcome_is;
+        told = it.told ∙ ap (λ (o : Outcome). let s : Step = record { out = sent_to from (acknowledgement p); notes = notes_of o } in s) outcome_is;
         context = ap (λ (c : Client). c.context) it.kept ∙ ap (λ (o : Outcome). context_after o old.context) outcome_is;
         waiting = ap (λ (c : Client). c.waiting) it.kept ∙ ap (λ (o : Outcome). waits_after o it.waiting) outcome_is;
         desk = ap (λ (c : Client). c.desk) it.kept;
@@ -242,7 +250,8 @@ module _ (is_sealing : List ℕ → List ℕ → List ℕ → List ℕ → List 
         origin = ap (λ (c : Client). c.origin) it.kept;
       }
 
-  pub reply_accepted : IsSendable p → ClientHears is_sealing old now from (spelling p) step new → IsAnswered old name number reply step new
+  pub reply_accepted : IsCarried p → ClientHears is_sealing old now from (spelling p) step new
+      → IsAnsweredWith (sent_to from (acknowledgement p)) old name number reply step new
   reply_accepted sendable hears =
       let v = response_value None in
       let as_it : hears.received ≡ received.Message (protected m 68 v made.sealed) =
@@ -250,7 +259,7 @@ module _ (is_sealing : List ℕ → List ℕ → List ℕ → List ℕ → List 
       let case_is : client_case old.next_hop from old.waiting (heard old.endpoint.seen now from hears.received) ≡ Counted p =
       ap (λ (r : Received). client_case old.next_hop from old.waiting (heard old.endpoint.seen now from r)) as_it
       ∙ ap (λ (w : Option Waiting). client_case old.next_hop from w (heard old.endpoint.seen now from (received.Message (protected m 68 v made.sealed)))) awaits.waits
-      ∙ reply_case old.next_hop from awaits.waiting old.endpoint.seen now m v made.sealed carries.inside laws.value_short awaits.peer carries.kind
-      (awaits.id ∙ sym carries.id) (awaits.token ∙ sym carries.token)
+      ∙ reply_case old now from awaits.waiting request m v made.sealed carries.inside laws.value_short awaits.peer carries.comes
+      awaits.id (awaits.token ∙ sym carries.token)
       ∙ ap Counted (sym made.whole) in
       counted (subst (λ (c : Case). ClientAnswers is_sealing old now from c step new) case_is hears.answers)

@@ -41,9 +41,10 @@ use Rattle.osc_server.specs.declared.case.Case.{Case}
 use Rattle.osc_server.specs.declared.case.Case.TheVariants.{Protected}
 use Rattle.osc_server.specs.declared.refusal.Refusal.{Refusal}
 use Rattle.osc_server.specs.declared.refusal.Refusal.TheVariants.{Malformed, NoContext, Replayed, NotGenuine}
-use Rattle.osc_rounds.specs.Asked.{AwaitsRequest, IsDirect, IsServed}
-use Rattle.osc_rounds.specs.Sendable.{IsSendable}
+use Rattle.osc_rounds.specs.Asked.{AreForServer, AwaitsRequest, IsForServer, IsServed, a_uri_host, nothing}
+use Rattle.osc_proxy.specs.ThereAndBack.{IsCarried}
 use Rattle.osc_server.specs.Hearing.{Hears as ServerHears}
+use Rattle.osc_client.specs.Way.{IsHost}
 
 -- ---- what the floors below say
 
@@ -63,7 +64,7 @@ module _ (is_sealing : List ℕ → List ℕ → List ℕ → List ℕ → List 
 
 -- a message that is sent is received as itself
 pub received_as : ((bytes : List ℕ) (a b : Received) → Receives bytes a → Receives bytes b → a ≡ b)
-    → (message : Message) (it : Received) → IsSendable message → Receives (spelling message) it → it ≡ received.Message message
+    → (message : Message) (it : Received) → IsCarried message → Receives (spelling message) it → it ≡ received.Message message
 received_as one message it sendable is =
     one (spelling message) it (received.Message message) is (sendable.short, record { lawful = sendable.lawful; whole = refl })
 
@@ -71,6 +72,10 @@ received_as one message it sendable is =
 
 pub one_option : (v : List ℕ) → length v ≤ 255 → unrecognised_critical 0 ((9, v) ∷ []) ≡ None
 one_option v short = rw (le-leb 0 (length v) (omega arith), le-leb (length v) 255 short) refl
+
+with_host : (host v : List ℕ) → IsHost host → length v ≤ 255 → unrecognised_critical 0 ((3, host) ∷ (9, v) ∷ []) ≡ None
+with_host host v is short =
+    rw (le-leb 1 (length host) is.0, le-leb (length host) 255 is.1, le-leb 0 (length v) (omega arith), le-leb (length v) 255 short) refl
 
 -- the protected message in place of m, by its parts
 abbrev pub in_place : Message → ℕ → List NumberAndValue → List ℕ → Message
@@ -80,17 +85,27 @@ case_by_options : (open_scope : Scope) (m : Message) (v sealed : List ℕ) → l
     → server_case open_scope (heard_as.Message (in_place m 2 ((9, v) ∷ []) sealed)) ≡ Protected (in_place m 2 ((9, v) ∷ []) sealed)
 case_by_options open_scope m v sealed short = rw (one_option v short) refl
 
+case_with_host : (open_scope : Scope) (m : Message) (host v sealed : List ℕ) → IsHost host → length v ≤ 255
+    → server_case open_scope (heard_as.Message (in_place m 2 ((3, host) ∷ (9, v) ∷ []) sealed)) ≡ Protected (in_place m 2 ((3, host) ∷ (9, v) ∷ []) sealed)
+case_with_host open_scope m host v sealed is short = rw (with_host host v is short) refl
+
 heard_by_kind : (seen : List Entry) (now : Moment) (from : Peer) (m : Message) (options : List NumberAndValue) (sealed : List ℕ)
     → m.kind ≡ Confirmable → looked now from m.id seen ≡ None
     → heard seen now from (received.Message (in_place m 2 options sealed)) ≡ heard_as.Message (in_place m 2 options sealed)
 heard_by_kind seen now from m options sealed kind unheard = rw (kind, unheard) refl
 
+case_by_outside : (open_scope : Scope) (m : Message) (outer : List NumberAndValue) (v sealed : List ℕ) → AreForServer outer → length v ≤ 255
+    → server_case open_scope (heard_as.Message (in_place m 2 (merge outer ((9, v) ∷ [])) sealed)) ≡ Protected (in_place m 2 (merge outer ((9, v) ∷ [])) sealed)
+case_by_outside open_scope m outer v sealed (nothing is) short = rw is (case_by_options open_scope m v sealed short)
+case_by_outside open_scope m outer v sealed (a_uri_host host lawful is) short = rw is (case_with_host open_scope m host v sealed lawful short)
+
 protected_case : (open_scope : Scope) (seen : List Entry) (now : Moment) (from : Peer) (m : Message) (v sealed : List ℕ)
-    → IsDirect m → length v ≤ 255 → looked now from m.id seen ≡ None
+    → IsForServer m → length v ≤ 255 → looked now from m.id seen ≡ None
     → server_case open_scope (heard seen now from (received.Message (protected m 2 v sealed))) ≡ Protected (protected m 2 v sealed)
-protected_case open_scope seen now from m v sealed direct short unheard =
-    let options : merge (outer_options m.options) ((9, v) ∷ []) ≡ (9, v) ∷ [] = ap (λ (outer : List NumberAndValue). merge outer ((9, v) ∷ [])) direct.inside in
-    rw options (ap (server_case open_scope) (heard_by_kind seen now from m ((9, v) ∷ []) sealed direct.kind unheard) ∙ case_by_options open_scope m v sealed short)
+protected_case open_scope seen now from m v sealed is short unheard =
+    let options : List NumberAndValue = merge (outer_options m.options) ((9, v) ∷ []) in
+    ap (server_case open_scope) (heard_by_kind seen now from m options sealed is.kind unheard)
+    ∙ case_by_outside open_scope m (outer_options m.options) v sealed is.outside short
 
 -- ---- what it says
 
@@ -157,7 +172,7 @@ module _ (is_sealing : List ℕ → List ℕ → List ℕ → List ℕ → List 
 
 module _ (is_sealing : List ℕ → List ℕ → List ℕ → List ℕ → List ℕ → Type 0) (laws : RequestLaws is_sealing)
     (old : Server) (now : Moment) (from : Peer) (draw : Draw) (held : Held) (number : ℕ) (m p : Message) (step : Step) (new : Server)
-    (awaits : AwaitsRequest old now from held number m.id) (direct : IsDirect m)
+    (awaits : AwaitsRequest old now from held number m.id) (for_server : IsForServer m)
     (made : IsProtectedRequest is_sealing held.name number m p) where
   abbrev name : ContextName
   name = held.name
@@ -239,13 +254,13 @@ module _ (is_sealing : List ℕ → List ℕ → List ℕ → List ℕ → List 
   answered_so (served s) = is_served s
 
   -- it comes to the server, which serves it
-  pub request_served : IsSendable p → ServerHears is_sealing old now draw from (spelling p) step new → IsServed is_sealing old now from draw p held number (plain_bytes m) step new
+  pub request_served : IsCarried p → ServerHears is_sealing old now draw from (spelling p) step new → IsServed is_sealing old now from draw p held number (plain_bytes m) step new
   request_served sendable hears =
       let v = request_value name number in
       let as_it : hears.received ≡ received.Message (protected m 2 v made.sealed) =
       received_as laws.one_reception p hears.received sendable hears.receives ∙ ap received.Message made.whole in
       let case_is : server_case old.open_scope (heard old.endpoint.seen now from hears.received) ≡ Protected p =
       ap (λ (r : Received). server_case old.open_scope (heard old.endpoint.seen now from r)) as_it
-      ∙ protected_case old.open_scope old.endpoint.seen now from m v made.sealed direct (laws.value_short name number awaits.lawful.context awaits.lawful.client_id) awaits.unheard
+      ∙ protected_case old.open_scope old.endpoint.seen now from m v made.sealed for_server (laws.value_short name number awaits.lawful.context awaits.lawful.client_id) awaits.unheard
       ∙ ap Protected (sym made.whole) in
       answered_so (subst (λ (c : Case). ServerAnswers is_sealing old now from draw c step new) case_is hears.answers)

@@ -7,7 +7,7 @@ use Rattle.osc_model.specs.declared.context.ContextName.{ContextName}
 use Rattle.osc_model.specs.declared.context.Side.TheVariants as side
 use Rattle.osc_model.specs.declared.reply.Reply.{Reply}
 use Rattle.osc_coap.specs.Building.{payload_of}
-use Rattle.osc_coap.specs.Length.{extension_length, payload_length, spelled_length}
+use Rattle.osc_coap.specs.Length.{datagram_limit, extension_length, payload_length, spelled_length}
 use Rattle.osc_coap.specs.Message.{HasSpelling, Message, NumberAndValue, spelling}
 use Rattle.osc_coap.specs.Plaintext.{Plaintext, plaintext_spelling}
 use Rattle.osc_options.specs.PlaintextReplies.{reply_plaintext}
@@ -16,7 +16,7 @@ use Rattle.osc_context.specs.Derivation.{key_of}
 use Rattle.osc_protect.specs.Aad.{aad_of}
 use Rattle.osc_protect.specs.Protection.{request_nonce, response_nonce, IsProtectedRequest, IsProtectedResponse, longest_message, plain_bytes, request_length, request_value, response_value}
 use Rattle.osc_run.specs.Texts.{reply_text}
-use Rattle.osc_rounds.specs.Sendable.{IsSendable}
+use Rattle.osc_proxy.specs.ThereAndBack.{IsCarried}
 use Rattle.osc_rounds.proofs.Asking.{in_place}
 
 -- ---- a message with option 9 alone
@@ -86,17 +86,23 @@ text_length law m reply same is =
 
 module _ (is_sealing : List ℕ → List ℕ → List ℕ → List ℕ → List ℕ → Type 0) (tag : ℕ) (exact : LengthLaw)
     (sealed_length : (key nonce aad text sealed : List ℕ) → is_sealing key nonce aad text sealed → length sealed ≡ length text + tag) where
-  pub request_sendable : (name : ContextName) (number : ℕ) (m p : Message) → IsProtectedRequest is_sealing name number m p
-      → outer_options m.options ≡ [] → m.id < 2 ^ 16 → length m.token ≤ 8 → length (request_value name number) ≤ 255
-      → request_length tag name number m ≤ longest_message → IsSendable p
-  request_sendable name number m p made inside id token short fits =
+  pub request_short : (name : ContextName) (number : ℕ) (m p : Message) → IsProtectedRequest is_sealing name number m p
+      → request_length tag name number m ≤ longest_message → length (spelling p) ≤ datagram_limit
+  request_short name number m p made fits =
       let v = request_value name number in
       let size = length (plain_bytes m) + tag in
-      let long : length made.sealed ≡ length (replicate size 0) = (sealed_length (key_of name side.Client) (request_nonce name number) (aad_of name number) (plain_bytes m) made.sealed made.is_sealed) ∙ sym (length-replicate {A = ℕ} size 0) in
-      subst IsSendable (sym made.whole) (record {
-        lawful = protected_lawful m 2 v made.sealed inside (omega arith) id token short;
-        short = omega (arith, fits, same_length exact m 2 v made.sealed (replicate size 0) long);
-      })
+      let zeros : List ℕ = replicate size 0 in
+      let long : length made.sealed ≡ length zeros = (sealed_length (key_of name side.Client) (request_nonce name number) (aad_of name number) (plain_bytes m) made.sealed made.is_sealed) ∙ sym (length-replicate {A = ℕ} size 0) in
+      subst (λ (q : Message). length (spelling q) ≤ datagram_limit) (sym made.whole)
+      (omega (arith, fits, same_length exact m 2 v made.sealed zeros long))
+
+  pub request_sendable : (name : ContextName) (number : ℕ) (m p : Message) → IsProtectedRequest is_sealing name number m p
+      → outer_options m.options ≡ [] → m.id < 2 ^ 16 → length m.token ≤ 8 → length (request_value name number) ≤ 255
+      → request_length tag name number m ≤ longest_message → IsCarried p
+  request_sendable name number m p made inside id token short fits = record {
+    lawful = subst HasSpelling (sym made.whole) (protected_lawful m 2 (request_value name number) made.sealed inside (omega arith) id token short);
+    short = request_short name number m p made fits;
+  }
 
   response_length : (m : Message) (v sealed : List ℕ) → outer_options m.options ≡ [] → length m.token ≤ 8 → length v ≤ 255
       → length (spelling (protected m 68 v sealed)) ≤ 271 + length sealed
@@ -107,13 +113,13 @@ module _ (is_sealing : List ℕ → List ℕ → List ℕ → List ℕ → List 
   pub response_sendable : TextLaw → (name : ContextName) (number : ℕ) (m p : Message) (reply : Reply)
       → IsProtectedResponse is_sealing name number None m p
       → outer_options m.options ≡ [] → m.id < 2 ^ 16 → length m.token ≤ 8 → length (response_value None) ≤ 255 → tag ≤ 16
-      → plaintext_of m ≡ reply_plaintext reply → IsShortReply reply → IsSendable p
+      → plaintext_of m ≡ reply_plaintext reply → IsShortReply reply → IsCarried p
   response_sendable text_law name number m p reply made inside id token short few plaintext is =
       let v = response_value None in
       let text : length (plain_bytes m) ≤ 526 = text_length text_law m reply plaintext is in
       let long : length made.sealed ≡ length (plain_bytes m) + tag = sealed_length (key_of name side.Server) (response_nonce name number None) (aad_of name number) (plain_bytes m) made.sealed made.is_sealed in
       let whole : length (spelling (protected m 68 v made.sealed)) ≤ 271 + length made.sealed = response_length m v made.sealed inside token short in
-      subst IsSendable (sym made.whole) (record {
+      subst IsCarried (sym made.whole) (record {
         lawful = protected_lawful m 68 v made.sealed inside (omega arith) id token short;
         short = omega (arith, text, long, whole, few);
       })

@@ -1,5 +1,5 @@
--- A request that goes straight to the server, and its answer: how both ends stand before, and what comes of it.
-use Rattle.std.specs.Prelude.{◌≡◌, ℕ, ◌≤◌, ◌<◌, ◌^◌, List, [], ◌∷◌, Some, None}
+-- A request that goes straight to the server, and its answer: what comes of it.
+use Rattle.std.specs.Prelude.{◌≡◌, ◌≢◌, ℕ, ◌+◌, List, [], ◌∷◌, Some, None}
 use Rattle.osc_model.specs.Apply.{apply_read}
 use Rattle.osc_model.specs.Tree.{IsWithinLimits}
 use Rattle.osc_model.specs.declared.node.Draw.{Draw}
@@ -12,14 +12,9 @@ use Rattle.osc_coap.specs.Message.{Message, spelling}
 use Rattle.osc_dedup.specs.Table.{looked}
 use Rattle.osc_message.specs.Endpoint.{own_id}
 use Rattle.osc_message.specs.Sending.{datagram}
-use Rattle.osc_protect.specs.Protection.{HasShortContext, plain_bytes}
-use Rattle.osc_context.specs.Nonce.{greatest_number}
-use Rattle.osc_window.specs.Window.{IsFresh}
-use Rattle.osc_authz.specs.Begun.{Made as ClientContext}
-use Rattle.osc_authz.specs.Contexts.{IsLive}
+use Rattle.osc_protect.specs.Protection.{plain_bytes}
 use Rattle.osc_authz.specs.Held.{Held}
-use Rattle.osc_authz.specs.Members.{In}
-use Rattle.osc_authz.specs.Table.{IsTable, contexts}
+use Rattle.osc_authz.specs.Table.{IsTable, accepted}
 use Rattle.osc_run.specs.ClientKinds.{request_note}
 use Rattle.osc_run.specs.ServerKinds.{Replies as AppliesTo}
 use Rattle.osc_run.specs.Texts.{read_request}
@@ -36,45 +31,33 @@ pub record IsLawfulServer (server : Server) : Type 0 where
   pub limits : IsWithinLimits server.tree
   pub table : IsTable server.desk.table
 
--- The client, which has this address, waits for nothing and sends straight to the server, which has that one. Both have a context of
--- one name, which is live at the server, and the client's next number is one that may be taken, and fresh at the server. The message
--- ID that the client takes wasn't heard at the server.
-pub record MayAsk (client : Client) (server : Server) (now : Moment) (draw : Draw) (at server_at : Peer) (context : ClientContext) (held : Held) : Type 0 where
-  pub direct : client.origin ≡ None
-  pub next_hop : client.next_hop ≡ server_at
-  pub idle : client.waiting ≡ None
-  pub has : client.context ≡ Some context
-  pub here : In held (contexts server.desk.table)
-  pub one_name : held.name ≡ context.name
-  pub live : IsLive now held
-  pub number : context.next ≤ greatest_number
-  pub fresh : IsFresh held.window context.next
-  pub unheard : looked now at (own_id draw client.endpoint.next_id) server.endpoint.seen ≡ None
-  -- what is true of each message ID and id context
-  pub id : own_id draw client.endpoint.next_id < 2 ^ 16
-  pub short : HasShortContext held.name
-
 abbrev pub asked_text : Client → Draw → Request → List ℕ
 asked_text client draw request = plain_bytes (plain_of client draw request)
 
 -- `is_sealing key nonce aad text sealed` is the cipher's relation
 module _ (is_sealing : List ℕ → List ℕ → List ℕ → List ℕ → List ℕ → Type 0) where
-  -- The server serves this text as one entry, under its context's scope, and sends one datagram, which the client takes for the
-  -- answer, with that reply.
+  -- The server serves this text as one entry, under its context's scope, whose window takes the number, and sends one datagram, which
+  -- the client takes for the answer, with that reply.
   pub record IsServedAndAnswered (asked : Client) (server : Server) (now : Moment) (at server_at : Peer) (held : Held) (number : ℕ) (text : List ℕ) (second : Step) (served : Server) : Type 0 where
     pub reply : Reply
     pub applied : AppliesTo server.tree (apply_read server.tree held.scope (read_request text)) reply served.tree
     pub entry : second.notes ≡ notes_of_request now held number text reply
+    pub kept : served.desk ≡ record server.desk { table = accepted held.name.client_id number server.desk.table }
     pub answer : Message
     pub out : second.out ≡ datagram at answer ∷ []
     pub answered : (third : Step) (after : Client) → ClientHears is_sealing asked now server_at (spelling answer) third after
         → IsAnswered asked held.name number reply third after
 
-  -- One datagram goes to the server; and where that comes there, it is served and answered.
+  -- One datagram goes to the server, and the client's next number is taken; and where that comes there, it is served and answered, and
+  -- of the client's other message IDs the server has heard none that it hadn't heard before.
   pub record IsAskedAndAnswered (client : Client) (server : Server) (now : Moment) (draw : Draw) (request : Request) (at server_at : Peer) (held : Held) (number : ℕ) (first : Step) (asked : Client) : Type 0 where
     pub message : Message
     pub out : first.out ≡ datagram client.next_hop message ∷ []
     pub sealed : first.notes.seals ≡ Some (request_note held.name number (asked_text client draw request))
     pub unserved : first.notes.served ≡ None
+    pub context : asked.context ≡ Some (record { name = held.name; next = number + 1 })
     pub served : (server_draw : Draw) (second : Step) (after : Server) → ServerHears is_sealing server now server_draw at (spelling message) second after
         → IsServedAndAnswered asked server now at server_at held number (asked_text client draw request) second after
+    pub heard : (server_draw : Draw) (second : Step) (after : Server) → ServerHears is_sealing server now server_draw at (spelling message) second after
+        → (later : Moment) (id : ℕ) → id ≢ own_id draw client.endpoint.next_id → looked later at id server.endpoint.seen ≡ None
+        → looked later at id after.endpoint.seen ≡ None

@@ -1,5 +1,5 @@
--- An exchange that goes straight to the server: how both ends stand before, and what comes of it.
-use Rattle.std.specs.Prelude.{◌≡◌, ℕ, ◌<◌, ◌^◌, List, [], ◌∷◌, length, Some, None}
+-- An exchange that goes straight to the server: what comes of it.
+use Rattle.std.specs.Prelude.{◌≡◌, ℕ, List, [], ◌∷◌, length, Some, None}
 use Rattle.osc_model.specs.Draw.{nonce_drawn}
 use Rattle.osc_model.specs.StepNotes.{quiet}
 use Rattle.osc_model.specs.declared.node.Draw.{Draw}
@@ -8,17 +8,13 @@ use Rattle.osc_model.specs.declared.node.Peer.{Peer}
 use Rattle.osc_model.specs.declared.step.ClientResult.TheVariants as result
 use Rattle.osc_model.specs.declared.step.Step.{Step}
 use Rattle.osc_coap.specs.Message.{Message, spelling}
-use Rattle.osc_dedup.specs.Table.{looked}
-use Rattle.osc_message.specs.Endpoint.{own_id}
 use Rattle.osc_message.specs.Sending.{datagram}
 use Rattle.osc_protect.specs.Protection.{HasShortContext}
 use Rattle.osc_scope.specs.Entries.{Entry, scope_of}
-use Rattle.osc_token.specs.declared.claims.Claims.{Claims}
 use Rattle.osc_authz.specs.Contexts.{IsLive}
 use Rattle.osc_authz.specs.Held.{Held}
 use Rattle.osc_authz.specs.Members.{In}
 use Rattle.osc_authz.specs.Table.{contexts}
-use Rattle.osc_authz.specs.Welcome.{IsWelcome}
 use Rattle.osc_server.specs.State.{State as Server}
 use Rattle.osc_client.specs.State.{State as Client}
 use Rattle.osc_client.specs.Hearing.{Hears as ClientHears}
@@ -40,18 +36,6 @@ pub record IsHeld (server : Server) (now : Moment) (entries : List Entry) (held 
 
 -- `is_sealing key nonce aad text sealed` is the cipher's relation
 module _ (is_sealing : List ℕ → List ℕ → List ℕ → List ℕ → List ℕ → Type 0) where
-  -- The client, which has this address, waits for nothing, sends straight to the server, which has that one, and holds a token that
-  -- is welcome there. The message ID that the client takes wasn't heard at the server.
-  pub record MayExchange (client : Client) (server : Server) (now : Moment) (draw : Draw) (at server_at : Peer) (claims : Claims) (entries : List Entry) : Type 0 where
-    pub direct : client.origin ≡ None
-    pub next_hop : client.next_hop ≡ server_at
-    pub idle : client.waiting ≡ None
-    pub unheard : looked now at (own_id draw client.endpoint.next_id) server.endpoint.seen ≡ None
-    pub welcome : IsWelcome is_sealing server.desk now claims entries client.desk
-    -- what the types of a message ID and of a draw say
-    pub id : own_id draw client.endpoint.next_id < 2 ^ 16
-    pub draw_size : length draw.0 ≡ 32
-
   -- The server sends one datagram; and where that comes to the client, both have a context of one name, the server's with the scope
   -- of these entries.
   pub record IsAgreedAndMade (begun : Client) (now : Moment) (at server_at : Peer) (entries : List Entry) (second : Step) (agreed : Server) : Type 0 where

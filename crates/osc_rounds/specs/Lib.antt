@@ -1,5 +1,11 @@
 -- Definitions that the contracts cite.
-pub mod Sendable
+pub mod Ready
 pub mod Asked
 pub mod AskRound
+pub mod ForProxy
+pub mod AskRoundThrough
 pub mod ExchangeRound
+pub mod Agreement
+pub mod ProxiedExchange
+pub mod RoundNotes
+pub mod ExchangeRoundThrough

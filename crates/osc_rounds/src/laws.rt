@@ -1,6 +1,8 @@
 //! Laws of the definitions, for the crates above. These functions do nothing: whoever calls one has its clauses for a proof.
 
-ghost use Rattle.std.specs.Prelude.{◌≡◌, ◌≢◌, ℕ, List, Some, None};
+ghost use Rattle.std.specs.Prelude.{◌≡◌, ◌≢◌, ◌<◌, ◌^◌, ℕ, false, List, [], Option, Some, None, ◌≤◌, length, ◌∷◌, ◌++◌};
+ghost use Rattle.osc_model.specs.Step.{sends};
+ghost use Rattle.osc_model.specs.StepNotes.{StepNotes, quiet};
 ghost use Rattle.osc_model.specs.declared.context.ContextName.{ContextName as AnyName};
 ghost use Rattle.osc_model.specs.declared.node.Draw.{Draw as AnyDraw};
 ghost use Rattle.osc_model.specs.declared.node.Moment.{Moment as AnyMoment};
@@ -9,26 +11,56 @@ ghost use Rattle.osc_model.specs.declared.reply.Reply.{Reply as AnyReply};
 ghost use Rattle.osc_model.specs.declared.request.Request.{Request as AnyRequest};
 ghost use Rattle.osc_model.specs.declared.step.ClientResult.TheVariants as result_as;
 ghost use Rattle.osc_model.specs.declared.step.Step.{Step as AnyStep};
+ghost use Rattle.osc_cbor.specs.Spelling.{spelling as item_spelling};
 ghost use Rattle.osc_coap.specs.Message.{Message, spelling};
+ghost use Rattle.osc_coap.specs.declared.kind.Kind.{Kind as AnyKind};
+ghost use Rattle.osc_options.specs.Split.{AreInOrder, outer_options};
+ghost use Rattle.osc_message.specs.Confirmables.{acknowledged};
+ghost use Rattle.osc_message.specs.Sending.{acknowledgement, empty_acknowledgement, sent_to, datagram};
+ghost use Rattle.osc_coap.specs.declared.kind.Kind.TheVariants.{Acknowledgement, Confirmable};
+ghost use Rattle.osc_dedup.specs.Table.{looked};
 ghost use Rattle.osc_scope.specs.Entries.{Entry};
+ghost use Rattle.osc_message.specs.Endpoint.{own_id};
 ghost use Rattle.osc_protect.specs.Protection.{IsProtectedRequest, IsProtectedResponse, plain_bytes};
+ghost use Rattle.osc_token.specs.Token.{claims_item};
 ghost use Rattle.osc_token.specs.declared.claims.Claims.{Claims as AnyClaims};
-ghost use Rattle.osc_authz.specs.Begun.{Made as ClientContext};
+ghost use Rattle.osc_authz.specs.Begun.{Begun, Made as ClientContext};
 ghost use Rattle.osc_authz.specs.Held.{Held};
+ghost use Rattle.osc_authz.specs.declared.granted.ClientDesk.{ClientDesk as Holder};
+ghost use Rattle.osc_authz.specs.Members.{In};
+ghost use Rattle.osc_authz.specs.Table.{IsTable, contexts};
+ghost use Rattle.osc_authz.specs.declared.holding.Holding.{Holding};
+ghost use Rattle.osc_run.specs.Notes.{Noted};
+ghost use Rattle.osc_run.specs.Premise.{HasFreshDraws, IsMinted, Premise};
+ghost use Rattle.osc_run.specs.States.{Minted};
 ghost use Rattle.osc_server.specs.Hearing.{Hears as ServerHears};
 ghost use Rattle.osc_server.specs.State.{State as Server};
 ghost use Rattle.osc_client.specs.Hearing.{Hears as ClientHears};
-ghost use Rattle.osc_client.specs.Sending.{Asks, Exchanges};
+ghost use Rattle.osc_client.specs.Sending.{Asks, Exchanges, post_of};
 ghost use Rattle.osc_client.specs.State.{State as Client};
-ghost use Rattle.osc_rounds.specs.Asked.{AwaitsReply, AwaitsRequest, CarriesReply, IsAnswered, IsDirect, IsServed};
-ghost use Rattle.osc_rounds.specs.AskRound.{IsAskedAndAnswered, IsLawfulServer, MayAsk};
-ghost use Rattle.osc_rounds.specs.ExchangeRound.{IsBegunAndMade, MayExchange};
-ghost use Rattle.osc_rounds.specs.Sendable.{IsSendable};
+ghost use Rattle.osc_client.specs.Way.{HostAndPort, IsLawfulOrigin, through};
+ghost use Rattle.osc_proxy.specs.Forwarding.{answer as sent_back, forwarded, forwarded_options, has_proxy_uri};
+ghost use Rattle.osc_proxy.specs.State.{State as Proxy};
+ghost use Rattle.osc_rounds.specs.Asked.{AwaitsReply, AwaitsRequest, CarriesReply, IsAnsweredWith, IsForServer, IsServed};
+ghost use Rattle.osc_rounds.specs.AskRound.{IsAskedAndAnswered, IsLawfulServer, asked_text};
+ghost use Rattle.osc_rounds.specs.AskRoundThrough.{IsAskedAndServedThrough};
+ghost use Rattle.osc_rounds.specs.ExchangeRound.{IsBegunAndMade, IsHeld};
+ghost use Rattle.osc_rounds.specs.ExchangeRoundThrough.{IsPostedAndAgreedThrough};
+ghost use Rattle.osc_rounds.specs.Ready.{IsStraight, IsThrough, MayAsk, MayExchange};
+ghost use Rattle.osc_client.specs.Lawful.{IsLawfulClient};
+ghost use Rattle.osc_proxy.specs.ThereAndBack.{IsCarried, IsLawfulProxy};
+ghost use Rattle.osc_rounds.specs.Agreement.{AwaitsAgreement, AwaitsPost, IsAgreedTo, agreement};
+ghost use Rattle.osc_rounds.specs.ForProxy.{IsForProxy};
+ghost use Rattle.osc_rounds.specs.ProxiedExchange.{IsBegunAndMadeThrough, IsMadeThrough, IsPostedThrough, MayExchangeThrough};
+ghost use Rattle.osc_rounds.specs.RoundNotes.{AreAmongQuiet, AreNotesOfExchange, AreNotesOfRequest};
 
-use osc_authz::laws::{held_contexts_are_meant, lengths_of_answers, one_name, welcome_posts};
+use osc_authz::laws::{
+    held_contexts_are_meant, lengths_of_answers, one_name, one_payload, posts_that_agree,
+    welcome_posts, what_is_written,
+};
 use osc_ccm::Aead;
-use osc_coap::laws::{length_of_spelling, one_plaintext};
-use osc_message::laws::{one_peer, one_reception};
+use osc_coap::laws::{fewer_options, length_of_spelling, one_plaintext};
+use osc_message::laws::{one_peer, one_reception, what_nodes_send};
 use osc_options::laws::{
     a_reply_is_read_again, a_written_reply, option_of_a_protected_message, requests_are_encrypted,
 };
@@ -36,15 +68,18 @@ use osc_protect::laws::{
     lengths_of_values, one_value, unprotecting_a_protected_request,
     unprotecting_a_protected_response,
 };
+use osc_proxy::laws::{a_request_goes_there_and_back, forwarding_adds_nothing};
 use osc_run::laws::codes_of_replies;
 use osc_server::laws::lengths_of_replies;
+use osc_token::laws::{minted_tokens, one_token};
 
-/// A protected request that comes straight to a server that has its context, live, and its number fresh, is served: its plaintext
-/// is applied to the resources under the context's scope, one entry is served, and one protected reply goes out.
+/// A protected request that comes to a server that has its context, live, and its number fresh, straight or with the Uri-Host that a
+/// proxy leaves, is served: its plaintext is applied to the resources under the context's scope, one entry is served, and one protected
+/// reply goes out.
 pub fn a_request_is_served<A: Aead>()
     ensures { (old new : Server) (now : AnyMoment) (from : AnyPeer) (draw : AnyDraw) (held : Held) (number : ℕ) (plain protected : Message) (step : AnyStep)
-        → AwaitsRequest old now from held number plain.id → IsDirect plain
-        → IsProtectedRequest A.is_sealing held.name number plain protected → IsSendable protected
+        → AwaitsRequest old now from held number plain.id → IsForServer plain
+        → IsProtectedRequest A.is_sealing held.name number plain protected → IsCarried protected
         → ServerHears A.is_sealing old now draw from (spelling protected) step new
         → IsServed A.is_sealing old now from draw protected held number (plain_bytes plain) step new }
 {
@@ -55,14 +90,14 @@ pub fn a_request_is_served<A: Aead>()
     unprotecting_a_protected_request::<A>();
 }
 
-/// A protected reply that comes in the acknowledgement of what a client asked is its answer: the reply that was encrypted is the
-/// result, nothing goes out, and nothing waits.
+/// A protected reply to what a client asked, which comes in the acknowledgement, or in a confirmable message that it hasn't heard
+/// before, is its answer: the reply that was encrypted is the result, a confirmable message is acknowledged, and nothing waits.
 pub fn a_reply_is_accepted<A: Aead>()
     ensures { (old new : Client) (now : AnyMoment) (from : AnyPeer) (name : AnyName) (number : ℕ) (request plain protected : Message) (reply : AnyReply) (step : AnyStep)
-        → AwaitsReply old from name number request → CarriesReply request reply plain
-        → IsProtectedResponse A.is_sealing name number None plain protected → IsSendable protected
+        → AwaitsReply old from name number request → CarriesReply old now from request reply plain
+        → IsProtectedResponse A.is_sealing name number None plain protected → IsCarried protected
         → ClientHears A.is_sealing old now from (spelling protected) step new
-        → IsAnswered old name number reply step new }
+        → IsAnsweredWith (sent_to from (acknowledgement protected)) old name number reply step new }
 {
     one_reception();
     one_value();
@@ -80,7 +115,8 @@ pub fn a_reply_is_accepted<A: Aead>()
 pub fn a_request_is_answered<A: Aead>()
     ensures { (client asked : Client) (server : Server) (asked_at now : AnyMoment) (draw : AnyDraw) (request : AnyRequest) (at server_at : AnyPeer)
         (context : ClientContext) (held : Held) (first : AnyStep)
-        → IsLawfulServer server → MayAsk client server now draw at server_at context held
+        → IsLawfulServer server → IsLawfulClient asked
+        → IsStraight client server now draw at server_at → MayAsk client server now context held
         → first.notes.result ≢ Some (result_as.Refused 14)
         → Asks A.is_sealing A.TAG client asked_at request draw first asked
         → IsAskedAndAnswered A.is_sealing client server now draw request at server_at held context.next first asked }
@@ -108,7 +144,7 @@ pub fn a_request_is_answered<A: Aead>()
 pub fn an_exchange_is_made<A: Aead>()
     ensures { (client begun : Client) (server : Server) (asked_at now : AnyMoment) (draw : AnyDraw) (at server_at : AnyPeer)
         (claims : AnyClaims) (entries : List Entry) (first : AnyStep)
-        → MayExchange A.is_sealing client server now draw at server_at claims entries
+        → IsLawfulClient begun → IsStraight client server now draw at server_at → MayExchange A.is_sealing client server now claims entries
         → first.notes.result ≢ Some (result_as.Refused 14)
         → Exchanges client asked_at draw first begun
         → IsBegunAndMade A.is_sealing client server now draw at server_at entries first begun }
@@ -119,4 +155,233 @@ pub fn an_exchange_is_made<A: Aead>()
     lengths_of_answers();
     welcome_posts::<A>();
     one_name::<A>();
+}
+
+/// What a proxy makes of a protected message is protected as it was: of a request without a Proxy-Uri it forwards the same, protected
+/// under the same name and number, with the same bytes inside and, outside, the options that it forwards; and so of a response.
+pub fn forwarding_keeps_the_protection<A: Aead>()
+    ensures request { (name : AnyName) (number : ℕ) (plain protected : Message) (id : ℕ) (token : List ℕ)
+        → AreInOrder 0 plain.options → has_proxy_uri plain.options ≡ false → IsProtectedRequest A.is_sealing name number plain protected
+        → IsProtectedRequest A.is_sealing name number (forwarded id token plain) (forwarded id token protected) }
+    ensures inside { (message : Message) (id : ℕ) (token : List ℕ) → has_proxy_uri message.options ≡ false
+        → plain_bytes (forwarded id token message) ≡ plain_bytes message }
+    ensures outside { (message : Message) (id : ℕ) (token : List ℕ) → has_proxy_uri message.options ≡ false
+        → outer_options (forwarded id token message).options ≡ forwarded_options (outer_options message.options) }
+    ensures response { (name : AnyName) (number : ℕ) (own : Option ℕ) (plain protected : Message) (kind : AnyKind) (id : ℕ) (token : List ℕ)
+        → IsProtectedResponse A.is_sealing name number own plain protected
+        → IsProtectedResponse A.is_sealing name number own (sent_back kind id token plain) (sent_back kind id token protected) }
+{}
+
+/// An empty acknowledgement that comes to a client acknowledges the confirmable message that it names: nothing goes out, and nothing
+/// else changes.
+pub fn an_acknowledgement_is_heard<A: Aead>()
+    ensures { (old new : Client) (now : AnyMoment) (from : AnyPeer) (id : ℕ) (step : AnyStep) → id < 2 ^ 16
+        → ClientHears A.is_sealing old now from (spelling (empty_acknowledgement id)) step new
+        → (step ≡ sends []) × (new ≡ record old { endpoint = record old.endpoint { sending = acknowledged from id old.endpoint.sending } }) }
+{
+    one_reception();
+    what_nodes_send();
+}
+
+/// What a client posts through a proxy, where nothing waits and the post isn't too long for a datagram: one datagram goes to the next hop,
+/// with a message that a proxy can take up for the server.
+pub fn what_is_posted_through_a_proxy()
+    ensures { (old new : Client) (now : AnyMoment) (draw : AnyDraw) (origin : HostAndPort) (step : AnyStep)
+        → old.origin ≡ Some origin → IsLawfulOrigin origin → old.waiting ≡ None → length draw.0 ≡ 32
+        → step.notes.result ≢ Some (result_as.Refused 14)
+        → Exchanges old now draw step new → IsPostedThrough origin old draw step }
+{}
+
+/// A post that a proxy forwards is agreed to, where its token is welcome at the server and its message ID is new there: the answer goes
+/// back in the acknowledgement, under the forwarded token.
+pub fn a_forwarded_post_is_agreed_to<A: Aead>()
+    ensures { (old new : Server) (now : AnyMoment) (from : AnyPeer) (draw : AnyDraw) (claims : AnyClaims) (entries : List Entry)
+        (holder : Holder) (begun : Begun) (origin : HostAndPort) (its_id id : ℕ) (its_token token : List ℕ) (step : AnyStep)
+        → AwaitsPost A.is_sealing old now from id claims entries holder begun → IsLawfulOrigin origin
+        → IsForProxy origin (through (Some origin) (post_of holder begun its_id its_token))
+        → id < 2 ^ 16 → length token ≡ 8
+        → ServerHears A.is_sealing old now draw from (spelling (forwarded id token (through (Some origin) (post_of holder begun its_id its_token)))) step new
+        → IsAgreedTo A.is_sealing old now from draw holder begun id token step new }
+{
+    one_peer();
+    one_reception();
+    length_of_spelling();
+    lengths_of_answers();
+    welcome_posts::<A>();
+    one_name::<A>();
+    forwarding_adds_nothing();
+}
+
+/// What the server agreed to makes the client's context, where a proxy sends the answer back in a confirmable message that is new to the
+/// client, and the client waits for it: server and client have a context of one name, and the message is acknowledged.
+pub fn an_answer_sent_back_makes_a_context<A: Aead>()
+    ensures { (server agreed : Server) (now : AnyMoment) (from : AnyPeer) (draw : AnyDraw) (claims : AnyClaims) (entries : List Entry)
+        (holder : Holder) (begun : Begun) (id : ℕ) (token : List ℕ) (second : AnyStep)
+        (client after : Client) (later : AnyMoment) (hop : AnyPeer) (back : ℕ) (its_token : List ℕ) (third : AnyStep)
+        → AwaitsPost A.is_sealing server now from id claims entries holder begun → length draw.0 ≡ 32
+        → (is : IsAgreedTo A.is_sealing server now from draw holder begun id token second agreed)
+        → AwaitsAgreement client hop holder begun its_token
+        → back < 2 ^ 16 → length its_token ≤ 8 → looked later hop back client.endpoint.seen ≡ None
+        → ClientHears A.is_sealing client later hop (spelling (sent_back Confirmable back its_token (agreement Acknowledgement id token is.answer))) third after
+        → (held : Held) × IsHeld agreed now entries held × IsMadeThrough client hop back held third after }
+{
+    one_peer();
+    one_reception();
+    length_of_spelling();
+    lengths_of_answers();
+    welcome_posts::<A>();
+    one_name::<A>();
+}
+
+/// An exchange through a forward proxy, of a client that may begin one, and whose post isn't too long for a datagram: it goes out in one
+/// datagram, which a proxy can take up; where what a proxy forwards of it comes to the server, the token is opened, a context is added, and
+/// one datagram goes back, which a proxy can send back; and where that comes to the client, both ends have a context of one name, which is live at the
+/// server, with the token's scope.
+pub fn an_exchange_is_made_through_a_proxy<A: Aead>()
+    ensures { (client begun : Client) (server : Server) (asked_at now : AnyMoment) (draw : AnyDraw) (origin : HostAndPort) (proxy_at : AnyPeer)
+        (claims : AnyClaims) (entries : List Entry) (first : AnyStep)
+        → MayExchangeThrough A.is_sealing client server now draw origin proxy_at claims entries
+        → first.notes.result ≢ Some (result_as.Refused 14)
+        → Exchanges client asked_at draw first begun
+        → IsBegunAndMadeThrough A.is_sealing client server now draw origin proxy_at claims entries first begun }
+{
+    one_peer();
+    one_reception();
+    what_nodes_send();
+    length_of_spelling();
+    lengths_of_answers();
+    welcome_posts::<A>();
+    one_name::<A>();
+    forwarding_adds_nothing();
+    what_is_written();
+    one_payload();
+    posts_that_agree::<A>();
+    minted_tokens::<A>();
+    one_token::<A>();
+}
+
+/// A request that goes through a forward proxy, and its answer, where nothing is lost: six datagrams in all. The proxy acknowledges the
+/// request and forwards it; the server serves it as one entry, and answers in the acknowledgement; the proxy sends the answer back; the
+/// client takes it for the answer, with the reply that was served, and acknowledges it; and the proxy is at rest again.
+pub fn a_request_goes_through_a_proxy<A: Aead>()
+    ensures { (client asked : Client) (proxy : Proxy) (server : Server) (asked_at now : AnyMoment) (draw proxy_draw : AnyDraw) (request : AnyRequest)
+        (at proxy_at server_at : AnyPeer) (context : ClientContext) (held : Held) (asks : AnyStep)
+        → IsLawfulServer server → IsLawfulProxy proxy → IsLawfulClient asked → length proxy_draw.0 ≡ 32
+        → (way : IsThrough client proxy server now draw proxy_draw at proxy_at server_at) → MayAsk client server now context held
+        → asks.notes.result ≢ Some (result_as.Refused 14)
+        → Asks A.is_sealing A.TAG client asked_at request draw asks asked
+        → (message : Message)
+        × IsAskedAndServedThrough A.is_sealing (record {
+          asked = asked;
+          proxy = proxy;
+          server = server;
+          at = at;
+          proxy_at = proxy_at;
+          server_at = server_at;
+          now = now;
+          proxy_draw = proxy_draw;
+          held = held;
+          number = context.next;
+          text = asked_text client draw request;
+          message = message;
+          key = way.key;
+        }) client draw request asks }
+{
+    one_peer();
+    held_contexts_are_meant();
+    one_reception();
+    one_value();
+    option_of_a_protected_message();
+    lengths_of_values();
+    unprotecting_a_protected_request::<A>();
+    unprotecting_a_protected_response::<A>();
+    one_plaintext();
+    a_written_reply();
+    a_reply_is_read_again();
+    length_of_spelling();
+    requests_are_encrypted();
+    codes_of_replies();
+    lengths_of_replies();
+    fewer_options();
+    forwarding_adds_nothing();
+    an_acknowledgement_is_heard::<A>();
+    a_request_goes_there_and_back();
+}
+
+/// An exchange that goes through a forward proxy, where nothing is lost: six datagrams in all. The proxy acknowledges the post and forwards
+/// it; the server agrees, and answers in the acknowledgement; the proxy sends the answer back; the client makes its context of it, and
+/// acknowledges it; and the proxy is at rest again.
+pub fn an_exchange_goes_through_a_proxy<A: Aead>()
+    ensures { (client begun : Client) (proxy : Proxy) (server : Server) (begun_at now : AnyMoment) (draw proxy_draw : AnyDraw)
+        (at proxy_at server_at : AnyPeer) (claims : AnyClaims) (entries : List Entry) (posts : AnyStep)
+        → IsLawfulProxy proxy → IsLawfulClient begun → length proxy_draw.0 ≡ 32
+        → (way : IsThrough client proxy server now draw proxy_draw at proxy_at server_at) → MayExchange A.is_sealing client server now claims entries
+        → posts.notes.result ≢ Some (result_as.Refused 14)
+        → Exchanges client begun_at draw posts begun
+        → (message : Message)
+        × IsPostedAndAgreedThrough A.is_sealing (record {
+          begun = begun;
+          proxy = proxy;
+          server = server;
+          at = at;
+          proxy_at = proxy_at;
+          server_at = server_at;
+          now = now;
+          draw = draw;
+          proxy_draw = proxy_draw;
+          claims = claims;
+          entries = entries;
+          message = message;
+          key = way.key;
+        }) posts }
+{
+    an_exchange_is_made_through_a_proxy::<A>();
+    a_request_goes_there_and_back();
+}
+
+/// Where a request is asked, served under a context of a server's table and answered, and other steps noted nothing, what is assumed of a
+/// run goes on: what each end opened was sealed by the other, and no nonce was drawn.
+pub fn a_request_keeps_the_premise()
+    ensures { (minted : List Minted) (old all : List Noted) (table : List Holding) (now : AnyMoment) (held : Held) (number : ℕ) (text : List ℕ)
+        (reply : AnyReply) (asked served answered : Noted)
+        → IsTable table → In held (contexts table) → AreNotesOfRequest now held number text reply asked.notes served.notes answered.notes
+        → AreAmongQuiet (answered ∷ served ∷ asked ∷ []) all
+        → Premise minted old → Premise minted (all ++ old) }
+{}
+
+/// Where an exchange is begun, agreed and made, with a token that was minted, and other steps noted nothing, what is assumed of a run
+/// goes on, if the two nonces that were drawn are fresh.
+pub fn an_exchange_keeps_the_premise()
+    ensures { (minted : List Minted) (old all : List Noted) (key text : List ℕ) (draw server_draw : AnyDraw) (begun agreed made : Noted)
+        → IsMinted minted text → AreNotesOfExchange key text draw server_draw begun.notes agreed.notes made.notes
+        → AreAmongQuiet (made ∷ agreed ∷ begun ∷ []) all → HasFreshDraws (all ++ old)
+        → Premise minted old → Premise minted (all ++ old) }
+{}
+
+/// Of an exchange that goes straight to the server, with a token that is welcome there: once it is made, client and server have drawn a
+/// nonce each, and the server has opened the token, to the text of its claims. Of the client's other message IDs the server has heard none
+/// that it hadn't heard before.
+pub fn what_an_exchange_notes<A: Aead>()
+    ensures notes { (client begun : Client) (server agreed : Server) (asked_at now : AnyMoment) (draw server_draw : AnyDraw) (at server_at : AnyPeer)
+        (claims : AnyClaims) (entries : List Entry) (message : Message) (first second : AnyStep) (made : StepNotes)
+        → IsLawfulClient begun → IsStraight client server now draw at server_at → MayExchange A.is_sealing client server now claims entries
+        → Exchanges client asked_at draw first begun → first.out ≡ datagram client.next_hop message ∷ []
+        → ServerHears A.is_sealing server now server_draw at (spelling message) second agreed
+        → made ≡ record quiet { result = Some result_as.Made }
+        → AreNotesOfExchange server.desk.key (item_spelling (claims_item claims)) draw server_draw first.notes second.notes made }
+    ensures heard { (client begun : Client) (server agreed : Server) (asked_at now later : AnyMoment) (draw server_draw : AnyDraw) (at server_at : AnyPeer)
+        (claims : AnyClaims) (entries : List Entry) (message : Message) (first second : AnyStep) (id : ℕ)
+        → IsLawfulClient begun → IsStraight client server now draw at server_at → MayExchange A.is_sealing client server now claims entries
+        → Exchanges client asked_at draw first begun → first.out ≡ datagram client.next_hop message ∷ []
+        → ServerHears A.is_sealing server now server_draw at (spelling message) second agreed
+        → id ≢ own_id draw client.endpoint.next_id → looked later at id server.endpoint.seen ≡ None
+        → looked later at id agreed.endpoint.seen ≡ None }
+{
+    one_reception();
+    what_is_written();
+    one_payload();
+    posts_that_agree::<A>();
+    welcome_posts::<A>();
+    minted_tokens::<A>();
+    one_token::<A>();
 }

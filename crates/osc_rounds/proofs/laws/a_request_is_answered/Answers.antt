@@ -1,4 +1,5 @@
 use Rattle.osc_rounds.proofs.AskRound.{RoundLaws, is_asked}
+use Rattle.osc_rounds.proofs.Sent.{goes_out}
 use Rattle.osc_rounds.proofs.laws.a_request_is_answered.Goals as goal
 
 pub returns : goal.returns
@@ -33,5 +34,6 @@ returns g c =
       most = c.codes_of_replies.ensures.most;
       short = c.lengths_of_replies.ensures.payload;
     } in
-    λ client asked server asked_at now draw request at server_at context held first lawful may fits is.
-    is_asked g.A.Aead.is_sealing g.A.Aead.TAG laws client server asked_at now draw request at server_at context held first asked lawful may fits is
+    λ client asked server asked_at now draw request at server_at context held first lawful lawful_client way ends fits is.
+    is_asked g.A.Aead.is_sealing g.A.Aead.TAG laws client server asked_at now draw request at server_at context held first asked lawful lawful_client way ends
+    (goes_out g.A.Aead.is_sealing g.A.Aead.TAG client asked asked_at draw request first context ends.idle ends.has ends.number fits is)

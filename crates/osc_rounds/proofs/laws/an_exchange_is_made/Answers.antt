@@ -1,4 +1,5 @@
-use Rattle.osc_rounds.proofs.ExchangeRound.{ExchangeLaws, is_begun}
+use Rattle.osc_rounds.proofs.Agreement.{ExchangeLaws}
+use Rattle.osc_rounds.proofs.ExchangeRound.{is_begun}
 use Rattle.osc_rounds.proofs.laws.an_exchange_is_made.Goals as goal
 
 pub returns : goal.returns
@@ -11,5 +12,5 @@ returns g c =
       welcome = c.welcome_posts.ensures;
       one_name = c.one_name.ensures;
     } in
-    λ client begun server asked_at now draw at server_at claims entries first may fits is.
-    is_begun g.A.Aead.is_sealing laws client server asked_at now draw at server_at claims entries first begun may fits is
+    λ client begun server asked_at now draw at server_at claims entries first lawful straight may fits is.
+    is_begun g.A.Aead.is_sealing laws client begun server asked_at now draw at server_at claims entries first lawful straight may fits is

@@ -1,0 +1,36 @@
+-- An empty acknowledgement that comes to a client.
+use Rattle.std.proofs.Common.{◌≡◌, ap, subst, ℕ, ◌^◌, ◌<◌, ◌≤◌, List, [], length}
+use Rattle.osc_model.specs.Step.{sends}
+use Rattle.osc_model.specs.declared.node.Moment.{Moment}
+use Rattle.osc_model.specs.declared.node.Peer.{Peer}
+use Rattle.osc_model.specs.declared.step.Step.{Step}
+use Rattle.osc_coap.specs.Length.{datagram_limit}
+use Rattle.osc_coap.specs.Message.{HasSpelling, spelling}
+use Rattle.osc_coap.specs.declared.kind.Kind.TheVariants.{Acknowledgement}
+use Rattle.osc_message.specs.Confirmables.{acknowledged}
+use Rattle.osc_message.specs.Heard.{heard}
+use Rattle.osc_message.specs.Received.{Receives}
+use Rattle.osc_message.specs.Sending.{empty_acknowledgement}
+use Rattle.osc_message.specs.declared.received.Received.{Received}
+use Rattle.osc_message.specs.declared.received.Received.TheVariants as received
+use Rattle.osc_client.specs.Case.{case_of as client_case}
+use Rattle.osc_client.specs.Hearing.{Hears as ClientHears}
+use Rattle.osc_client.specs.State.{State as Client}
+use Rattle.osc_client.specs.Table.{Answers as ClientAnswers}
+use Rattle.osc_client.specs.declared.case.Case.{Case}
+use Rattle.osc_client.specs.declared.case.Case.TheVariants.{Empty}
+use Rattle.osc_rounds.proofs.Asking.{received_as}
+
+module _ (is_sealing : List ℕ → List ℕ → List ℕ → List ℕ → List ℕ → Type 0)
+    (one_reception : (bytes : List ℕ) (a b : Received) → Receives bytes a → Receives bytes b → a ≡ b)
+    (lawful : (id : ℕ) → id < 2 ^ 16 → HasSpelling (empty_acknowledgement id))
+    (short : (id : ℕ) → length (spelling (empty_acknowledgement id)) ≤ datagram_limit) where
+  pub acknowledgement_heard : (old new : Client) (now : Moment) (from : Peer) (id : ℕ) (step : Step) → id < 2 ^ 16
+      → ClientHears is_sealing old now from (spelling (empty_acknowledgement id)) step new
+      → (step ≡ sends []) × (new ≡ record old { endpoint = record old.endpoint { sending = acknowledged from id old.endpoint.sending } })
+  acknowledgement_heard old new now from id step few hears =
+      let as_it : hears.received ≡ received.Message (empty_acknowledgement id) =
+      received_as one_reception (empty_acknowledgement id) hears.received (record { lawful = lawful id few; short = short id }) hears.receives in
+      let case_is : client_case old.next_hop from old.waiting (heard old.endpoint.seen now from hears.received) ≡ Empty Acknowledgement id =
+      ap (λ (r : Received). client_case old.next_hop from old.waiting (heard old.endpoint.seen now from r)) as_it in
+      subst (λ (c : Case). ClientAnswers is_sealing old now from c step new) case_is hears.answers

@@ -1,0 +1,336 @@
+-- A post to authz-info is agreed to, and the answer makes a context at the client, whatever way both go.
+use Rattle.std.proofs.Common.{◌≡◌, ◌∙◌, sym, ap, subst, refl, ℕ, zero, suc, ◌^◌, ◌<◌, ◌≤◌, Bool, true, false, List, [], ◌∷◌, ◌++◌, length, Option, Some, None, Result, Ok, unwrap_or, codes, arith}
+use Rattle.std.specs.Prelude.{IfSome}
+use Rattle.std.specs.Str.{IsAscii, is_utf8}
+use Rattle.std.proofs.lemmas.Bool.{le-leb}
+use Rattle.std.proofs.lemmas.List.{length-take}
+use Rattle.std.proofs.lemmas.Str.{IsUtf8-from_ascii, is_utf8-from_IsUtf8}
+use Rattle.std.proofs.lemmas.Str.Ascii.{IsAscii-nil}
+use Rattle.std.proofs.lemmas.Option.{same_Some}
+use Rattle.osc_model.specs.Code.{code}
+use Rattle.osc_model.specs.Draw.{nonce_drawn}
+use Rattle.osc_model.specs.Grant.{HasBegun, IsNotOver}
+use Rattle.osc_model.specs.Scope.{Scope}
+use Rattle.osc_model.specs.StepNotes.{quiet}
+use Rattle.osc_model.specs.declared.node.Draw.{Draw}
+use Rattle.osc_model.specs.declared.node.Moment.{Moment}
+use Rattle.osc_model.specs.declared.node.Peer.{Peer}
+use Rattle.osc_model.specs.declared.step.ClientResult.TheVariants as result
+use Rattle.osc_model.specs.declared.step.Step.{Step}
+use Rattle.osc_cbor.specs.Spelling.{spelling as item_spelling}
+use Rattle.osc_coap.specs.Building.{payload_of}
+use Rattle.osc_coap.specs.Length.{spelled_length}
+use Rattle.osc_coap.specs.Message.{HasSpelling, Message, NumberAndValue, spelling}
+use Rattle.osc_coap.specs.declared.kind.Kind.{Kind}
+use Rattle.osc_coap.specs.declared.kind.Kind.TheVariants.{Acknowledgement, Confirmable}
+use Rattle.osc_options.specs.Split.{has_oscore}
+use Rattle.osc_dedup.specs.Table.{Entry as Noted, looked}
+use Rattle.osc_message.specs.Confirmables.{same_peer}
+use Rattle.osc_message.specs.Endpoint.{EndpointState}
+use Rattle.osc_message.specs.Heard.{heard}
+use Rattle.osc_message.specs.Received.{Receives}
+use Rattle.osc_message.specs.Sending.{acknowledgement, datagram, sent_to}
+use Rattle.osc_message.specs.declared.heard.Heard.TheVariants as heard_as
+use Rattle.osc_message.specs.declared.received.Received.{Received}
+use Rattle.osc_message.specs.declared.received.Received.TheVariants as received
+use Rattle.osc_protect.specs.Protection.{HasShortContext}
+use Rattle.osc_scope.specs.Entries.{Entry, scope_of}
+use Rattle.osc_token.specs.Minted.{HasLawfulParts}
+use Rattle.osc_token.specs.declared.claims.Claims.{Claims}
+use Rattle.osc_authz.specs.Begun.{Begun, Made as ClientContext}
+use Rattle.osc_authz.specs.Client.{Finishes}
+use Rattle.osc_authz.specs.Desk.{DeskState}
+use Rattle.osc_authz.specs.Exchange.{answer_item, post_item}
+use Rattle.osc_authz.specs.Held.{Held}
+use Rattle.osc_authz.specs.HoldsToken.{HoldsToken}
+use Rattle.osc_authz.specs.Members.{In}
+use Rattle.osc_authz.specs.Post.{Posts}
+use Rattle.osc_authz.specs.Table.{IsLawfulContext, contexts}
+use Rattle.osc_authz.specs.Welcome.{IsWelcome}
+use Rattle.osc_authz.specs.declared.error.FinishError.{FinishError}
+use Rattle.osc_authz.specs.declared.error.PostError.{PostError}
+use Rattle.osc_authz.specs.declared.granted.ClientDesk.{ClientDesk}
+use Rattle.osc_authz.specs.declared.post.Post.{Post}
+use Rattle.osc_authz.specs.declared.post.PostAnswer.{PostAnswer}
+use Rattle.osc_server.specs.Case.{case_of as server_case}
+use Rattle.osc_server.specs.Hearing.{Hears as ServerHears}
+use Rattle.osc_server.specs.State.{State as Server}
+use Rattle.osc_server.specs.Table.{Answers as ServerAnswers, AnswersPost, post_reply, reply_to}
+use Rattle.osc_server.specs.declared.case.Case.{Case as ServerCase}
+use Rattle.osc_server.specs.declared.case.Case.TheVariants.{Posted}
+use Rattle.osc_client.specs.Answering.{Comes, ExchangeComes, context_after, ended_by, notes_of, waits_after}
+use Rattle.osc_client.specs.Answering as comes
+use Rattle.osc_client.specs.Case.{case_of as client_case}
+use Rattle.osc_client.specs.Hearing.{Hears as ClientHears}
+use Rattle.osc_client.specs.Sending.{post_with}
+use Rattle.osc_client.specs.State.{State as Client}
+use Rattle.osc_client.specs.Table.{Answers as ClientAnswers, Counts}
+use Rattle.osc_client.specs.Way.{IsHost}
+use Rattle.osc_client.specs.declared.answering.Outcome.{Outcome}
+use Rattle.osc_client.specs.declared.case.Case.{Case as ClientCase}
+use Rattle.osc_client.specs.declared.case.Case.TheVariants.{Counted}
+use Rattle.osc_client.specs.declared.waiting.Awaited.{Awaited}
+use Rattle.osc_client.specs.declared.waiting.Awaited.TheVariants.{Exchange}
+use Rattle.osc_client.specs.declared.waiting.Waiting.{Waiting}
+use Rattle.osc_rounds.specs.Agreement.{AwaitsAgreement, AwaitsPost, IsAgreedTo, agreement, body_of}
+use Rattle.osc_rounds.specs.ExchangeRound.{IsHeld}
+use Rattle.osc_proxy.specs.ThereAndBack.{IsCarried}
+use Rattle.osc_rounds.proofs.Accepting.{same_bytes, same_number}
+use Rattle.osc_rounds.proofs.Asking.{received_as}
+use Rattle.osc_rounds.proofs.Sendable.{payload_most, some_payload}
+
+-- ---- the post at the server
+
+-- a Uri-Host, where the post came through a proxy
+abbrev pub host_options : Option (List ℕ) → List NumberAndValue
+host_options None = []
+host_options (Some host) = (3, host) ∷ []
+
+-- the post, as it comes to the server
+abbrev pub post_to : Option (List ℕ) → ℕ → List ℕ → List ℕ → Message
+post_to host id token body = record (post_with id token body) { options = host_options host ++ (post_with id token body).options }
+
+abbrev pub AreLawful : Option (List ℕ) → Type 0
+AreLawful host = IfSome host (λ h. IsHost h)
+
+pub post_lawful : (host : Option (List ℕ)) (id : ℕ) (token body : List ℕ) → AreLawful host → id < 2 ^ 16 → length token ≤ 8 → HasSpelling (post_to host id token body)
+post_lawful None id token body lawful small short = record {
+  id = small;
+  token = short;
+  options = (record { rises = omega arith; number = omega arith; size = omega arith }, (record { rises = omega arith; number = omega arith; size = omega arith }, tt));
+  payload = some_payload body;
+  empty = λ none. absurd (omega (arith, none));
+}
+post_lawful (Some host) id token body lawful small short = record {
+  id = small;
+  token = short;
+  options = (
+    record { rises = omega arith; number = omega arith; size = omega (arith, lawful.1) },
+    (record { rises = omega arith; number = omega arith; size = omega arith }, (record { rises = omega arith; number = omega arith; size = omega arith }, tt)),
+  );
+  payload = some_payload body;
+  empty = λ none. absurd (omega (arith, none));
+}
+
+pub heard_post : (host : Option (List ℕ)) (seen : List Noted) (now : Moment) (from : Peer) (id : ℕ) (token body : List ℕ) → looked now from id seen ≡ None
+    → heard seen now from (received.Message (post_to host id token body)) ≡ heard_as.Message (post_to host id token body)
+heard_post host seen now from id token body unheard = rw unheard refl
+
+abbrev AreSmall : List ℕ → Type 0
+AreSmall [] = Unit {0}
+AreSmall (b ∷ bytes) = (b < 128) × AreSmall bytes
+
+small_ascii : (bytes : List ℕ) → AreSmall bytes → IsAscii bytes
+small_ascii [] small i = IsAscii-nil i
+small_ascii (b ∷ bytes) small zero = small.0
+small_ascii (b ∷ bytes) small (suc i) = small_ascii bytes small.1 i
+
+name_is_ascii : IsAscii (codes "authz-info")
+name_is_ascii =
+    small_ascii (codes "authz-info")
+    (omega arith, (omega arith, (omega arith, (omega arith, (omega arith, (omega arith, (omega arith, (omega arith, (omega arith, (omega arith, tt))))))))))
+
+name_is_text : is_utf8 (codes "authz-info") ≡ true
+name_is_text = is_utf8-from_IsUtf8 (codes "authz-info") (IsUtf8-from_ascii (codes "authz-info") name_is_ascii)
+
+pub case_post : (open_scope : Scope) (host : Option (List ℕ)) (id : ℕ) (token body : List ℕ) → AreLawful host
+    → server_case open_scope (heard_as.Message (post_to host id token body)) ≡ Posted (post_to host id token body)
+case_post open_scope None id token body lawful = rw name_is_text refl
+case_post open_scope (Some host) id token body lawful = rw (le-leb 1 (length host) lawful.0, le-leb (length host) 255 lawful.1, name_is_text) refl
+
+pub payload_again : (bytes : List ℕ) → unwrap_or (payload_of bytes) [] ≡ bytes
+payload_again [] = refl
+payload_again (b ∷ bytes) = refl
+
+-- ---- the answer at the client
+
+-- in the acknowledgement of the post
+pub counts_acknowledged : (next_hop from : Peer) (waiting : Waiting) (seen : List Noted) (now : Moment) (id : ℕ) (token : List ℕ) (answer : PostAnswer)
+    → same_peer next_hop from ≡ true → waiting.id ≡ id → waiting.token ≡ token
+    → client_case next_hop from (Some waiting) (heard seen now from (received.Message (agreement Acknowledgement id token answer))) ≡ Counted (agreement Acknowledgement id token answer)
+counts_acknowledged next_hop from waiting seen now id token answer peer same_id same_token =
+    rw (peer, same_id, same_token, same_bytes token, same_number id) refl
+
+-- in a confirmable message
+heard_confirmable : (from : Peer) (seen : List Noted) (now : Moment) (id : ℕ) (token : List ℕ) (answer : PostAnswer) → looked now from id seen ≡ None
+    → heard seen now from (received.Message (agreement Confirmable id token answer)) ≡ heard_as.Message (agreement Confirmable id token answer)
+heard_confirmable from seen now id token answer unheard = rw unheard refl
+
+case_confirmable : (next_hop from : Peer) (waiting : Waiting) (id : ℕ) (token : List ℕ) (answer : PostAnswer)
+    → same_peer next_hop from ≡ true → waiting.token ≡ token
+    → client_case next_hop from (Some waiting) (heard_as.Message (agreement Confirmable id token answer)) ≡ Counted (agreement Confirmable id token answer)
+case_confirmable next_hop from waiting id token answer peer same_token = rw (peer, same_token, same_bytes token) refl
+
+pub counts_confirmable : (next_hop from : Peer) (waiting : Waiting) (seen : List Noted) (now : Moment) (id : ℕ) (token : List ℕ) (answer : PostAnswer)
+    → same_peer next_hop from ≡ true → looked now from id seen ≡ None → waiting.token ≡ token
+    → client_case next_hop from (Some waiting) (heard seen now from (received.Message (agreement Confirmable id token answer))) ≡ Counted (agreement Confirmable id token answer)
+counts_confirmable next_hop from waiting seen now id token answer peer unheard same_token =
+    ap (client_case next_hop from (Some waiting)) (heard_confirmable from seen now id token answer unheard)
+    ∙ case_confirmable next_hop from waiting id token answer peer same_token
+
+abbrev pub made_of : Held → ClientContext
+made_of held = record { name = held.name; next = 0 }
+
+both_ways : (b : Bool) → b ≡ true → b ≡ false → ⊥
+both_ways b is isnt = cc
+
+-- the client's end of an exchange, once it is over by this message
+pub record IsEnded (old : Client) (from : Peer) (response : Message) (held : Held) (step : Step) (new : Client) : Type 0 where
+  pub told : step ≡ record { out = sent_to from (acknowledgement response); notes = record quiet { result = Some result.Made } }
+  pub kept : new ≡ record old { context = Some (made_of held); waiting = None; endpoint = new.endpoint }
+
+-- ---- the laws below
+
+module _ (is_sealing : List ℕ → List ℕ → List ℕ → List ℕ → List ℕ → Type 0) where
+  pub record ExchangeLaws : Type 0 where
+    pub itself : (a : Peer) → same_peer a a ≡ true
+    pub one_reception : (bytes : List ℕ) (a b : Received) → Receives bytes a → Receives bytes b → a ≡ b
+    pub spelled_length : (m : Message) → length (spelling m) ≡ spelled_length m
+    pub answer_length : (nonce2 : List ℕ) (id : ℕ) → length nonce2 ≡ 8 → length (item_spelling (answer_item nonce2 (id ∷ []))) ≡ 16
+    pub welcome : (before after : DeskState) (now : Moment) (draw : Draw) (post : Post) (claims : Claims) (entries : List Entry) (holder : ClientDesk) (nonce1 : List ℕ) (id : ℕ)
+        → IsWelcome is_sealing before now claims entries holder → length nonce1 ≡ 8
+        → Posts is_sealing before now (item_spelling (post_item holder.token nonce1 (id ∷ []))) draw post after
+        → (answer : PostAnswer) × (post.answer ≡ Ok answer) × (answer.nonce2 ≡ nonce_drawn draw)
+    pub one_name : (before after : DeskState) (now : Moment) (draw : Draw) (post : Post) (answer : PostAnswer)
+        (claims : Claims) (entries : List Entry) (client : ClientDesk) (begun : Begun) (finished : Result ClientContext FinishError)
+        → length draw.0 ≡ 32 → length begun.nonce1 ≡ 8 → HoldsToken is_sealing before.key claims entries client
+        → Posts is_sealing before now (item_spelling (post_item client.token begun.nonce1 (begun.recipient_id ∷ []))) draw post after
+        → post.answer ≡ Ok answer
+        → Finishes client begun (code 2 1) (item_spelling (answer_item answer.nonce2 (answer.recipient_id ∷ []))) finished
+        → (held : Held) × In held (contexts after.table) × (held.scope ≡ scope_of entries)
+        × (held.not_before ≡ claims.not_before) × (held.expires ≡ claims.expires)
+        × (finished ≡ Ok (record { name = held.name; next = 0 }))
+        × (held.window ≡ []) × IsLawfulContext held × (HasLawfulParts claims → HasShortContext held.name)
+
+-- ---- the server agrees
+
+module _ (is_sealing : List ℕ → List ℕ → List ℕ → List ℕ → List ℕ → Type 0) (laws : ExchangeLaws is_sealing)
+    (server : Server) (now : Moment) (from : Peer) (id : ℕ) (claims : Claims) (entries : List Entry) (holder : ClientDesk) (its : Begun)
+    (awaits : AwaitsPost is_sealing server now from id claims entries holder its)
+    (host : Option (List ℕ)) (lawful : AreLawful host) (token : List ℕ) (draw : Draw) (step : Step) (new : Server) where
+  agreed_to : AnswersPost is_sealing server now from draw (post_to host id token (body_of holder its)) step new
+      → IsAgreedTo is_sealing server now from draw holder its id token step new
+  agreed_to it =
+      let posts : Posts is_sealing server.desk now (body_of holder its) draw it.post new.desk =
+      subst (λ (bytes : List ℕ). Posts is_sealing server.desk now bytes draw it.post new.desk) (payload_again (body_of holder its)) it.posts in
+      let answered = laws.welcome server.desk new.desk now draw it.post claims entries holder its.nonce1 its.recipient_id awaits.welcome awaits.nonce posts in
+      let reply_is : reply_to server.endpoint draw (post_to host id token (body_of holder its)) (post_reply it.post.answer) ≡ agreement Acknowledgement id token answered.0 =
+      ap (λ (a : Result PostAnswer PostError). reply_to server.endpoint draw (post_to host id token (body_of holder its)) (post_reply a)) answered.1 in
+      record {
+        answer = answered.0;
+        post = it.post;
+        posts = posts;
+        agrees = answered.1;
+        nonce = answered.2;
+        out = ap (λ (s : Step). s.out) it.sent.sent ∙ ap (λ (m : Message). datagram from m ∷ []) reply_is;
+        notes = ap (λ (s : Step). s.notes) it.sent.sent;
+      }
+
+  pub hears_post : IsCarried (post_to host id token (body_of holder its))
+      → ServerHears is_sealing server now draw from (spelling (post_to host id token (body_of holder its))) step new
+      → IsAgreedTo is_sealing server now from draw holder its id token step new
+  hears_post sendable hears =
+      let message = post_to host id token (body_of holder its) in
+      let as_it : hears.received ≡ received.Message message = received_as laws.one_reception message hears.received sendable hears.receives in
+      let case_is : server_case server.open_scope (heard server.endpoint.seen now from hears.received) ≡ Posted message =
+      ap (λ (r : Received). server_case server.open_scope (heard server.endpoint.seen now from r)) as_it
+      ∙ ap (server_case server.open_scope) (heard_post host server.endpoint.seen now from id token (body_of holder its) awaits.unheard)
+      ∙ case_post server.open_scope host id token (body_of holder its) lawful in
+      agreed_to (subst (λ (k : ServerCase). ServerAnswers is_sealing server now from draw k step new) case_is hears.answers)
+
+-- ---- the client has a context
+
+module _ (is_sealing : List ℕ → List ℕ → List ℕ → List ℕ → List ℕ → Type 0) (laws : ExchangeLaws is_sealing)
+    (server : Server) (now : Moment) (from : Peer) (id : ℕ) (claims : Claims) (entries : List Entry) (holder : ClientDesk) (its : Begun)
+    (awaits : AwaitsPost is_sealing server now from id claims entries holder its)
+    (token : List ℕ) (draw : Draw) (step : Step) (agreed : Server) (size : length draw.0 ≡ 32)
+    (is : IsAgreedTo is_sealing server now from draw holder its id token step agreed) where
+  nonce2_size : length is.answer.nonce2 ≡ 8
+  nonce2_size = omega (arith, ap (λ (n : List ℕ). length n) is.nonce, length-take 8 draw.0, size)
+
+  -- the answer is a message that a datagram can carry, whatever way it goes
+  pub agreement_sendable : (kind : Kind) (to : ℕ) (under : List ℕ) → to < 2 ^ 16 → length under ≤ 8 → IsCarried (agreement kind to under is.answer)
+  agreement_sendable kind to under small short = record {
+    lawful = record {
+      id = small;
+      token = short;
+      options = (record { rises = omega arith; number = omega arith; size = omega arith }, tt);
+      payload = some_payload (item_spelling (answer_item is.answer.nonce2 (is.answer.recipient_id ∷ [])));
+      empty = λ none. absurd (omega (arith, none));
+    };
+    short = omega (
+      arith,
+      laws.spelled_length (agreement kind to under is.answer),
+      short,
+      payload_most (item_spelling (answer_item is.answer.nonce2 (is.answer.recipient_id ∷ []))),
+      laws.answer_length is.answer.nonce2 is.answer.recipient_id nonce2_size,
+    );
+  }
+
+  finishes : (came : Result ClientContext FinishError) → Finishes holder its (code 2 1) (item_spelling (answer_item is.answer.nonce2 (is.answer.recipient_id ∷ []))) came
+      → (held : Held) × IsHeld agreed now entries held × (came ≡ Ok (made_of held))
+  finishes came finish =
+      let one = laws.one_name server.desk agreed.desk now draw is.post is.answer claims entries holder its came size awaits.nonce awaits.welcome.holds is.posts is.agrees finish in (
+        one.0,
+        record {
+          here = one.1;
+          live = record {
+            begun = subst (λ (bound : Option ℕ). HasBegun bound now) (sym one.3) awaits.welcome.begun;
+            not_over = subst (λ (bound : Option ℕ). IsNotOver bound now) (sym one.4) awaits.welcome.not_over;
+          };
+          scope = one.2;
+          window = one.6;
+          short = one.8 awaits.welcome.lawful;
+        },
+        one.5,
+      )
+
+  module _ (kind : Kind) (to : ℕ) (under : List ℕ) where
+    abbrev response : Message
+    response = agreement kind to under is.answer
+
+    makes : (outcome : Outcome) → ExchangeComes holder its response outcome
+        → (held : Held) × IsHeld agreed now entries held × (outcome ≡ ended_by (Ok (made_of held)))
+    makes outcome (comes.protected plain stays) = absurd (both_ways (has_oscore response.options) plain refl)
+    makes outcome (comes.ExchangeComes.other plain error success stays) = absurd (both_ways false (sym success) refl)
+    makes outcome (comes.ExchangeComes.failed plain error ends) = absurd (both_ways false error refl)
+    makes outcome (comes.finished plain error success finish) =
+        let payload = item_spelling (answer_item is.answer.nonce2 (is.answer.recipient_id ∷ [])) in
+        let made = finishes finish.came (subst (λ (bytes : List ℕ). Finishes holder its (code 2 1) bytes finish.came) (payload_again payload) finish.finishes) in
+        (made.0, made.1, finish.is ∙ ap ended_by made.2)
+
+    module _ (old : Client) (later : Moment) (hop : Peer) (waits : AwaitsAgreement old hop holder its under) (third : Step) (after : Client) where
+      abbrev ending : Outcome → Waiting → EndpointState → Client
+      ending outcome waiting endpoint = record old { context = context_after outcome old.context; waiting = waits_after outcome waiting; endpoint = endpoint }
+
+      kept_so : (outcome : Outcome) (waiting : Waiting) (held : Held) (endpoint : EndpointState) → outcome ≡ ended_by (Ok (made_of held)) → after ≡ ending outcome waiting endpoint
+          → after ≡ record old { context = Some (made_of held); waiting = None; endpoint = after.endpoint }
+      kept_so outcome waiting held endpoint ends kept =
+          kept
+          ∙ ap (λ (e : EndpointState). ending outcome waiting e) (sym (ap (λ (c : Client). c.endpoint) kept))
+          ∙ ap (λ (o : Outcome). ending o waiting after.endpoint) ends
+
+      counted : Counts is_sealing old later hop response third after → (held : Held) × IsHeld agreed now entries held × IsEnded old hop response held third after
+      counted it =
+          let what_is : it.waiting.what ≡ Exchange its = ap (λ (w : Waiting). w.what) (same_Some it.waiting waits.waiting (sym it.waits ∙ waits.waits)) ∙ waits.exchange in
+          let comes_to : ExchangeComes old.desk its response it.outcome = subst (λ (w : Awaited). Comes is_sealing old.desk old.context w response it.outcome) what_is it.comes in
+          let made = makes it.outcome (subst (λ (d : ClientDesk). ExchangeComes d its response it.outcome) waits.desk comes_to) in (
+            made.0,
+            made.1,
+            record {
+              told = it.told ∙ ap (λ (o : Outcome). let s : Step = record { out = sent_to hop (acknowledgement response); notes = notes_of o } in s) made.2;
+              kept = kept_so it.outcome it.waiting made.0 _ made.2 it.kept;
+            },
+          )
+
+      pub hears_agreement : IsCarried response
+          → client_case old.next_hop hop (Some waits.waiting) (heard old.endpoint.seen later hop (received.Message response)) ≡ Counted response
+          → ClientHears is_sealing old later hop (spelling response) third after
+          → (held : Held) × IsHeld agreed now entries held × IsEnded old hop response held third after
+      hears_agreement sendable counts hears =
+          let as_it : hears.received ≡ received.Message response = received_as laws.one_reception response hears.received sendable hears.receives in
+          let case_is : client_case old.next_hop hop old.waiting (heard old.endpoint.seen later hop hears.received) ≡ Counted response =
+          ap (λ (r : Received). client_case old.next_hop hop old.waiting (heard old.endpoint.seen later hop r)) as_it
+          ∙ ap (λ (w : Option Waiting). client_case old.next_hop hop w (heard old.endpoint.seen later hop (received.Message response))) waits.waits
+          ∙ counts in
+          counted (subst (λ (k : ClientCase). ClientAnswers is_sealing old later hop k third after) case_is hears.answers)

@@ -1,0 +1,156 @@
+-- An exchange that goes through a forward proxy, delivery by delivery.
+use Rattle.std.proofs.Common.{◌≡◌, ◌∙◌, sym, ap, subst, ℕ, ◌<◌, ◌^◌, List, length, Option, Some, None, arith}
+use Rattle.std.specs.Prelude.{◌≢◌, IfSome}
+use Rattle.osc_model.specs.declared.node.Draw.{Draw}
+use Rattle.osc_model.specs.declared.node.Moment.{Moment}
+use Rattle.osc_model.specs.declared.node.Peer.{Peer}
+use Rattle.osc_model.specs.declared.step.ClientResult.TheVariants as result
+use Rattle.osc_model.specs.declared.step.Step.{Step}
+use Rattle.osc_coap.specs.Message.{Message, spelling}
+use Rattle.osc_dedup.specs.Table.{Entry as Noted, looked}
+use Rattle.osc_message.specs.Confirmables.{acknowledged}
+use Rattle.osc_message.specs.Endpoint.{EndpointState}
+use Rattle.osc_scope.specs.Entries.{Entry}
+use Rattle.osc_token.specs.declared.claims.Claims.{Claims}
+use Rattle.osc_server.specs.Hearing.{Hears as ServerHears}
+use Rattle.osc_server.specs.State.{State as Server}
+use Rattle.osc_client.specs.Hearing.{Hears as ClientHears}
+use Rattle.osc_client.specs.Lawful.{IsLawfulClient}
+use Rattle.osc_client.specs.Sending.{Exchanges, begins, begun_by, busy, opened, post_by}
+use Rattle.osc_client.specs.Sending as sending
+use Rattle.osc_client.specs.State.{State as Client}
+use Rattle.osc_client.specs.Way.{HostAndPort, IsLawfulOrigin}
+use Rattle.osc_client.specs.declared.waiting.Awaited.TheVariants.{Exchange}
+use Rattle.osc_proxy.specs.Forwarding.{forwarded_token}
+use Rattle.osc_proxy.specs.Hearing.{Hears as ProxyHears}
+use Rattle.osc_proxy.specs.State.{State as Proxy}
+use Rattle.osc_proxy.specs.Table.{forwarded_by, next_own}
+use Rattle.osc_proxy.specs.ThereAndBack.{GoesBack, GoesThereAndBack, IsLawfulProxy, answer_by, answer_id}
+use Rattle.osc_rounds.specs.ExchangeRoundThrough.{IsAgreedAndBroughtBack, IsBroughtBackAndMade, IsPassedOnAndAgreed, IsPostedAndAgreedThrough, PostOnItsWay}
+use Rattle.osc_rounds.specs.ProxiedExchange.{IsAgreedAndMadeThrough, IsBegunAndMadeThrough, MayExchangeThrough}
+use Rattle.osc_rounds.specs.Ready.{IsThrough, MayExchange}
+use Rattle.osc_rounds.proofs.ExchangeRound.{drawn_size}
+use Rattle.osc_rounds.proofs.PassedOn.{PassesLaw, can_send, takes_up, token_size}
+
+module _ (is_sealing : List ℕ → List ℕ → List ℕ → List ℕ → List ℕ → Type 0)
+    (client begun : Client) (proxy : Proxy) (server : Server) (now : Moment) (draw proxy_draw : Draw)
+    (at proxy_at server_at : Peer) (claims : Claims) (entries : List Entry) (posts : Step)
+    (through : IsThrough client proxy server now draw proxy_draw at proxy_at server_at) where
+  -- ---- before
+
+  module _ (begun_at : Moment) (lawful : IsLawfulClient begun) (may : MayExchange is_sealing client server now claims entries) where
+    begun_so : begun ≡ opened client begun_at draw (post_by client draw) (Exchange (begun_by client draw))
+        → MayExchangeThrough is_sealing client server now draw through.origin proxy_at claims entries
+    begun_so kept = record {
+      through = through.named;
+      next_hop = through.next_hop;
+      idle = may.idle;
+      welcome = may.welcome;
+      origin_lawful = subst (λ (o : Option HostAndPort). IfSome o IsLawfulOrigin) (ap (λ (c : Client). c.origin) kept ∙ through.named) lawful.origin;
+      draw_size = drawn_size client begun begun_at draw (post_by client draw) (Exchange (begun_by client draw)) lawful kept;
+    }
+
+    pub may_go_through : posts.notes.result ≢ Some (result.Refused 14) → Exchanges client begun_at draw posts begun
+        → MayExchangeThrough is_sealing client server now draw through.origin proxy_at claims entries
+    may_go_through fits (busy waits refused) = absurd (waits may.idle)
+    may_go_through fits (sending.Exchanges.too_long idle long refused) = absurd (fits (ap (λ (s : Step). s.notes.result) refused.told))
+    may_go_through fits (begins idle short spelled told kept) = begun_so kept
+
+  -- ---- from one delivery to the next
+
+  module _ (passes : PassesLaw) (lawful : IsLawfulProxy proxy) (size : length proxy_draw.0 ≡ 32)
+      (is : IsBegunAndMadeThrough is_sealing client server now draw through.origin proxy_at claims entries posts begun) where
+    abbrev pub post : PostOnItsWay
+    post = record {
+      begun = begun;
+      proxy = proxy;
+      server = server;
+      at = at;
+      proxy_at = proxy_at;
+      server_at = server_at;
+      now = now;
+      draw = draw;
+      proxy_draw = proxy_draw;
+      claims = claims;
+      entries = entries;
+      message = is.message;
+      key = through.key;
+    }
+
+    abbrev forwarded_on : Message
+    forwarded_on = forwarded_by proxy proxy_draw through.key is.message
+
+    abbrev meanwhile : EndpointState
+    meanwhile = record begun.endpoint { sending = acknowledged proxy_at is.message.id begun.endpoint.sending }
+
+    new_at_client : looked now proxy_at (answer_id proxy proxy_draw) begun.endpoint.seen ≡ None
+    new_at_client = subst (λ (seen : List Noted). looked now proxy_at (answer_id proxy proxy_draw) seen ≡ None) (sym is.seen) through.new_at_client
+
+    answer_few : answer_id proxy proxy_draw < 2 ^ 16
+    answer_few = omega arith
+
+    -- the last two
+    made : (server_draw : Draw) (third : Step) (agreed : Server) (brought : Proxy) (fourth : Step) (settled : Client)
+        → settled ≡ record begun { endpoint = meanwhile }
+        → (it : IsAgreedAndMadeThrough is_sealing is.message begun server now server_draw proxy_at claims entries (next_own proxy proxy_draw)
+        (forwarded_token through.key proxy_draw) third agreed)
+        → GoesBack proxy now proxy_draw at is.message through.key it.response fourth brought
+        → IsBroughtBackAndMade is_sealing post settled agreed fourth brought
+    made server_draw third agreed brought fourth settled settled_is it back = record {
+      back = answer_by proxy proxy_draw is.message it.response;
+      out = back.back.told;
+      made = λ fifth after hears.
+          let comes : ClientHears is_sealing (record begun { endpoint = meanwhile }) now proxy_at (spelling (answer_by proxy proxy_draw is.message it.response)) fifth after =
+          subst (λ (c : Client). ClientHears is_sealing c now proxy_at (spelling (answer_by proxy proxy_draw is.message it.response)) fifth after) settled_is hears in
+          let both = it.made meanwhile (answer_id proxy proxy_draw) fifth after answer_few new_at_client comes in
+          record {
+            held = both.0;
+            is_held = both.1;
+            is_made = both.2;
+            ends = λ draw sixth rested last. back.ends now draw sixth rested last;
+          };
+    }
+
+    -- the three from the server on
+    agreed : (first : Step) (passed : Proxy) (settled : Client) → GoesThereAndBack proxy now proxy_draw at server_at is.message through.key first passed
+        → settled ≡ record begun { endpoint = meanwhile }
+        → (server_draw : Draw) (third : Step) (after : Server) → length server_draw.0 ≡ 32
+        → ServerHears is_sealing server now server_draw proxy_at (spelling forwarded_on) third after
+        → IsAgreedAndBroughtBack is_sealing post settled passed server_draw third after
+    agreed first passed settled goes settled_is server_draw third after drawn hears =
+        let it : IsAgreedAndMadeThrough is_sealing is.message begun server now server_draw proxy_at claims entries (next_own proxy proxy_draw)
+        (forwarded_token through.key proxy_draw) third after =
+        is.agreed (next_own proxy proxy_draw) (forwarded_token through.key proxy_draw) server_draw third after goes.there.forwarded.lawful.id
+        (token_size through.key proxy_draw size) through.new_at_server drawn hears in
+        record {
+          protected = it.protected;
+          iv = it.iv;
+          notes = it.notes;
+          response = it.response;
+          out = it.out;
+          brought = λ later fourth brought comes.
+              made server_draw third after brought fourth settled settled_is it
+              (goes.back now later it.response fourth brought it.forwardable comes);
+        }
+
+    passed_on : (first : Step) (passed : Proxy) → ProxyHears proxy now proxy_draw at (spelling is.message) first passed → IsPassedOnAndAgreed is_sealing post first passed
+    passed_on first passed hears =
+        let goes : GoesThereAndBack proxy now proxy_draw at server_at is.message through.key first passed =
+        passes proxy passed now proxy_draw at server_at is.message through.key first lawful
+        (takes_up client proxy server now draw proxy_draw at proxy_at server_at is.message through is.id is.for_proxy) (can_send proxy at through.none_to_client through.few) hears in
+        record {
+          out = goes.there.told;
+          settled = λ second settled comes.
+              let stays = is.settled now second settled comes in
+              record {
+                told = stays.0;
+                agreed = λ server_draw third after drawn heard. agreed first passed settled goes stays.1 server_draw third after drawn heard;
+              };
+        }
+
+    pub goes_through : IsPostedAndAgreedThrough is_sealing post posts
+    goes_through = record {
+      out = is.out;
+      notes = is.notes;
+      passed = passed_on;
+    }

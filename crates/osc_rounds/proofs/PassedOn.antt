@@ -1,0 +1,59 @@
+-- What a forward proxy takes up and passes on.
+use Rattle.std.proofs.Common.{◌≡◌, ◌∙◌, sym, ap, subst, ℕ, ◌<◌, refl, true, false, List, length, None, arith}
+use Rattle.std.specs.Prelude.{drop}
+use Rattle.std.proofs.lemmas.Bool.{lt-ltb}
+use Rattle.std.proofs.lemmas.List.{length-drop, length-take}
+use Rattle.osc_model.specs.Draw.{token_drawn}
+use Rattle.osc_model.specs.declared.node.Draw.{Draw}
+use Rattle.osc_model.specs.declared.node.Moment.{Moment}
+use Rattle.osc_model.specs.declared.node.Peer.{Peer}
+use Rattle.osc_model.specs.declared.step.Step.{Step}
+use Rattle.osc_coap.specs.Message.{Message, spelling}
+use Rattle.osc_dedup.specs.Table.{looked}
+use Rattle.osc_message.specs.Confirmables.{Open, has_open, peers_of, takes}
+use Rattle.osc_message.specs.Endpoint.{own_id}
+use Rattle.osc_server.specs.State.{State as Server}
+use Rattle.osc_client.specs.State.{State as Client}
+use Rattle.osc_proxy.specs.Forwarding.{forwarded_token}
+use Rattle.osc_proxy.specs.Hearing.{Hears as ProxyHears}
+use Rattle.osc_proxy.specs.State.{State as Proxy}
+use Rattle.osc_proxy.specs.Targets.{peer_of}
+use Rattle.osc_proxy.specs.ThereAndBack.{CanSendTo, GoesThereAndBack, IsLawfulProxy, TakesUp}
+use Rattle.osc_rounds.specs.ForProxy.{IsForProxy}
+use Rattle.osc_rounds.specs.Ready.{IsThrough}
+
+-- what is passed on goes there, and its answer comes back
+abbrev pub PassesLaw : Type 0
+PassesLaw = (proxy passed : Proxy) (now : Moment) (draw : Draw) (from to : Peer) (message : Message) (key : ℕ) (step : Step)
+    → IsLawfulProxy proxy → TakesUp proxy now from to message key → CanSendTo proxy from
+    → ProxyHears proxy now draw from (spelling message) step passed → GoesThereAndBack proxy now draw from to message key step passed
+
+pub token_size : (key : ℕ) (draw : Draw) → length draw.0 ≡ 32 → length (forwarded_token key draw) ≡ 8
+token_size key draw size = omega (arith, length-drop 1 (token_drawn draw), length-take 8 (drop 8 draw.0), length-drop 8 draw.0, size)
+
+takes_one : (peer : Peer) (all : List Open) → has_open peer all ≡ false → length (peers_of all) < 64 → takes peer all ≡ true
+takes_one peer all none few = rw (none, lt-ltb (length (peers_of all)) 64 few) refl
+
+-- fewer than 64 peers have a message open, and this one has none
+pub can_send : (proxy : Proxy) (peer : Peer) → has_open peer proxy.endpoint.sending ≡ false → length (peers_of proxy.endpoint.sending) < 64 → CanSendTo proxy peer
+can_send proxy peer none few = record { idle = none; room = takes_one peer proxy.endpoint.sending none few }
+
+-- what is for the proxy, under the message ID that the client takes, it takes up on this way
+pub takes_up : (client : Client) (proxy : Proxy) (server : Server) (now : Moment) (draw proxy_draw : Draw) (at proxy_at server_at : Peer) (message : Message)
+    (way : IsThrough client proxy server now draw proxy_draw at proxy_at server_at)
+    → message.id ≡ own_id draw client.endpoint.next_id → IsForProxy way.origin message → TakesUp proxy now at server_at message way.key
+takes_up client proxy server now draw proxy_draw at proxy_at server_at message way id is = record {
+  carried = is.carried;
+  kind = is.kind;
+  request = is.code;
+  token = is.token;
+  unheard = subst (λ (n : ℕ). looked now at n proxy.endpoint.seen ≡ None) (sym id) way.unheard;
+  safe = is.safe;
+  no_uri = is.no_uri;
+  scheme = is.scheme;
+  host = way.origin.host;
+  host_is = is.host;
+  target = ap (λ (n : ℕ). peer_of proxy.targets way.origin.host n) is.port ∙ way.target;
+  free = way.free;
+  there = can_send proxy server_at way.none_to_server way.few;
+}

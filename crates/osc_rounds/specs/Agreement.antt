@@ -1,0 +1,69 @@
+-- The two ends of an exchange (RFC 9203 section 4), whatever way its post and the answer go: the server agrees to a post, and the client
+-- waits for that.
+use Rattle.std.specs.Prelude.{◌≡◌, ℕ, true, List, [], ◌∷◌, length, Some, None, Ok}
+use Rattle.osc_model.specs.Code.{code}
+use Rattle.osc_model.specs.Draw.{nonce_drawn}
+use Rattle.osc_model.specs.declared.node.Draw.{Draw}
+use Rattle.osc_model.specs.declared.node.Moment.{Moment}
+use Rattle.osc_model.specs.declared.node.Peer.{Peer}
+use Rattle.osc_model.specs.declared.step.Step.{Step}
+use Rattle.osc_cbor.specs.Spelling.{spelling as item_spelling}
+use Rattle.osc_coap.specs.Building.{bare}
+use Rattle.osc_coap.specs.Message.{Message}
+use Rattle.osc_coap.specs.declared.kind.Kind.{Kind}
+use Rattle.osc_coap.specs.declared.kind.Kind.TheVariants.{Acknowledgement}
+use Rattle.osc_options.specs.Replies.{with_reply}
+use Rattle.osc_dedup.specs.Table.{looked}
+use Rattle.osc_message.specs.Confirmables.{same_peer}
+use Rattle.osc_message.specs.Sending.{datagram}
+use Rattle.osc_scope.specs.Entries.{Entry}
+use Rattle.osc_token.specs.declared.claims.Claims.{Claims}
+use Rattle.osc_authz.specs.Begun.{Begun}
+use Rattle.osc_authz.specs.Exchange.{post_item}
+use Rattle.osc_authz.specs.Post.{Posts}
+use Rattle.osc_authz.specs.Welcome.{IsWelcome}
+use Rattle.osc_authz.specs.declared.granted.ClientDesk.{ClientDesk}
+use Rattle.osc_authz.specs.declared.post.Post.{Post}
+use Rattle.osc_authz.specs.declared.post.PostAnswer.{PostAnswer}
+use Rattle.osc_server.specs.State.{State as Server}
+use Rattle.osc_server.specs.Table.{notes_of_post, post_reply}
+use Rattle.osc_client.specs.State.{State as Client}
+use Rattle.osc_client.specs.declared.waiting.Awaited.TheVariants.{Exchange}
+use Rattle.osc_client.specs.declared.waiting.Waiting.{Waiting}
+
+-- what this exchange posts: the token, the client's nonce and its recipient ID
+abbrev pub body_of : ClientDesk → Begun → List ℕ
+body_of holder begun = item_spelling (post_item holder.token begun.nonce1 (begun.recipient_id ∷ []))
+
+-- 2.01 with the nonce and the recipient ID of the server, in a message of this kind, message ID and token (section 4.2)
+abbrev pub agreement : Kind → ℕ → List ℕ → PostAnswer → Message
+agreement kind id token answer = with_reply (bare kind (code 2 1).0 id token) (post_reply (Ok answer))
+
+-- `is_sealing key nonce aad text sealed` is the cipher's relation
+module _ (is_sealing : List ℕ → List ℕ → List ℕ → List ℕ → List ℕ → Type 0) where
+  -- The token of this client is welcome at the server, the client's nonce is one of 8 bytes, and no message of this ID was heard from
+  -- there.
+  pub record AwaitsPost (server : Server) (now : Moment) (from : Peer) (id : ℕ) (claims : Claims) (entries : List Entry) (holder : ClientDesk) (begun : Begun) : Type 0 where
+    pub welcome : IsWelcome is_sealing server.desk now claims entries holder
+    pub nonce : length begun.nonce1 ≡ 8
+    pub unheard : looked now from id server.endpoint.seen ≡ None
+
+  -- The server's desk agreed to what this exchange posts, and one datagram says so, in the acknowledgement of the post. The step notes what
+  -- the desk did: it opened the token and drew a nonce.
+  pub record IsAgreedTo (old : Server) (now : Moment) (from : Peer) (draw : Draw) (holder : ClientDesk) (begun : Begun) (id : ℕ) (token : List ℕ) (step : Step) (new : Server) : Type 0 where
+    pub answer : PostAnswer
+    pub post : Post
+    pub posts : Posts is_sealing old.desk now (body_of holder begun) draw post new.desk
+    pub agrees : post.answer ≡ Ok answer
+    pub nonce : answer.nonce2 ≡ nonce_drawn draw
+    pub out : step.out ≡ datagram from (agreement Acknowledgement id token answer) ∷ []
+    pub notes : step.notes ≡ notes_of_post post
+
+-- the client waits for the answer to this exchange, under this token, from its next hop, which has this address
+pub record AwaitsAgreement (client : Client) (from : Peer) (holder : ClientDesk) (begun : Begun) (its_token : List ℕ) : Type 0 where
+  pub desk : client.desk ≡ holder
+  pub waiting : Waiting
+  pub waits : client.waiting ≡ Some waiting
+  pub exchange : waiting.what ≡ Exchange begun
+  pub token : waiting.token ≡ its_token
+  pub peer : same_peer client.next_hop from ≡ true

@@ -1,0 +1,28 @@
+-- What goes to the server through a forward proxy (RFC 7252 section 5.7.2): what the proxy can take up.
+use Rattle.std.specs.Prelude.{◌≡◌, true, false, length, Some, None, codes}
+use Rattle.osc_coap.specs.Code.{is_request_code}
+use Rattle.osc_coap.specs.Message.{Message}
+use Rattle.osc_coap.specs.declared.kind.Kind.TheVariants.{Confirmable}
+use Rattle.osc_options.specs.Recognised.{recognised}
+use Rattle.osc_options.specs.Requests.{value}
+use Rattle.osc_client.specs.Way.{HostAndPort}
+use Rattle.osc_proxy.specs.Forwarding.{has_proxy_uri}
+use Rattle.osc_proxy.specs.Route.{port_in}
+use Rattle.osc_proxy.specs.ThereAndBack.{IsCarried}
+use Rattle.osc_proxy.specs.UnsafeOptions.{has_unrecognised_unsafe}
+
+-- A request that a proxy can take up: a message that a datagram can carry, confirmable, with a token of 8 bytes. None of its
+-- options keeps it from being forwarded, and its Proxy-Scheme (39), its Uri-Host (3) and its Uri-Port (7) name this server, without a
+-- Proxy-Uri (35).
+pub record IsForProxy (origin : HostAndPort) (message : Message) : Type 0 where
+  pub carried : IsCarried message
+  pub kind : message.kind ≡ Confirmable
+  pub code : is_request_code message.code ≡ true
+  pub token : length message.token ≡ 8
+  pub safe : has_unrecognised_unsafe 0 message.options ≡ false
+  pub no_uri : value 35 (recognised 0 message.options) ≡ None
+  pub scheme : value 39 (recognised 0 message.options) ≡ Some (codes "coap")
+  pub host : value 3 (recognised 0 message.options) ≡ Some origin.host
+  pub port : port_in (value 7 (recognised 0 message.options)) ≡ origin.port
+  -- so that what is forwarded keeps its Uri-Host and its path
+  pub bare : has_proxy_uri message.options ≡ false

@@ -1,0 +1,74 @@
+-- How a client, the server and the proxy between them stand before a round that ends well: the way, which is straight or through a proxy,
+-- and what the two ends have.
+use Rattle.std.specs.Prelude.{◌≡◌, ℕ, ◌≤◌, ◌<◌, false, List, length, Some, None}
+use Rattle.osc_model.specs.declared.node.Draw.{Draw}
+use Rattle.osc_model.specs.declared.node.Moment.{Moment}
+use Rattle.osc_model.specs.declared.node.Peer.{Peer}
+use Rattle.osc_dedup.specs.Table.{looked}
+use Rattle.osc_message.specs.Confirmables.{has_open, peers_of}
+use Rattle.osc_message.specs.Endpoint.{own_id}
+use Rattle.osc_context.specs.Nonce.{greatest_number}
+use Rattle.osc_window.specs.Window.{IsFresh}
+use Rattle.osc_scope.specs.Entries.{Entry}
+use Rattle.osc_token.specs.declared.claims.Claims.{Claims}
+use Rattle.osc_authz.specs.Begun.{Made as ClientContext}
+use Rattle.osc_authz.specs.Contexts.{IsLive}
+use Rattle.osc_authz.specs.Held.{Held}
+use Rattle.osc_authz.specs.Members.{In}
+use Rattle.osc_authz.specs.Table.{contexts}
+use Rattle.osc_authz.specs.Welcome.{IsWelcome}
+use Rattle.osc_server.specs.State.{State as Server}
+use Rattle.osc_client.specs.State.{State as Client}
+use Rattle.osc_client.specs.Way.{HostAndPort}
+use Rattle.osc_proxy.specs.Exchanges.{free_key}
+use Rattle.osc_proxy.specs.State.{State as Proxy}
+use Rattle.osc_proxy.specs.Table.{next_own}
+use Rattle.osc_proxy.specs.Targets.{peer_of}
+use Rattle.osc_proxy.specs.ThereAndBack.{answer_id}
+
+-- ---- the way
+
+-- The client, which has this address, sends to the server itself, which has that one, and which heard no message of the ID that the
+-- client takes.
+pub record IsStraight (client : Client) (server : Server) (now : Moment) (draw : Draw) (at server_at : Peer) : Type 0 where
+  pub direct : client.origin ≡ None
+  pub next_hop : client.next_hop ≡ server_at
+  pub unheard : looked now at (own_id draw client.endpoint.next_id) server.endpoint.seen ≡ None
+
+-- The client sends to the proxy (RFC 7252 section 5.7.2). That has the server among its targets, by the host and port that the client
+-- writes; a key for one more exchange; fewer than 64 peers with a confirmable message open, and none open to the server or the client.
+-- No message ID that is taken on the way was heard where it comes: the client's at the proxy, the proxy's first at the server, and its
+-- second at the client.
+pub record IsThrough (client : Client) (proxy : Proxy) (server : Server) (now : Moment) (draw proxy_draw : Draw) (at proxy_at server_at : Peer) : Type 0 where
+  pub origin : HostAndPort
+  pub named : client.origin ≡ Some origin
+  pub next_hop : client.next_hop ≡ proxy_at
+  pub target : peer_of proxy.targets origin.host origin.port ≡ Some server_at
+  pub key : ℕ
+  pub free : free_key proxy.exchanges ≡ Some key
+  pub few : length (peers_of proxy.endpoint.sending) < 64
+  pub none_to_server : has_open server_at proxy.endpoint.sending ≡ false
+  pub none_to_client : has_open at proxy.endpoint.sending ≡ false
+  pub unheard : looked now at (own_id draw client.endpoint.next_id) proxy.endpoint.seen ≡ None
+  pub new_at_server : looked now proxy_at (next_own proxy proxy_draw) server.endpoint.seen ≡ None
+  pub new_at_client : looked now proxy_at (answer_id proxy proxy_draw) client.endpoint.seen ≡ None
+
+-- ---- the ends
+
+-- The client waits for nothing. Both have a context of one name, which is live at the server; and the client's next number is one that
+-- may be taken, and fresh at the server.
+pub record MayAsk (client : Client) (server : Server) (now : Moment) (context : ClientContext) (held : Held) : Type 0 where
+  pub idle : client.waiting ≡ None
+  pub has : client.context ≡ Some context
+  pub here : In held (contexts server.desk.table)
+  pub one_name : held.name ≡ context.name
+  pub live : IsLive now held
+  pub number : context.next ≤ greatest_number
+  pub fresh : IsFresh held.window context.next
+
+-- `is_sealing key nonce aad text sealed` is the cipher's relation
+module _ (is_sealing : List ℕ → List ℕ → List ℕ → List ℕ → List ℕ → Type 0) where
+  -- The client waits for nothing, and holds a token of these claims, with this scope, that is welcome at the server.
+  pub record MayExchange (client : Client) (server : Server) (now : Moment) (claims : Claims) (entries : List Entry) : Type 0 where
+    pub idle : client.waiting ≡ None
+    pub welcome : IsWelcome is_sealing server.desk now claims entries client.desk

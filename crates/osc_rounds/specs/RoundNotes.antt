@@ -1,0 +1,37 @@
+-- What the steps of a round note, which is all that what is assumed of a run speaks of.
+use Rattle.std.specs.Prelude.{◌≡◌, ◌⊎◌, ℕ, List, [], ◌∷◌, Some, None}
+use Rattle.osc_model.specs.Draw.{nonce_drawn}
+use Rattle.osc_model.specs.StepNotes.{StepNotes, quiet}
+use Rattle.osc_model.specs.declared.node.Draw.{Draw}
+use Rattle.osc_model.specs.declared.node.Moment.{Moment}
+use Rattle.osc_model.specs.declared.reply.Reply.{Reply}
+use Rattle.osc_model.specs.declared.step.ClientResult.TheVariants as result
+use Rattle.osc_token.specs.Token.{token_note}
+use Rattle.osc_authz.specs.Held.{Held}
+use Rattle.osc_run.specs.ClientKinds.{request_note, response_note}
+use Rattle.osc_run.specs.Notes.{Noted}
+use Rattle.osc_run.specs.Texts.{reply_text}
+use Rattle.osc_server.specs.Table.{notes_of_request}
+
+-- The steps of `all` are these, in this order, and others that noted nothing, as those of a forward proxy.
+abbrev pub AreAmongQuiet : List Noted → List Noted → Type 0
+AreAmongQuiet steps [] = steps ≡ []
+AreAmongQuiet steps (one ∷ all) =
+    ((one.notes ≡ quiet) × AreAmongQuiet steps all) ⊎ ((rest : List Noted) × (steps ≡ one ∷ rest) × AreAmongQuiet rest all)
+
+-- A request: the client sealed this text, the server opened it and sealed the reply, and the client opened that, all three under one
+-- context and number (RFC 8613 sections 8.1 to 8.4).
+pub record AreNotesOfRequest (now : Moment) (held : Held) (number : ℕ) (text : List ℕ) (reply : Reply) (asked served answered : StepNotes) : Type 0 where
+  pub asked_is : asked ≡ record quiet { seals = Some (request_note held.name number text) }
+  pub served_is : served ≡ notes_of_request now held number text reply
+  pub answered_is : answered
+      ≡ record quiet { opens = Some (response_note held.name number None (reply_text reply)); result = Some (result.Answer reply) }
+
+-- An exchange: the client drew a nonce, the server opened a token of this text and drew a nonce, and the client learnt that a context
+-- is made (RFC 9203 section 4).
+pub record AreNotesOfExchange (key text : List ℕ) (draw server_draw : Draw) (begun agreed made : StepNotes) : Type 0 where
+  pub protected : List ℕ
+  pub iv : List ℕ
+  pub begun_is : begun ≡ record quiet { drawn = Some (nonce_drawn draw) }
+  pub agreed_is : agreed ≡ record quiet { opens = Some (token_note key protected iv text); drawn = Some (nonce_drawn server_draw) }
+  pub made_is : made ≡ record quiet { result = Some result.Made }
