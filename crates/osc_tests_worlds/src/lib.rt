@@ -20,4 +20,6 @@ mod quiet;
 #[cfg(test)]
 mod ready;
 #[cfg(test)]
+mod through;
+#[cfg(test)]
 mod world;

@@ -8,6 +8,7 @@ use osc_authz::ServerContext;
 use osc_ccm::Ccm;
 use osc_client::Client;
 use osc_model::{ClientResult, Code, ContextName, Draw, Moment, Path, Peer, Reply, Request};
+use osc_run::Actor;
 use osc_scope::{Scope, Verdict};
 use osc_tree::Tree;
 use osc_world::{Event, What, World};
@@ -31,13 +32,13 @@ const MOST_IDS: usize = 64;
 
 /// What happens next: whose it is, when, and with which draw.
 #[derive(Clone, Copy)]
-struct Next {
-    client: usize,
-    now: Moment,
-    draw: Draw,
+pub(crate) struct Next {
+    pub client: usize,
+    pub now: Moment,
+    pub draw: Draw,
 }
 
-fn at(client: usize, ms: u64, number: u8) -> Next {
+pub(crate) fn at(client: usize, ms: u64, number: u8) -> Next {
     Next {
         client,
         now: Moment::new(ms).unwrap_or(Moment::START),
@@ -45,14 +46,14 @@ fn at(client: usize, ms: u64, number: u8) -> Next {
     }
 }
 
-fn client_of(world: &World, number: usize) -> Option<&Client> {
+pub(crate) fn client_of(world: &World, number: usize) -> Option<&Client> {
     match world.client(number) {
         Some(placed) => Some(&placed.client),
         None => None,
     }
 }
 
-fn place_of(world: &World, number: usize) -> Option<Peer> {
+pub(crate) fn place_of(world: &World, number: usize) -> Option<Peer> {
     match world.client(number) {
         Some(placed) => Some(placed.at),
         None => None,
@@ -139,7 +140,7 @@ fn shared(world: &World, now: Moment, client: usize) -> Option<&ServerContext> {
 
 /// The client's token is in its time; and there is room for a context of it, beside those that the other clients share with the
 /// server, which are all that it has in these worlds.
-fn is_welcome(world: &World, next: Next) -> bool {
+pub(crate) fn is_welcome(world: &World, next: Next) -> bool {
     is_in_time(world, next)
         && (0..world.minted().len())
             .filter(|other| *other != next.client && shared(world, next.now, *other).is_some())
@@ -165,7 +166,7 @@ fn may_exchange(world: &World, next: Next) -> bool {
 
 /// The number that the client takes next is one that may be taken, and fresh in the live context that both have, whose id context is no
 /// longer than one may be.
-fn has_a_fresh_number(world: &World, next: Next) -> bool {
+pub(crate) fn has_a_fresh_number(world: &World, next: Next) -> bool {
     match (
         next_number(world, next.client),
         shared(world, next.now, next.client),
@@ -184,7 +185,7 @@ fn is_short(name: &ContextName) -> bool {
     }
 }
 
-fn next_number(world: &World, client: usize) -> Option<u64> {
+pub(crate) fn next_number(world: &World, client: usize) -> Option<u64> {
     match client_of(world, client)?.context() {
         Some(context) => Some(context.sender().next_number()),
         None => None,
@@ -198,7 +199,7 @@ fn may_ask(world: &World, next: Next) -> bool {
 
 // ---- what comes of it
 
-fn happens(alloc: Global, world: &mut World, next: Next, what: What) -> bool {
+pub(crate) fn happens(alloc: Global, world: &mut World, next: Next, what: What) -> bool {
     let event = Event {
         moment: next.now,
         draw: next.draw,
@@ -217,13 +218,20 @@ fn takes_two(alloc: Global, world: &mut World, next: Next) -> bool {
         && world.next_waiting().is_none()
 }
 
-/// What the last step told a client.
+/// What the last step of a client told it.
 fn learnt(world: &World) -> Option<&ClientResult> {
-    world.steps().last()?.notes().result()
+    let mut told = None;
+    for step in world.steps() {
+        told = match step.actor() {
+            Actor::Client(_) => step.notes().result(),
+            _ => told,
+        };
+    }
+    told
 }
 
 /// What was begun wasn't too long for a datagram.
-fn was_sent(world: &World) -> bool {
+pub(crate) fn was_sent(world: &World) -> bool {
     learnt(world) != Some(&ClientResult::Refused(14))
 }
 
@@ -243,7 +251,7 @@ fn is_scope(alloc: Global, scope: &Scope) -> bool {
 }
 
 /// Both have a context of one name, the server's with the token's scope, in which no number was taken yet.
-fn has_made(alloc: Global, world: &World, next: Next) -> bool {
+pub(crate) fn has_made(alloc: Global, world: &World, next: Next) -> bool {
     learnt(world) == Some(&ClientResult::Made)
         && next_number(world, next.client) == Some(0)
         && shared(world, next.now, next.client).is_some_and(|context| {
@@ -270,14 +278,14 @@ fn makes_one(rt: &impl Abort, alloc: Global, world: &mut World, next: Next) {
 }
 
 /// A request's code, its payload, and the code and the payload of what it is answered.
-type Row = (u8, &'static [u8], Code, &'static [u8]);
+pub(crate) type Row = (u8, &'static [u8], Code, &'static [u8]);
 
 fn is_reply(reply: &Reply, row: Row) -> bool {
     reply.code == row.2 && reply.payload.as_slice() == row.3
 }
 
 /// The client learnt an answer, which is this one.
-fn is_answered(world: &World, row: Row) -> bool {
+pub(crate) fn is_answered(world: &World, row: Row) -> bool {
     match learnt(world) {
         Some(ClientResult::Answer(reply)) => is_reply(reply, row),
         _ => false,
@@ -285,7 +293,7 @@ fn is_answered(world: &World, row: Row) -> bool {
 }
 
 /// The last entry is of this number, and was answered so.
-fn is_served(alloc: Global, world: &World, number: Option<u64>, row: Row) -> bool {
+pub(crate) fn is_served(alloc: Global, world: &World, number: Option<u64>, row: Row) -> bool {
     match world.history(alloc) {
         Ok(all) => match all.last() {
             Some(entry) => Some(entry.number) == number && is_reply(&entry.reply, row),
@@ -295,7 +303,7 @@ fn is_served(alloc: Global, world: &World, number: Option<u64>, row: Row) -> boo
     }
 }
 
-fn asks(alloc: Global, world: &mut World, next: Next, row: Row) -> bool {
+pub(crate) fn asks(alloc: Global, world: &mut World, next: Next, row: Row) -> bool {
     match request_on(alloc, b"/log", row.0, row.1) {
         Ok(request) => asks_for(alloc, world, next, request),
         Err(_) => false,

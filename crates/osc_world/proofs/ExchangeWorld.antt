@@ -1,201 +1,221 @@
--- An exchange is begun, and a quiet round makes a context at both ends.
-use Rattle.std.proofs.Common.{◌≡◌, ◌∙◌, sym, ap, subst, refl, ℕ, suc, ◌+◌, ◌<◌, Bool, true, false, List, [], ◌∷◌, ◌++◌, length, map, Option, Some, None, arith, append-nil}
-use Rattle.std.specs.Prelude.{◌≢◌, slice_get, slice_set, position}
+-- An exchange is begun, and a quiet round makes a context at both ends: straight to the server, in two deliveries.
+use Rattle.std.proofs.Common.{◌≡◌, ◌∙◌, sym, ap, subst, refl, ℕ, suc, ◌+◌, ◌%◌, Bool, true, false, List, [], ◌∷◌, ◌++◌, map, Some, None}
+use Rattle.std.specs.Prelude.{◌≢◌, slice_get, slice_set}
+use Rattle.std.proofs.lemmas.Option.{same_Some}
+use Rattle.osc_model.specs.StepNotes.{StepNotes, quiet}
 use Rattle.osc_model.specs.declared.node.Draw.{Draw}
 use Rattle.osc_model.specs.declared.node.Moment.{Moment}
 use Rattle.osc_model.specs.declared.node.Peer.{Peer}
 use Rattle.osc_model.specs.declared.step.ClientResult.TheVariants as result
 use Rattle.osc_model.specs.declared.step.Datagram.{Datagram}
 use Rattle.osc_model.specs.declared.step.Step.{Step}
-use Rattle.osc_coap.specs.Message.{spelling}
+use Rattle.osc_cbor.specs.Spelling.{spelling as item_spelling}
+use Rattle.osc_coap.specs.Message.{Message, spelling}
+use Rattle.osc_dedup.specs.Table.{looked}
 use Rattle.osc_message.specs.Confirmables.{same_peer}
+use Rattle.osc_message.specs.Endpoint.{own_id}
 use Rattle.osc_message.specs.Sending.{datagram}
 use Rattle.osc_authz.specs.Held.{Held}
 use Rattle.osc_run.specs.Notes.{Noted, by_client, by_server}
+use Rattle.osc_run.specs.Premise.{HasFreshDraws, IsMinted, Premise}
+use Rattle.osc_run.specs.States.{Minted}
 use Rattle.osc_server.specs.Hearing.{Hears as ServerHears}
 use Rattle.osc_server.specs.State.{State as Server}
+use Rattle.osc_client.specs.Lawful.{IsLawfulClient}
 use Rattle.osc_client.specs.Sending.{Exchanges}
 use Rattle.osc_client.specs.State.{State as Client}
-use Rattle.osc_rounds.specs.ExchangeRound.{IsAgreedAndMade, IsBegunAndMade, IsHeld, IsMade, MayExchange}
+use Rattle.osc_rounds.specs.ExchangeRound.{IsAgreedAndMade, IsBegunAndMade, IsHeld, IsMade}
+use Rattle.osc_rounds.specs.Ready.{IsStraight, MayExchange}
+use Rattle.osc_rounds.specs.RoundNotes.{AreAmongQuiet, AreNotesOfExchange}
 use Rattle.osc_scope.specs.Entries.{Entry}
+use Rattle.osc_token.specs.Token.{claims_item}
 use Rattle.osc_token.specs.declared.claims.Claims.{Claims}
-use Rattle.osc_world.specs.Log.{sent_by, sent_from, steps_with}
-use Rattle.osc_world.specs.Nodes.{NodeStates, StandApart, node_at}
-use Rattle.osc_world.specs.Quiet.{AreWhole, Rounds, delivery, waiting_first}
-use Rattle.osc_world.specs.Ready.{HasMade, IsAtRest, IsNotRefused, IsRoundOfTwo, beginning}
-use Rattle.osc_world.specs.Steps.{ClientTakes, TakesOf}
+use Rattle.osc_world.specs.Lawful.{AreLawfulClients}
+use Rattle.osc_world.specs.Log.{sent_from}
+use Rattle.osc_world.specs.Nodes.{NodeStates, StandApart}
+use Rattle.osc_world.specs.Queue.{queue}
+use Rattle.osc_world.specs.Quiet.{AreWhole, Rounds, waiting_first}
+use Rattle.osc_world.specs.Ready.{AreMinted, GoesTheSameWay, HasMade, IsNotRefused, IsRound, KeepsThePremise, LeavesUnheard, beginning}
 use Rattle.osc_world.specs.Worlds.{Happens, State}
-use Rattle.osc_world.specs.declared.event.Event.{Event}
-use Rattle.osc_world.specs.declared.log.Sent.{Sent}
 use Rattle.osc_world.specs.declared.nodes.Placed.{Placed}
-use Rattle.osc_world.specs.declared.nodes.Taken.{Taken}
-use Rattle.osc_world.specs.declared.nodes.Whose.TheVariants as whose
-use Rattle.osc_world.proofs.OneDelivery.{AreStill, ToClient, ToServer, done, get_set, none_of_still, still_behind, still_of_none, to_client, to_server, waits_behind}
-use Rattle.osc_world.proofs.Apart.{stands_there}
-use Rattle.osc_world.proofs.AskWorld.{one_more, quiet_now}
-use Rattle.osc_world.proofs.Rounds.{none_lost}
+use Rattle.osc_world.proofs.Asked.{lawful_asked}
+use Rattle.osc_world.proofs.Deliveries.{still_minted}
+use Rattle.osc_world.proofs.Posted.{IsPosted, is_posted}
+use Rattle.osc_world.proofs.Premises.{fresh_as, keeps, these_three}
+use Rattle.osc_world.proofs.Slots.{got_back}
+use Rattle.osc_world.proofs.Straight.{IsAnsweredBack, IsStraight as IsRoundOfTwo, IsWhole, from_to, straight as round_of_two}
+use Rattle.osc_world.proofs.Way.{exchanges_id, exchanges_same, hears_id, hears_same}
 
-module _ (is_sealing : List ℕ → List ℕ → List ℕ → List ℕ → List ℕ → Type 0) (tag : ℕ) (itself : (a : Peer) → same_peer a a ≡ true)
-    (law : (client begun : Client) (server : Server) (asked_at now : Moment) (draw : Draw) (at server_at : Peer) (claims : Claims) (entries : List Entry) (first : Step)
-    → MayExchange is_sealing client server now draw at server_at claims entries → first.notes.result ≢ Some (result.Refused 14)
-    → Exchanges client asked_at draw first begun
-    → IsBegunAndMade is_sealing client server now draw at server_at entries first begun)
-    (drawn : ℕ → Draw) (asked_at now : Moment) (draw : Draw) (number : ℕ) (placed : Placed) (claims : Claims) (entries : List Entry)
-    (old w1 new : State) (left : ℕ) (is_quiet : Bool)
-    (sizes : AreWhole drawn w1 new)
-    (apart : StandApart w1.nodes)
-    (rest : IsAtRest old number placed)
-    (may : MayExchange is_sealing placed.client old.nodes.server now draw placed.at old.nodes.server_at claims entries)
-    (happens : Happens is_sealing tag old (beginning asked_at draw number) w1)
-    (fits : IsNotRefused 14 old w1)
-    (rounds : Rounds is_sealing tag drawn now (suc (suc left)) w1 is_quiet new) where
-  still : AreStill old.sent
-  still = still_of_none old.sent rest.still
+-- what is assumed goes on over the steps of an exchange
+abbrev pub KeepsOverExchange : Type 0
+KeepsOverExchange = (minted : List Minted) (old all : List Noted) (key text : List ℕ) (draw server_draw : Draw) (begun agreed made : Noted)
+    → IsMinted minted text → AreNotesOfExchange key text draw server_draw begun.notes agreed.notes made.notes
+    → AreAmongQuiet (made ∷ agreed ∷ begun ∷ []) all → HasFreshDraws (all ++ old) → Premise minted old → Premise minted (all ++ old)
 
-  abbrev event : Event
-  event = beginning asked_at draw number
+-- in a world whose steps these are, on top of the old ones
+pub exchange_goes_on : KeepsOverExchange → (old new : State) (all : List Noted) (claims : Claims) (key : List ℕ) (draw server_draw : Draw) (begun agreed made : Noted)
+    → AreNotesOfExchange key (item_spelling (claims_item claims)) draw server_draw begun.notes agreed.notes made.notes
+    → AreAmongQuiet (made ∷ agreed ∷ begun ∷ []) all → new.minted ≡ old.minted → new.steps ≡ all ++ old.steps
+    → AreMinted old claims → HasFreshDraws new.steps → KeepsThePremise old new
+exchange_goes_on law old new all claims key draw server_draw begun agreed made notes among minted steps are_minted fresh =
+    keeps old new (all ++ old.steps) minted steps
+    (law old.minted old.steps all key (item_spelling (claims_item claims)) draw server_draw begun agreed made are_minted notes among (fresh_as new (all ++ old.steps) steps fresh))
 
-  takes : ClientTakes is_sealing tag old.nodes number placed old.sent event happens.taken happens.nodes
-  takes =
-      subst (λ (o : Option Placed). TakesOf is_sealing tag old.nodes number o old.sent event happens.taken happens.nodes) rest.here happens.takes
+module _ (is_sealing : List ℕ → List ℕ → List ℕ → List ℕ → List ℕ → Type 0) (tag : ℕ) where
+  -- an exchange that goes straight to the server is made
+  abbrev pub MakesStraight : Type 0
+  MakesStraight = (client begun : Client) (server : Server) (begun_at now : Moment) (draw : Draw) (at server_at : Peer) (claims : Claims) (entries : List Entry) (first : Step)
+      → IsLawfulClient begun → IsStraight client server now draw at server_at → MayExchange is_sealing client server now claims entries
+      → first.notes.result ≢ Some (result.Refused 14)
+      → Exchanges client begun_at draw first begun
+      → IsBegunAndMade is_sealing client server now draw at server_at entries first begun
 
-  abbrev asked : Client
-  asked = takes.client
+  -- what its steps note
+  abbrev pub NotesExchange : Type 0
+  NotesExchange = (client begun : Client) (server agreed : Server) (begun_at now : Moment) (draw server_draw : Draw) (at server_at : Peer) (claims : Claims) (entries : List Entry) (message : Message) (first second : Step) (made : StepNotes)
+      → IsLawfulClient begun → IsStraight client server now draw at server_at → MayExchange is_sealing client server now claims entries
+      → Exchanges client begun_at draw first begun → first.out ≡ datagram client.next_hop message ∷ []
+      → ServerHears is_sealing server now server_draw at (spelling message) second agreed
+      → made ≡ record quiet { result = Some result.Made }
+      → AreNotesOfExchange server.desk.key (item_spelling (claims_item claims)) draw server_draw first.notes second.notes made
 
-  steps_1 : w1.steps ≡ by_client number false takes.step.notes ∷ old.steps
-  steps_1 = ap (λ (w : State). w.steps) happens.is ∙ ap (λ (t : Option Taken). steps_with t old.steps) takes.taken_is
+  -- what the server has heard of the client behind it
+  abbrev pub HearsNoOther : Type 0
+  HearsNoOther = (client begun : Client) (server agreed : Server) (begun_at now later : Moment) (draw server_draw : Draw) (at server_at : Peer) (claims : Claims) (entries : List Entry) (message : Message) (first second : Step) (id : ℕ)
+      → IsLawfulClient begun → IsStraight client server now draw at server_at → MayExchange is_sealing client server now claims entries
+      → Exchanges client begun_at draw first begun → first.out ≡ datagram client.next_hop message ∷ []
+      → ServerHears is_sealing server now server_draw at (spelling message) second agreed
+      → id ≢ own_id draw client.endpoint.next_id → looked later at id server.endpoint.seen ≡ None → looked later at id agreed.endpoint.seen ≡ None
 
-  nodes_1 : w1.nodes ≡ record old.nodes { clients = slice_set old.nodes.clients number (record placed { client = asked }) }
-  nodes_1 = ap (λ (w : State). w.nodes) happens.is ∙ takes.is
+  module _ (itself : (a : Peer) → same_peer a a ≡ true) (law : MakesStraight)
+      (drawn : ℕ → Draw) (begun_at now : Moment) (draw : Draw) (number : ℕ) (placed : Placed) (claims : Claims) (entries : List Entry)
+      (old w1 new : State) (left : ℕ) (is_quiet : Bool)
+      (sizes : AreWhole drawn w1 new)
+      (apart : StandApart w1.nodes)
+      (lawful_clients : AreLawfulClients w1.nodes.clients)
+      (still : waiting_first old ≡ None)
+      (here : slice_get old.nodes.clients number ≡ Some placed)
+      (goes : IsStraight placed.client old.nodes.server now draw placed.at old.nodes.server_at)
+      (may : MayExchange is_sealing placed.client old.nodes.server now claims entries)
+      (happens : Happens is_sealing tag old (beginning begun_at draw number) w1)
+      (fits : IsNotRefused 14 old w1)
+      (rounds : Rounds is_sealing tag drawn now (suc (suc left)) w1 is_quiet new) where
+    posts : IsPosted begun_at draw number placed old w1
+    posts = is_posted is_sealing tag begun_at draw number placed old w1 still here happens fits
 
-  is : IsBegunAndMade is_sealing placed.client old.nodes.server now draw placed.at old.nodes.server_at entries takes.step asked
-  is =
-      law placed.client asked old.nodes.server asked_at now draw placed.at old.nodes.server_at claims entries takes.step may
-      (fits (by_client number false takes.step.notes) steps_1) takes.does.exchanges
+    abbrev after : Placed
+    after = record placed { client = posts.client }
 
-  abbrev one : Sent
-  one = sent_from placed.at (datagram placed.client.next_hop is.message)
+    abbrev nodes : NodeStates
+    nodes = record old.nodes { clients = slice_set old.nodes.clients number after }
 
-  sent_1 : w1.sent ≡ old.sent ++ one ∷ []
-  sent_1 =
-      ap (λ (w : State). w.sent) happens.is
-      ∙ ap (λ (t : Option Taken). old.sent ++ sent_by t) takes.taken_is
-      ∙ ap (λ (out : List Datagram). old.sent ++ map (sent_from placed.at) out) is.out
+    lawful : IsLawfulClient posts.client
+    lawful = lawful_asked is_sealing tag number placed posts.client old w1 here posts.nodes lawful_clients
 
-  -- ---- it comes to the server
+    is : IsBegunAndMade is_sealing placed.client old.nodes.server now draw placed.at old.nodes.server_at entries posts.step posts.client
+    is = law placed.client posts.client old.nodes.server begun_at now draw placed.at old.nodes.server_at claims entries posts.step lawful goes may posts.fits posts.exchanges
 
-  first_1 : waiting_first w1 ≡ Some (length old.sent)
-  first_1 = ap (λ (all : List Sent). position (λ datagram. datagram.waits) all) sent_1 ∙ waits_behind old.sent one still refl
+    alone : queue w1 ≡ from_to placed.at old.nodes.server_at (spelling is.message) ∷ []
+    alone =
+        posts.waits
+        ∙ ap (λ (out : List Datagram). map (sent_from placed.at) out) is.out
+        ∙ ap (λ (to : Peer). from_to placed.at to (spelling is.message) ∷ []) goes.next_hop
 
-  second : (next : State) × Happens is_sealing tag w1 (delivery now (drawn (length w1.records)) (length old.sent)) next × Rounds is_sealing tag drawn now (suc left) next is_quiet new
-  second = one_more is_sealing tag drawn now (suc left) w1 is_quiet new (length old.sent) first_1 rounds
+    -- ---- it comes to the server, and its answer to the client
 
-  abbrev w2 : State
-  w2 = second.0
+    abbrev coming : (server_draw : Draw) (step : Step) (agreed : Server) → IsWhole server_draw → ServerHears is_sealing old.nodes.server now server_draw placed.at (spelling is.message) step agreed
+        → IsAnsweredBack is_sealing now posts.client placed.at old.nodes.server_at step
+    coming server_draw step agreed whole hears = record {
+      answer = spelling (is.agreed server_draw step agreed whole hears).answer;
+      out = (is.agreed server_draw step agreed whole hears).out;
+      silent = λ last client heard. ap (λ (s : Step). s.out) ((is.agreed server_draw step agreed whole hears).made last client heard).2.told;
+    }
 
-  abbrev draw_1 : Draw
-  draw_1 = drawn (length w1.records)
+    there : slice_get nodes.clients number ≡ Some after
+    there = got_back old.nodes.clients number placed after here
 
-  server_at_1 : w1.nodes.server_at ≡ old.nodes.server_at
-  server_at_1 = ap (λ (n : NodeStates). n.server_at) nodes_1
+    round : IsRoundOfTwo is_sealing IsWhole now number after nodes (spelling is.message) coming w1 new is_quiet
+    round = round_of_two is_sealing IsWhole now number after nodes (spelling is.message) coming tag itself drawn left w1 new is_quiet sizes posts.nodes apart there alone rounds
 
-  to_s : ToServer is_sealing tag now draw_1 w1 old.sent one sent_1 w2 second.1
-  to_s = to_server is_sealing tag now draw_1 w1 old.sent one sent_1 w2 second.1 (ap (λ (at : Peer). same_peer at placed.client.next_hop) server_at_1 ∙ ap (same_peer old.nodes.server_at) may.next_hop ∙ itself old.nodes.server_at)
+    abbrev agreed : IsAgreedAndMade is_sealing posts.client now placed.at old.nodes.server_at entries round.serving round.server
+    agreed = is.agreed round.draw round.serving round.server round.good round.served
 
-  hears_1 : ServerHears is_sealing old.nodes.server now draw_1 placed.at (spelling is.message) to_s.step to_s.server
-  hears_1 = subst (λ (s : Server). ServerHears is_sealing s now draw_1 placed.at (spelling is.message) to_s.step to_s.server) (ap (λ (n : NodeStates). n.server) nodes_1) to_s.hears
+    made : (held : Held) × IsHeld round.server now entries held × IsMade held round.taking round.client
+    made = agreed.made round.taking round.client round.taken
 
-  served : IsAgreedAndMade is_sealing asked now placed.at old.nodes.server_at entries to_s.step to_s.server
-  served =
-      let used : length w1.records < length new.records = omega (arith, to_s.records, none_lost is_sealing tag drawn now (suc left) w2 is_quiet new second.2) in
-      is.agreed draw_1 to_s.step to_s.server (sizes (length w1.records) (omega arith) used) hears_1
+    abbrev last : Placed
+    last = record after { client = round.client }
 
-  abbrev two : Sent
-  two = sent_from old.nodes.server_at (datagram placed.at served.answer)
+    last_there : slice_get new.nodes.clients number ≡ Some last
+    last_there = ap (λ (n : NodeStates). slice_get n.clients number) round.nodes_are ∙ got_back nodes.clients number after last there
 
-  abbrev behind : List Sent
-  behind = old.sent ++ done one ∷ []
+    server_is : new.nodes.server ≡ round.server
+    server_is = ap (λ (n : NodeStates). n.server) round.nodes_are
 
-  sent_2 : w2.sent ≡ behind ++ two ∷ []
-  sent_2 =
-      to_s.sent_is
-      ∙ ap (λ (at : Peer). behind ++ map (sent_from at) to_s.step.out) server_at_1
-      ∙ ap (λ (out : List Datagram). behind ++ map (sent_from old.nodes.server_at) out) served.out
+    -- ---- what is kept of it
 
-  nodes_2 : w2.nodes ≡ record old.nodes { server = to_s.server; clients = slice_set old.nodes.clients number (record placed { client = asked }) }
-  nodes_2 = to_s.nodes ∙ ap (λ (n : NodeStates). record n { server = to_s.server }) nodes_1
+    abbrev all : List Noted
+    all = by_client number false round.taking.notes ∷ by_server round.serving.notes ∷ by_client number false posts.step.notes ∷ []
 
-  -- ---- and its answer to the client
+    steps_are : new.steps ≡ all ++ old.steps
+    steps_are = round.steps ∙ ap (λ (l : List Noted). by_client number false round.taking.notes ∷ by_server round.serving.notes ∷ l) posts.steps
 
-  first_2 : waiting_first w2 ≡ Some (length behind)
-  first_2 = ap (λ (all : List Sent). position (λ datagram. datagram.waits) all) sent_2 ∙ waits_behind behind two (still_behind old.sent one still) refl
+    among : AreAmongQuiet all all
+    among = these_three (by_client number false round.taking.notes) (by_server round.serving.notes) (by_client number false posts.step.notes)
 
-  third : (next : State) × Happens is_sealing tag w2 (delivery now (drawn (length w2.records)) (length behind)) next × Rounds is_sealing tag drawn now left next is_quiet new
-  third = one_more is_sealing tag drawn now left w2 is_quiet new (length behind) first_2 second.2
+    same_way : (before : Placed) → slice_get old.nodes.clients number ≡ Some before → GoesTheSameWay before last
+    same_way before stood =
+        let same : placed ≡ before = same_Some placed before (sym here ∙ stood) in
+        let posting = exchanges_same placed.client begun_at draw posts.step posts.client posts.exchanges in
+        let taking = hears_same is_sealing posts.client now old.nodes.server_at (spelling agreed.answer) round.taking round.client round.taken in
+        subst (λ (p : Placed). GoesTheSameWay p last) same
+        (record { at = refl; next_hop = taking.0 ∙ posting.0; origin = taking.1 ∙ posting.1 })
 
-  abbrev w3 : State
-  w3 = third.0
+    module _ (notes : NotesExchange) (premises : KeepsOverExchange) where
+      notes_are : AreNotesOfExchange old.nodes.server.desk.key (item_spelling (claims_item claims)) draw round.draw posts.step.notes round.serving.notes round.taking.notes
+      notes_are =
+          notes placed.client posts.client old.nodes.server round.server begun_at now draw round.draw placed.at old.nodes.server_at claims entries is.message posts.step round.serving round.taking.notes
+          lawful goes may posts.exchanges is.out round.served (ap (λ (s : Step). s.notes) made.2.told)
 
-  abbrev after : Placed
-  after = record placed { client = asked }
-
-  there_2 : slice_get w2.nodes.clients number ≡ Some after
-  there_2 = ap (λ (n : NodeStates). slice_get n.clients number) nodes_2 ∙ get_set old.nodes.clients number placed after rest.here
-
-  there_1 : slice_get w1.nodes.clients number ≡ Some after
-  there_1 = ap (λ (n : NodeStates). slice_get n.clients number) nodes_1 ∙ get_set old.nodes.clients number placed after rest.here
-
-  node_2 : node_at w2.nodes placed.at ≡ whose.Client number
-  node_2 = ap (λ (n : NodeStates). node_at n placed.at) to_s.nodes ∙ stands_there itself w1.nodes number after apart there_1
-
-  to_c : ToClient is_sealing tag now (drawn (length w2.records)) w2 behind two sent_2 w3 third.1 number after
-  to_c = to_client is_sealing tag now (drawn (length w2.records)) w2 behind two sent_2 w3 third.1 number after node_2 there_2
-
-  made : (held : Held) × IsHeld to_s.server now entries held × IsMade held to_c.step to_c.client
-  made = served.made to_c.step to_c.client to_c.hears
-
-  still_3 : AreStill w3.sent
-  still_3 =
-      let sent_3 : w3.sent ≡ (behind ++ done two ∷ []) ++ [] =
-      to_c.sent_is ∙ ap (λ (out : List Datagram). (behind ++ done two ∷ []) ++ map (sent_from placed.at) out) (ap (λ (s : Step). s.out) made.2.told) in
-      subst AreStill (sym (sent_3 ∙ append-nil (behind ++ done two ∷ []))) (still_behind behind two (still_behind old.sent one still))
-
-  quiet_3 : waiting_first w3 ≡ None
-  quiet_3 = none_of_still w3.sent still_3
-
-  ends : (is_quiet ≡ true) × (new ≡ w3)
-  ends = quiet_now is_sealing tag drawn now left w3 is_quiet new quiet_3 third.2
-
-  round : IsRoundOfTwo w1 is_quiet new
-  round = record {
-    deliveries = ap (λ (w : State). length w.records) ends.1 ∙ to_c.records ∙ ap (λ (n : ℕ). n + 1) to_s.records ∙ omega arith;
-    quiet = ends.0;
-    still = ap waiting_first ends.1 ∙ quiet_3;
-  }
-
-  server_3 : w3.nodes.server ≡ to_s.server
-  server_3 = ap (λ (n : NodeStates). n.server) to_c.nodes ∙ ap (λ (n : NodeStates). n.server) nodes_2
-
-  abbrev last : Placed
-  last = record after { client = to_c.client }
-
-  there_3 : slice_get w3.nodes.clients number ≡ Some last
-  there_3 = ap (λ (n : NodeStates). slice_get n.clients number) to_c.nodes ∙ get_set w2.nodes.clients number after last there_2
-
-  pub made_round : IsRoundOfTwo w1 is_quiet new × HasMade old number now entries new
-  made_round = (
-    round,
-    subst (λ (w : State). HasMade old number now entries w) (sym ends.1)
-        (record {
+      pub made_straight : IsRound 2 w1 is_quiet new × HasMade old number now entries new × (AreMinted old claims → HasFreshDraws new.steps → KeepsThePremise old new)
+      made_straight = (
+        round.round,
+        record {
           held = made.0;
-          at_server = subst (λ (s : Server). IsHeld s now entries made.0) (sym server_3) made.1;
+          at_server = subst (λ (s : Server). IsHeld s now entries made.0) (sym server_is) made.1;
           placed = last;
-          is_there = there_3;
+          is_there = last_there;
           at_client = made.2.context;
-          begun = takes.step.notes;
-          agreed = to_s.step.notes;
-          made = to_c.step.notes;
-          steps = to_c.steps ∙ ap (λ (l : List Noted). by_client number false to_c.step.notes ∷ l) (to_s.steps ∙ ap (λ (l : List Noted). by_server to_s.step.notes ∷ l) steps_1);
+          idle = made.2.waiting;
+          way = same_way;
+          server_at = ap (λ (n : NodeStates). n.server_at) round.nodes_are;
+          begun = posts.step.notes;
+          agreed = round.serving.notes;
+          made = round.taking.notes;
+          all = all;
+          among = among;
+          steps = steps_are;
           learnt = ap (λ (s : Step). s.notes.result) made.2.told;
-        }),
-  )
+        },
+        exchange_goes_on premises old new all claims old.nodes.server.desk.key draw round.draw
+            (by_client number false posts.step.notes) (by_server round.serving.notes) (by_client number false round.taking.notes) notes_are among
+            (still_minted is_sealing tag drawn now (suc (suc left)) old w1 is_quiet new (beginning begun_at draw number) happens rounds) steps_are,
+      )
+
+    module _ (hears_no_other : HearsNoOther) where
+      unheard_of : (later : Moment) (id : ℕ) → id ≢ own_id draw placed.client.endpoint.next_id → looked later placed.at id old.nodes.server.endpoint.seen ≡ None
+          → looked later placed.at id new.nodes.server.endpoint.seen ≡ None
+      unheard_of later id other before =
+          ap (λ (s : Server). looked later placed.at id s.endpoint.seen) server_is
+          ∙ hears_no_other placed.client posts.client old.nodes.server round.server begun_at now later draw round.draw placed.at old.nodes.server_at claims entries is.message posts.step round.serving id
+          lawful goes may posts.exchanges is.out round.served other before
+
+      next_id_is : round.client.endpoint.next_id ≡ Some ((own_id draw placed.client.endpoint.next_id + 1) % 65536)
+      next_id_is =
+          hears_id is_sealing posts.client now old.nodes.server_at (spelling agreed.answer) round.taking round.client round.taken
+          ∙ exchanges_id placed.client begun_at draw posts.step posts.client (datagram placed.client.next_hop is.message) posts.exchanges is.out
+
+      pub left_unheard : (standing : Placed) → slice_get new.nodes.clients number ≡ Some standing → LeavesUnheard old new draw placed standing
+      left_unheard standing stands =
+          let same : last ≡ standing = same_Some last standing (sym last_there ∙ stands) in
+          subst (λ (p : Placed). LeavesUnheard old new draw placed p) same (record { next_id = next_id_is; unheard = unheard_of })

@@ -6,6 +6,21 @@ pub mod Taking
 pub mod Apart
 mod Waiting
 mod Rest
-mod OneDelivery
+mod Looking
+mod Slots
+mod Queue
+mod Deliveries
+mod Straight
+mod Through
+mod Asked
 mod AskWorld
+mod AskThroughWorld
+mod Posted
 mod ExchangeWorld
+mod ExchangeThroughWorld
+mod Way
+mod StillHeld
+mod MayAsk
+mod Premises
+mod Minting
+mod Beginnings

@@ -1,25 +1,52 @@
 //! Laws of the definitions. These functions do nothing: whoever calls one has its clauses for a proof.
-ghost use Rattle.std.specs.Prelude.{◌≡◌, ◌≤◌, ◌==◌, ℕ, Bool, List, Some, false, slice_get};
+ghost use Rattle.std.specs.Prelude.{◌≡◌, ◌≤◌, ◌==◌, ◌∷◌, ◌++◌, ℕ, suc, Bool, List, [], None, Some, false, true, length, slice_get, ◌<◌, ◌+◌, ◌%◌, ◌^◌};
+ghost use Rattle.osc_model.specs.Grant.{HasBegun, IsNotOver};
 ghost use Rattle.osc_model.specs.declared.node.Draw.{Draw as AnyDraw};
 ghost use Rattle.osc_model.specs.declared.node.Moment.{Moment as AnyMoment};
+ghost use Rattle.osc_model.specs.declared.node.Peer.{Peer as AnyPeer};
 ghost use Rattle.osc_model.specs.declared.request.Request.{Request as AnyRequest};
+ghost use Rattle.osc_cbor.specs.Spelling.{spelling};
 ghost use Rattle.osc_authz.specs.Begun.{Made as ClientContext};
+ghost use Rattle.osc_authz.specs.Contexts.{IsLive};
 ghost use Rattle.osc_authz.specs.Held.{Held};
-ghost use Rattle.osc_rounds.specs.AskRound.{IsLawfulServer, MayAsk, asked_text};
-ghost use Rattle.osc_rounds.specs.ExchangeRound.{MayExchange};
+ghost use Rattle.osc_context.specs.Nonce.{greatest_number};
+ghost use Rattle.osc_window.specs.Window.{IsFresh};
+ghost use Rattle.osc_client.specs.Way.{HostAndPort};
+ghost use Rattle.osc_dedup.specs.Table.{looked};
+ghost use Rattle.osc_message.specs.Endpoint.{own_id};
+ghost use Rattle.osc_proxy.specs.Targets.{peer_of};
+ghost use Rattle.osc_proxy.specs.declared.targets.Target.{Target as AnyTarget};
+ghost use Rattle.osc_rounds.specs.AskRound.{IsLawfulServer, asked_text};
+ghost use Rattle.osc_rounds.specs.Ready.{MayAsk, MayExchange};
+ghost use Rattle.osc_run.specs.Premise.{HasFreshDraws, HasOwnSecrets, IsMinted, Premise};
 ghost use Rattle.osc_scope.specs.Entries.{Entry};
+ghost use Rattle.osc_token.specs.Minted.{HasLawfulParts};
+ghost use Rattle.osc_token.specs.Token.{claims_item};
 ghost use Rattle.osc_token.specs.declared.claims.Claims.{Claims as AnyClaims};
+ghost use Rattle.osc_world.specs.Lawful.{AreLawfulClients, AreLawfulProxies};
+ghost use Rattle.osc_world.specs.Log.{delivered, sent_by};
 ghost use Rattle.osc_world.specs.Nodes.{NodeStates, StandApart, node_at};
-ghost use Rattle.osc_world.specs.Quiet.{AreWhole, Rounds};
-ghost use Rattle.osc_world.specs.Ready.{HasAnswered, HasMade, IsAtRest, IsNotRefused, IsRoundOfTwo, asking, beginning};
+ghost use Rattle.osc_world.specs.Queue.{IsHeardByClient, IsHeardByProxy, IsHeardByServer, queue};
+ghost use Rattle.osc_world.specs.Quiet.{AreWhole, Rounds, waiting_first};
+ghost use Rattle.osc_world.specs.Ready.{AreMinted, HasAnswered, HasMade, IsNotRefused, IsReady, IsRound, KeepsThePremise, LeavesUnheard, asking, beginning};
 ghost use Rattle.osc_world.specs.Worlds.{Happens, State};
+ghost use Rattle.osc_world.specs.declared.event.Event.{Event as AnyEvent};
+ghost use Rattle.osc_world.specs.declared.log.Sent.{Sent as AnySent};
+ghost use Rattle.osc_world.specs.Refusals.{FitAToken};
+ghost use Rattle.osc_world.specs.Starts.{Beginning, Enrols, begun, new_proxy};
 ghost use Rattle.osc_world.specs.declared.nodes.Placed.{Placed as AnyPlaced};
 ghost use Rattle.osc_world.specs.declared.nodes.PlacedProxy.{PlacedProxy as AnyPlacedProxy};
 ghost use Rattle.osc_world.specs.declared.nodes.Whose.TheVariants as whose;
+ghost use Rattle.osc_world.specs.declared.start.Holder.{Holder as AnyHolder};
 
+use osc_authz::laws::numbers_taken;
 use osc_ccm::Aead;
 use osc_message::laws::one_peer;
-use osc_rounds::laws::{a_request_is_answered, an_exchange_is_made};
+use osc_rounds::laws::{
+    a_request_goes_through_a_proxy, a_request_is_answered, a_request_keeps_the_premise,
+    an_exchange_goes_through_a_proxy, an_exchange_is_made, an_exchange_keeps_the_premise,
+    what_an_exchange_notes,
+};
 
 /// Where no two nodes stand at one address, what is sent to a node's address comes to that node.
 pub fn who_stands_there()
@@ -32,35 +59,161 @@ pub fn who_stands_there()
     one_peer();
 }
 
-/// In a world at rest whose nodes stand apart, an exchange that goes straight to the server, of a client whose token is welcome there,
-/// and a quiet round of two deliveries or more behind it: both ends have a context of one name, which is live at the server, with the
-/// token's scope; the client is told that it is made; and nothing waits.
+/// What waits, in order of sending, is a queue. What an event sends waits behind the others. A quiet round is over where nothing waits;
+/// else the first datagram that waits is delivered, where no two nodes stand at one address, to the node at the address that it was
+/// sent to, and the round goes on from there.
+pub fn a_round_delivers<A: Aead>()
+    ensures at_rest { (world : State) → waiting_first world ≡ None → queue world ≡ [] }
+    ensures still { (world : State) → queue world ≡ [] → waiting_first world ≡ None }
+    ensures sent { (old new : State) (event : AnyEvent) (happens : Happens A.is_sealing A.TAG old event new)
+        → delivered event.what old.sent ≡ old.sent → queue new ≡ queue old ++ sent_by happens.taken }
+    ensures over { (drawn : ℕ → AnyDraw) (now : AnyMoment) (limit : ℕ) (old new : State) (quiet : Bool)
+        → queue old ≡ [] → Rounds A.is_sealing A.TAG drawn now limit old quiet new → (quiet ≡ true) × (new ≡ old) }
+    ensures server { (drawn : ℕ → AnyDraw) (now : AnyMoment) (left : ℕ) (first : AnySent) (later : List AnySent) (old new : State) (quiet : Bool)
+        → StandApart old.nodes → queue old ≡ first ∷ later → first.to ≡ old.nodes.server_at
+        → Rounds A.is_sealing A.TAG drawn now (suc left) old quiet new
+        → (next : State) × IsHeardByServer A.is_sealing now (drawn (length old.records)) old first later next
+        × Rounds A.is_sealing A.TAG drawn now left next quiet new }
+    ensures client { (drawn : ℕ → AnyDraw) (now : AnyMoment) (left : ℕ) (first : AnySent) (later : List AnySent) (old new : State) (quiet : Bool)
+        (number : ℕ) (placed : AnyPlaced)
+        → StandApart old.nodes → queue old ≡ first ∷ later → slice_get old.nodes.clients number ≡ Some placed → first.to ≡ placed.at
+        → Rounds A.is_sealing A.TAG drawn now (suc left) old quiet new
+        → (next : State) × IsHeardByClient A.is_sealing now number placed old first later next
+        × Rounds A.is_sealing A.TAG drawn now left next quiet new }
+    ensures proxy { (drawn : ℕ → AnyDraw) (now : AnyMoment) (left : ℕ) (first : AnySent) (later : List AnySent) (old new : State) (quiet : Bool)
+        (number : ℕ) (placed : AnyPlacedProxy)
+        → StandApart old.nodes → queue old ≡ first ∷ later → slice_get old.nodes.proxies number ≡ Some placed → first.to ≡ placed.at
+        → Rounds A.is_sealing A.TAG drawn now (suc left) old quiet new
+        → (next : State) × IsHeardByProxy now (drawn (length old.records)) number placed old first later next
+        × Rounds A.is_sealing A.TAG drawn now left next quiet new }
+{
+    one_peer();
+}
+
+/// In a world that is ready for it, an exchange of a client whose token is welcome at the server, and a quiet round of as many deliveries as
+/// its way has, or more, behind it: both ends have a context of one name, which is live at the server, with the token's scope; the client is
+/// told that it is made; and nothing waits. What is assumed of a run goes on, if the token is one that the world began with and the nonces
+/// that were drawn are fresh. Straight, the server hears one message ID of the client's alone.
 pub fn an_exchanged_round<A: Aead>()
-    ensures { (drawn : ℕ → AnyDraw) (begun_at now : AnyMoment) (draw : AnyDraw) (client : ℕ) (placed : AnyPlaced) (claims : AnyClaims) (entries : List Entry)
-        (old begun new : State) (limit : ℕ) (quiet : Bool)
-        → 2 ≤ limit → AreWhole drawn begun new → StandApart begun.nodes → IsAtRest old client placed
-        → MayExchange A.is_sealing placed.client old.nodes.server now draw placed.at old.nodes.server_at claims entries
+    ensures made { (drawn : ℕ → AnyDraw) (begun_at now : AnyMoment) (draw : AnyDraw) (client deliveries : ℕ) (placed : AnyPlaced) (claims : AnyClaims)
+        (entries : List Entry) (old begun new : State) (limit : ℕ) (quiet : Bool)
+        → AreWhole drawn begun new → StandApart begun.nodes → AreLawfulProxies begun.nodes.proxies
+        → AreLawfulClients begun.nodes.clients
+        → deliveries ≤ limit → IsReady old client placed now draw (drawn (length begun.records)) deliveries
+        → MayExchange A.is_sealing placed.client old.nodes.server now claims entries
         → Happens A.is_sealing A.TAG old (beginning begun_at draw client) begun → IsNotRefused 14 old begun
         → Rounds A.is_sealing A.TAG drawn now limit begun quiet new
-        → IsRoundOfTwo begun quiet new × HasMade old client now entries new }
+        → IsRound deliveries begun quiet new × HasMade old client now entries new
+        × (AreMinted old claims → HasFreshDraws new.steps → KeepsThePremise old new) }
+    ensures straight { (drawn : ℕ → AnyDraw) (begun_at now : AnyMoment) (draw : AnyDraw) (client : ℕ) (placed after : AnyPlaced) (claims : AnyClaims)
+        (entries : List Entry) (old begun new : State) (limit : ℕ) (quiet : Bool)
+        → AreWhole drawn begun new → StandApart begun.nodes → AreLawfulClients begun.nodes.clients
+        → 2 ≤ limit → IsReady old client placed now draw (drawn (length begun.records)) 2
+        → MayExchange A.is_sealing placed.client old.nodes.server now claims entries
+        → Happens A.is_sealing A.TAG old (beginning begun_at draw client) begun → IsNotRefused 14 old begun
+        → Rounds A.is_sealing A.TAG drawn now limit begun quiet new
+        → slice_get new.nodes.clients client ≡ Some after → LeavesUnheard old new draw placed after }
 {
     one_peer();
     an_exchange_is_made::<A>();
+    an_exchange_goes_through_a_proxy::<A>();
+    what_an_exchange_notes::<A>();
+    an_exchange_keeps_the_premise();
 }
 
-/// In a world at rest whose nodes stand apart, a request that goes straight to the server, from a client that may ask, and a quiet round
-/// of two deliveries or more behind it: one entry is served, with the plaintext that was asked; tree and reply are those of the machine,
-/// or the reply is 5.00 for want of memory and the tree as before; the client's answer is that reply; and nothing waits.
+/// In a world that is ready for it, a request of a client that may ask, and a quiet round of as many deliveries as its way has, or more,
+/// behind it: one entry is served, with the plaintext that was asked; tree and reply are those of the machine, or the reply is 5.00 for want
+/// of memory and the tree as before; the client's answer is that reply; and nothing waits. What is assumed of a run goes on. Straight, the
+/// server hears one message ID of the client's alone.
 pub fn an_asked_round<A: Aead>()
-    ensures { (drawn : ℕ → AnyDraw) (asked_at now : AnyMoment) (draw : AnyDraw) (client : ℕ) (request : AnyRequest) (placed : AnyPlaced)
+    ensures answered { (drawn : ℕ → AnyDraw) (asked_at now : AnyMoment) (draw : AnyDraw) (client deliveries : ℕ) (request : AnyRequest) (placed : AnyPlaced)
         (context : ClientContext) (held : Held) (old asked new : State) (limit : ℕ) (quiet : Bool)
-        → 2 ≤ limit → StandApart asked.nodes → IsLawfulServer asked.nodes.server → IsAtRest old client placed
-        → MayAsk placed.client old.nodes.server now draw placed.at old.nodes.server_at context held
+        → AreWhole drawn asked new → StandApart asked.nodes → IsLawfulServer asked.nodes.server → AreLawfulProxies asked.nodes.proxies
+        → AreLawfulClients asked.nodes.clients
+        → deliveries ≤ limit → IsReady old client placed now draw (drawn (length asked.records)) deliveries
+        → MayAsk placed.client old.nodes.server now context held
         → (request.code.0 == 0) ≡ false
         → Happens A.is_sealing A.TAG old (asking asked_at draw client request) asked → IsNotRefused 14 old asked
         → Rounds A.is_sealing A.TAG drawn now limit asked quiet new
-        → IsRoundOfTwo asked quiet new × HasAnswered old client (asked_text placed.client draw request) now held context.next new }
+        → IsRound deliveries asked quiet new × HasAnswered old client (asked_text placed.client draw request) now held context.next new
+        × KeepsThePremise old new }
+    ensures straight { (drawn : ℕ → AnyDraw) (asked_at now : AnyMoment) (draw : AnyDraw) (client : ℕ) (request : AnyRequest) (placed after : AnyPlaced)
+        (context : ClientContext) (held : Held) (old asked new : State) (limit : ℕ) (quiet : Bool)
+        → StandApart asked.nodes → IsLawfulServer asked.nodes.server → AreLawfulClients asked.nodes.clients
+        → 2 ≤ limit → IsReady old client placed now draw (drawn (length asked.records)) 2
+        → MayAsk placed.client old.nodes.server now context held
+        → (request.code.0 == 0) ≡ false
+        → Happens A.is_sealing A.TAG old (asking asked_at draw client request) asked → IsNotRefused 14 old asked
+        → Rounds A.is_sealing A.TAG drawn now limit asked quiet new
+        → slice_get new.nodes.clients client ≡ Some after → LeavesUnheard old new draw placed after }
 {
     one_peer();
+    numbers_taken();
     a_request_is_answered::<A>();
+    a_request_goes_through_a_proxy::<A>();
+    a_request_keeps_the_premise();
 }
+
+/// Behind an exchanged round the client may ask, under its first number, at any moment at which the context is live. Where the way is
+/// straight, the world is ready for it, if the server had noted no message from there of the ID behind that of the post.
+pub fn after_an_exchange_one_may_ask()
+    ensures may_ask { (old new : State) (client : ℕ) (now later : AnyMoment) (entries : List Entry) (made : HasMade old client now entries new)
+        → IsLive later made.held
+        → MayAsk made.placed.client new.nodes.server later (record { name = made.held.name; next = 0 }) made.held }
+    ensures straight { (begun old new : State) (quiet : Bool) (client : ℕ) (before : AnyPlaced) (now later : AnyMoment) (draw next first : AnyDraw) (entries : List Entry)
+        (made : HasMade old client now entries new)
+        → IsRound 2 begun quiet new → slice_get old.nodes.clients client ≡ Some before
+        → before.client.origin ≡ None → before.client.next_hop ≡ old.nodes.server_at
+        → LeavesUnheard old new draw before made.placed
+        → looked later before.at ((own_id draw before.client.endpoint.next_id + 1) % 65536) old.nodes.server.endpoint.seen ≡ None
+        → IsReady new client made.placed later next first 2 }
+{}
+
+/// Behind an answered round the client may ask again, under its next number, at any moment at which the context is live, if that number is
+/// one that may be taken, and was fresh. Where the way is straight, the world is ready for it, if the server had noted no message from there
+/// of the ID behind that of the request.
+pub fn after_an_answer_one_may_ask()
+    ensures may_ask { (old new : State) (client : ℕ) (text : List ℕ) (now later : AnyMoment) (held : Held) (number : ℕ)
+        (answered : HasAnswered old client text now held number new)
+        → IsLive later answered.after → number + 1 ≤ greatest_number → IsFresh held.window (number + 1)
+        → MayAsk answered.placed.client new.nodes.server later (record { name = held.name; next = number + 1 }) answered.after }
+    ensures straight { (asked old new : State) (quiet : Bool) (client : ℕ) (text : List ℕ) (before : AnyPlaced) (now later : AnyMoment) (draw next first : AnyDraw)
+        (held : Held) (number : ℕ) (answered : HasAnswered old client text now held number new)
+        → IsRound 2 asked quiet new → slice_get old.nodes.clients client ≡ Some before
+        → before.client.origin ≡ None → before.client.next_hop ≡ old.nodes.server_at
+        → LeavesUnheard old new draw before answered.placed
+        → looked later before.at ((own_id draw before.client.endpoint.next_id + 1) % 65536) old.nodes.server.endpoint.seen ≡ None
+        → IsReady new client answered.placed later next first 2 }
+{}
+
+/// The claims of a client are minted once it is enrolled; what is minted stays so, whoever is enrolled behind it and whatever happens.
+pub fn what_is_minted<A: Aead>()
+    ensures enrolled { (old new : Beginning) (holder : AnyHolder) → Enrols A.is_sealing old holder new
+        → IsMinted new.minted (spelling (claims_item holder.claims)) }
+    ensures more { (old new : Beginning) (holder : AnyHolder) (text : List ℕ) → Enrols A.is_sealing old holder new
+        → IsMinted old.minted text → IsMinted new.minted text }
+    ensures stays { (old new : State) (event : AnyEvent) → Happens A.is_sealing A.TAG old event new → new.minted ≡ old.minted }
+{}
+
+/// Where a world begins, what is assumed of a run holds if no two grants share a secret. A client that was enrolled may exchange: at any
+/// moment in the time of its token, if that is for the server's audience and has parts of lawful lengths. The world is ready for it where
+/// the client reaches the server straight, or through a proxy that was added and has the server among its targets, by the host and port
+/// that the client writes.
+pub fn where_a_world_begins<A: Aead>()
+    ensures premise { (start : Beginning) → HasOwnSecrets start.minted → Premise (begun start).minted (begun start).steps }
+    ensures may_exchange { (before after start : Beginning) (holder : AnyHolder) (now : AnyMoment) (enrols : Enrols A.is_sealing before holder after)
+        → start.key ≡ before.key → HasLawfulParts holder.claims → FitAToken holder.claims → holder.claims.audience ≡ start.audience
+        → HasBegun holder.claims.not_before now → IsNotOver holder.claims.expires now
+        → length holder.iv ≡ 13 → length enrols.placed.client.desk.token < 2 ^ 64
+        → MayExchange A.is_sealing enrols.placed.client (begun start).nodes.server now holder.claims enrols.enrolled.entries }
+    ensures straight { (before after start : Beginning) (holder : AnyHolder) (now : AnyMoment) (draw first : AnyDraw) (enrols : Enrols A.is_sealing before holder after)
+        → slice_get start.clients (length before.clients) ≡ Some enrols.placed
+        → holder.way.origin ≡ None → holder.way.next_hop ≡ start.server_at
+        → IsReady (begun start) (length before.clients) enrols.placed now draw first 2 }
+    ensures through { (before after start : Beginning) (holder : AnyHolder) (now : AnyMoment) (draw first : AnyDraw) (enrols : Enrols A.is_sealing before holder after)
+        (origin : HostAndPort) (number : ℕ) (at : AnyPeer) (targets : List AnyTarget)
+        → slice_get start.clients (length before.clients) ≡ Some enrols.placed
+        → holder.way.origin ≡ Some origin → holder.way.next_hop ≡ at
+        → slice_get start.proxies number ≡ Some (new_proxy at targets) → peer_of targets origin.host origin.port ≡ Some start.server_at
+        → IsReady (begun start) (length before.clients) enrols.placed now draw first 6 }
+{}

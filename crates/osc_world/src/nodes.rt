@@ -6,6 +6,7 @@ ghost use Rattle.osc_client.specs.State.{core as core_of_client};
 ghost use Rattle.osc_run.specs.ClientKinds.{ClientStep};
 ghost use Rattle.osc_run.specs.ServerKinds.{ServerStep};
 ghost use Rattle.osc_server.specs.State.{core as core_of_server};
+ghost use Rattle.osc_world.specs.Lawful.{AreLawfulClients, AreLawfulProxies};
 ghost use Rattle.osc_world.specs.Log.{sent_by};
 ghost use Rattle.osc_world.specs.Nodes.{client_at, found, node_at, node_of, proxy_at, skipped, whose_step};
 ghost use Rattle.osc_rounds.specs.AskRound.{IsLawfulServer};
@@ -343,6 +344,25 @@ fn proxy_hears(
     proxy.on_datagram(alloc, now, from, bytes, draw)
 }
 
+/// For proofs: what is true of each client. Looks at each, and changes nothing.
+fn are_lawful_clients(clients: &[Placed])
+    ensures { AreLawfulClients clients.now }
+{
+    for placed in clients {
+        placed.client.has_lawful_parts();
+    }
+}
+
+/// For proofs: what is true of each proxy. Looks at each, and changes nothing.
+fn are_lawful_proxies(proxies: &[PlacedProxy])
+    ensures { AreLawfulProxies proxies.now }
+{
+    for placed in proxies {
+        // The call tells what always holds of a proxy.
+        let _open = placed.proxy.open_exchanges();
+    }
+}
+
 impl Nodes {
     /// These nodes.
     pub fn new(
@@ -375,12 +395,33 @@ impl Nodes {
         self.clients.get(number)
     }
 
+    /// The proxy of this number, if there is one.
+    pub fn proxy(&self, number: usize) -> Option<&PlacedProxy>
+        ensures { option_map (λ placed. placed.now) result ≡ slice_get self.now.proxies number }
+    {
+        self.proxies.get(number)
+    }
+
     /// For proofs: what is true of each server. Does nothing.
     pub fn has_a_lawful_server(&self)
         ensures { IsLawfulServer self.now.server }
     {
         let _resources = self.server.tree().len();
         let _desk = self.server.desk();
+    }
+
+    /// For proofs: what is true of each client. Changes nothing.
+    pub fn has_lawful_clients(&self)
+        ensures { AreLawfulClients self.now.clients }
+    {
+        are_lawful_clients(&self.clients);
+    }
+
+    /// For proofs: what is true of each proxy. Changes nothing.
+    pub fn has_lawful_proxies(&self)
+        ensures { AreLawfulProxies self.now.proxies }
+    {
+        are_lawful_proxies(&self.proxies);
     }
 
     /// Who stands there.

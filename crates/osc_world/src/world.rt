@@ -7,6 +7,7 @@ ghost use Rattle.osc_run.specs.Texts.{read_request};
 ghost use Rattle.osc_run.specs.Premise.{Premise};
 ghost use Rattle.osc_rounds.specs.AskRound.{IsLawfulServer};
 ghost use Rattle.osc_world.specs.Claims.{HasOneHistory, HasOwnAnswers, KeepsItsNonces};
+ghost use Rattle.osc_world.specs.Lawful.{AreLawfulClients, AreLawfulProxies};
 ghost use Rattle.osc_world.specs.Log.{settled, waiting};
 ghost use Rattle.osc_world.specs.Nodes.{StandApart, skipped};
 ghost use Rattle.osc_run.specs.Runs.{IsReached, IsStart};
@@ -20,7 +21,7 @@ use crate::event::{Event, What};
 use crate::isolation::alone;
 use crate::laws::{an_asked_round, an_exchanged_round};
 use crate::log::{Log, Record, Sent};
-use crate::nodes::{Nodes, Placed};
+use crate::nodes::{Nodes, Placed, PlacedProxy};
 use osc_ccm::Aead;
 use osc_model::{Draw, Entry, Moment, Reply};
 use osc_run::laws::{one_history, own_answers, own_nonces};
@@ -161,9 +162,11 @@ impl World {
     /// many were. Whether none is left; an `AllocError` at the first for whose delivery memory is wanting: the deliveries before it stand,
     /// and it waits.
     ///
-    /// Behind an exchange or a request that goes straight to the server, in a world that was at rest before, two deliveries are the whole
-    /// round: the exchange makes a context of one name at both ends, with the token's scope; and the request is served once, by what the
+    /// Behind an exchange or a request, in a world that was ready for it, two deliveries are the whole round, or six through a proxy: the
+    /// exchange makes a context of one name at both ends, with the token's scope; and the request is served once, by what the
     /// machine makes of it, or by 5.00 where the server lacks memory for that, and what it is answered is what the client learns.
+    /// What is assumed of a run goes on over such a round: over a request always, and over an exchange where its token is one that the
+    /// world began with and the nonces that were drawn are fresh.
     pub fn quiet<A: Aead, D: Draws>(
         &mut self,
         alloc: Global,
@@ -173,8 +176,8 @@ impl World {
     ) -> Result<bool, AllocError>
         ensures rounds { IfOk result (λ quiet. Rounds A.is_sealing A.TAG (D.drawn draws.now) now limit self.old quiet self.new) }
         ensures stopped { OnErr result ((some : ℕ) × (some < limit) × Rounds A.is_sealing A.TAG (D.drawn draws.now) now some self.old false self.new) }
-        ensures begun { IfOk result (λ quiet. MakesWhatWasBegun A.is_sealing A.TAG now limit self.old quiet self.new) }
-        ensures asked { IfOk result (λ quiet. AnswersWhatWasAsked A.is_sealing A.TAG now limit self.old quiet self.new) }
+        ensures begun { IfOk result (λ quiet. MakesWhatWasBegun A.is_sealing A.TAG (D.drawn draws.now) now limit self.old quiet self.new) }
+        ensures asked { IfOk result (λ quiet. AnswersWhatWasAsked A.is_sealing A.TAG (D.drawn draws.now) now limit self.old quiet self.new) }
         ensures reached { IsReached (run_of self.new) }
         ensures apart { StandApart self.new.nodes }
         ensures one_history { HasOneHistory self.new }
@@ -193,12 +196,16 @@ impl World {
         done
     }
 
-    // For proofs: what is true of each world. Does nothing.
+    // For proofs: what is true of each world. Looks at each client and proxy, and changes nothing.
     fn is_lawful(&self)
         ensures server { IsLawfulServer self.now.nodes.server }
+        ensures clients { AreLawfulClients self.now.nodes.clients }
+        ensures proxies { AreLawfulProxies self.now.nodes.proxies }
         ensures apart { StandApart self.now.nodes }
     {
         self.nodes.has_a_lawful_server();
+        self.nodes.has_lawful_clients();
+        self.nodes.has_lawful_proxies();
     }
 
     fn rounds<A: Aead, D: Draws>(
@@ -329,6 +336,14 @@ impl World {
         ensures apart { StandApart self.now.nodes }
     {
         self.nodes.client(number)
+    }
+
+    /// The proxy of this number, and where it stands, if there is one.
+    pub fn proxy(&self, number: usize) -> Option<&PlacedProxy>
+        ensures proxy { option_map (λ placed. placed.now) result ≡ slice_get self.now.nodes.proxies number }
+        ensures apart { StandApart self.now.nodes }
+    {
+        self.nodes.proxy(number)
     }
 
     /// The resources that the world began with.

@@ -1,5 +1,4 @@
 use Rattle.std.proofs.Common.{Bool, IfOk, OnOk, Result, Ok, Err, subst}
-use Rattle.std.proofs.lemmas.Result.{IfOk-weaker}
 use Rattle.osc_run.specs.Runs.{IsReached}
 use Rattle.osc_world.specs.Quiet.{Rounds}
 use Rattle.osc_world.specs.Ready.{AnswersWhatWasAsked, MakesWhatWasBegun}
@@ -16,6 +15,11 @@ returns-clause-own_nonces g c = c.own_nonces.ensures (run_of c.rounds-done.new.s
 pub returns-clause-own_answers : goal.returns-clause-own_answers
 returns-clause-own_answers g c = c.own_answers.ensures (run_of c.rounds-done.new.self) (subst (λ (w : State). IsReached (run_of w)) c.self.view_is c.self.invariant.0)
 
+-- what is so where a round was had, with its draws whole
+both : {A E : Type 0} {X : Type 0} (r : Result A E) (P Q : A → Type 0) → ((a : A) → P a → X → Q a) → IfOk r P → OnOk r X → IfOk r Q
+both (Ok a) P Q f p x = f a p x
+both (Err e) P Q f p x = tt
+
 pub returns-clause-begun : goal.returns-clause-begun
 returns-clause-begun g c =
     let drawn = g.D.Draws.drawn c.args.draws.now in
@@ -23,25 +27,24 @@ returns-clause-begun g c =
     let new = c.rounds-done.new.self in
     both c.rounds-done.result
     (λ (quiet : Bool). Rounds g.A.Aead.is_sealing g.A.Aead.TAG drawn c.args.now c.args.limit old quiet new)
-    (λ (quiet : Bool). MakesWhatWasBegun g.A.Aead.is_sealing g.A.Aead.TAG c.args.now c.args.limit old quiet new)
-    (λ quiet rounds whole before begun_at draw client placed claims entries enough rest may happens fits.
-    c.an_exchanged_round.ensures drawn begun_at c.args.now draw client placed claims entries before old new c.args.limit quiet
-    enough whole c.is_lawful.ensures.apart rest may happens fits rounds)
+    (λ (quiet : Bool). MakesWhatWasBegun g.A.Aead.is_sealing g.A.Aead.TAG drawn c.args.now c.args.limit old quiet new)
+    (λ quiet rounds whole before begun_at draw client deliveries placed claims entries enough ready may happens fits.
+    c.an_exchanged_round.ensures.made drawn begun_at c.args.now draw client deliveries placed claims entries before old new c.args.limit quiet
+    whole c.is_lawful.ensures.apart c.is_lawful.ensures.proxies c.is_lawful.ensures.clients enough ready may happens fits rounds)
     c.rounds-done.ensures.rounds c.rounds-done.ensures.whole
-  where
-    both : {A E : Type 0} {X : Type 0} (r : Result A E) (P Q : A → Type 0) → ((a : A) → P a → X → Q a) → IfOk r P → OnOk r X → IfOk r Q
-    both (Ok a) P Q f p x = f a p x
-    both (Err e) P Q f p x = tt
 
 pub returns-clause-asked : goal.returns-clause-asked
 returns-clause-asked g c =
-    IfOk-weaker c.rounds-done.result
-    (λ (quiet : Bool). Rounds g.A.Aead.is_sealing g.A.Aead.TAG (g.D.Draws.drawn c.args.draws.now) c.args.now c.args.limit c.args.self.now quiet c.rounds-done.new.self)
-    (λ (quiet : Bool). AnswersWhatWasAsked g.A.Aead.is_sealing g.A.Aead.TAG c.args.now c.args.limit c.args.self.now quiet c.rounds-done.new.self)
-    (λ quiet rounds before asked_at draw client request placed context held enough rest may code happens fits.
-    c.an_asked_round.ensures (g.D.Draws.drawn c.args.draws.now) asked_at c.args.now draw client request placed context held before c.args.self.now c.rounds-done.new.self c.args.limit quiet
-    enough c.is_lawful.ensures.apart c.is_lawful.ensures.server rest may code happens fits rounds)
-    c.rounds-done.ensures.rounds
+    let drawn = g.D.Draws.drawn c.args.draws.now in
+    let old = c.args.self.now in
+    let new = c.rounds-done.new.self in
+    both c.rounds-done.result
+    (λ (quiet : Bool). Rounds g.A.Aead.is_sealing g.A.Aead.TAG drawn c.args.now c.args.limit old quiet new)
+    (λ (quiet : Bool). AnswersWhatWasAsked g.A.Aead.is_sealing g.A.Aead.TAG drawn c.args.now c.args.limit old quiet new)
+    (λ quiet rounds whole before asked_at draw client deliveries request placed context held enough ready may code happens fits.
+    c.an_asked_round.ensures.answered drawn asked_at c.args.now draw client deliveries request placed context held before old new c.args.limit quiet
+    whole c.is_lawful.ensures.apart c.is_lawful.ensures.server c.is_lawful.ensures.proxies c.is_lawful.ensures.clients enough ready may code happens fits rounds)
+    c.rounds-done.ensures.rounds c.rounds-done.ensures.whole
 
 pub returns-clause-reached : goal.returns-clause-reached
 returns-clause-reached g c = subst (λ (w : State). IsReached (run_of w)) c.self.view_is c.self.invariant.0

@@ -1,0 +1,122 @@
+-- Where a world begins, a client that was enrolled may exchange, straight or through a proxy that was added.
+use Rattle.std.proofs.Common.{◌≡◌, ◌∙◌, sym, ap, subst, refl, ℕ, ◌+◌, ◌^◌, ◌<◌, ◌≤◌, List, [], length, None, Some, arith}
+use Rattle.std.specs.Prelude.{slice_get}
+use Rattle.osc_model.specs.Grant.{HasBegun, IsNotOver}
+use Rattle.osc_model.specs.declared.node.Draw.{Draw}
+use Rattle.osc_model.specs.declared.node.Moment.{Moment}
+use Rattle.osc_model.specs.declared.node.Peer.{Peer}
+use Rattle.osc_cbor.specs.Spelling.{spelling}
+use Rattle.osc_cose.specs.Encrypt0.{enc_structure}
+use Rattle.osc_authz.specs.HoldsToken.{HoldsToken}
+use Rattle.osc_authz.specs.Welcome.{IsWelcome}
+use Rattle.osc_client.specs.Way.{HostAndPort}
+use Rattle.osc_dedup.specs.Table.{looked}
+use Rattle.osc_message.specs.Endpoint.{EndpointState}
+use Rattle.osc_proxy.specs.Targets.{peer_of}
+use Rattle.osc_proxy.specs.ThereAndBack.{answer_id}
+use Rattle.osc_proxy.specs.declared.targets.Target.{Target}
+use Rattle.osc_rounds.specs.Ready.{MayExchange}
+use Rattle.osc_token.specs.Minted.{FitTheirTypes, HasLawfulParts}
+use Rattle.osc_token.specs.Token.{algorithm_header, claims_item}
+use Rattle.osc_token.specs.declared.claims.Claims.{Claims}
+use Rattle.osc_world.specs.Ready.{IsReady}
+use Rattle.osc_world.specs.Ready as ready_as
+use Rattle.osc_world.specs.Refusals.{FitAToken}
+use Rattle.osc_world.specs.Starts.{Beginning, Enrols, begun, new_proxy}
+use Rattle.osc_world.specs.declared.nodes.PlacedProxy.{PlacedProxy}
+use Rattle.osc_world.specs.declared.start.Holder.{Holder}
+
+fit : (claims : Claims) → HasLawfulParts claims → FitTheirTypes claims
+fit claims lawful = record {
+  audience = lawful.audience;
+  not_before = lawful.not_before;
+  expires = lawful.expires;
+  id = omega (arith, lawful.id);
+  secret = omega (arith, lawful.secret.1);
+  salt = omega (arith, lawful.salt);
+  id_context = λ bytes is. omega (arith, lawful.id_context bytes is);
+  scope = lawful.scope;
+}
+
+module _ (is_sealing : List ℕ → List ℕ → List ℕ → List ℕ → List ℕ → Type 0) (tag : ℕ)
+    (sealed_length : (key nonce aad text sealed : List ℕ) → is_sealing key nonce aad text sealed → length sealed ≡ length text + tag)
+    (short_tag : tag ≤ 16)
+    (before after start : Beginning) (holder : Holder) (now : Moment) (enrols : Enrols is_sealing before holder after)
+    (key : start.key ≡ before.key)
+    (lawful : HasLawfulParts holder.claims) (fits : FitAToken holder.claims) (audience : holder.claims.audience ≡ start.audience)
+    (begins : HasBegun holder.claims.not_before now) (ends : IsNotOver holder.claims.expires now)
+    (iv_size : length holder.iv ≡ 13) (token_size : length enrols.placed.client.desk.token < 2 ^ 64) where
+  holds : HoldsToken is_sealing start.key holder.claims enrols.enrolled.entries enrols.placed.client.desk
+  holds =
+      let is = enrols.enrolled in record {
+        iv = holder.iv;
+        ciphertext = is.ciphertext;
+        iv_size = iv_size;
+        short = omega (
+          arith,
+          short_tag,
+          fits,
+          sealed_length before.key holder.iv (enc_structure algorithm_header []) (spelling (claims_item holder.claims)) is.ciphertext is.sealed,
+        );
+        sealed = subst (λ (k : List ℕ). is_sealing k holder.iv (enc_structure algorithm_header []) (spelling (claims_item holder.claims)) is.ciphertext) (sym key) is.sealed;
+        fit = fit holder.claims lawful;
+        is_scope = is.scope;
+        token = is.client.desk.token_is;
+        token_size = token_size;
+        secret = is.client.desk.secret;
+        salt = is.client.desk.salt;
+        id_context = is.client.desk.id_context;
+      }
+
+  welcome : IsWelcome is_sealing (begun start).nodes.server.desk now holder.claims enrols.enrolled.entries enrols.placed.client.desk
+  welcome = record {
+    holds = holds;
+    lawful = lawful;
+    audience = audience;
+    begun = begins;
+    not_over = ends;
+    room = λ full. absurd (omega (arith, full.many));
+  }
+
+  pub may_exchange : MayExchange is_sealing enrols.placed.client (begun start).nodes.server now holder.claims enrols.enrolled.entries
+  may_exchange = record { idle = enrols.enrolled.client.waiting; welcome = welcome }
+
+module _ (is_sealing : List ℕ → List ℕ → List ℕ → List ℕ → List ℕ → Type 0)
+    (before after start : Beginning) (holder : Holder) (now : Moment) (draw first : Draw) (enrols : Enrols is_sealing before holder after) where
+  pub ready_straight : slice_get start.clients (length before.clients) ≡ Some enrols.placed
+      → holder.way.origin ≡ None → holder.way.next_hop ≡ start.server_at
+      → IsReady (begun start) (length before.clients) enrols.placed now draw first 2
+  ready_straight there direct next_hop =
+      let is = enrols.enrolled.client in record {
+        still = refl;
+        here = there;
+        way = ready_as.Way.straight refl (record { direct = is.origin ∙ direct; next_hop = is.next_hop ∙ next_hop; unheard = refl });
+      }
+
+  -- nobody heard anything, no message is open, and the proxy's first key is free
+  pub ready_through : (origin : HostAndPort) (number : ℕ) (at : Peer) (targets : List Target)
+      → slice_get start.clients (length before.clients) ≡ Some enrols.placed
+      → holder.way.origin ≡ Some origin → holder.way.next_hop ≡ at
+      → slice_get start.proxies number ≡ Some (new_proxy at targets) → peer_of targets origin.host origin.port ≡ Some start.server_at
+      → IsReady (begun start) (length before.clients) enrols.placed now draw first 6
+  ready_through origin number at targets there named next_hop stands target =
+      let is = enrols.enrolled.client in
+      let proxy : PlacedProxy = new_proxy at targets in record {
+        still = refl;
+        here = there;
+        way = ready_as.Way.through refl number proxy stands
+            (record {
+              origin = origin;
+              named = is.origin ∙ named;
+              next_hop = is.next_hop ∙ next_hop;
+              target = target;
+              key = 0;
+              free = refl;
+              few = omega arith;
+              none_to_server = refl;
+              none_to_client = refl;
+              unheard = refl;
+              new_at_server = refl;
+              new_at_client = ap (λ (endpoint : EndpointState). looked now at (answer_id proxy.proxy first) endpoint.seen) is.endpoint;
+            });
+      }

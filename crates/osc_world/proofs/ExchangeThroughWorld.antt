@@ -1,0 +1,368 @@
+-- An exchange is begun, and a quiet round makes a context at both ends: through a proxy, in six deliveries.
+use Rattle.std.proofs.Common.{◌≡◌, ◌∙◌, sym, ap, subst, refl, ℕ, suc, ◌+◌, ◌-◌, ◌≤◌, Bool, true, false, List, [], ◌∷◌, ◌++◌, length, map, Some, None, arith}
+use Rattle.std.specs.Prelude.{◌≢◌, slice_get, slice_set}
+use Rattle.std.proofs.lemmas.Option.{same_Some}
+use Rattle.osc_model.specs.StepNotes.{quiet}
+use Rattle.osc_model.specs.declared.node.Draw.{Draw}
+use Rattle.osc_model.specs.declared.node.Moment.{Moment}
+use Rattle.osc_model.specs.declared.node.Peer.{Peer}
+use Rattle.osc_model.specs.declared.step.ClientResult.TheVariants as result
+use Rattle.osc_model.specs.declared.step.Datagram.{Datagram}
+use Rattle.osc_model.specs.declared.step.Step.{Step}
+use Rattle.osc_cbor.specs.Spelling.{spelling as item_spelling}
+use Rattle.osc_coap.specs.Message.{Message, spelling}
+use Rattle.osc_message.specs.Confirmables.{same_peer}
+use Rattle.osc_message.specs.Sending.{empty_acknowledgement}
+use Rattle.osc_run.specs.Notes.{Noted, by_client, by_proxy, by_server}
+use Rattle.osc_run.specs.Premise.{HasFreshDraws}
+use Rattle.osc_server.specs.State.{State as Server}
+use Rattle.osc_client.specs.Lawful.{IsLawfulClient}
+use Rattle.osc_client.specs.Sending.{Exchanges, post_by}
+use Rattle.osc_client.specs.State.{State as Client}
+use Rattle.osc_proxy.specs.Hearing.{Hears as ProxyHears}
+use Rattle.osc_proxy.specs.State.{State as Proxy}
+use Rattle.osc_proxy.specs.ThereAndBack.{IsAtRest, IsLawfulProxy}
+use Rattle.osc_rounds.specs.ExchangeRound.{IsHeld}
+use Rattle.osc_rounds.specs.ExchangeRoundThrough.{IsAgreedAndBroughtBack, IsBroughtBackAndMade, IsMadeAndEnds, IsPassedOnAndAgreed, IsPostedAndAgreedThrough, IsSettledAndAgreed, PostOnItsWay, forwarded_post, post_id_back}
+use Rattle.osc_rounds.specs.Ready.{IsThrough, MayExchange}
+use Rattle.osc_rounds.specs.RoundNotes.{AreAmongQuiet, AreNotesOfExchange}
+use Rattle.osc_scope.specs.Entries.{Entry}
+use Rattle.osc_token.specs.Token.{claims_item}
+use Rattle.osc_token.specs.declared.claims.Claims.{Claims}
+use Rattle.osc_world.specs.Lawful.{AreLawfulClients, AreLawfulProxies}
+use Rattle.osc_world.specs.Log.{sent_from}
+use Rattle.osc_world.specs.Nodes.{NodeStates, StandApart}
+use Rattle.osc_world.specs.Queue.{queue}
+use Rattle.osc_world.specs.Quiet.{AreWhole, Rounds, waiting_first}
+use Rattle.osc_world.specs.Ready.{AreMinted, GoesTheSameWay, HasMade, IsNotRefused, IsReady, IsRound, KeepsThePremise, LeavesUnheard, Way, beginning}
+use Rattle.osc_world.specs.Ready as ready_as
+use Rattle.osc_world.specs.Worlds.{Happens, State}
+use Rattle.osc_world.specs.declared.nodes.Placed.{Placed}
+use Rattle.osc_world.specs.declared.nodes.PlacedProxy.{PlacedProxy}
+use Rattle.osc_world.proofs.Asked.{lawful_asked}
+use Rattle.osc_world.proofs.Deliveries.{still_minted}
+use Rattle.osc_world.proofs.ExchangeWorld.{HearsNoOther, KeepsOverExchange, MakesStraight, NotesExchange, exchange_goes_on, left_unheard, made_straight}
+use Rattle.osc_world.proofs.Posted.{IsPosted, is_posted, post_goes_out}
+use Rattle.osc_world.proofs.Slots.{got_back}
+use Rattle.osc_world.proofs.Straight.{IsWhole, from_to}
+use Rattle.osc_world.proofs.Through.{IsAcknowledged, IsForwarded, IsSentBack, IsServed, IsTaken, IsThrough as IsRoundOfSix, Route, first_is_whole, three_of_seven, through as round_of_six}
+use Rattle.osc_world.proofs.Way.{exchanges_same}
+
+-- ---- what each delivery sends, as the law of the round has it
+
+module _ (is_sealing : List ℕ → List ℕ → List ℕ → List ℕ → List ℕ → Type 0) (drawn : ℕ → Draw) (first : ℕ) (post : PostOnItsWay) where
+  abbrev takes : (agreed : Server) (brought : Proxy) (fifth : Step) (made : Client) → IsMadeAndEnds is_sealing post agreed brought fifth made
+      → IsTaken is_sealing drawn first post.now post.at post.proxy_at post.server_at brought fifth
+  takes agreed brought fifth made is = record {
+    taken = spelling (empty_acknowledgement (post_id_back post));
+    out = ap (λ (s : Step). s.out) is.is_made.told;
+    silent = λ last after whole hears. ap (λ (s : Step). s.out) (is.ends (drawn (first + 5)) last after hears).told;
+  }
+
+  abbrev brings : (settled : Client) (agreed : Server) (fourth : Step) (brought : Proxy) → IsBroughtBackAndMade is_sealing post settled agreed fourth brought
+      → IsSentBack is_sealing drawn first post.now post.at post.proxy_at post.server_at settled brought fourth
+  brings settled agreed fourth brought is = record {
+    answer = spelling is.back;
+    out = ap (λ (s : Step). s.out) is.out;
+    taken = λ next after hears. takes agreed brought next after (is.made next after hears);
+  }
+
+  abbrev agrees : (settled : Client) (passed : Proxy) (third : Step) (agreed : Server) → IsAgreedAndBroughtBack is_sealing post settled passed (drawn (first + 2)) third agreed
+      → IsServed is_sealing drawn first post.now post.at post.proxy_at post.server_at settled passed third
+  agrees settled passed third agreed is = record {
+    reply = spelling is.response;
+    out = is.out;
+    back = λ next after whole hears. brings settled agreed next after (is.brought (drawn (first + 3)) next after hears);
+  }
+
+  abbrev settles : (passed : Proxy) (second : Step) (settled : Client) → IsSettledAndAgreed is_sealing post passed second settled
+      → IsAcknowledged is_sealing drawn first post.now post.at post.proxy_at post.server_at settled post.server passed (spelling (forwarded_post post)) second
+  settles passed second settled is = record {
+    silent = ap (λ (s : Step). s.out) is.told;
+    served = λ next after whole hears. agrees settled passed next after (is.agreed (drawn (first + 2)) next after whole hears);
+  }
+
+  abbrev passes : (step : Step) (passed : Proxy) → IsPassedOnAndAgreed is_sealing post step passed
+      → IsForwarded is_sealing drawn first post.now post.at post.proxy_at post.server_at post.begun post.server passed step
+  passes step passed is = record {
+    acknowledgement = spelling (empty_acknowledgement post.message.id);
+    forwarded = spelling (forwarded_post post);
+    out = ap (λ (s : Step). s.out) is.out;
+    acknowledged = λ next after hears. settles passed next after (is.settled next after hears);
+  }
+
+-- ---- the round
+
+module _ (is_sealing : List ℕ → List ℕ → List ℕ → List ℕ → List ℕ → Type 0) (tag : ℕ) where
+  -- an exchange that goes through a proxy is made
+  abbrev pub MakesThrough : Type 0
+  MakesThrough = (client begun : Client) (proxy : Proxy) (server : Server) (begun_at now : Moment) (draw proxy_draw : Draw)
+      (at proxy_at server_at : Peer) (claims : Claims) (entries : List Entry) (posts : Step)
+      → IsLawfulProxy proxy → IsLawfulClient begun → length proxy_draw.0 ≡ 32
+      → (way : IsThrough client proxy server now draw proxy_draw at proxy_at server_at) → MayExchange is_sealing client server now claims entries
+      → posts.notes.result ≢ Some (result.Refused 14)
+      → Exchanges client begun_at draw posts begun
+      → (message : Message)
+      × IsPostedAndAgreedThrough is_sealing
+      (record { begun = begun; proxy = proxy; server = server; at = at; proxy_at = proxy_at; server_at = server_at; now = now; draw = draw; proxy_draw = proxy_draw; claims = claims; entries = entries; message = message; key = way.key })
+      posts
+
+  module _ (itself : (a : Peer) → same_peer a a ≡ true) (law : MakesThrough) (premises : KeepsOverExchange)
+      (drawn : ℕ → Draw) (begun_at now : Moment) (draw : Draw) (number : ℕ) (placed : Placed) (claims : Claims) (entries : List Entry)
+      (old w1 new : State) (left : ℕ) (is_quiet : Bool)
+      (sizes : AreWhole drawn w1 new)
+      (apart : StandApart w1.nodes)
+      (lawful_proxies : AreLawfulProxies w1.nodes.proxies)
+      (lawful_clients : AreLawfulClients w1.nodes.clients)
+      (still : waiting_first old ≡ None)
+      (here : slice_get old.nodes.clients number ≡ Some placed)
+      (proxy_number : ℕ) (proxy : PlacedProxy)
+      (proxy_here : slice_get old.nodes.proxies proxy_number ≡ Some proxy)
+      (goes : IsThrough placed.client proxy.proxy old.nodes.server now draw (drawn (length w1.records)) placed.at proxy.at old.nodes.server_at)
+      (may : MayExchange is_sealing placed.client old.nodes.server now claims entries)
+      (happens : Happens is_sealing tag old (beginning begun_at draw number) w1)
+      (fits : IsNotRefused 14 old w1)
+      (rounds : Rounds is_sealing tag drawn now (suc (suc (suc (suc (suc (suc left)))))) w1 is_quiet new) where
+    abbrev first : ℕ
+    first = length w1.records
+
+    posts : IsPosted begun_at draw number placed old w1
+    posts = is_posted is_sealing tag begun_at draw number placed old w1 still here happens fits
+
+    abbrev after : Placed
+    after = record placed { client = posts.client }
+
+    abbrev nodes : NodeStates
+    nodes = record old.nodes { clients = slice_set old.nodes.clients number after }
+
+    there : slice_get nodes.clients number ≡ Some after
+    there = got_back old.nodes.clients number placed after here
+
+    abbrev route : Route
+    route = record {
+      nodes = nodes;
+      number = number;
+      placed = after;
+      there = there;
+      proxy_number = proxy_number;
+      proxy = proxy;
+      proxy_there = proxy_here;
+    }
+
+    lawful_proxy : IsLawfulProxy proxy.proxy
+    lawful_proxy = lawful_proxies proxy_number proxy (ap (λ (n : NodeStates). slice_get n.proxies proxy_number) posts.nodes ∙ proxy_here)
+
+    lawful_client : IsLawfulClient posts.client
+    lawful_client = lawful_asked is_sealing tag number placed posts.client old w1 here posts.nodes lawful_clients
+
+    to_proxy : queue w1 ≡ from_to placed.at proxy.at (spelling (post_by placed.client draw)) ∷ []
+    to_proxy =
+        posts.waits
+        ∙ ap (λ (out : List Datagram). map (sent_from placed.at) out)
+        (post_goes_out placed.client posts.client begun_at draw posts.step may.idle posts.fits posts.exchanges)
+        ∙ ap (λ (to : Peer). from_to placed.at to (spelling (post_by placed.client draw)) ∷ []) goes.next_hop
+
+    whole : IsWhole (drawn first)
+    whole =
+        first_is_whole is_sealing tag drawn now itself route (spelling (post_by placed.client draw)) (suc (suc (suc (suc (suc left))))) w1 new is_quiet sizes posts.nodes apart to_proxy rounds
+
+    abbrev way_of : Message → PostOnItsWay
+    way_of message = record {
+      begun = posts.client;
+      proxy = proxy.proxy;
+      server = old.nodes.server;
+      at = placed.at;
+      proxy_at = proxy.at;
+      server_at = old.nodes.server_at;
+      now = now;
+      draw = draw;
+      proxy_draw = drawn first;
+      claims = claims;
+      entries = entries;
+      message = message;
+      key = goes.key;
+    }
+
+    it : (message : Message) × IsPostedAndAgreedThrough is_sealing (way_of message) posts.step
+    it =
+        law placed.client posts.client proxy.proxy old.nodes.server begun_at now draw (drawn first) placed.at proxy.at old.nodes.server_at claims entries posts.step
+        lawful_proxy lawful_client whole goes may posts.fits posts.exchanges
+
+    abbrev way : PostOnItsWay
+    way = way_of it.0
+
+    abbrev is : IsPostedAndAgreedThrough is_sealing way posts.step
+    is = it.1
+
+    alone : queue w1 ≡ from_to placed.at proxy.at (spelling it.0) ∷ []
+    alone = posts.waits ∙ ap (λ (out : List Datagram). map (sent_from placed.at) out) is.out
+
+    -- ---- there and back
+
+    abbrev coming : (step : Step) (passed : Proxy) → IsWhole (drawn first) → ProxyHears proxy.proxy now (drawn first) placed.at (spelling it.0) step passed
+        → IsForwarded is_sealing drawn first now placed.at proxy.at old.nodes.server_at posts.client old.nodes.server passed step
+    coming step passed good hears = passes is_sealing drawn first way step passed (is.passed step passed hears)
+
+    round : IsRoundOfSix is_sealing drawn first now route (spelling it.0) coming w1 new is_quiet
+    round = round_of_six is_sealing drawn first now route (spelling it.0) coming tag itself left w1 new is_quiet refl sizes posts.nodes apart alone rounds
+
+    abbrev passed : IsPassedOnAndAgreed is_sealing way round.step_1 round.proxy_1
+    passed = is.passed round.step_1 round.proxy_1 round.hears_1
+
+    abbrev settled : IsSettledAndAgreed is_sealing way round.proxy_1 round.step_2 round.client_2
+    settled = passed.settled round.step_2 round.client_2 round.hears_2
+
+    abbrev agreed : IsAgreedAndBroughtBack is_sealing way round.client_2 round.proxy_1 (drawn (first + 2)) round.step_3 round.server_3
+    agreed = settled.agreed (drawn (first + 2)) round.step_3 round.server_3 round.whole_3 round.hears_3
+
+    abbrev brought : IsBroughtBackAndMade is_sealing way round.client_2 round.server_3 round.step_4 round.proxy_4
+    brought = agreed.brought (drawn (first + 3)) round.step_4 round.proxy_4 round.hears_4
+
+    abbrev made : IsMadeAndEnds is_sealing way round.server_3 round.proxy_4 round.step_5 round.client_5
+    made = brought.made round.step_5 round.client_5 round.hears_5
+
+    ended : IsAtRest proxy.proxy now (drawn first) placed.at it.0 goes.key round.step_6 round.proxy_6
+    ended = made.ends (drawn (first + 5)) round.step_6 round.proxy_6 round.hears_6
+
+    -- ---- what is kept of it
+
+    abbrev last : Placed
+    last = record after { client = round.client_5 }
+
+    server_is : new.nodes.server ≡ round.server_3
+    server_is = ap (λ (n : NodeStates). n.server) round.nodes_are
+
+    same_way : (before : Placed) → slice_get old.nodes.clients number ≡ Some before → GoesTheSameWay before last
+    same_way before stood =
+        let same : placed ≡ before = same_Some placed before (sym here ∙ stood) in
+        let posting = exchanges_same placed.client begun_at draw posts.step posts.client posts.exchanges in
+        subst (λ (p : Placed). GoesTheSameWay p last) same
+        (record {
+          at = refl;
+          next_hop = ap (λ (c : Client). c.next_hop) made.is_made.kept ∙ posting.0;
+          origin = ap (λ (c : Client). c.origin) made.is_made.kept ∙ posting.1;
+        })
+
+    quiet_1 : round.step_1.notes ≡ quiet
+    quiet_1 = ap (λ (s : Step). s.notes) passed.out
+
+    quiet_2 : round.step_2.notes ≡ quiet
+    quiet_2 = ap (λ (s : Step). s.notes) settled.told
+
+    quiet_4 : round.step_4.notes ≡ quiet
+    quiet_4 = ap (λ (s : Step). s.notes) brought.out
+
+    quiet_6 : round.step_6.notes ≡ quiet
+    quiet_6 = ap (λ (s : Step). s.notes) ended.told
+
+    abbrev all : List Noted
+    all =
+        by_proxy proxy_number round.step_6.notes
+        ∷ by_client number false round.step_5.notes
+        ∷ by_proxy proxy_number round.step_4.notes
+        ∷ by_server round.step_3.notes
+        ∷ by_client number false round.step_2.notes
+        ∷ by_proxy proxy_number round.step_1.notes
+        ∷ by_client number false posts.step.notes
+        ∷ []
+
+    steps_are : new.steps ≡ all ++ old.steps
+    steps_are =
+        round.steps
+        ∙ ap
+        (λ (l : List Noted). by_proxy proxy_number round.step_6.notes
+        ∷ by_client number false round.step_5.notes
+        ∷ by_proxy proxy_number round.step_4.notes
+        ∷ by_server round.step_3.notes
+        ∷ by_client number false round.step_2.notes
+        ∷ by_proxy proxy_number round.step_1.notes
+        ∷ l)
+        posts.steps
+
+    among : AreAmongQuiet (by_client number false round.step_5.notes ∷ by_server round.step_3.notes ∷ by_client number false posts.step.notes ∷ []) all
+    among =
+        three_of_seven
+        (by_client number false posts.step.notes) (by_proxy proxy_number round.step_1.notes) (by_client number false round.step_2.notes) (by_server round.step_3.notes)
+        (by_proxy proxy_number round.step_4.notes) (by_client number false round.step_5.notes) (by_proxy proxy_number round.step_6.notes)
+        quiet_1 quiet_2 quiet_4 quiet_6
+
+    notes_are : AreNotesOfExchange old.nodes.server.desk.key (item_spelling (claims_item claims)) draw (drawn (first + 2)) posts.step.notes round.step_3.notes round.step_5.notes
+    notes_are = record {
+      protected = agreed.protected;
+      iv = agreed.iv;
+      begun_is = is.notes;
+      agreed_is = agreed.notes;
+      made_is = ap (λ (s : Step). s.notes) made.is_made.told;
+    }
+
+    pub made_through : IsRound 6 w1 is_quiet new × HasMade old number now entries new × (AreMinted old claims → HasFreshDraws new.steps → KeepsThePremise old new)
+    made_through = (
+      record { count = round.deliveries; quiet = round.quiet; still = round.still },
+      record {
+        held = made.held;
+        at_server = subst (λ (s : Server). IsHeld s now entries made.held) (sym server_is) made.is_held;
+        placed = last;
+        is_there = ap (λ (n : NodeStates). slice_get n.clients number) round.nodes_are ∙ got_back nodes.clients number after last there;
+        at_client = ap (λ (c : Client). c.context) made.is_made.kept;
+        idle = ap (λ (c : Client). c.waiting) made.is_made.kept;
+        way = same_way;
+        server_at = ap (λ (n : NodeStates). n.server_at) round.nodes_are;
+        begun = posts.step.notes;
+        agreed = round.step_3.notes;
+        made = round.step_5.notes;
+        all = all;
+        among = among;
+        steps = steps_are;
+        learnt = ap (λ (s : Step). s.notes.result) made.is_made.told;
+      },
+      exchange_goes_on premises old new all claims old.nodes.server.desk.key draw (drawn (first + 2))
+          (by_client number false posts.step.notes) (by_server round.step_3.notes) (by_client number false round.step_5.notes) notes_are among
+          (still_minted is_sealing tag drawn now (suc (suc (suc (suc (suc (suc left)))))) old w1 is_quiet new (beginning begun_at draw number) happens rounds) steps_are,
+    )
+
+-- ---- whichever way it goes
+
+module _ (is_sealing : List ℕ → List ℕ → List ℕ → List ℕ → List ℕ → Type 0) (tag : ℕ) (itself : (a : Peer) → same_peer a a ≡ true)
+    (straight_law : MakesStraight is_sealing tag)
+    (drawn : ℕ → Draw) (begun_at now : Moment) (draw : Draw) (number : ℕ) (placed : Placed) (claims : Claims) (entries : List Entry)
+    (old w1 new : State) (limit : ℕ) (is_quiet : Bool)
+    (sizes : AreWhole drawn w1 new)
+    (apart : StandApart w1.nodes)
+    (lawful_clients : AreLawfulClients w1.nodes.clients)
+    (may : MayExchange is_sealing placed.client old.nodes.server now claims entries)
+    (happens : Happens is_sealing tag old (beginning begun_at draw number) w1)
+    (fits : IsNotRefused 14 old w1)
+    (rounds : Rounds is_sealing tag drawn now limit w1 is_quiet new) where
+  abbrev IsMet : ℕ → Type 0
+  IsMet n = IsRound n w1 is_quiet new × HasMade old number now entries new × (AreMinted old claims → HasFreshDraws new.steps → KeepsThePremise old new)
+
+  rounds_of : (n : ℕ) → limit ≡ n → Rounds is_sealing tag drawn now n w1 is_quiet new
+  rounds_of n is = subst (λ (m : ℕ). Rounds is_sealing tag drawn now m w1 is_quiet new) is rounds
+
+  pub made_round : MakesThrough is_sealing tag → NotesExchange is_sealing tag → KeepsOverExchange → AreLawfulProxies w1.nodes.proxies
+      → (deliveries : ℕ) → deliveries ≤ limit → IsReady old number placed now draw (drawn (length w1.records)) deliveries → IsMet deliveries
+  made_round through_law notes premises lawful_proxies deliveries enough ready = by ready.way
+    where
+      by : Way old placed now draw (drawn (length w1.records)) deliveries → IsMet deliveries
+      by (ready_as.Way.straight two goes) =
+          let more : limit ≡ suc (suc (limit - 2)) = omega (arith, enough, two) in
+          subst IsMet (sym two)
+          (made_straight is_sealing tag itself straight_law drawn begun_at now draw number placed claims entries old w1 new (limit - 2) is_quiet
+          sizes apart lawful_clients ready.still ready.here goes may happens fits (rounds_of (suc (suc (limit - 2))) more) notes premises)
+      by (ready_as.Way.through six proxy_number proxy there goes) =
+          let more : limit ≡ suc (suc (suc (suc (suc (suc (limit - 6)))))) = omega (arith, enough, six) in
+          subst IsMet (sym six)
+          (made_through is_sealing tag itself through_law premises drawn begun_at now draw number placed claims entries old w1 new (limit - 6) is_quiet
+          sizes apart lawful_proxies lawful_clients ready.still ready.here proxy_number proxy there goes may happens fits
+          (rounds_of (suc (suc (suc (suc (suc (suc (limit - 6))))))) more))
+
+  pub unheard_round : HearsNoOther is_sealing tag → 2 ≤ limit → IsReady old number placed now draw (drawn (length w1.records)) 2
+      → (standing : Placed) → slice_get new.nodes.clients number ≡ Some standing → LeavesUnheard old new draw placed standing
+  unheard_round hears_no_other enough ready standing stands = by ready.way
+    where
+      by : Way old placed now draw (drawn (length w1.records)) 2 → LeavesUnheard old new draw placed standing
+      by (ready_as.Way.straight two goes) =
+          let more : limit ≡ suc (suc (limit - 2)) = omega (arith, enough) in
+          left_unheard is_sealing tag itself straight_law drawn begun_at now draw number placed claims entries old w1 new (limit - 2) is_quiet
+          sizes apart lawful_clients ready.still ready.here goes may happens fits (rounds_of (suc (suc (limit - 2))) more) hears_no_other standing stands
+      by (ready_as.Way.through six proxy_number proxy there goes) = absurd (omega (arith, six))
