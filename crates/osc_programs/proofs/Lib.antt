@@ -2,3 +2,5 @@ pub mod Talking
 pub mod Taken
 pub mod OpenPaths
 pub mod Printing
+pub mod Labs
+mod LabRuns

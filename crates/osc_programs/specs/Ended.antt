@@ -51,11 +51,15 @@ EndsToken OutOfMemory = Unit {0}
 EndsToken Failed = Unit {0}
 EndsToken other = ⊥
 
+-- a lab can't begin, or go on
+abbrev pub CannotLab : Ended → Type 0
+CannotLab (BadLine number) = Unit {0}
+CannotLab other = IsFault other
+
 -- `osc lab`
 abbrev pub EndsLab : Ended → Type 0
 EndsLab Done = Unit {0}
-EndsLab (BadLine number) = Unit {0}
-EndsLab other = IsFault other
+EndsLab other = CannotLab other
 
 -- `osc server` and `osc proxy`
 abbrev pub EndsNode : Ended → Type 0

@@ -3,3 +3,4 @@ pub mod TokenLine
 pub mod Turning
 pub mod Serving
 pub mod Conversation
+pub mod Lab

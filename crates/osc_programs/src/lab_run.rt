@@ -1,23 +1,30 @@
 //! A lab: what a script's clients ask, over sockets of this machine.
-ghost use Rattle.std.specs.Prelude.{◌≡◌, ◌++◌, ◌↔◌, Bool, codes, length, string_bytes, IfOk, IsTrue, OnOk};
+ghost use Rattle.std.specs.Prelude.{◌≡◌, ◌≢◌, ◌≤◌, ◌↔◌, true, ℕ, List, Bool, length, IfErr, IfOk, IfSome, IsTrue, OnOk};
+ghost use Rattle.std.specs.FinMap as map;
+ghost use Rattle.std.specs.Io.KnownBytes.{Appends};
 ghost use Rattle.osc_run.specs.History.{history};
 ghost use Rattle.osc_run.specs.Premise.{Premise};
-ghost use Rattle.osc_simulation.specs.Trace.{end_text};
-ghost use Rattle.osc_programs.specs.Ended as ends;
-ghost use Rattle.osc_simulation.specs.Records.{learnt_text};
-ghost use Rattle.osc_simulation.specs.Text.{line};
-ghost use Rattle.std.specs.FinMap as map;
+ghost use Rattle.osc_script.specs.Script.{IsScript};
+ghost use Rattle.osc_simulation.specs.Names.{granted, names_in};
 ghost use Rattle.osc_simulation.specs.SetUp.{CanPutAll};
+ghost use Rattle.osc_simulation.specs.Simulation.{IsStartOf};
+ghost use Rattle.osc_simulation.specs.Trace.{end_text};
+ghost use Rattle.osc_world.specs.Starting.{AreParts};
+ghost use Rattle.osc_world.specs.Starts.{Beginning};
+ghost use Rattle.osc_programs.specs.Ended as ends;
+ghost use Rattle.osc_programs.specs.Lab as spec;
 
 use crate::ended::{Ended, ended_by_io};
-use crate::lab_nodes::{LabNodes, Learnt, Task};
-use crate::simulate::ended_when_written;
+use crate::lab_berths::{Berths, bind_all};
+use crate::lab_nodes::LabNodes;
+use crate::lab_telling::{tell, tell_open};
 use crate::supply::{Supply, Watch, supply_of};
-use osc_model::ClientResult;
 use osc_script::{ClientName, Line, Script, ScriptError, read_script};
 use osc_simulation::laws::a_script_fits;
-use osc_simulation::{Names, end_text, learnt_text, name_of_number, number_of, start_of};
-use std::alloc::{AllocError, Global};
+use osc_simulation::{Names, end_text, name_of_number, number_of, start_of};
+use osc_turn::Port;
+use osc_world::Parts;
+use std::alloc::Global;
 use std::io::{Read, Write};
 use std::net::Net;
 use std::random::RandomSource;
@@ -37,45 +44,42 @@ pub fn lab<R: Clock + Net + RandomSource, I: Read, W: Write>(
     writer: &mut W,
     turns: u64,
 ) -> Ended
+    ensures done { result ≡ Ended.Done → (text : List ℕ) × IfSome (I.remaining reader.old) (λ script. spec.Labs turns script text)
+        × Appends (W.contents writer.old) (W.contents writer.new) text }
+    ensures early { result ≢ Ended.Done → spec.EndsEarly result turns (I.remaining reader.old) (W.contents writer.old) (W.contents writer.new) }
     ensures ends { ends.EndsLab result }
 {
-    let mut text = Vec::new(alloc);
-    let ended = match lab_text(alloc, runtime, reader, turns, &mut text) {
+    match lab_done(alloc, runtime, reader, writer, turns) {
         Ok(()) => Ended::Done,
-        Err(ended) => fault_of(ended),
-    };
-    ended_when_written(writer, &text, ended)
-}
-
-// How a lab ends that didn't come to its end.
-fn fault_of(ended: Ended) -> Ended
-    ensures { ends.EndsLab result }
-{
-    match ended {
-        Ended::BadLine(_) | Ended::OutOfMemory | Ended::PortFailed => ended,
-        _ => Ended::Failed,
+        Err(ended) => ended,
     }
 }
 
-// The lines that a lab writes, behind what `text` has; those so far where it ends before.
-fn lab_text<R: Clock + Net + RandomSource, I: Read>(
+// The lab, to its end, or how it ends early.
+fn lab_done<R: Clock + Net + RandomSource, I: Read, W: Write>(
     alloc: Global,
     runtime: &R,
     reader: &mut I,
+    writer: &mut W,
     turns: u64,
-    text: &mut Vec<u8>,
-) -> Result<(), Ended> {
+) -> Result<(), Ended>
+    ensures done { OnOk result ((text : List ℕ) × IfSome (I.remaining reader.old) (λ script. spec.Labs turns script text)
+        × Appends (W.contents writer.old) (W.contents writer.new) text) }
+    ensures early { IfErr result (λ ended. spec.EndsEarly ended turns (I.remaining reader.old) (W.contents writer.old) (W.contents writer.new)) }
+    ensures ends { IfErr result ends.CannotLab }
+{
     let script = script_of(alloc, reader)?;
-    let mut nodes = nodes_of(alloc, runtime, &script)?;
-    let done = run(alloc, runtime, &script, &mut nodes, turns, text);
-    drop(nodes);
+    let done = lab_lines(alloc, runtime, script.lines(), writer, turns);
+    drop(script);
     done
 }
 
 // ---- the script
 
 fn script_of<I: Read>(alloc: Global, reader: &mut I) -> Result<Script, Ended>
-    ensures { IfOk result (λ script. CanPutAll map.empty script) }
+    ensures read { IfOk result (λ lines. IfSome (I.remaining reader.old) (λ text. IsScript text lines)) }
+    ensures puts { IfOk result (λ lines. CanPutAll map.empty lines) }
+    ensures ends { IfErr result ends.CannotLab }
 {
     let mut bytes = Vec::new(alloc);
     match reader.read_to_end(&mut bytes) {
@@ -86,7 +90,9 @@ fn script_of<I: Read>(alloc: Global, reader: &mut I) -> Result<Script, Ended>
 
 // The script, if it has no lines but those of a lab.
 fn lab_script(alloc: Global, bytes: &[u8]) -> Result<Script, Ended>
-    ensures { IfOk result (λ script. CanPutAll map.empty script) }
+    ensures read { IfOk result (λ lines. IsScript bytes.now lines) }
+    ensures puts { IfOk result (λ lines. CanPutAll map.empty lines) }
+    ensures ends { IfErr result ends.CannotLab }
 {
     a_script_fits();
     match read_script(alloc, bytes) {
@@ -100,7 +106,9 @@ fn lab_script(alloc: Global, bytes: &[u8]) -> Result<Script, Ended>
 }
 
 // The first line that a lab can't heed, where the line of this number stands for nothing: a line of another kind may stand before it.
-fn first_bad(alloc: Global, bytes: &[u8], number: u64) -> Ended {
+fn first_bad(alloc: Global, bytes: &[u8], number: u64) -> Ended
+    ensures { ends.CannotLab result }
+{
     match read_script(alloc, lines_before(bytes, number)) {
         Ok(script) => Ended::BadLine(other_line(script.lines()).unwrap_or(number)),
         Err(ScriptError::BadLine(_)) => Ended::BadLine(number),
@@ -147,167 +155,207 @@ fn is_of_a_lab(line: &Line) -> bool {
 
 // ---- the nodes
 
-fn nodes_of<R: Net>(alloc: Global, runtime: &R, script: &Script) -> Result<LabNodes, Ended>
-    requires { CanPutAll map.empty script.now }
+// The lab of these lines, on sockets of this machine.
+fn lab_lines<R: Clock + Net + RandomSource, W: Write>(
+    alloc: Global,
+    runtime: &R,
+    lines: &[Line],
+    writer: &mut W,
+    turns: u64,
+) -> Result<(), Ended>
+    requires { CanPutAll map.empty lines.now }
+    ensures done { OnOk result ((text : List ℕ) × spec.LinesPrint turns lines.now text × Appends (W.contents writer.old) (W.contents writer.new) text) }
+    ensures early { IfErr result (λ ended. spec.LinesStop ended turns lines.now (W.contents writer.old) (W.contents writer.new)) }
+    ensures fault { IfErr result ends.IsFault }
 {
-    let lines = script.lines();
-    let Ok(names) = Names::of(alloc, lines) else {
-        return Err(Ended::OutOfMemory);
-    };
-    let Ok(start) = start_of(alloc, &names, lines) else {
+    let names = names_of(alloc, lines)?;
+    let parts = parts_of(alloc, &names, lines)?;
+    let mut berths = bind_all(alloc, runtime, &parts)?;
+    let mut supply = supply_of(runtime)?;
+    let mut nodes = LabNodes::new(alloc, parts);
+    run(
+        alloc,
+        &mut supply,
+        &mut nodes,
+        &mut berths,
+        names.clients(),
+        lines,
+        turns,
+        writer,
+    )
+}
+
+fn names_of(alloc: Global, lines: &[Line]) -> Result<Names, Ended>
+    ensures names { IfOk result (λ names. names ≡ names_in lines.now) }
+    ensures fault { IfErr result ends.IsFault }
+{
+    match Names::of(alloc, lines) {
+        Ok(names) => Ok(names),
+        Err(_) => Err(Ended::OutOfMemory),
+    }
+}
+
+// The nodes that the lines set up, and the grants.
+fn parts_of(alloc: Global, names: &Names, lines: &[Line]) -> Result<Parts, Ended>
+    requires puts { CanPutAll map.empty lines.now }
+    requires names { names.now ≡ names_in lines.now }
+    ensures parts { IfOk result (λ parts. (start : Beginning) × IsStartOf lines.now start × AreParts start parts) }
+    ensures fault { IfErr result ends.IsFault }
+{
+    let Ok(start) = start_of(alloc, names, lines) else {
         return Err(Ended::OutOfMemory);
     };
     match start.into_parts(alloc) {
-        Ok(parts) => LabNodes::new(alloc, runtime, parts),
+        Ok(parts) => Ok(parts),
         Err(_) => Err(Ended::OutOfMemory),
     }
 }
 
 // ---- what the clients ask
 
-fn run<R: Clock + RandomSource>(
+// What comes of the lines, one after another, and the end lines: over any ports.
+fn run<W: Watch + Drop, P: Port + Drop, O: Write>(
     alloc: Global,
-    runtime: &R,
-    script: &Script,
+    supply: &mut Supply<W>,
     nodes: &mut LabNodes,
+    berths: &mut Berths<P>,
+    names: &[ClientName],
+    lines: &[Line],
     turns: u64,
-    text: &mut Vec<u8>,
-) -> Result<(), Ended> {
-    let mut supply = supply_of(runtime)?;
-    let Ok(names) = Names::of(alloc, script.lines()) else {
-        return Err(Ended::OutOfMemory);
-    };
-    for line in script.lines() {
-        if let Some((client, task)) = task_of(line) {
-            let number = number_of(names.clients(), client);
-            perform(alloc, &mut supply, nodes, &names, number, task, turns, text)?;
-        }
-    }
-    tell_end(alloc, nodes, text)
+    writer: &mut O,
+) -> Result<(), Ended>
+    requires { names.now ≡ granted lines.now }
+    ensures prints { OnOk result ((text : List ℕ) × spec.Prints turns lines.now (spec.lab_of nodes.old) text (spec.lab_of nodes.new)
+        × Appends (O.contents writer.old) (O.contents writer.new) text) }
+    ensures stops { IfErr result (λ ended. spec.StopsIn ended turns lines.now (spec.lab_of nodes.old) (spec.lab_of nodes.new) (O.contents writer.old) (O.contents writer.new)) }
+    ensures fault { IfErr result ends.IsFault }
+{
+    run_lines(alloc, supply, nodes, berths, names, lines, turns, writer)?;
+    tell_end(alloc, nodes, writer)
 }
 
-// What a line has a client do, if it does.
-fn task_of(line: &Line) -> Option<(ClientName, Task<'_>)> {
+// What comes of the lines.
+fn run_lines<W: Watch + Drop, P: Port + Drop, O: Write>(
+    alloc: Global,
+    supply: &mut Supply<W>,
+    nodes: &mut LabNodes,
+    berths: &mut Berths<P>,
+    names: &[ClientName],
+    lines: &[Line],
+    turns: u64,
+    writer: &mut O,
+) -> Result<(), Ended>
+    requires { names.now ≡ granted lines.now }
+    ensures tells { OnOk result ((text : List ℕ) × spec.TellsLines (granted lines.now) turns (spec.lab_of nodes.old) lines.now text (spec.lab_of nodes.new)
+        × Appends (O.contents writer.old) (O.contents writer.new) text) }
+    ensures stops { IfErr result (λ ended. spec.StopsIn ended turns lines.now (spec.lab_of nodes.old) (spec.lab_of nodes.new) (O.contents writer.old) (O.contents writer.new)) }
+    ensures fault { IfErr result ends.IsFault }
+{
+    for line in lines {
+        run_line(alloc, supply, nodes, berths, names, line, turns, writer)?;
+    }
+    Ok(())
+}
+
+// What comes of one line.
+fn run_line<W: Watch + Drop, P: Port + Drop, O: Write>(
+    alloc: Global,
+    supply: &mut Supply<W>,
+    nodes: &mut LabNodes,
+    berths: &mut Berths<P>,
+    names: &[ClientName],
+    line: &Line,
+    turns: u64,
+    writer: &mut O,
+) -> Result<(), Ended>
+    ensures comes { OnOk result ((text : List ℕ)
+        × spec.ComesOf names.now turns line.now (spec.client_of line.now) (spec.lab_of nodes.old) text (spec.lab_of nodes.new)
+        × Appends (O.contents writer.old) (O.contents writer.new) text) }
+    ensures leads { spec.Leads (spec.lab_of nodes.old) (spec.lab_of nodes.new) }
+    ensures stopped { IfErr result (λ ended. spec.Stops ended names.now (spec.learnt nodes.old.notes.steps) (spec.learnt nodes.new.notes.steps) (O.contents writer.old) (O.contents writer.new)) }
+{
+    match client_of(line) {
+        Some(client) => {
+            let number = number_of(names, client);
+            perform(
+                alloc, supply, nodes, berths, names, number, line, turns, writer,
+            )
+        }
+        None => Ok(()),
+    }
+}
+
+// The client that a line has do something, if it does.
+fn client_of(line: &Line) -> Option<ClientName>
+    ensures { result ≡ spec.client_of line.now }
+{
     match line {
-        Line::Exchange { client } => Some((*client, Task::Exchange)),
-        Line::Ask { client, request } => Some((*client, Task::Ask(request))),
+        Line::Exchange { client } => Some(*client),
+        Line::Ask { client, .. } => Some(*client),
         _ => None,
     }
 }
 
-// The client's task, and turns; what clients learn is told as it comes, and that the client waits still, where it does.
-fn perform<W: Watch + Drop>(
+// The client of this number does what the line says, and turns; what clients learn is told as it comes, and that the client waits still,
+// where it does.
+fn perform<W: Watch + Drop, P: Port + Drop, O: Write>(
     alloc: Global,
     supply: &mut Supply<W>,
     nodes: &mut LabNodes,
-    names: &Names,
+    berths: &mut Berths<P>,
+    names: &[ClientName],
     number: usize,
-    task: Task<'_>,
+    asked: &Line,
     turns: u64,
-    text: &mut Vec<u8>,
-) -> Result<(), Ended> {
-    begin(alloc, supply, nodes, names, number, task, text)?;
+    writer: &mut O,
+) -> Result<(), Ended>
+    ensures tells { OnOk result ((text : List ℕ)
+        × spec.TellsLine names.now turns asked.now number (spec.lab_of nodes.old) text (spec.lab_of nodes.new)
+        × Appends (O.contents writer.old) (O.contents writer.new) text) }
+    ensures leads { spec.Leads (spec.lab_of nodes.old) (spec.lab_of nodes.new) }
+    ensures stopped { IfErr result (λ ended. spec.Stops ended names.now (spec.learnt nodes.old.notes.steps) (spec.learnt nodes.new.notes.steps) (O.contents writer.old) (O.contents writer.new)) }
+{
+    nodes.begin(alloc, supply, berths, names, number, asked, writer)?;
+    take_whole_turns(alloc, supply, nodes, berths, names, number, turns, writer)?;
+    tell_open(
+        alloc,
+        name_of_number(names, number),
+        nodes.is_waiting(number),
+        writer,
+    )
+}
+
+// Whole turns, until the client of this number waits for nothing and no node was busy in one, or until they are gone.
+fn take_whole_turns<W: Watch + Drop, P: Port + Drop, O: Write>(
+    alloc: Global,
+    supply: &mut Supply<W>,
+    nodes: &mut LabNodes,
+    berths: &mut Berths<P>,
+    names: &[ClientName],
+    number: usize,
+    turns: u64,
+    writer: &mut O,
+) -> Result<(), Ended>
+    ensures takes { OnOk result ((taken : ℕ) × spec.WholeTurns (spec.lab_of nodes.old) taken (spec.lab_of nodes.new) × (taken ≤ turns)
+        × (spec.is_waiting nodes.new.clients.items number ≡ true → taken ≡ turns)) }
+    ensures told { OnOk result (spec.Tells names.now (spec.learnt nodes.old.notes.steps) (spec.learnt nodes.new.notes.steps) (O.contents writer.old) (O.contents writer.new)) }
+    ensures leads { spec.Leads (spec.lab_of nodes.old) (spec.lab_of nodes.new) }
+    ensures stopped { IfErr result (λ ended. spec.Stops ended names.now (spec.learnt nodes.old.notes.steps) (spec.learnt nodes.new.notes.steps) (O.contents writer.old) (O.contents writer.new)) }
+{
     for _ in 0..turns {
-        let busy = round(alloc, supply, nodes, names, text)?;
+        let busy = nodes.round(alloc, supply, berths, names, writer)?;
         if !busy && !nodes.is_waiting(number) {
             return Ok(());
         }
     }
-    if nodes.is_waiting(number) {
-        return tell_open(alloc, name_of_number(names.clients(), number), text);
-    }
     Ok(())
-}
-
-// The client begins its task; what it learnt at once is told.
-fn begin<W: Watch + Drop>(
-    alloc: Global,
-    supply: &mut Supply<W>,
-    nodes: &mut LabNodes,
-    names: &Names,
-    number: usize,
-    task: Task<'_>,
-    text: &mut Vec<u8>,
-) -> Result<(), Ended> {
-    let mut learnt = Vec::new(alloc);
-    let begun = nodes.begin(alloc, supply, number, task, &mut learnt);
-    tell_all(alloc, names, &learnt, text)?;
-    begun
-}
-
-// Each node takes a turn, and what clients learnt is told: whether a node was busy.
-fn round<W: Watch + Drop>(
-    alloc: Global,
-    supply: &mut Supply<W>,
-    nodes: &mut LabNodes,
-    names: &Names,
-    text: &mut Vec<u8>,
-) -> Result<bool, Ended> {
-    let mut learnt = Vec::new(alloc);
-    let busy = nodes.round(alloc, supply, &mut learnt);
-    tell_all(alloc, names, &learnt, text)?;
-    busy
-}
-
-// `CLIENT RESULT` for each.
-fn tell_all(
-    alloc: Global,
-    names: &Names,
-    learnt: &[Learnt],
-    text: &mut Vec<u8>,
-) -> Result<(), Ended> {
-    for one in learnt {
-        tell(
-            alloc,
-            name_of_number(names.clients(), one.client),
-            one,
-            text,
-        )?;
-    }
-    Ok(())
-}
-
-fn tell(alloc: Global, client: &str, learnt: &Learnt, text: &mut Vec<u8>) -> Result<(), Ended> {
-    let Ok(line) = told_line(alloc, client, &learnt.result) else {
-        return Err(Ended::OutOfMemory);
-    };
-    add(text, line.as_bytes())
-}
-
-fn told_line(alloc: Global, client: &str, learnt: &ClientResult) -> Result<String, AllocError>
-    ensures { IfOk result (λ text. string_bytes text ≡ line (client.now ++ codes " " ++ learnt_text learnt.now)) }
-{
-    let learnt = learnt_text(alloc, learnt)?;
-    format!(in alloc; "{client} {learnt}\n")
-}
-
-// `CLIENT open`.
-fn tell_open(alloc: Global, client: &str, text: &mut Vec<u8>) -> Result<(), Ended> {
-    let Ok(line) = open_line(alloc, client) else {
-        return Err(Ended::OutOfMemory);
-    };
-    add(text, line.as_bytes())
-}
-
-fn open_line(alloc: Global, client: &str) -> Result<String, AllocError>
-    ensures { IfOk result (λ text. string_bytes text ≡ line (client.now ++ codes " open")) }
-{
-    format!(in alloc; "{client} open\n")
-}
-
-fn add(text: &mut Vec<u8>, more: &[u8]) -> Result<(), Ended>
-    ensures { OnOk result (text.new.items ≡ text.old.items ++ more.now) }
-{
-    match text.extend_from_slice(more) {
-        Ok(()) => Ok(()),
-        Err(_) => Err(Ended::OutOfMemory),
-    }
 }
 
 // The end lines.
-fn tell_end(alloc: Global, nodes: &LabNodes, text: &mut Vec<u8>) -> Result<(), Ended>
-    ensures { OnOk result ((held : Bool) × (IsTrue held ↔ Premise nodes.now.minted.items nodes.now.notes.steps)
-        × (text.new.items ≡ text.old.items ++ end_text nodes.now.server.tree (length (history nodes.now.notes.steps)) held)) }
+fn tell_end<O: Write>(alloc: Global, nodes: &LabNodes, writer: &mut O) -> Result<(), Ended>
+    ensures told { OnOk result ((held : Bool) × (IsTrue held ↔ Premise nodes.now.minted.items nodes.now.notes.steps)
+        × Appends (O.contents writer.old) (O.contents writer.new) (end_text nodes.now.server.tree (length (history nodes.now.notes.steps)) held)) }
+    ensures untold { IfErr result (λ ended. spec.IsUntold ended (O.contents writer.old) (O.contents writer.new)) }
 {
     let Ok(entries) = nodes.count_entries(alloc) else {
         return Err(Ended::OutOfMemory);
@@ -316,5 +364,5 @@ fn tell_end(alloc: Global, nodes: &LabNodes, text: &mut Vec<u8>) -> Result<(), E
     let Ok(lines) = end_text(alloc, nodes.tree(), entries, held) else {
         return Err(Ended::OutOfMemory);
     };
-    add(text, &lines)
+    tell(writer, &lines)
 }

@@ -4,9 +4,12 @@
 mod asking;
 mod ended;
 mod issue;
+mod lab_berths;
 mod lab_nodes;
 mod lab_port;
 mod lab_run;
+mod lab_telling;
+pub mod laws;
 mod running;
 mod simulate;
 mod supply;

@@ -1,0 +1,31 @@
+use Rattle.osc_programs.specs.Lab.{a_step}
+use Rattle.osc_programs.proofs.Labs.{always_ok, appends_none, at_exit, behind, did_in_turn, nothing_learnt, stops_at_once}
+use Rattle.osc_programs.proofs.lab_nodes.client_turns_at.Goals as goal
+
+pub returns-in_err-reserve-clause-stopped : goal.returns-in_err-reserve-clause-stopped
+returns-in_err-reserve-clause-stopped g c =
+    at_exit c.from_residual.result c.in_err-reserve.field-0.0 _ c.from_residual.ensures.1
+    (stops_at_once _ _ _ _ _ _ c.in_err-reserve.ensures.fault (nothing_learnt _ _ c.reserve.ensures.steps) (appends_none _))
+
+pub returns-in_err-turned-clause-stopped : goal.returns-in_err-turned-clause-stopped
+returns-in_err-turned-clause-stopped g c =
+    at_exit c.from_residual-in_err-turned.result c.in_err-turned.field-0.0 _ c.from_residual-in_err-turned.ensures.1
+    (stops_at_once _ _ _ _ _ _ c.in_err-turned.ensures.fault (nothing_learnt _ _ c.reserve.ensures.steps) (appends_none _))
+
+pub returns-in_err-note-clause-does : goal.returns-in_err-note-clause-does
+returns-in_err-note-clause-does g c =
+    let turn = c.in_ok-turned.ensures.takes in
+    did_in_turn c.args.number _ _ _ _
+    (a_step c.in_ok-turned.turned.step (record { now = turn.now; came = turn.came; steps = turn.steps }) (behind _ _ _ _ c.note.ensures.noted c.reserve.ensures.steps))
+
+pub returns-clause-takes : goal.returns-clause-takes
+returns-clause-takes g c =
+    let turn = c.in_ok-turned.ensures.takes in
+    always_ok c.unless_lost.result _
+    (a_step c.in_ok-turned.turned.step (record { now = turn.now; came = turn.came; steps = turn.steps }) (behind _ _ _ _ c.note.ensures.noted c.reserve.ensures.steps))
+
+pub returns-clause-does : goal.returns-clause-does
+returns-clause-does g c =
+    let turn = c.in_ok-turned.ensures.takes in
+    did_in_turn c.args.number _ _ _ _
+    (a_step c.in_ok-turned.turned.step (record { now = turn.now; came = turn.came; steps = turn.steps }) (behind _ _ _ _ c.note.ensures.noted c.reserve.ensures.steps))

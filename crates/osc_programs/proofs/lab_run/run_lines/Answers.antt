@@ -1,0 +1,17 @@
+use Rattle.std.proofs.Common.{[]}
+use Rattle.osc_programs.specs.Lab.{no_line}
+use Rattle.osc_programs.proofs.Labs.{appends_none, at_exit, one_more_line, stops_in}
+use Rattle.osc_programs.proofs.lab_run.run_lines.Goals as goal
+
+pub loop-line-init : goal.loop-line-init
+loop-line-init g c = ([], no_line, appends_none _)
+
+pub returns-in_err-run_line-clause-stops : goal.returns-in_err-run_line-clause-stops
+returns-in_err-run_line-clause-stops g c =
+    at_exit c.from_residual.result c.in_err-run_line.field-0.0 _ c.from_residual.ensures.1
+    (stops_in _ c.args.turns c.args.names.now c.args.lines.now c.loop-line.line-index _ _ _ _ _ _ c.requires c.loop-line.invariant c.in_err-run_line.ensures.leads c.in_err-run_line.ensures.stopped)
+
+pub loop-line-preserved : goal.loop-line-preserved
+loop-line-preserved g c =
+    one_more_line c.args.names.now c.args.turns _ _ _ c.args.lines.now c.loop-line.line-index _ c.line-item.result _ _ _ c.loop-line-test.true c.line-item.is c.loop-line.invariant
+    c.in_ok-run_line.ensures.comes

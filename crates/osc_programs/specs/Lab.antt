@@ -1,0 +1,305 @@
+-- What `osc lab` does: the nodes of a script take their turns, one after another, and each result that a client learns is told as it comes.
+use Rattle.std.specs.Option.{IfSome}
+use Rattle.std.specs.Prelude.{◌≡◌, ◌≢◌, ◌≤◌, ◌↔◌, ℕ, suc, Bool, true, false, IsTrue, List, [], ◌∷◌, ◌++◌, Option, Some, None, codes, length, option_to_list, is_some, map, slice_get, slice_set}
+use Rattle.std.specs.List.{flat_map}
+use Rattle.std.specs.Io.KnownBytes.{Appends}
+use Rattle.osc_model.specs.Tree.{Tree}
+use Rattle.osc_model.specs.declared.node.Draw.{Draw}
+use Rattle.osc_model.specs.declared.node.Moment.{Moment}
+use Rattle.osc_model.specs.declared.step.ClientResult.{ClientResult}
+use Rattle.osc_model.specs.declared.step.Step.{Step}
+use Rattle.osc_run.specs.ClientKinds.{ClientStep}
+use Rattle.osc_run.specs.History.{history}
+use Rattle.osc_run.specs.Notes.{Noted, by_client, by_server, collected}
+use Rattle.osc_run.specs.Premise.{Premise}
+use Rattle.osc_run.specs.States.{Minted, WorldState}
+use Rattle.osc_run.specs.declared.noted.Actor.{Actor}
+use Rattle.osc_run.specs.declared.noted.Actor.TheVariants.{Client as ByClient}
+use Rattle.osc_client.specs.Hearing as hearing
+use Rattle.osc_client.specs.State.{State as Client, core}
+use Rattle.osc_server.specs.State.{State as Server, core as core_of_server}
+use Rattle.osc_script.specs.Script.{IsScript}
+use Rattle.osc_script.specs.declared.client_name.ClientName.{ClientName}
+use Rattle.osc_script.specs.declared.line.Line.{Line}
+use Rattle.osc_script.specs.declared.line.Line.TheVariants.{Exchange, Ask}
+use Rattle.osc_world.specs.Starting.{AreParts}
+use Rattle.osc_world.specs.Starts.{Beginning}
+use Rattle.osc_world.specs.declared.nodes.Placed.{Placed}
+use Rattle.osc_world.specs.declared.start.Parts.{Parts}
+use Rattle.osc_turn.specs.Nodes.{ClientSteps, ServerSteps}
+use Rattle.osc_turn.specs.Ports.{Arrival}
+use Rattle.osc_simulation.specs.Names.{granted, name_of_number, number_of}
+use Rattle.osc_simulation.specs.Records.{learnt_text}
+use Rattle.osc_simulation.specs.Simulation.{IsStartOf, is_sealing}
+use Rattle.osc_simulation.specs.Text.{line}
+use Rattle.osc_simulation.specs.Trace.{end_text}
+use Rattle.osc_programs.specs.Ended.{IsFault}
+use Rattle.osc_programs.specs.declared.ended.Ended.{Ended}
+use Rattle.osc_programs.specs.declared.ended.Ended.TheVariants.{Failed}
+use Rattle.osc_programs.specs.declared.lab_nodes.LabNodes.{LabNodes}
+
+-- ---- the nodes, and their steps
+
+-- The grants; the server; the clients, by their numbers; and what was noted of each step of these, the newest first. A proxy's steps are
+-- not noted, since it seals and opens nothing.
+pub record Lab : Type 0 where
+  pub minted : List Minted
+  pub server : Server
+  pub clients : List Placed
+  pub steps : List Noted
+
+abbrev pub lab_of : LabNodes → Lab
+lab_of nodes = record { minted = nodes.minted.items; server = nodes.server; clients = nodes.clients.items; steps = nodes.notes.steps }
+
+-- those of a script, before the first step
+abbrev pub lab_in : Parts → Lab
+lab_in parts = record { minted = parts.minted.items; server = parts.server; clients = parts.clients.items; steps = [] }
+
+-- whether the client of this number waits for something
+abbrev pub waits : Option Placed → Bool
+waits None = false
+waits (Some placed) = is_some placed.client.waiting
+
+abbrev pub is_waiting : List Placed → ℕ → Bool
+is_waiting clients number = waits (slice_get clients number)
+
+-- what a line has its client do, at some moment and with some draw: it posts its token, or sends a request, protected
+abbrev pub Begins : Line → Client → Moment → Draw → Step → Client → Type 0
+Begins (Exchange client) old now draw step new = hearing.Begins old now draw step new
+Begins (Ask client request) old now draw step new = hearing.Requests is_sealing 8 old now request draw step new
+Begins other old now draw step new = ⊥
+
+-- the line has a client do nothing: a request with the code 0.00 is none
+abbrev pub IsNoTask : Line → Type 0
+IsNoTask (Exchange client) = ⊥
+IsNoTask (Ask client request) = request.code.0 ≡ 0
+IsNoTask other = Unit {0}
+
+-- by a line, one step of a run, in which its holder doesn't lie
+pub record DoesBy (asked : Line) (old : Client) (step : Step) (new : Client) : Type 0 where
+  pub now : Moment
+  pub draw : Draw
+  pub begins : Begins asked old now draw step new
+  pub kind : ClientStep false (core old) step.notes (core new)
+
+-- in a turn
+pub record DoesInTurn (old : Client) (step : Step) (new : Client) : Type 0 where
+  pub now : Moment
+  pub came : Option Arrival
+  pub steps : ClientSteps is_sealing old now came step new
+
+-- a client's step
+pub data ClientDoes (old : Client) (step : Step) (new : Client) : Type 0 where
+  by_line : (asked : Line) → DoesBy asked old step new → ClientDoes old step new
+  in_turn : DoesInTurn old step new → ClientDoes old step new
+
+-- the client of this number did such a thing, which was noted, or nothing, where that may be
+pub data Did (Does : Client → Step → Client → Type 0) (Nothing : Type 0) (number : ℕ) (old : Client) (before : List Noted) (new : Client) (after : List Noted) : Type 0 where
+  a_step : (step : Step) → Does old step new → after ≡ by_client number false step.notes ∷ before → Did Does Nothing number old before new after
+  no_step : Nothing → new ≡ old → after ≡ before → Did Does Nothing number old before new after
+
+-- the server took a turn, which was noted; no other node changed
+pub record ServerTurn (old new : Lab) : Type 0 where
+  pub now : Moment
+  pub draw : Draw
+  pub came : Option Arrival
+  pub step : Step
+  pub server : Server
+  pub steps : ServerSteps is_sealing old.server now draw came step server
+  pub is : new ≡ record old { server = server; steps = by_server step.notes ∷ old.steps }
+
+-- the client of this number took this step, which was noted; no other node changed
+pub record ClientTook (number : ℕ) (old : Lab) (placed : Placed) (step : Step) (client : Client) (new : Lab) : Type 0 where
+  pub there : slice_get old.clients number ≡ Some placed
+  pub is : new
+      ≡ record old {
+        clients = slice_set old.clients number (record { at = placed.at; client = client });
+        steps = by_client number false step.notes ∷ old.steps;
+      }
+
+-- One node takes a step.
+pub data Goes (old new : Lab) : Type 0 where
+  of_server : ServerTurn old new → Goes old new
+  of_client : (number : ℕ) (placed : Placed) (step : Step) (client : Client) → ClientTook number old placed step client new → ClientDoes placed.client step client
+      → Goes old new
+
+-- so many steps lead from the one to the other, be it none
+pub data Leads (first : Lab) : Lab → Type 0 where
+  stays : Leads first first
+  goes : (between last : Lab) → Leads first between → Goes between last → Leads first last
+
+-- what a run knows of the nodes, which began with these resources
+abbrev pub run_of : Tree → Lab → WorldState
+run_of first lab = record {
+  minted = lab.minted;
+  first = first;
+  server = core_of_server lab.server;
+  clients = map (λ placed. core placed.client) lab.clients;
+  notes = lab.steps;
+}
+
+-- ---- whole turns
+
+-- the client of this number took a turn, if there is one
+pub data ClientTurn (number : ℕ) (old new : Lab) : Type 0 where
+  no_client : slice_get old.clients number ≡ None → new ≡ old → ClientTurn number old new
+  takes : (placed : Placed) (step : Step) (client : Client) → ClientTook number old placed step client new → DoesInTurn placed.client step client
+      → ClientTurn number old new
+
+-- so many clients did, in the order of their numbers
+pub data ClientTurns (first : Lab) : ℕ → Lab → Type 0 where
+  no_turn : ClientTurns first 0 first
+  next_turn : (n : ℕ) (between last : Lab) → ClientTurns first n between → ClientTurn n between last → ClientTurns first (suc n) last
+
+-- Each node took one: the server, the proxies, and then the clients.
+pub record WholeTurn (old new : Lab) : Type 0 where
+  pub between : Lab
+  pub server : ServerTurn old between
+  pub clients : ClientTurns between (length between.clients) new
+
+pub data WholeTurns (first : Lab) : ℕ → Lab → Type 0 where
+  no_whole_turn : WholeTurns first 0 first
+  next_whole_turn : (n : ℕ) (between last : Lab) → WholeTurns first n between → WholeTurn between last → WholeTurns first (suc n) last
+
+-- the client of this number did what the line says, if there is one, and if the line says something
+pub data LineBegins (asked : Line) (number : ℕ) (old new : Lab) : Type 0 where
+  nobody : slice_get old.clients number ≡ None → new ≡ old → LineBegins asked number old new
+  no_task : IsNoTask asked → new ≡ old → LineBegins asked number old new
+  begins : (placed : Placed) (step : Step) (client : Client) → ClientTook number old placed step client new → DoesBy asked placed.client step client
+      → LineBegins asked number old new
+
+-- ---- what is told
+
+-- a client, by its number, and what it learnt
+pub record Learnt : Type 0 where
+  pub client : ℕ
+  pub result : ClientResult
+
+abbrev pub learnt_by : ℕ → Option ClientResult → Option Learnt
+learnt_by number None = None
+learnt_by number (Some result) = Some (record { client = number; result = result })
+
+-- of a step: no other node learns
+abbrev pub learnt_in : Actor → Option ClientResult → Option Learnt
+learnt_in (ByClient number) result = learnt_by number result
+learnt_in actor result = None
+
+-- what clients learnt by these steps, the oldest first
+abbrev pub learnt : List Noted → List Learnt
+learnt steps = collected (λ step. learnt_in step.actor step.notes.result) steps
+
+-- CLIENT RESULT
+abbrev pub told_text : List ClientName → Learnt → List ℕ
+told_text clients one = line (name_of_number clients one.client ++ codes " " ++ learnt_text one.result)
+
+abbrev pub all_told : List ClientName → List Learnt → List ℕ
+all_told clients all = flat_map (told_text clients) all
+
+-- CLIENT open, where it waits still
+abbrev pub open_text : List ℕ → Bool → List ℕ
+open_text client true = line (client ++ codes " open")
+open_text client false = []
+
+-- Nothing was written, by a fault; of an output that failed nothing is said.
+abbrev pub IsUntold : Ended → Option (List ℕ) → Option (List ℕ) → Type 0
+IsUntold ended written written_after = IsFault ended × (ended ≢ Failed → Appends written written_after [])
+
+-- clients learnt more than before, and all of that was written, in order
+abbrev pub Tells : List ClientName → List Learnt → List Learnt → Option (List ℕ) → Option (List ℕ) → Type 0
+Tells clients before after written written_after = (more : List Learnt) × (after ≡ before ++ more) × Appends written written_after (all_told clients more)
+
+-- Where it ends early, all of it was, but for the last result at most; of an output that failed nothing is said.
+pub record Stops (ended : Ended) (clients : List ClientName) (before after : List Learnt) (written written_after : Option (List ℕ)) : Type 0 where
+  pub fault : IsFault ended
+  pub more : List Learnt
+  pub untold : Option Learnt
+  pub learns : after ≡ before ++ (more ++ option_to_list untold)
+  pub tells : ended ≢ Failed → Appends written written_after (all_told clients more)
+
+-- ---- the lines of a script
+
+-- the client that a line has do something
+abbrev pub client_of : Line → Option ClientName
+client_of (Exchange client) = Some client
+client_of (Ask client request) = Some client
+client_of other = None
+
+-- What comes of one of those, whose client has this number: it begins, and then the nodes take whole turns, as many as there may be as long
+-- as it waits. What clients learn by that is told, in order, and then that the line's client waits still, where it does.
+pub record TellsLine (clients : List ClientName) (turns : ℕ) (asked : Line) (number : ℕ) (old : Lab) (text : List ℕ) (new : Lab) : Type 0 where
+  pub begun : Lab
+  pub begins : LineBegins asked number old begun
+  pub taken : ℕ
+  pub takes : WholeTurns begun taken new
+  pub most : taken ≤ turns
+  pub patient : is_waiting new.clients number ≡ true → taken ≡ turns
+  pub more : List Learnt
+  pub learns : learnt new.steps ≡ learnt old.steps ++ more
+  pub is : text ≡ all_told clients more ++ open_text (name_of_number clients number) (is_waiting new.clients number)
+
+-- what comes of a line, by the client that it has do something: other lines set the lab up
+abbrev pub ComesOf : List ClientName → ℕ → Line → Option ClientName → Lab → List ℕ → Lab → Type 0
+ComesOf clients turns asked None old text new = (text ≡ []) × (new ≡ old)
+ComesOf clients turns asked (Some client) old text new = TellsLine clients turns asked (number_of clients client) old text new
+
+-- one line after another
+pub data TellsLines (clients : List ClientName) (turns : ℕ) (first : Lab) : List Line → List ℕ → Lab → Type 0 where
+  no_line : TellsLines clients turns first [] [] first
+  next_line : (lines : List Line) (next : Line) (text some : List ℕ) (between last : Lab) → TellsLines clients turns first lines text between
+      → ComesOf clients turns next (client_of next) between some last → TellsLines clients turns first (lines ++ next ∷ []) (text ++ some) last
+
+-- All that a lab prints: what comes of the lines, and behind it the last lines, by what its nodes noted.
+pub record Prints (turns : ℕ) (lines : List Line) (first : Lab) (text : List ℕ) (last : Lab) : Type 0 where
+  pub told : List ℕ
+  pub tells : TellsLines (granted lines) turns first lines told last
+  pub held : Bool
+  pub holds : IsTrue held ↔ Premise last.minted last.steps
+  pub is : text ≡ told ++ end_text last.server.tree (length (history last.steps)) held
+
+-- Where a lab ends early: it told what came of the lines before, and of the next one all that clients learnt but the last result at most;
+-- of an output that failed nothing is said.
+pub record StopsIn (ended : Ended) (turns : ℕ) (lines : List Line) (first last : Lab) (written written_after : Option (List ℕ)) : Type 0 where
+  pub fault : IsFault ended
+  pub before : List Line
+  pub after : List Line
+  pub whole : lines ≡ before ++ after
+  pub told : List ℕ
+  pub between : Lab
+  pub tells : TellsLines (granted lines) turns first before told between
+  pub leads : Leads between last
+  pub more : List Learnt
+  pub untold : Option Learnt
+  pub learns : learnt last.steps ≡ learnt between.steps ++ (more ++ option_to_list untold)
+  pub writes : ended ≢ Failed → Appends written written_after (told ++ all_told (granted lines) more)
+
+-- ---- the whole program
+
+-- the nodes that the lines of a script set up, as a simulation's
+pub record IsFirst (lines : List Line) (first : Lab) : Type 0 where
+  pub start : Beginning
+  pub starts : IsStartOf lines start
+  pub parts : Parts
+  pub are : AreParts start parts
+  pub is : first ≡ lab_in parts
+
+-- the lab of these lines printed this
+pub record LinesPrint (turns : ℕ) (lines : List Line) (text : List ℕ) : Type 0 where
+  pub first : Lab
+  pub last : Lab
+  pub is_first : IsFirst lines first
+  pub prints : Prints turns lines first text last
+
+-- it ended early, by a fault: before its nodes took a step, with nothing written, or in its lines
+pub data LinesStop (ended : Ended) (turns : ℕ) (lines : List Line) (written written_after : Option (List ℕ)) : Type 0 where
+  unbegun : IsFault ended → Appends written written_after [] → LinesStop ended turns lines written written_after
+  in_lines : (first last : Lab) → IsFirst lines first → StopsIn ended turns lines first last written written_after → LinesStop ended turns lines written written_after
+
+-- The lab of this script, with so many whole turns at most after each line that has a client do something, printed this.
+abbrev pub Labs : ℕ → List ℕ → List ℕ → Type 0
+Labs turns script text = (lines : List Line) × IsScript script lines × LinesPrint turns lines text
+
+-- It ended early: it had no script, and nothing was written, or it ended in its lines, by a fault.
+pub data EndsEarly (ended : Ended) (turns : ℕ) (script : Option (List ℕ)) (written written_after : Option (List ℕ)) : Type 0 where
+  no_script : Appends written written_after [] → EndsEarly ended turns script written written_after
+  in_script : (lines : List Line) → IfSome script (λ text. IsScript text lines) → LinesStop ended turns lines written written_after
+      → EndsEarly ended turns script written written_after
