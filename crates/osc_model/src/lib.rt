@@ -22,5 +22,5 @@ pub use path::Path;
 pub use reply::Reply;
 pub use request::{ETags, Request};
 pub use resource::Resource;
-pub use step::{ClientResult, Datagram, Datagrams, Entry, Note, Step};
+pub use step::{ClientResult, Datagram, Datagrams, Entry, Note, RefusedRequest, Step};
 pub use step_notes::StepNotes;

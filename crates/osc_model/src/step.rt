@@ -1,6 +1,6 @@
 //! What one event at a node did.
 ghost use Rattle.std.specs.Prelude.{◌≡◌, [], ◌++◌, ◌∷◌, OnErr, OnOk, length};
-ghost use Rattle.osc_model.specs.Step.{sends};
+ghost use Rattle.osc_model.specs.Step.{refuses, sends};
 
 use crate::bytes::Bytes;
 use crate::code::Code;
@@ -100,6 +100,15 @@ pub enum ClientResult {
     Refused(u8),
 }
 
+/// Why a request isn't served.
+#[derive(Clone, Copy, Debug, PartialEq, Eq)]
+pub struct RefusedRequest {
+    /// The code that it was answered.
+    pub code: Code,
+    /// The number of the reason, where the code alone doesn't tell it.
+    pub reason: Option<u8>,
+}
+
 /// A datagram to send.
 #[derive(Clone, Debug, PartialEq, Eq, Drop)]
 pub struct Datagram {
@@ -177,7 +186,7 @@ impl Datagrams {
 pub struct Step {
     /// What is sent.
     pub out: Datagrams,
-    /// What was sealed, opened, served, learnt and drawn.
+    /// What was sealed, opened, served, learnt, drawn and refused.
     pub notes: StepNotes,
 }
 
@@ -189,6 +198,16 @@ impl Step {
         Step {
             out,
             notes: StepNotes::quiet(),
+        }
+    }
+
+    /// A step that answers a request by these, since it refuses it, and does nothing else; takes no memory.
+    pub fn refusing(why: RefusedRequest, out: Datagrams) -> Step
+        ensures { result ≡ refuses why out }
+    {
+        Step {
+            out,
+            notes: StepNotes::quiet().with_refused(why),
         }
     }
 }

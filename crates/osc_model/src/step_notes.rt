@@ -2,10 +2,10 @@
 ghost use Rattle.std.specs.Prelude.{◌≡◌, Some, option_map};
 ghost use Rattle.osc_model.specs.StepNotes.{quiet};
 
-use crate::step::{ClientResult, Entry, Note};
+use crate::step::{ClientResult, Entry, Note, RefusedRequest};
 use std::marker::Model;
 
-/// What a step sealed, opened, served, learnt and drew: mostly nothing. Contracts see a record of the five.
+/// What a step sealed, opened, served, learnt, drew and refused: mostly nothing. Contracts see a record of the six.
 #[derive(Debug)]
 pub struct StepNotes {
     seals: Option<Note>,
@@ -13,6 +13,7 @@ pub struct StepNotes {
     served: Option<Entry>,
     result: Option<ClientResult>,
     drawn: Option<[u8; 8]>,
+    refused: Option<RefusedRequest>,
 }
 
 // Proved once, and not anew at each exit of whoever owns one.
@@ -24,6 +25,7 @@ impl Drop for StepNotes {
             served: _,
             result: _,
             drawn: _,
+            refused: _,
         } = self;
     }
 }
@@ -33,7 +35,7 @@ impl Model for StepNotes {
 
     ghost Value = { Noted };
 
-    ghost view = { λ n. record { seals = n.seals; opens = n.opens; served = n.served; result = n.result; drawn = n.drawn } };
+    ghost view = { λ n. record { seals = n.seals; opens = n.opens; served = n.served; result = n.result; drawn = n.drawn; refused = n.refused } };
 }
 
 impl StepNotes {
@@ -47,6 +49,7 @@ impl StepNotes {
             served: None,
             result: None,
             drawn: None,
+            refused: None,
         }
     }
 
@@ -90,6 +93,14 @@ impl StepNotes {
         self
     }
 
+    /// The same, and a request was refused for this.
+    pub fn with_refused(mut self, why: RefusedRequest) -> StepNotes
+        ensures { result ≡ record self { refused = Some why } }
+    {
+        self.refused = Some(why);
+        self
+    }
+
     /// What was sealed, if anything was.
     pub fn seals(&self) -> Option<&Note>
         ensures { option_map (λ note. note.now) result ≡ self.now.seals }
@@ -123,5 +134,12 @@ impl StepNotes {
         ensures { result ≡ self.now.drawn }
     {
         self.drawn
+    }
+
+    /// Why a request was refused, if one was.
+    pub fn refused(&self) -> Option<RefusedRequest>
+        ensures { result ≡ self.now.refused }
+    {
+        self.refused
     }
 }

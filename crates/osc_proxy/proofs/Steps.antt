@@ -1,4 +1,4 @@
--- What a step sends is two datagrams at most, and it seals and opens nothing.
+-- What a step sends is two datagrams at most, and it seals and opens nothing. At most it refuses a request.
 use Rattle.std.proofs.Common.{◌≡◌, ◌≤◌, ◌++◌, ℕ, Bool, true, false, List, length, ap, Option, Some, None, arith}
 use Rattle.std.proofs.lemmas.List.{length-append}
 use Rattle.std.specs.Prelude.{nat_le}
@@ -11,6 +11,7 @@ use Rattle.osc_model.specs.declared.node.Draw.{Draw}
 use Rattle.osc_model.specs.declared.node.Moment.{Moment}
 use Rattle.osc_model.specs.declared.node.Peer.{Peer}
 use Rattle.osc_model.specs.declared.step.Datagram.{Datagram}
+use Rattle.osc_model.specs.declared.step.RefusedRequest.{RefusedRequest}
 use Rattle.osc_model.specs.declared.step.Step.{Step}
 use Rattle.osc_coap.specs.Length.{datagram_limit}
 use Rattle.osc_coap.specs.Message.{Message, spelling}
@@ -23,13 +24,14 @@ use Rattle.osc_proxy.specs.declared.case.Case.{Case}
 use Rattle.osc_proxy.specs.declared.case.Case.TheVariants.{Ignored, Reset, Repeated, Empty, Ended, Refused, Forwarded, Rejected, Dropped, Counted}
 use Rattle.osc_proxy.proofs.Ending.{one_back}
 
--- a step that sends so many datagrams, and does nothing else
+-- a step that sends so many datagrams, and does nothing else, but that it may refuse a request
 pub record IsSmall (step : Step) : Type 0 where
   pub few : length step.out ≤ 2
-  pub nothing : step.notes ≡ quiet
+  pub refused : Option RefusedRequest
+  pub nothing : step.notes ≡ record quiet { refused = refused }
 
 small : (step : Step) (out : List Datagram) → step ≡ sends out → length out ≤ 2 → IsSmall step
-small step out e few = record { few = omega (arith, few, ap (λ (s : Step). length s.out) e); nothing = ap (λ (s : Step). s.notes) e }
+small step out e few = record { few = omega (arith, few, ap (λ (s : Step). length s.out) e); refused = None; nothing = ap (λ (s : Step). s.notes) e }
 
 one_again : (from : Peer) (noted : Option Bytes) → length (again from noted) ≤ 2
 one_again from None = omega arith
@@ -48,7 +50,11 @@ two xs ys a b = omega (arith, a, b, length-append xs ys)
 
 refused_small : (why : Code) (old : State) (now : Moment) (from : Peer) (draw : Draw) (message : Message) (step : Step) (new : State)
     → IsRefused why old now from draw message step new → IsSmall step
-refused_small why old now from draw message step new is = small step _ is.told (omega arith)
+refused_small why old now from draw message step new is = record {
+  few = omega (arith, ap (λ (s : Step). length s.out) is.told);
+  refused = Some (record { code = why; reason = None });
+  nothing = ap (λ (s : Step). s.notes) is.told;
+}
 
 forwarded_small : (key : ℕ) (old : State) (now : Moment) (from : Peer) (draw : Draw) (message : Message) (to : Peer) (step : Step) (new : State)
     → IsForwarded key old now from draw message to step new → IsSmall step

@@ -4,6 +4,7 @@ use Rattle.osc_model.specs.StepNotes.{quiet}
 use Rattle.osc_model.specs.declared.node.Draw.{Draw}
 use Rattle.osc_model.specs.declared.node.Moment.{Moment}
 use Rattle.osc_model.specs.declared.node.Peer.{Peer}
+use Rattle.osc_model.specs.declared.step.RefusedRequest.{RefusedRequest}
 use Rattle.osc_model.specs.declared.step.Step.{Step}
 use Rattle.osc_message.specs.Heard.{heard}
 use Rattle.osc_message.specs.Received.{Receives}
@@ -15,14 +16,15 @@ use Rattle.osc_proxy.specs.State.{State}
 use Rattle.osc_proxy.specs.Table.{Answers}
 
 -- These bytes came from this peer: they are answered as their case says, in datagrams of at most 1,152 bytes, and nothing is sealed or
--- opened.
+-- opened. At most a request is refused.
 pub record Hears (old : State) (now : Moment) (draw : Draw) (from : Peer) (bytes : List ℕ) (step : Step) (new : State) : Type 0 where
   pub received : Received
   pub receives : Receives bytes received
   pub named : Option HostAndPort
   pub names : NamesIn (heard old.endpoint.seen now from received) named
   pub answers : Answers old now from draw (case_of old.targets old.exchanges from named (heard old.endpoint.seen now from received)) step new
-  pub silent : step.notes ≡ quiet
+  pub refused : Option RefusedRequest
+  pub silent : step.notes ≡ record quiet { refused = refused }
   pub fits : AreSendable step.out
 
 -- They are something that may be answered: for anything else no memory is taken.

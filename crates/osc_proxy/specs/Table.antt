@@ -1,7 +1,7 @@
 -- What a proxy sends in each case, and what it keeps after it (RFC 7252 sections 5.7.1 and 5.7.2).
 use Rattle.std.specs.Prelude.{◌≡◌, ℕ, ◌+◌, nat_le, Bool, true, false, if◌then◌else◌, List, [], ◌∷◌, ◌++◌, length, Option, Some, None, option_map}
 use Rattle.osc_model.specs.Code.{code}
-use Rattle.osc_model.specs.Step.{sends}
+use Rattle.osc_model.specs.Step.{refuses, sends}
 use Rattle.osc_model.specs.declared.code.Code.{Code}
 use Rattle.osc_model.specs.declared.node.Draw.{Draw}
 use Rattle.osc_model.specs.declared.node.Moment.{Moment}
@@ -36,7 +36,7 @@ refusal old draw message code = reply_start draw old.endpoint.next_id message co
 
 pub record IsRefused (why : Code) (old : State) (now : Moment) (from : Peer) (draw : Draw) (message : Message) (step : Step) (new : State) : Type 0 where
   pub lawful : HasSpelling (refusal old draw message why)
-  pub told : step ≡ sends (datagram from (refusal old draw message why) ∷ [])
+  pub told : step ≡ refuses (record { code = why; reason = None }) (datagram from (refusal old draw message why) ∷ [])
   pub kept : new
       ≡ record old {
         endpoint = settled (replied draw message old.endpoint) now from (heard.Message message)

@@ -33,7 +33,7 @@ use osc_message::laws::{ticks_send_few, what_nodes_send};
 use osc_message::{
     Endpoint, Handling, Heard, Outbox, is_confirmable, noted, reset, sending_bytes, sending_message,
 };
-use osc_model::{Bytes, Code, Datagrams, Draw, Moment, Peer, Step};
+use osc_model::{Bytes, Code, Datagrams, Draw, Moment, Peer, RefusedRequest, Step};
 use std::alloc::{AllocError, Global};
 use std::marker::Model;
 
@@ -215,7 +215,13 @@ impl Proxy {
             &Heard::Message(message),
             Handling::Answered(Some(bytes)),
         );
-        Ok(Step::sending(out))
+        Ok(Step::refusing(
+            RefusedRequest {
+                code: why,
+                reason: None,
+            },
+            out,
+        ))
     }
 
     /// The key of the exchange of such a request, where one is free and there is room for one more message to the target.

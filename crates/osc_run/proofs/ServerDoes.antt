@@ -7,6 +7,7 @@ use Rattle.osc_model.specs.Tree.{Tree}
 use Rattle.osc_model.specs.declared.node.Draw.{Draw}
 use Rattle.osc_model.specs.declared.node.Moment.{Moment}
 use Rattle.osc_model.specs.declared.reply.Reply.{Reply}
+use Rattle.osc_model.specs.declared.step.RefusedRequest.{RefusedRequest}
 use Rattle.osc_context.specs.Nonce.{greatest_number}
 use Rattle.osc_window.specs.Window.{IsFresh}
 use Rattle.osc_authz.specs.Agreed.{IsAgreed}
@@ -78,13 +79,14 @@ unchanged IsSealing before after now body draw post error (Posts.opened nonce1 c
     by (Answers.full claims scope comes many answer same) = same
     by (Answers.agreed claims scope made comes room agrees answer) = absurd (not_agreed its made error answer its_answer)
 
-pub refused : (IsSealing : List ℕ → List ℕ → List ℕ → List ℕ → List ℕ → Type 0) (before after : DeskState) (now : Moment) (body : List ℕ) (draw : Draw) (post : Post) (error : PostError) (tree : Tree)
+pub refused : (IsSealing : List ℕ → List ℕ → List ℕ → List ℕ → List ℕ → Type 0) (before after : DeskState) (now : Moment) (body : List ℕ) (draw : Draw) (post : Post) (error : PostError) (why : Option RefusedRequest) (tree : Tree)
     → Posts IsSealing before now body draw post after → post.answer ≡ Err error
-    → IsServerIdle (record { contexts = of_tokens before.table; tree = tree }) now (record quiet { opens = post.opened }) (record { contexts = of_tokens after.table; tree = tree })
-refused IsSealing before after now body draw post error tree posts e =
+    → IsServerIdle (record { contexts = of_tokens before.table; tree = tree }) now (record quiet { opens = post.opened; refused = why }) (record { contexts = of_tokens after.table; tree = tree })
+refused IsSealing before after now body draw post error why tree posts e =
     let same : after ≡ before = unchanged IsSealing before after now body draw post error posts e in
     record {
       opened = post.opened;
+      refused = why;
       noted = refl;
       contexts = subst (λ (d : DeskState). AreKept now (of_tokens before.table) (of_tokens d.table)) (sym same) (record { only = λ c m. m; live = λ c m live. m });
       tree = refl;

@@ -11,6 +11,7 @@ use Rattle.osc_model.specs.declared.context.Side.TheVariants.{Server}
 use Rattle.osc_model.specs.declared.node.Moment.{Moment}
 use Rattle.osc_model.specs.declared.reply.Reply.{Reply}
 use Rattle.osc_model.specs.declared.step.Note.{Note}
+use Rattle.osc_model.specs.declared.step.RefusedRequest.{RefusedRequest}
 use Rattle.osc_context.specs.Nonce.{longest_id, greatest_number}
 use Rattle.osc_window.specs.Window.{IsFresh}
 use Rattle.osc_protect.specs.Protection.{request_nonce, note_of}
@@ -42,11 +43,12 @@ pub data Replies (old : Tree) (outcome : Outcome) (reply : Reply) (new : Tree) :
 
 -- ---- kinds
 
--- Nothing comes of it, though something may have opened: a token whose claims are then refused, say. Contexts whose time is over
--- may go.
+-- Nothing comes of it, though something may have opened: a token whose claims are then refused, say. A request may be refused.
+-- Contexts whose time is over may go.
 pub record IsServerIdle (old : ServerState) (now : Moment) (notes : StepNotes) (new : ServerState) : Type 0 where
   pub opened : Option Note
-  pub noted : notes ≡ record quiet { opens = opened }
+  pub refused : Option RefusedRequest
+  pub noted : notes ≡ record quiet { opens = opened; refused = refused }
   pub contexts : AreKept now old.contexts new.contexts
   pub tree : new.tree ≡ old.tree
 

@@ -37,6 +37,7 @@ ghost use Rattle.osc_authz.specs.declared.error.PostError.{PostError as AnyError
 ghost use Rattle.osc_authz.specs.declared.holding.Holding.{Holding};
 ghost use Rattle.osc_authz.specs.declared.post.Post.{Post as AnyPost};
 ghost use Rattle.osc_authz.specs.declared.post.PostAnswer.{PostAnswer as AnyAnswer};
+ghost use Rattle.osc_model.specs.declared.step.RefusedRequest.{RefusedRequest as AnyRefused};
 ghost use Rattle.osc_run.specs.States.{ClientState, Exchange, Nothing};
 ghost use Rattle.osc_run.specs.Texts.{or_code, read_request, reply_text, IsWithinRanges};
 ghost use Rattle.osc_run.specs.ServerKinds.{opening_note, reply_note, Replies, IsServerIdle, IsPosted, IsServed};
@@ -68,12 +69,12 @@ pub fn posts_that_agree<A: Aead>()
     osc_authz::laws::one_more_context();
 }
 
-/// A post that is refused is an idle step, though its token may have opened.
+/// A post that is refused is an idle step, though its token may have opened, whatever is noted of why.
 pub fn posts_that_are_refused<A: Aead>()
-    ensures { (before after : DeskState) (now : AnyMoment) (body : List ℕ) (draw : AnyDraw) (post : AnyPost) (error : AnyError) (tree : Tree)
+    ensures { (before after : DeskState) (now : AnyMoment) (body : List ℕ) (draw : AnyDraw) (post : AnyPost) (error : AnyError) (why : Option AnyRefused) (tree : Tree)
         → Posts A.is_sealing before now body draw post after → post.answer ≡ Err error
         → IsServerIdle (record { contexts = of_tokens before.table; tree = tree }) now
-        (record quiet { opens = post.opened })
+        (record quiet { opens = post.opened; refused = why })
         (record { contexts = of_tokens after.table; tree = tree }) }
 {}
 

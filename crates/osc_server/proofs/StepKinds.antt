@@ -8,6 +8,7 @@ use Rattle.osc_model.specs.declared.node.Draw.{Draw}
 use Rattle.osc_model.specs.declared.node.Moment.{Moment}
 use Rattle.osc_model.specs.declared.node.Peer.{Peer}
 use Rattle.osc_model.specs.declared.reply.Reply.{Reply}
+use Rattle.osc_model.specs.declared.step.RefusedRequest.{RefusedRequest}
 use Rattle.osc_model.specs.declared.step.Step.{Step}
 use Rattle.osc_coap.specs.Message.{Message}
 use Rattle.osc_message.specs.Endpoint.{fresh}
@@ -25,7 +26,7 @@ use Rattle.osc_authz.specs.declared.post.PostAnswer.{PostAnswer}
 use Rattle.osc_run.specs.ServerKinds.{opening_note, reply_note, Replies as AppliesTo, IsServerIdle, IsPosted, IsServed, ServerStep, ServerIdle, Posted, Served, ServerRestarted}
 use Rattle.osc_run.specs.Texts.{read_request, IsWithinRanges}
 use Rattle.osc_server.specs.State.{State, core}
-use Rattle.osc_server.specs.Table.{Answers, AnswersPost, AnswersProtected, Sends, Serves, nonce_of_post, notes_of_post, notes_of_request, refused, served}
+use Rattle.osc_server.specs.Table.{Answers, AnswersPost, AnswersProtected, Sends, Serves, nonce_of_post, notes_of_post, notes_of_request, refusal_of_post, refused, served}
 use Rattle.osc_server.specs.declared.case.Case.{Case}
 use Rattle.osc_server.specs.declared.case.Case.TheVariants as case
 
@@ -37,10 +38,10 @@ pub record Laws (is_sealing : List ℕ → List ℕ → List ℕ → List ℕ �
       → IsPosted (record { contexts = of_tokens before.table; tree = tree }) now
       (record quiet { opens = post.opened; drawn = Some answer.nonce2 })
       (record { contexts = of_tokens after.table; tree = tree })
-  pub refuses : (before after : DeskState) (now : Moment) (body : List ℕ) (draw : Draw) (post : Post) (error : PostError) (tree : Tree)
+  pub refuses : (before after : DeskState) (now : Moment) (body : List ℕ) (draw : Draw) (post : Post) (error : PostError) (why : Option RefusedRequest) (tree : Tree)
       → Posts is_sealing before now body draw post after → post.answer ≡ Err error
       → IsServerIdle (record { contexts = of_tokens before.table; tree = tree }) now
-      (record quiet { opens = post.opened })
+      (record quiet { opens = post.opened; refused = why })
       (record { contexts = of_tokens after.table; tree = tree })
   pub opens : (now : Moment) (kid : List ℕ) (kid_context : Option (List ℕ)) (table : List Holding) (held : Held) (number : ℕ) (text : List ℕ) (reply : Reply) (tree after : Tree)
       → IsTable table → meant now kid kid_context table ≡ Some held
@@ -56,35 +57,39 @@ pub record Laws (is_sealing : List ℕ → List ℕ → List ℕ → List ℕ �
 
 -- ---- a step that does nothing for a run
 
-nothing : (old : State) (now : Moment) (notes : StepNotes) → notes ≡ quiet → ServerStep (core old) now notes (core old)
-nothing old now notes e = ServerIdle (record {
+nothing : (old : State) (now : Moment) (why : Option RefusedRequest) (notes : StepNotes) → notes ≡ record quiet { refused = why } → ServerStep (core old) now notes (core old)
+nothing old now why notes e = ServerIdle (record {
   opened = None;
+  refused = why;
   noted = e;
   contexts = record { only = λ c here. here; live = λ c here live. here };
   tree = refl;
 })
 
-pub quietly : (old : State) (now : Moment) (step : Step) (new : State) → step.notes ≡ quiet → new.tree ≡ old.tree → new.desk ≡ old.desk → ServerStep (core old) now step.notes (core new)
-quietly old now step new quiet tree desk =
+refusing : (old : State) (now : Moment) (why : Option RefusedRequest) (step : Step) (new : State) → step.notes ≡ record quiet { refused = why } → new.tree ≡ old.tree → new.desk ≡ old.desk → ServerStep (core old) now step.notes (core new)
+refusing old now why step new noted tree desk =
     subst (λ t. ServerStep (core old) now step.notes (record { contexts = of_tokens new.desk.table; tree = t })) (sym tree)
     (subst (λ d. ServerStep (core old) now step.notes (record { contexts = of_tokens d.table; tree = old.tree })) (sym desk)
-    (nothing old now step.notes quiet))
+    (nothing old now why step.notes noted))
+
+pub quietly : (old : State) (now : Moment) (step : Step) (new : State) → step.notes ≡ quiet → new.tree ≡ old.tree → new.desk ≡ old.desk → ServerStep (core old) now step.notes (core new)
+quietly old now step new noted tree desk = refusing old now None step new noted tree desk
 
 -- a server that starts again
 pub restarts : (old new : State) (now : Moment) → new ≡ record old { desk = record old.desk { table = [] }; endpoint = fresh } → ServerStep (core old) now quiet (core new)
 restarts old new now e = ServerRestarted (record { noted = refl; is = ap core e })
 
-sends_quietly : (old : State) (now : Moment) (from : Peer) (draw : Draw) (request answer : Message) (step : Step) (new : State) → Sends old now from draw request answer quiet old.tree old.desk step new → ServerStep (core old) now step.notes (core new)
-sends_quietly old now from draw request answer step new it =
-    quietly old now step new (ap (λ s. s.notes) it.sent) (ap (λ s. s.tree) it.kept) (ap (λ s. s.desk) it.kept)
+sends_idly : (old : State) (now : Moment) (from : Peer) (draw : Draw) (request answer : Message) (why : Option RefusedRequest) (step : Step) (new : State) → Sends old now from draw request answer (record quiet { refused = why }) old.tree old.desk step new → ServerStep (core old) now step.notes (core new)
+sends_idly old now from draw request answer why step new it =
+    refusing old now why step new (ap (λ s. s.notes) it.sent) (ap (λ s. s.tree) it.kept) (ap (λ s. s.desk) it.kept)
 
 -- ---- the kinds
 
 module _ (is_sealing : List ℕ → List ℕ → List ℕ → List ℕ → List ℕ → Type 0) (laws : Laws is_sealing) (old : State) (now : Moment) (from : Peer) (draw : Draw) (step : Step) (new : State) (drawn : length draw.0 ≡ 32) (before : IsTable old.desk.table) (after : IsTable new.desk.table) where
   post_kind : (message : Message) (post : Post) (answer : Result PostAnswer PostError) → post.answer ≡ answer → Posts is_sealing old.desk now (unwrap_or message.payload []) draw post new.desk
-      → ServerStep (core old) now (record quiet { opens = post.opened; drawn = nonce_of_post answer }) (record { contexts = of_tokens new.desk.table; tree = old.tree })
+      → ServerStep (core old) now (record quiet { opens = post.opened; drawn = nonce_of_post answer; refused = refusal_of_post answer }) (record { contexts = of_tokens new.desk.table; tree = old.tree })
   post_kind message post (Ok answer) e posts = Posted (laws.agrees old.desk new.desk now _ draw post answer old.tree drawn posts e after)
-  post_kind message post (Err error) e posts = ServerIdle (laws.refuses old.desk new.desk now _ draw post error old.tree posts e)
+  post_kind message post (Err error) e posts = ServerIdle (laws.refuses old.desk new.desk now _ draw post error (refusal_of_post (Err error)) old.tree posts e)
 
   posted_kind : (message : Message) → AnswersPost is_sealing old now from draw message step new → ServerStep (core old) now step.notes (core new)
   posted_kind message it =
@@ -100,7 +105,7 @@ module _ (is_sealing : List ℕ → List ℕ → List ℕ → List ℕ → List 
       before it.opened.meant.is_meant it.opened.meant.is_request.spelled.lawful.number it.opened.fresh it.within it.applied)))
 
   protected_kind : (message : Message) → AnswersProtected is_sealing old now from draw message step new → ServerStep (core old) now step.notes (core new)
-  protected_kind message (refused refusal why sends) = sends_quietly old now from draw message _ step new sends
+  protected_kind message (refused refusal why sends) = sends_idly old now from draw message _ _ step new sends
   protected_kind message (served it) = served_kind message it
 
   pub kind_of : (it : Case) → Answers is_sealing old now from draw it step new → ServerStep (core old) now step.notes (core new)
@@ -108,10 +113,10 @@ module _ (is_sealing : List ℕ → List ℕ → List ℕ → List ℕ → List 
   kind_of (case.Reset id) (e, same) = quietly old now step new (ap (λ s. s.notes) e) (ap (λ s. s.tree) same) (ap (λ s. s.desk) same)
   kind_of (case.Repeated id) (e, same) = quietly old now step new (ap (λ s. s.notes) e) (ap (λ s. s.tree) same) (ap (λ s. s.desk) same)
   kind_of (case.Empty kind id) (e, same) = quietly old now step new (ap (λ s. s.notes) e) (ap (λ s. s.tree) same) (ap (λ s. s.desk) same)
-  kind_of (case.BadOption message) it = sends_quietly old now from draw message _ step new it
-  kind_of (case.ProxyAsked message) it = sends_quietly old now from draw message _ step new it
+  kind_of (case.BadOption message) it = sends_idly old now from draw message _ _ step new it
+  kind_of (case.ProxyAsked message) it = sends_idly old now from draw message _ _ step new it
   kind_of (case.Protected message) it = protected_kind message it
   kind_of (case.Posted message) it = posted_kind message it
-  kind_of (case.NotPosted message) it = sends_quietly old now from draw message _ step new it
-  kind_of (case.OpenGet message request) it = sends_quietly old now from draw message _ step new it.replies
-  kind_of (case.Unauthorised message) it = sends_quietly old now from draw message _ step new it
+  kind_of (case.NotPosted message) it = sends_idly old now from draw message _ _ step new it
+  kind_of (case.OpenGet message request) it = sends_idly old now from draw message _ _ step new it.replies
+  kind_of (case.Unauthorised message) it = sends_idly old now from draw message _ _ step new it

@@ -32,7 +32,7 @@ use Rattle.osc_run.specs.ServerKinds.{opening_note, reply_note}
 use Rattle.osc_token.specs.Token.{token_note}
 use Rattle.osc_run.specs.Texts.{reply_text}
 use Rattle.osc_server.specs.State.{State}
-use Rattle.osc_server.specs.Table.{Answers, AnswersProtected, Serves, notes_of_post, post_reply, refusal_age, reply_to, refused, served}
+use Rattle.osc_server.specs.Table.{Answers, AnswersProtected, Serves, notes_of_post, post_reply, refusal_age, refusal_code, refusal_number, refused_for, reply_to, refused, served}
 use Rattle.osc_server.specs.Told.{AreTold, IsOpenedOf, IsToldOf, request_came, sealed_now, sent_before, token_came, unprotected}
 use Rattle.osc_server.specs.declared.case.Case.{Case}
 use Rattle.osc_server.specs.declared.case.Case.TheVariants as case
@@ -112,7 +112,7 @@ module _ (is_sealing : List ℕ → List ℕ → List ℕ → List ℕ → List 
       })
 
   protected_told : (message : Message) (step : Step) (new : State) → Spells bytes message → AnswersProtected is_sealing old now from draw message step new → AreTold is_sealing old now from bytes step
-  protected_told message step new spelled (refused refusal why sends) = as_sent step _ sends.sent (told_plain quiet _ refl opens_nothing (no_oscore_aged (refusal_age refusal)))
+  protected_told message step new spelled (refused refusal why sends) = as_sent step _ sends.sent (told_plain (refused_for (refusal_code refusal) (Some (refusal_number refusal))) _ refl opens_nothing (no_oscore_aged (refusal_age refusal)))
   protected_told message step new spelled (served it) = served_told message step new spelled it
 
   replied_told : (request : Message) (reply : Reply) (notes : StepNotes) (step : Step) → notes.seals ≡ None → OpensCame notes → step ≡ record { out = datagram from (reply_to old.endpoint draw request reply) ∷ []; notes = notes } → AreTold is_sealing old now from bytes step
@@ -134,10 +134,10 @@ module _ (is_sealing : List ℕ → List ℕ → List ℕ → List ℕ → List 
   told (case.Reset id) step new spelled (e, same) = as_sent step _ e (told_plain quiet (reset id) refl opens_nothing refl)
   told (case.Repeated id) step new spelled (e, same) = as_sent step _ e (told_again id (noted_reply old.endpoint.seen now from id) refl)
   told (case.Empty kind id) step new spelled (e, same) = as_sent step _ e told_nothing
-  told (case.BadOption message) step new spelled it = replied_told message (bare (code 4 2)) quiet step refl opens_nothing it.sent
-  told (case.ProxyAsked message) step new spelled it = replied_told message (bare (code 5 5)) quiet step refl opens_nothing it.sent
+  told (case.BadOption message) step new spelled it = replied_told message (bare (code 4 2)) (refused_for (code 4 2) None) step refl opens_nothing it.sent
+  told (case.ProxyAsked message) step new spelled it = replied_told message (bare (code 5 5)) (refused_for (code 5 5) None) step refl opens_nothing it.sent
   told (case.Protected message) step new spelled it = protected_told message step new spelled it
   told (case.Posted message) step new spelled it = replied_told message (post_reply it.post.answer) (notes_of_post it.post) step refl (posted_opens message it.post new.desk spelled it.posts) it.sent.sent
-  told (case.NotPosted message) step new spelled it = replied_told message (bare (code 4 5)) quiet step refl opens_nothing it.sent
+  told (case.NotPosted message) step new spelled it = replied_told message (bare (code 4 5)) (refused_for (code 4 5) None) step refl opens_nothing it.sent
   told (case.OpenGet message request) step new spelled it = replied_told message it.reply quiet step refl opens_nothing it.replies.sent
-  told (case.Unauthorised message) step new spelled it = replied_told message (bare (code 4 1)) quiet step refl opens_nothing it.sent
+  told (case.Unauthorised message) step new spelled it = replied_told message (bare (code 4 1)) (refused_for (code 4 1) None) step refl opens_nothing it.sent

@@ -13,6 +13,7 @@ use Rattle.osc_model.specs.declared.node.Moment.{Moment}
 use Rattle.osc_model.specs.declared.node.Peer.{Peer}
 use Rattle.osc_model.specs.declared.reply.Reply.{Reply}
 use Rattle.osc_model.specs.declared.request.Request.{Request}
+use Rattle.osc_model.specs.declared.step.RefusedRequest.{RefusedRequest}
 use Rattle.osc_model.specs.declared.step.Step.{Step}
 use Rattle.osc_cbor.specs.Spelling.{spelling as item_spelling}
 use Rattle.osc_coap.specs.Message.{Message, Spells, spelling}
@@ -28,6 +29,7 @@ use Rattle.osc_protect.specs.Aad.{aad_of}
 use Rattle.osc_protect.specs.Errors.{malformed, not_genuine}
 use Rattle.osc_protect.specs.Protection.{SealedRequest, IsRequest, IsProtectedResponse, request_nonce}
 use Rattle.osc_authz.specs.Desk.{DeskState}
+use Rattle.osc_authz.specs.Errors.{post_number}
 use Rattle.osc_authz.specs.Exchange.{answer_item}
 use Rattle.osc_authz.specs.Held.{Held}
 use Rattle.osc_authz.specs.Post.{Posts, code_of}
@@ -68,6 +70,16 @@ abbrev pub Replies : State → Moment → Peer → Draw → Message → Reply �
 Replies old now from draw request reply step new =
     Sends old now from draw request (reply_to old.endpoint draw request reply) quiet old.tree old.desk step new
 
+-- what is noted of a request that isn't served: the code that it is answered, and the number of the reason, where the code alone doesn't
+-- tell it
+abbrev pub refused_for : Code → Option ℕ → StepNotes
+refused_for why reason = record quiet { refused = Some (record { code = why; reason = reason }) }
+
+-- a request that isn't served is answered by this code alone
+abbrev pub Refuses : State → Moment → Peer → Draw → Message → Code → Step → State → Type 0
+Refuses old now from draw request why step new =
+    Sends old now from draw request (reply_to old.endpoint draw request (bare why)) (refused_for why None) old.tree old.desk step new
+
 -- a GET on an open path is answered as the machine answers it under the open scope, or for want of memory with 5.00
 pub record AnswersGet (old : State) (now : Moment) (from : Peer) (draw : Draw) (message : Message) (request : Request) (step : Step) (new : State) : Type 0 where
   pub reply : Reply
@@ -92,8 +104,13 @@ abbrev pub nonce_of_post : Result PostAnswer PostError → Option (List ℕ)
 nonce_of_post (Ok answer) = Some answer.nonce2
 nonce_of_post (Err error) = None
 
+-- why a post was refused, if it was
+abbrev pub refusal_of_post : Result PostAnswer PostError → Option RefusedRequest
+refusal_of_post (Ok answer) = None
+refusal_of_post (Err error) = Some (record { code = code_of error; reason = Some (post_number error) })
+
 abbrev pub notes_of_post : Post → StepNotes
-notes_of_post post = record quiet { opens = post.opened; drawn = nonce_of_post post.answer }
+notes_of_post post = record quiet { opens = post.opened; drawn = nonce_of_post post.answer; refused = refusal_of_post post.answer }
 
 -- ---- protected requests
 
@@ -181,7 +198,8 @@ module _ (is_sealing : List ℕ → List ℕ → List ℕ → List ℕ → List 
 
   pub data AnswersProtected (old : State) (now : Moment) (from : Peer) (draw : Draw) (message : Message) (step : Step) (new : State) : Type 0 where
     refused : (refusal : Refusal) → IsRefused old.desk now message refusal
-        → Sends old now from draw message (refusal_to old.endpoint draw message refusal) quiet old.tree old.desk step new
+        → Sends old now from draw message (refusal_to old.endpoint draw message refusal)
+            (refused_for (refusal_code refusal) (Some (refusal_number refusal))) old.tree old.desk step new
         → AnswersProtected old now from draw message step new
     served : Serves old now from draw message step new → AnswersProtected old now from draw message step new
 
@@ -201,10 +219,10 @@ module _ (is_sealing : List ℕ → List ℕ → List ℕ → List ℕ → List 
   Answers old now from draw (Repeated id) step new = (step ≡ sends (again from (noted_reply old.endpoint.seen now from id))) × (new ≡ old)
   Answers old now from draw (Empty kind id) step new =
       (step ≡ sends []) × (new ≡ record old { endpoint = settled old.endpoint now from (heard.Empty kind id) Dropped })
-  Answers old now from draw (BadOption message) step new = Replies old now from draw message (bare (code 4 2)) step new
-  Answers old now from draw (ProxyAsked message) step new = Replies old now from draw message (bare (code 5 5)) step new
+  Answers old now from draw (BadOption message) step new = Refuses old now from draw message (code 4 2) step new
+  Answers old now from draw (ProxyAsked message) step new = Refuses old now from draw message (code 5 5) step new
   Answers old now from draw (Protected message) step new = AnswersProtected old now from draw message step new
   Answers old now from draw (Posted message) step new = AnswersPost old now from draw message step new
-  Answers old now from draw (NotPosted message) step new = Replies old now from draw message (bare (code 4 5)) step new
+  Answers old now from draw (NotPosted message) step new = Refuses old now from draw message (code 4 5) step new
   Answers old now from draw (OpenGet message request) step new = AnswersGet old now from draw message request step new
-  Answers old now from draw (Unauthorised message) step new = Replies old now from draw message (bare (code 4 1)) step new
+  Answers old now from draw (Unauthorised message) step new = Refuses old now from draw message (code 4 1) step new

@@ -2,14 +2,14 @@
 ghost use Rattle.std.specs.Prelude.{◌≡◌, ◌≤◌, length};
 ghost use Rattle.osc_coap.specs.Message.{spelling};
 ghost use Rattle.osc_model.specs.StepNotes.{quiet};
-ghost use Rattle.osc_server.specs.Table.{nonce_of_post, post_reply as post_reply_of, reply_to as reply_to_of};
+ghost use Rattle.osc_server.specs.Table.{nonce_of_post, post_reply as post_reply_of, refusal_of_post, reply_to as reply_to_of};
 
 use crate::answer::reply_to;
 use osc_authz::{PostAnswer, PostError};
 use osc_coap::laws::length_of_spelling;
 use osc_coap::{MessageBuilder, MessageRef};
 use osc_message::{Buffer, Endpoint};
-use osc_model::{Code, Draw, Note, Reply, StepNotes};
+use osc_model::{Code, Draw, Note, RefusedRequest, Reply, StepNotes};
 use std::alloc::Global;
 
 /// The bytes of the payload that answers a post which made a context.
@@ -58,9 +58,9 @@ pub fn post_answer(
     reply_to(endpoint, draw, request, &reply)
 }
 
-/// What is noted of a post: its token's opening, and the nonce that it drew.
+/// What is noted of a post: its token's opening, and the nonce that it drew, or why it was refused.
 pub fn notes_of(opened: Option<Note>, answer: Result<PostAnswer, PostError>) -> StepNotes
-    ensures { result ≡ record quiet { opens = opened; drawn = nonce_of_post answer } }
+    ensures { result ≡ record quiet { opens = opened; drawn = nonce_of_post answer; refused = refusal_of_post answer } }
 {
     let notes = match opened {
         Some(note) => StepNotes::quiet().with_open(note),
@@ -68,6 +68,9 @@ pub fn notes_of(opened: Option<Note>, answer: Result<PostAnswer, PostError>) -> 
     };
     match answer {
         Ok(answer) => notes.with_drawn(answer.nonce2),
-        Err(_) => notes,
+        Err(error) => notes.with_refused(RefusedRequest {
+            code: error.code(),
+            reason: Some(error.number()),
+        }),
     }
 }

@@ -1,8 +1,8 @@
 //! Why a protected request isn't served (RFC 8613 section 8.2).
 ghost use Rattle.std.specs.Prelude.{◌≡◌};
-ghost use Rattle.osc_server.specs.Table.{refusal_age, refusal_code, refusal_number, refusal_text};
+ghost use Rattle.osc_server.specs.Table.{refusal_age, refusal_code, refusal_number, refusal_text, refused_for as refused_for_of};
 
-use osc_model::Code;
+use osc_model::{Code, RefusedRequest, StepNotes};
 
 /// Why a protected request isn't served: the first of these that stands.
 #[derive(Clone, Copy, Debug, PartialEq, Eq)]
@@ -62,4 +62,12 @@ impl Refusal {
             Refusal::NotGenuine => b"Decryption failed",
         }
     }
+}
+
+/// What is noted of a request that isn't served: the code that it is answered, and the number of the reason, where the code alone
+/// doesn't tell it.
+pub(crate) fn refused_for(code: Code, reason: Option<u8>) -> StepNotes
+    ensures { result ≡ refused_for_of code reason }
+{
+    StepNotes::quiet().with_refused(RefusedRequest { code, reason })
 }

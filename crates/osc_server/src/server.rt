@@ -1,5 +1,5 @@
 //! The server.
-ghost use Rattle.std.specs.Prelude.{◌≡◌, ◌≤◌, ◌<◌, [], ◌∷◌, length, false, IsErr, IsOk, IsSome, IfOk, None, OnErr};
+ghost use Rattle.std.specs.Prelude.{◌≡◌, ◌≤◌, ◌<◌, [], ◌∷◌, length, false, IsErr, IsOk, IsSome, IfOk, None, OnErr, Some};
 ghost use Rattle.std.specs.List.{All};
 ghost use Rattle.osc_authz.specs.Table.{IsTable};
 ghost use Rattle.osc_coap.specs.Message.{Message, Spells, spelling};
@@ -10,7 +10,6 @@ ghost use Rattle.osc_message.specs.Heard.{heard as heard_as, noted_reply as note
 ghost use Rattle.osc_message.specs.Received.{Receives};
 ghost use Rattle.osc_message.specs.declared.received.Received.{Received as AnyReceived};
 ghost use Rattle.osc_model.specs.Apply.{apply, MayReply};
-ghost use Rattle.osc_model.specs.Reply.{bare};
 ghost use Rattle.osc_model.specs.Step.{sends};
 ghost use Rattle.osc_model.specs.StepNotes.{quiet};
 ghost use Rattle.osc_model.specs.declared.node.Moment.{Moment as AnyMoment};
@@ -21,12 +20,12 @@ ghost use Rattle.osc_message.specs.Ticks.{acts};
 ghost use Rattle.osc_server.specs.Hearing.{Hears, Ticks};
 ghost use Rattle.osc_server.specs.Parts.{AsksGet, IsShort, SendsTo};
 ghost use Rattle.osc_server.specs.State.{core};
-ghost use Rattle.osc_server.specs.Table.{Answers, AnswersGet, AnswersPost, AnswersProtected, Replies, Sends, answered, refusal_to as refusal_to_of};
+ghost use Rattle.osc_server.specs.Table.{Answers, AnswersGet, AnswersPost, AnswersProtected, Refuses, Replies, Sends, answered, refusal_code, refusal_number, refusal_to as refusal_to_of, refused_for as refused_for_of};
 
 use crate::answer::{refusal_to, reply_to};
 use crate::case::{Case, case_of};
 use crate::posting::{POST_ANSWER, POST_PAYLOAD, notes_of, post_answer};
-use crate::refusal::Refusal;
+use crate::refusal::{Refusal, refused_for};
 use crate::serving::{Served, serve};
 use osc_authz::{Post, ServerDesk};
 use osc_ccm::Aead;
@@ -256,7 +255,7 @@ impl Server {
         }
     }
 
-    /// Answers the request with a reply of this code alone.
+    /// Answers the request, which isn't served, with a reply of this code alone.
     fn refuse(
         &mut self,
         alloc: Global,
@@ -267,11 +266,12 @@ impl Server {
         code: Code,
     ) -> Result<Step, AllocError>
         requires { 0 < code.0 }
-        ensures replied { IfOk result (λ step. Replies self.old now from draw.now request.entry (bare code) step self.new) }
+        ensures refused { IfOk result (λ step. Refuses self.old now from draw.now request.entry code step self.new) }
         ensures sent { IfOk result (λ step. SendsTo from step.out) }
         ensures err { OnErr result (self.new ≡ self.old) }
     {
-        self.reply(alloc, now, from, draw, request, &Reply::bare(alloc, code))
+        let answer = reply_to(&self.endpoint, draw, &request, &Reply::bare(alloc, code));
+        self.send_noting(alloc, now, from, draw, request, &answer, refused_for(code, None))
     }
 
     /// Answers the request with an unprotected reply.
@@ -290,11 +290,11 @@ impl Server {
         ensures err { OnErr result (self.new ≡ self.old) }
     {
         let answer = reply_to(&self.endpoint, draw, &request, reply);
-        self.send_quietly(alloc, now, from, draw, request, &answer)
+        self.send_noting(alloc, now, from, draw, request, &answer, StepNotes::quiet())
     }
 
-    /// Answers the request with this message; nothing else comes of it.
-    fn send_quietly(
+    /// Answers the request with this message; of resources and desk nothing changes.
+    fn send_noting(
         &mut self,
         alloc: Global,
         now: Moment,
@@ -302,14 +302,15 @@ impl Server {
         draw: &Draw,
         request: MessageRef<'_>,
         answer: &MessageBuilder,
+        notes: StepNotes,
     ) -> Result<Step, AllocError>
         ensures sends { IfOk result (λ step.
-            Sends self.old now from draw.now request.entry answer.now quiet self.old.tree self.old.desk step self.new) }
+            Sends self.old now from draw.now request.entry answer.now notes self.old.tree self.old.desk step self.new) }
         ensures sent { IfOk result (λ step. SendsTo from step.out) }
         ensures err { OnErr result (self.new ≡ self.old) }
     {
         let room = ReplyRoom::new(alloc, answer.bytes().len())?;
-        Ok(self.send(room, now, from, draw, request, answer, StepNotes::quiet()))
+        Ok(self.send(room, now, from, draw, request, answer, notes))
     }
 
     /// Answers the request with this message, for which there is room, and notes it for a repeat; takes no memory.
@@ -419,12 +420,14 @@ impl Server {
         refusal: Refusal,
     ) -> Result<Step, AllocError>
         ensures sends { IfOk result (λ step. Sends self.old now from draw.now message.entry
-            (refusal_to_of self.old.endpoint draw.now message.entry refusal) quiet self.old.tree self.old.desk step self.new) }
+            (refusal_to_of self.old.endpoint draw.now message.entry refusal)
+            (refused_for_of (refusal_code refusal) (Some (refusal_number refusal))) self.old.tree self.old.desk step self.new) }
         ensures sent { IfOk result (λ step. SendsTo from step.out) }
         ensures err { OnErr result (self.new ≡ self.old) }
     {
         let answer = refusal_to(&self.endpoint, draw, &message, refusal);
-        self.send_quietly(alloc, now, from, draw, message, &answer)
+        let notes = refused_for(refusal.code(), Some(refusal.number()));
+        self.send_noting(alloc, now, from, draw, message, &answer, notes)
     }
 
     /// Lets the notes of what was heard go whose lifetime has ended. Nothing that a server sends waits for an acknowledgement, so

@@ -2,11 +2,11 @@
 use Rattle.std.proofs.Common.{◌≡◌, ◌≤◌, ℕ, Bool, List, length, map, refl, ap, sym, subst, Some}
 use Rattle.std.proofs.lemmas.List.{length-map}
 use Rattle.std.specs.Prelude.{slice_get, slice_set}
-use Rattle.osc_model.specs.StepNotes.{quiet}
 use Rattle.osc_model.specs.declared.node.Moment.{Moment}
 use Rattle.osc_model.specs.declared.node.Peer.{Peer}
 use Rattle.osc_model.specs.declared.step.Datagram.{Datagram}
 use Rattle.osc_model.specs.declared.step.Step.{Step}
+use Rattle.osc_run.specs.ProxyKinds.{ProxyStep}
 use Rattle.osc_run.specs.ClientKinds.{ClientStep, IsSkipped}
 use Rattle.osc_run.specs.Notes.{Noted, by_server, by_client, by_proxy}
 use Rattle.osc_run.specs.ServerKinds.{ServerStep}
@@ -104,14 +104,14 @@ proxy_took self at server clients proxies number placed proxy sent event noted s
 pub proxy_stepped : (now : Moment) (self : NodeStates) (at : Peer) (server : Server) (clients : List Placed) (proxies : List PlacedProxy)
     (number : ℕ) (placed : PlacedProxy) (proxy : Proxy) (noted : Noted) (step : Step)
     → nodes_of at server clients proxies ≡ self → slice_get proxies number ≡ Some placed
-    → step.notes ≡ quiet
+    → ProxyStep step.notes
     → noted ≡ by_proxy number step.notes
     → IsStep now self (Some (record { at = placed.at; noted = noted; out = step.out }))
     (nodes_of at server clients (slice_set proxies number (record { at = placed.at; proxy = proxy })))
 proxy_stepped now self at server clients proxies number placed proxy noted step is there silent told =
     subst (λ s. IsStep now s (Some (record { at = placed.at; noted = noted; out = step.out }))
     (nodes_of at server clients (slice_set proxies number (record { at = placed.at; proxy = proxy })))) is
-    (OfProxy number placed (record { at = placed.at; proxy = proxy }) step there (record { noted = silent })
+    (OfProxy number placed (record { at = placed.at; proxy = proxy }) step there silent
     (ap (λ n. Some (record { at = placed.at; noted = n; out = step.out })) told) refl)
 
 pub few_of_proxy : (self : NodeStates) (at : Peer) (server : Server) (clients : List Placed) (proxies : List PlacedProxy) (number : ℕ) (placed : PlacedProxy) (from : Peer) (out : List Datagram)

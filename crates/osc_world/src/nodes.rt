@@ -1,9 +1,9 @@
 //! The nodes of a world, and the step that one of them takes at an event.
 ghost use Rattle.std.specs.Prelude.{◌≡◌, ◌≤◌, [], IfOk, OnErr, false, true, length, option_map, position, slice_get};
 ghost use Rattle.osc_model.specs.Step.{sends};
-ghost use Rattle.osc_model.specs.StepNotes.{quiet};
 ghost use Rattle.osc_client.specs.State.{core as core_of_client};
 ghost use Rattle.osc_run.specs.ClientKinds.{ClientStep};
+ghost use Rattle.osc_run.specs.ProxyKinds.{ProxyStep};
 ghost use Rattle.osc_run.specs.ServerKinds.{ServerStep};
 ghost use Rattle.osc_server.specs.State.{core as core_of_server};
 ghost use Rattle.osc_world.specs.Lawful.{AreLawfulClients, AreLawfulProxies};
@@ -279,7 +279,7 @@ fn proxy_does(
     sent: &[Sent],
 ) -> Result<Step, AllocError>
     ensures does { IfOk result (λ step. ProxyDoes proxy.old event.now.moment event.now.draw sent.now event.now.what step proxy.new) }
-    ensures silent { IfOk result (λ step. step.notes ≡ quiet) }
+    ensures silent { IfOk result (λ step. ProxyStep step.notes) }
     ensures few { IfOk result (λ step. length step.out ≤ most_of_proxy proxy.old) }
     ensures err { OnErr result (proxy.new ≡ proxy.old) }
 {
@@ -317,7 +317,7 @@ fn proxy_gets(
     datagram: Option<&Sent>,
 ) -> Result<Step, AllocError>
     ensures gets { IfOk result (λ step. ProxyGets proxy.old now draw.now (option_map (λ d. d.now) datagram.entry) step proxy.new) }
-    ensures silent { IfOk result (λ step. step.notes ≡ quiet) }
+    ensures silent { IfOk result (λ step. ProxyStep step.notes) }
     ensures few { IfOk result (λ step. length step.out ≤ 2) }
     ensures err { OnErr result (proxy.new ≡ proxy.old) }
 {
@@ -337,7 +337,7 @@ fn proxy_hears(
     bytes: &[u8],
 ) -> Result<Step, AllocError>
     ensures hears { IfOk result (λ step. ProxyHears proxy.old now draw.now from bytes.now step proxy.new) }
-    ensures silent { IfOk result (λ step. step.notes ≡ quiet) }
+    ensures silent { IfOk result (λ step. ProxyStep step.notes) }
     ensures few { IfOk result (λ step. length step.out ≤ 2) }
     ensures err { OnErr result (proxy.new ≡ proxy.old) }
 {

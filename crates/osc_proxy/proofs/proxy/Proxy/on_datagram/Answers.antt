@@ -45,6 +45,7 @@ returns-clause-heard c =
       named = named;
       names = subst (λ (h : Heard). NamesIn h named) (came.2 ∙ view) c.case_of-case.ensures.case.1;
       answers = subst (λ (x : Case). Answers old now from draw x step c.answer-step.new.self) case told.0;
+      refused = (small_step old now from draw c.case_of-case.result step c.answer-step.new.self told.0).refused;
       silent = (small_step old now from draw c.case_of-case.result step c.answer-step.new.self told.0).nothing;
       fits = told.1;
     })
