@@ -38,7 +38,7 @@ use Rattle.osc_authz.specs.declared.post.PostAnswer.{PostAnswer}
 use Rattle.osc_server.specs.Case.{case_of as server_case}
 use Rattle.osc_server.specs.Hearing.{Hears as ServerHears}
 use Rattle.osc_server.specs.State.{State as Server}
-use Rattle.osc_server.specs.Table.{Answers as ServerAnswers, AnswersPost, nonce_of_post, notes_of_post}
+use Rattle.osc_server.specs.Table.{Answers as ServerAnswers, AnswersPost, nonce_of_post, notes_of_post, refusal_of_post}
 use Rattle.osc_server.specs.declared.case.Case.{Case as ServerCase}
 use Rattle.osc_server.specs.declared.case.Case.TheVariants.{Posted}
 use Rattle.osc_client.specs.Lawful.{IsLawfulClient}
@@ -110,8 +110,8 @@ module _ (is_sealing : List ℕ → List ℕ → List ℕ → List ℕ → List 
   post_notes = (
     is_agreed.protected,
     is_agreed.iv,
-    ap (λ (o : Option Note). let n : StepNotes = record quiet { opens = o; drawn = nonce_of_post post.answer } in n) is_agreed.noted
-        ∙ ap (λ (a : Result PostAnswer PostError). let n : StepNotes = record quiet { opens = Some (token_note before.key is_agreed.protected is_agreed.iv is_agreed.text); drawn = nonce_of_post a } in n) answer.1
+    ap (λ (o : Option Note). let n : StepNotes = record quiet { opens = o; drawn = nonce_of_post post.answer; refused = refusal_of_post post.answer } in n) is_agreed.noted
+        ∙ ap (λ (a : Result PostAnswer PostError). let n : StepNotes = record quiet { opens = Some (token_note before.key is_agreed.protected is_agreed.iv is_agreed.text); drawn = nonce_of_post a; refused = refusal_of_post a } in n) answer.1
         ∙ ap (λ (d : List ℕ). let n : StepNotes = record quiet { opens = Some (token_note before.key is_agreed.protected is_agreed.iv is_agreed.text); drawn = Some d } in n) answer.2
         ∙ ap (λ (t : List ℕ). let n : StepNotes = record quiet { opens = Some (token_note before.key is_agreed.protected is_agreed.iv t); drawn = Some (nonce_drawn draw) } in n) its_text,
   )
