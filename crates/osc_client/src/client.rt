@@ -26,6 +26,7 @@ ghost use Rattle.osc_client.specs.Bounds.{AsksFor, IsLawful, IsRoomFor, NeedsCon
 ghost use Rattle.osc_client.specs.Lawful.{IsLawfulClient};
 ghost use Rattle.osc_client.specs.Way.{IsLawfulOrigin};
 
+use crate::Endpoint;
 use crate::answering::{Learnt, learn, outcome_of};
 use crate::asking::{AskRoom, Asked, fitting, protected};
 use crate::case::{Case, case_of, is_ended};
@@ -40,9 +41,7 @@ use osc_ccm::Aead;
 use osc_coap::{Kind, MessageBuilder, MessageRef};
 use osc_context::NUMBER_LIMIT;
 use osc_message::laws::ticks_at_rest;
-use osc_message::{
-    Endpoint, Handling, Heard, ReplyRoom, noted, reset, sending_bytes, sending_message,
-};
+use osc_message::{Handling, Heard, ReplyRoom, noted, reset, sending_bytes, sending_message};
 use osc_model::{ClientResult, Code, Datagrams, Draw, Moment, Peer, Request, Step, StepNotes};
 use osc_run::kinds;
 use std::alloc::{AllocError, Global};

@@ -20,3 +20,6 @@ pub use case::Case;
 pub use client::Client;
 pub use waiting::{Awaited, OpenAsk, Waiting};
 pub use way::{Origin, Way};
+
+/// The message layer of a client. It awaits one thing at a time, so it has a place for one confirmable message.
+type Endpoint = osc_message::Endpoint<1>;

@@ -47,6 +47,10 @@ peers_of (message ∷ later) = message.to ∷ filter (λ peer. not (same_peer me
 abbrev pub takes : Peer → List Open → Bool
 takes peer all = if has_open peer all then nat_lt (waiting peer all) 16 else nat_lt (length (peers_of all)) 64
 
+-- the same in places for so many messages in all
+abbrev pub takes_in : ℕ → Peer → List Open → Bool
+takes_in places peer all = takes peer all && nat_lt (length all) places
+
 -- it goes out at once where the peer has none open (at most one is outstanding to a peer, section 4.7)
 abbrev pub sent_at : Moment → Bool → Option Sent
 sent_at now waits = if waits then None else Some (record { at = now; repeats = 0 })

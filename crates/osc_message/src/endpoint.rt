@@ -4,7 +4,8 @@ ghost use Rattle.std.specs.Option.{option_copied};
 ghost use Rattle.osc_model.specs.declared.node.Moment.{Moment as AnyMoment};
 ghost use Rattle.osc_message.specs.Received.{Receives};
 ghost use Rattle.osc_message.specs.Heard.{heard as heard_as, noted_reply as reply_noted};
-ghost use Rattle.osc_message.specs.Confirmables.{has_open as has_open_of, takes as takes_of, with_open};
+ghost use Rattle.osc_message.specs.Confirmables.{has_open as has_open_of, takes as takes_of, takes_in, with_open};
+ghost use Rattle.osc_message.specs.Bounds.{most_open};
 ghost use Rattle.osc_message.specs.Ticks.{tick_sends, tick_starts, tick_gives_up, acts};
 ghost use Rattle.osc_message.specs.Timeout.{timeout_of};
 ghost use Rattle.osc_message.specs.Endpoint.{fresh, own_id as own_id_of, id_taken, settled, after_tick};
@@ -16,7 +17,7 @@ use crate::confirmable::{Open, acknowledge};
 use crate::deadline::deadline;
 use crate::handling::{Handling, acknowledge_by, handle};
 use crate::heard::{Heard, hear};
-use crate::queue::{MOST_OPEN, has_open, push, takes};
+use crate::queue::{has_open, push, takes};
 use crate::received::receive;
 use crate::sending::{is_confirmable, reply_kind};
 use crate::tick::{Ticked, tick};
@@ -43,9 +44,10 @@ impl QueueFull {
 
 /// The message layer of a node: what was heard lately, the open confirmable messages, and the node's own message IDs.
 ///
-/// All the room that it needs for messages, but for their bytes, is taken when it is made: 64 notes, and to each of 64 peers one
-/// message that is outstanding and 16 that wait.
-pub struct Endpoint {
+/// All the room that it needs for messages, but for their bytes, is taken when it is made: 64 notes, and places for so many confirmable
+/// messages as the node may have open at once. A node that sends none has 0, one that awaits one thing at a time 1, and `MOST_OPEN` are
+/// enough for any: to each of 64 peers one message that is outstanding and 16 that wait.
+pub struct Endpoint<const PLACES: usize> {
     seen: Duplicates,
     sending: Vec<Open>,
     // The ID of the next message of the node's own, once it has made one.
@@ -53,7 +55,7 @@ pub struct Endpoint {
 }
 
 // Proved once, and not anew at each exit of whoever owns one.
-impl Drop for Endpoint {
+impl<const PLACES: usize> Drop for Endpoint<PLACES> {
     fn drop(self) {
         let Endpoint {
             seen: _,
@@ -63,26 +65,26 @@ impl Drop for Endpoint {
     }
 }
 
-impl Model for Endpoint {
+impl<const PLACES: usize> Model for Endpoint<PLACES> {
     ghost use Rattle.std.specs.Prelude.{◌≤◌, vec_capacity};
     ghost use Rattle.osc_message.specs.Endpoint.{EndpointState};
-    ghost use Rattle.osc_message.specs.Bounds.{AreShort, IsSound, most_open};
+    ghost use Rattle.osc_message.specs.Bounds.{AreShort, IsSound};
 
     ghost Value = { EndpointState };
 
     ghost view = { λ e. record { seen = e.seen; sending = e.sending.items; next_id = e.next_id } };
 
-    ghost invariant = { λ e. (most_open ≤ vec_capacity e.sending) × IsSound e.sending.items × AreShort e.seen };
+    ghost invariant = { λ e. (PLACES ≤ vec_capacity e.sending) × IsSound e.sending.items × AreShort e.seen };
 }
 
-impl Endpoint {
+impl<const PLACES: usize> Endpoint<PLACES> {
     /// Nothing was heard yet, nothing is open, and no message was made. Refused only for want of memory.
-    pub fn new(alloc: Global) -> Result<Endpoint, AllocError>
+    pub fn new(alloc: Global) -> Result<Endpoint<PLACES>, AllocError>
         ensures { IfOk result (λ endpoint. endpoint ≡ fresh) }
     {
         Ok(Endpoint {
             seen: Duplicates::new(alloc)?,
-            sending: Vec::with_capacity(alloc, MOST_OPEN)?,
+            sending: Vec::with_capacity(alloc, PLACES)?,
             next_id: None,
         })
     }
@@ -201,9 +203,10 @@ impl Endpoint {
     ///
     /// The work grows with the square of the number of open messages.
     pub fn takes(&self, to: Peer) -> bool
-        ensures { result ≡ takes_of to self.now.sending }
+        ensures value { result ≡ takes_in PLACES to self.now.sending }
+        ensures enough { most_open ≤ PLACES → result ≡ takes_of to self.now.sending }
     {
-        takes(&self.sending, to)
+        takes(&self.sending, to) && self.sending.len() < PLACES
     }
 
     /// Takes a confirmable message, of at most 1,152 bytes, and answers whether it goes out now; else it waits for its turn. Its
@@ -213,8 +216,8 @@ impl Endpoint {
     ///
     /// # Errors
     ///
-    /// `QueueFull` exactly where 16 others wait for the peer, or none is open to it and 64 others have one; nothing is changed
-    /// then.
+    /// `QueueFull` exactly where 16 others wait for the peer, or none is open to it and 64 others have one, or all places are taken,
+    /// which `MOST_OPEN` never are; nothing is changed then.
     pub fn send(
         &mut self,
         now: Moment,
@@ -224,12 +227,13 @@ impl Endpoint {
         bytes: Bytes,
     ) -> Result<bool, QueueFull>
         requires { FitsDatagram bytes }
-        ensures taken { IsOk result ↔ (takes_of to self.old.sending ≡ true) }
+        ensures taken { IsOk result ↔ (takes_in PLACES to self.old.sending ≡ true) }
+        ensures enough { most_open ≤ PLACES → IsOk result ↔ (takes_of to self.old.sending ≡ true) }
         ensures goes { IfOk result (λ goes. goes ≡ not (has_open_of to self.old.sending)) }
         ensures ok { OnOk result (self.new ≡ record self.old { sending = with_open now to id (timeout_of draw.now) bytes self.old.sending }) }
         ensures err { OnErr result (self.new ≡ self.old) }
     {
-        if !takes(&self.sending, to) {
+        if !takes(&self.sending, to) || self.sending.len() >= PLACES {
             return Err(QueueFull);
         }
         let waits = has_open(&self.sending, to);

@@ -26,6 +26,7 @@ pub use handling::Handling;
 pub use heard::Heard;
 pub use name::{MessageName, MessageNames};
 pub use outbox::{Buffer, Outbox, ReplyRoom};
+pub use queue::MOST_OPEN;
 pub use received::{Received, receive};
 pub use sending::{
     acknowledgement, empty_acknowledgement, is_confirmable, noted, reply_kind, reset,

@@ -1,6 +1,6 @@
 //! What a list of open messages holds for a peer, and whether it takes one more (RFC 7252 section 4.7).
-ghost use Rattle.std.specs.Prelude.{◌≡◌, ◌≤◌, ◌&&◌, true, not, length, vec_capacity};
-ghost use Rattle.osc_message.specs.Bounds.{IsSound, most_open};
+ghost use Rattle.std.specs.Prelude.{◌≡◌, ◌<◌, ◌&&◌, true, not, length, vec_len, vec_capacity};
+ghost use Rattle.osc_message.specs.Bounds.{IsSound};
 ghost use Rattle.osc_message.specs.Sending.{FitsDatagram};
 ghost use Rattle.osc_message.specs.Timeout.{timeout_of};
 ghost use Rattle.osc_message.specs.Confirmables.{is_to as is_to_of, is_outstanding, has_open as has_open_of, has_outstanding as has_outstanding_of, waiting, peers_of, takes as takes_of, sent_at, with_open};
@@ -79,8 +79,8 @@ pub(crate) fn takes(all: &[Open], peer: Peer) -> bool
     }
 }
 
-/// How many messages are open at most.
-pub(crate) const MOST_OPEN: usize = MOST_PEERS * (1 + MOST_WAITING);
+/// How many messages are open at most: to each of 64 peers one that is outstanding and 16 that wait.
+pub const MOST_OPEN: usize = MOST_PEERS * (1 + MOST_WAITING);
 
 /// How a message stands that waits, or goes out now.
 fn first_sent(now: Moment, waits: bool) -> Option<Sent>
@@ -107,7 +107,7 @@ pub(crate) fn push(
     waits: bool,
 )
     requires sound { IsSound sending.old.items }
-    requires room { most_open ≤ vec_capacity sending.old }
+    requires room { vec_len sending.old < vec_capacity sending.old }
     requires taken { takes_of to sending.old.items ≡ true }
     requires short { FitsDatagram bytes }
     requires waits { waits ≡ has_open_of to sending.old.items }

@@ -4,7 +4,7 @@ ghost use Rattle.osc_model.specs.declared.node.Moment.{Moment as AnyMoment};
 ghost use Rattle.osc_message.specs.Bounds.{is_reached};
 ghost use Rattle.osc_message.specs.Ticks.{acts as messages_act};
 
-use osc_message::Endpoint;
+use crate::Endpoint;
 
 /// The earlier of two moments, where there is any.
 pub(crate) fn first_of(a: Option<u64>, b: Option<u64>) -> Option<u64>

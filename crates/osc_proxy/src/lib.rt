@@ -3,6 +3,8 @@
 //! nobody has to trust it.
 #![tactic(auto)]
 
+use osc_message::MOST_OPEN;
+
 mod answering;
 mod case;
 mod deadline;
@@ -28,3 +30,6 @@ pub use route::{Route, named_by, route_of};
 pub use targets::{Target, Targets};
 pub use token::Token;
 pub use unsafe_options::has_unrecognised_unsafe;
+
+/// The message layer of a proxy. It has places for as many confirmable messages as are ever open.
+type Endpoint = osc_message::Endpoint<MOST_OPEN>;

@@ -19,6 +19,7 @@ ghost use Rattle.osc_proxy.specs.State.{restarted};
 ghost use Rattle.osc_proxy.specs.Table.{Answers, Counts, Ends, ForwardsBy, IsForwarded, IsRefused, forwarded_by, key_for as key_for_of};
 ghost use Rattle.osc_proxy.specs.Ticks.{Ticks, acts};
 
+use crate::Endpoint;
 use crate::answering::{answer_back, failing};
 use crate::case::{Case, case_of};
 use crate::deadline::{first_of, messages_deadline};
@@ -31,7 +32,7 @@ use crate::ticking::{finish, rest, room_for};
 use osc_coap::{Kind, MessageBuilder, MessageRef};
 use osc_message::laws::{ticks_send_few, what_nodes_send};
 use osc_message::{
-    Endpoint, Handling, Heard, Outbox, is_confirmable, noted, reset, sending_bytes, sending_message,
+    Handling, Heard, Outbox, is_confirmable, noted, reset, sending_bytes, sending_message,
 };
 use osc_model::{Bytes, Code, Datagrams, Draw, Moment, Peer, RefusedRequest, Step};
 use std::alloc::{AllocError, Global};

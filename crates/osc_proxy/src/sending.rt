@@ -5,8 +5,9 @@ ghost use Rattle.osc_message.specs.Sending.{FitsDatagram, IsSendableReply, ackno
 ghost use Rattle.osc_proxy.specs.Own.{goes_now, has_room, sends_own, with_own};
 ghost use Rattle.osc_proxy.specs.Going.{IsOwn, back_kept_by, back_sends_by};
 
+use crate::Endpoint;
 use osc_coap::{MessageBuilder, MessageRef};
-use osc_message::{Endpoint, Outbox, acknowledgement};
+use osc_message::{Outbox, acknowledgement};
 use osc_model::{Bytes, Draw, Moment, Peer};
 use std::alloc::{AllocError, Global};
 

@@ -13,10 +13,11 @@ ghost use Rattle.osc_proxy.specs.Table.{Closes, back_kept, back_sends};
 ghost use Rattle.osc_proxy.specs.Ticks.{AllEnd, AllStart, Starts, any_overdue, timeout};
 ghost use Rattle.osc_proxy.specs.declared.exchanges.Exchange.{Exchange as AnyExchange};
 
+use crate::Endpoint;
 use crate::answering::failing;
 use crate::exchanges::Exchanges;
 use crate::sending::send_back;
-use osc_message::{Endpoint, MessageName, Outbox, Ticked};
+use osc_message::{MessageName, Outbox, Ticked};
 use osc_model::{Code, Datagram, Draw, Moment, Peer, Step};
 use std::alloc::{AllocError, Global};
 

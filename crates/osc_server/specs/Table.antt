@@ -199,7 +199,7 @@ module _ (is_sealing : List ℕ → List ℕ → List ℕ → List ℕ → List 
   pub data AnswersProtected (old : State) (now : Moment) (from : Peer) (draw : Draw) (message : Message) (step : Step) (new : State) : Type 0 where
     refused : (refusal : Refusal) → IsRefused old.desk now message refusal
         → Sends old now from draw message (refusal_to old.endpoint draw message refusal)
-            (refused_for (refusal_code refusal) (Some (refusal_number refusal))) old.tree old.desk step new
+        (refused_for (refusal_code refusal) (Some (refusal_number refusal))) old.tree old.desk step new
         → AnswersProtected old now from draw message step new
     served : Serves old now from draw message step new → AnswersProtected old now from draw message step new
 

@@ -3,10 +3,11 @@ ghost use Rattle.std.specs.Prelude.{◌≡◌};
 ghost use Rattle.osc_server.specs.Parts.{IsShort};
 ghost use Rattle.osc_server.specs.Table.{reply_to as reply_to_of, refusal_to as refusal_to_of};
 
+use crate::Endpoint;
 use crate::refusal::Refusal;
 use osc_coap::laws::length_of_spelling;
 use osc_coap::{MessageBuilder, MessageRef};
-use osc_message::{Endpoint, reply_kind};
+use osc_message::reply_kind;
 use osc_model::{Draw, Reply};
 use osc_options::{error_message, reply_message};
 

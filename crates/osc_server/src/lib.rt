@@ -13,3 +13,6 @@ mod serving;
 pub use case::Case;
 pub use refusal::Refusal;
 pub use server::Server;
+
+/// The message layer of a server. It sends nothing that waits for an acknowledgement, so it has no place for any such message.
+type Endpoint = osc_message::Endpoint<0>;

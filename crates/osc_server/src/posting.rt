@@ -4,11 +4,12 @@ ghost use Rattle.osc_coap.specs.Message.{spelling};
 ghost use Rattle.osc_model.specs.StepNotes.{quiet};
 ghost use Rattle.osc_server.specs.Table.{nonce_of_post, post_reply as post_reply_of, refusal_of_post, reply_to as reply_to_of};
 
+use crate::Endpoint;
 use crate::answer::reply_to;
 use osc_authz::{PostAnswer, PostError};
 use osc_coap::laws::length_of_spelling;
 use osc_coap::{MessageBuilder, MessageRef};
-use osc_message::{Buffer, Endpoint};
+use osc_message::Buffer;
 use osc_model::{Code, Draw, Note, RefusedRequest, Reply, StepNotes};
 use std::alloc::Global;
 

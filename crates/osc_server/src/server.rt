@@ -22,6 +22,7 @@ ghost use Rattle.osc_server.specs.Parts.{AsksGet, IsShort, SendsTo};
 ghost use Rattle.osc_server.specs.State.{core};
 ghost use Rattle.osc_server.specs.Table.{Answers, AnswersGet, AnswersPost, AnswersProtected, Refuses, Replies, Sends, answered, refusal_code, refusal_number, refusal_to as refusal_to_of, refused_for as refused_for_of};
 
+use crate::Endpoint;
 use crate::answer::{refusal_to, reply_to};
 use crate::case::{Case, case_of};
 use crate::posting::{POST_ANSWER, POST_PAYLOAD, notes_of, post_answer};
@@ -31,9 +32,7 @@ use osc_authz::{Post, ServerDesk};
 use osc_ccm::Aead;
 use osc_coap::{Kind, MessageBuilder, MessageRef};
 use osc_message::laws::what_is_heard;
-use osc_message::{
-    Buffer, Endpoint, Handling, Heard, ReplyRoom, reset, sending_bytes, sending_message,
-};
+use osc_message::{Buffer, Handling, Heard, ReplyRoom, reset, sending_bytes, sending_message};
 use osc_model::{Code, Datagrams, Draw, Moment, Peer, Reply, Request, Step, StepNotes};
 use osc_protect::read_request;
 use osc_run::kinds;
@@ -271,7 +270,15 @@ impl Server {
         ensures err { OnErr result (self.new ≡ self.old) }
     {
         let answer = reply_to(&self.endpoint, draw, &request, &Reply::bare(alloc, code));
-        self.send_noting(alloc, now, from, draw, request, &answer, refused_for(code, None))
+        self.send_noting(
+            alloc,
+            now,
+            from,
+            draw,
+            request,
+            &answer,
+            refused_for(code, None),
+        )
     }
 
     /// Answers the request with an unprotected reply.

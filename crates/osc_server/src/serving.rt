@@ -14,6 +14,7 @@ ghost use Rattle.osc_server.specs.Parts.{IsReplied, IsReplyOf, IsServedAs, IsSho
 ghost use Rattle.osc_server.specs.Table.{IsMeant, IsOpened, IsRefused, IsSealed, reply_to as reply_to_of};
 ghost use Rattle.osc_window.specs.Window.{IsFresh};
 
+use crate::Endpoint;
 use crate::answer::reply_to;
 use crate::case::GET;
 use crate::refusal::Refusal;
@@ -23,7 +24,7 @@ use osc_ccm::Aead;
 use osc_coap::laws::{length_of_plaintext, length_of_spelling};
 use osc_coap::{MessageBuilder, MessageRef};
 use osc_context::AcceptedNumber;
-use osc_message::{Endpoint, ReplyRoom};
+use osc_message::ReplyRoom;
 use osc_model::{
     Bytes, Code, ContextName, Draw, Entry, Moment, Note, Path, Reply, Request, StepNotes,
 };

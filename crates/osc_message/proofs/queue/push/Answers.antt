@@ -1,11 +1,8 @@
 use Rattle.std.proofs.Common.{◌≡◌, arith}
 use Rattle.osc_message.specs.Confirmables.{with_open}
 use Rattle.osc_message.specs.Timeout.{timeout_of}
-use Rattle.osc_message.proofs.Sound.{sound_push, room_for_one}
+use Rattle.osc_message.proofs.Sound.{sound_push}
 use Rattle.osc_message.proofs.queue.push.Goals as goal
-
-pub push_reserved-requires : goal.push_reserved-requires
-push_reserved-requires c = omega (arith, room_for_one c.args.to c.args.sending.now.items c.requires.taken c.requires.sound)
 
 pub returns-clause-sound : goal.returns-clause-sound
 returns-clause-sound c =

@@ -6,7 +6,7 @@ use Rattle.osc_message.proofs.Sound.{ticks_fit}
 use Rattle.osc_message.proofs.endpoint.Endpoint.on_tick.Goals as goal
 
 pub invariant_of-self-2 : goal.invariant_of-self-2
-invariant_of-self-2 c =
+invariant_of-self-2 g c =
     let holds = c.self.invariant in (
       omega (arith, holds.0, c.in_ok-done.ensures.capacity),
       c.in_ok-done.ensures.sound,
@@ -14,5 +14,5 @@ invariant_of-self-2 c =
     )
 
 pub returns-clause-fits : goal.returns-clause-fits
-returns-clause-fits c =
+returns-clause-fits g c =
     subst AreSendable (sym c.in_ok-done.ensures.out) (ticks_fit c.args.now c.self.inside.sending.items c.self.invariant.1)
