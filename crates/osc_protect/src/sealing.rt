@@ -1,6 +1,6 @@
-//! What requests and responses share: the message that is sent in place of one, its seal, and the opening of a payload.
+//! What requests and responses share: the message that is sent in place of one, and its seal.
 
-ghost use Rattle.std.specs.Prelude.{◌≡◌, ◌↔◌, ◌+◌, ◌≤◌, ◌<◌, ℕ, List, [], None, length, replicate, IsSome, IsErr, IfOk, IfErr, IfSome};
+ghost use Rattle.std.specs.Prelude.{◌≡◌, ◌↔◌, ◌+◌, ◌≤◌, ◌<◌, ℕ, List, [], None, length, replicate, IsSome, IfSome};
 ghost use Rattle.osc_coap.specs.Message.{spelling};
 ghost use Rattle.osc_coap.specs.Building.{payload_of, with_payload};
 ghost use Rattle.osc_coap.specs.Length.{payload_length};
@@ -128,35 +128,4 @@ pub(crate) fn seal<A: Aead>(
     let mut message = outer;
     message.payload(sealed.as_slice()).unwrap();
     (message, note)
-}
-
-/// The note of the opening of a payload, which uses up the room; where it is the sealing of no text, the room is handed back.
-pub(crate) fn open<A: Aead>(
-    room: Room,
-    key: &[u8; 16],
-    used: KeyUse,
-    sealed: &[u8],
-) -> Result<Note, Room>
-    requires id { length room.name.client_id ≤ longest_id }
-    requires number { used.number ≤ greatest_number }
-    requires room { length sealed.now ≤ room.most }
-    ensures opened { IfOk result (λ note.
-        A.is_sealing key.now used.nonce (aad_of room.name used.number) note.plaintext sealed.now
-        × (note ≡ note_of room.name used.side used.number used.nonce note.plaintext)) }
-    ensures not_genuine { IsErr result
-        ↔ ((text : List ℕ) → ¬ A.is_sealing key.now used.nonce (aad_of room.name used.number) text sealed.now) }
-    ensures err { IfErr result (λ refused. refused ≡ room) }
-{
-    let (name, text) = room.parts();
-    match text.opened::<A>(key, &used.nonce, &name, used.number, sealed) {
-        Ok((aad, plaintext)) => Ok(Note {
-            context: name,
-            side: used.side,
-            number: used.number,
-            nonce: used.nonce,
-            aad,
-            plaintext,
-        }),
-        Err(text) => Err(Room::of(name, text)),
-    }
 }
