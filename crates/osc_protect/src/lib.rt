@@ -21,7 +21,8 @@ pub use error::{
     Malformed, MessageTooLong, ReplyTooLong, RequestNotGenuine, ResponseNotGenuine, TextTooLong,
 };
 pub use request::{
-    ProtectedRequest, UncountedRequest, fits, open_request, protect_request, protect_uncounted,
+    ProtectedRequest, RequestSize, UncountedRequest, open_request, protect_request,
+    protect_uncounted, request_size,
 };
 pub use response::{ProtectedResponse, open_response, protect_reply, protect_response};
 pub use room::Room;

@@ -1,6 +1,6 @@
 //! Protected requests (RFC 8613 sections 8.1 and 8.2).
 
-ghost use Rattle.std.specs.Prelude.{◌≡◌, ◌≤◌, ◌<◌, ◌⊎◌, ◌↔◌, ◌+◌, ℕ, List, [], length, replicate, IsTrue, IsOk, IsErr, IsSome, IfOk, IfErr, IfSome};
+ghost use Rattle.std.specs.Prelude.{◌≡◌, ◌≤◌, ◌<◌, ◌⊎◌, ◌↔◌, ◌+◌, ℕ, List, [], length, replicate, IsOk, IsErr, IsSome, IfOk, IfErr, IfSome};
 ghost use Rattle.osc_coap.specs.Message.{spelling};
 ghost use Rattle.osc_options.specs.Split.{protected};
 ghost use Rattle.osc_model.specs.declared.context.Side.TheVariants.{Client, Server};
@@ -13,7 +13,7 @@ use crate::error::{MessageTooLong, RequestNotGenuine, TextTooLong};
 use crate::opening::open;
 use crate::room::Room;
 use crate::sealed::SealedRequestRef;
-use crate::sealing::{KeyUse, outer_message, seal, split};
+use crate::sealing::{KeyUse, outer_message, seal, size_with, split};
 use crate::value::request_option;
 use osc_ccm::Aead;
 use osc_coap::laws::length_of_growing;
@@ -34,15 +34,36 @@ pub struct ProtectedRequest {
     pub note: Note,
 }
 
-/// Whether the message, protected as a request with this number, is no longer than a datagram may be; takes no memory.
-pub fn fits<A: Aead>(name: &ContextName, number: u64, message: &MessageRef<'_>) -> bool
+/// How many bytes a protected request has.
+#[derive(Clone, Copy, Debug, PartialEq, Eq)]
+pub struct RequestSize {
+    /// The plaintext that is sealed in it.
+    pub plaintext: usize,
+    /// The whole message.
+    pub message: usize,
+}
+
+/// How many bytes the message has, protected as a request with this number: `None` exactly where they are more than a datagram
+/// may have. Takes no memory.
+pub fn request_size<A: Aead>(
+    name: &ContextName,
+    number: u64,
+    message: &MessageRef<'_>,
+) -> Option<RequestSize>
     requires number { number ≤ greatest_number }
     requires short { HasShortContext name.now }
     requires id { length name.now.client_id ≤ longest_id }
-    ensures { IsTrue result ↔ (request_length A.TAG name.now number message.now ≤ longest_message) }
+    ensures size { IfSome result (λ size. size
+        ≡ record { plaintext = length (plain_bytes message.now); message = request_length A.TAG name.now number message.now }) }
+    ensures fits { IsSome result ↔ (request_length A.TAG name.now number message.now ≤ longest_message) }
 {
     let value = request_option(name, number);
-    split::<A>(message, OUTER_CODE, value.as_slice()).is_some()
+    let (outer, plaintext) = split::<A>(message, OUTER_CODE, value.as_slice())?;
+    let plaintext = plaintext.bytes().len();
+    Some(RequestSize {
+        plaintext,
+        message: size_with(&outer, plaintext + A::TAG),
+    })
 }
 
 /// Protects a request of the client: its class E options and payload are sealed, its class U options stay outside. An
@@ -62,6 +83,7 @@ pub fn protect_request<A: Aead>(
     ensures protected { IfOk result (λ made. IsProtectedRequest A.is_sealing room.name number.number message.now made.message) }
     ensures noted { IfOk result (λ made. made.note
         ≡ note_of room.name Client number.number (request_nonce room.name number.number) (plain_bytes message.now)) }
+    ensures size { IfOk result (λ made. length (spelling made.message) ≡ request_length A.TAG room.name number.number message.now) }
     ensures fits { IsOk result ↔ (request_length A.TAG room.name number.number message.now ≤ longest_message) }
     ensures err { IfErr result (λ refused. (refused.room ≡ room) × (refused.number ≡ number)) }
 {

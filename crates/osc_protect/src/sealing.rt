@@ -35,6 +35,16 @@ fn payload_size(size: usize) -> usize
     if size == 0 { 0 } else { 1 + size }
 }
 
+/// How many bytes the message has with a payload of this size.
+pub(crate) fn size_with(message: &MessageBuilder, size: usize) -> usize
+    requires size { size ≤ 1168 }
+    requires payload { message.now.payload ≡ None }
+    ensures { result ≡ length (spelling (with_payload message.now (replicate size 0))) }
+{
+    length_of_growing();
+    message.bytes().len() + payload_size(size)
+}
+
 /// The message with this code and option value, still without its payload; `None` exactly where it is longer than a datagram
 /// may be with so many bytes of payload.
 pub(crate) fn outer_message(
@@ -53,7 +63,7 @@ pub(crate) fn outer_message(
     let Ok(outer) = protected_message(message, code, value, &[]) else {
         return None;
     };
-    if outer.bytes().len() + payload_size(size) > DATAGRAM_LIMIT {
+    if size_with(&outer, size) > DATAGRAM_LIMIT {
         return None;
     }
     Some(outer)
@@ -120,6 +130,7 @@ pub(crate) fn seal<A: Aead>(
     ensures sealed { (sealed : List ℕ)
         × A.is_sealing key.now used.nonce (aad_of room.name used.number) text.now sealed
         × (result.0 ≡ with_payload outer sealed) }
+    ensures size { length (spelling result.0) ≡ length (spelling (with_payload outer (replicate (length text.now + A.TAG) 0))) }
     ensures noted { result.1 ≡ note_of room.name used.side used.number used.nonce text.now }
 {
     length_of_growing();
