@@ -8,7 +8,7 @@ use crate::derivation::derived;
 use crate::payload::PostFields;
 use crate::post::PostAnswer;
 use osc_context::joined_salt;
-use osc_model::{Bytes, ContextName, Side};
+use osc_model::{Bytes, ContextName, SharedName, Side};
 use osc_scope::Scope;
 use osc_token::{Claims, InputMaterial};
 use std::alloc::{AllocError, Global};
@@ -19,7 +19,7 @@ fn name_of(
     material: InputMaterial,
     fields: &PostFields<'_>,
     answer: &PostAnswer,
-) -> Result<(Bytes, ContextName), AllocError>
+) -> Result<(Bytes, SharedName), AllocError>
     ensures id { IfOk result (λ made. made.0 ≡ material.id) }
     ensures name { IfOk result (λ made. made.1
         ≡ exchanged_name material fields.now.nonce1.now answer.now.nonce2 (answer.now.recipient_id ∷ []) fields.now.client_id.now) }
@@ -37,7 +37,7 @@ fn name_of(
         client_id: Bytes::from_slice(alloc, &[answer.recipient_id])?,
         server_id: Bytes::from_slice(alloc, fields.client_id)?,
     };
-    Ok((id, name))
+    Ok((id, SharedName::new(alloc, name)?))
 }
 
 /// The id of the token, and the context that it and this answer to a post make.

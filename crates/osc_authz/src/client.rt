@@ -21,7 +21,7 @@ use crate::granted::ClientDesk;
 use crate::payload::{answer_fields, write_post};
 use osc_cbor::{Item, read_whole};
 use osc_context::{Exhausted, RecipientContext, SendNumber, SenderContext, joined_salt};
-use osc_model::{Bytes, Code, ContextName, Draw, Side};
+use osc_model::{Bytes, Code, ContextName, Draw, SharedName, Side};
 use std::alloc::{AllocError, Global};
 use std::marker::Model;
 
@@ -51,7 +51,7 @@ impl OpenExchange {
 
 /// A security context of a client.
 pub struct ClientContext {
-    name: ContextName,
+    name: SharedName,
     sender: SenderContext,
     recipient: RecipientContext,
 }
@@ -81,8 +81,8 @@ impl Model for ClientContext {
 }
 
 impl ClientContext {
-    /// The name.
-    pub fn name(&self) -> &ContextName
+    /// The name, which is shared with those who note its uses.
+    pub fn name(&self) -> &SharedName
         ensures { result.now ≡ self.now.name }
     {
         &self.name
@@ -252,6 +252,7 @@ impl ClientDesk {
             client_id: Bytes::from_slice(alloc, server_id)?,
             server_id: Bytes::from_slice(alloc, &[exchange.recipient_id])?,
         };
+        let name = SharedName::new(alloc, name)?;
         let (sender, recipient) = derived(alloc, &name, Side::Client)?;
         Ok(ClientContext {
             name,

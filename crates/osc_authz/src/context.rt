@@ -8,13 +8,13 @@ ghost use Rattle.osc_window.specs.Window.{IsFresh};
 ghost use Rattle.osc_authz.specs.Table.{is_live as is_live_of, has_id as has_id_of, is_named as is_named_of, taking};
 
 use osc_context::{AcceptedNumber, RecipientContext, SenderContext};
-use osc_model::{ContextName, Moment};
+use osc_model::{Moment, SharedName};
 use osc_scope::Scope;
 use std::marker::Model;
 
 /// A security context of a server, with the rights of the token that made it.
 pub struct ServerContext {
-    pub(crate) name: ContextName,
+    pub(crate) name: SharedName,
     pub(crate) sender: SenderContext,
     pub(crate) recipient: RecipientContext,
     pub(crate) scope: Scope,
@@ -54,8 +54,8 @@ impl Model for ServerContext {
 }
 
 impl ServerContext {
-    /// The name.
-    pub fn name(&self) -> &ContextName
+    /// The name, which is shared with those who note its uses.
+    pub fn name(&self) -> &SharedName
         ensures { result.now ≡ self.now.name }
     {
         &self.name

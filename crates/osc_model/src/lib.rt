@@ -11,6 +11,7 @@ mod path;
 mod reply;
 mod request;
 mod resource;
+mod shared_name;
 mod step;
 mod step_notes;
 
@@ -22,5 +23,6 @@ pub use path::Path;
 pub use reply::Reply;
 pub use request::{ETags, Request};
 pub use resource::Resource;
+pub use shared_name::SharedName;
 pub use step::{ClientResult, Datagram, Datagrams, Entry, Note, RefusedRequest, Step};
 pub use step_notes::StepNotes;

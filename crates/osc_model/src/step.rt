@@ -4,9 +4,10 @@ ghost use Rattle.osc_model.specs.Step.{refuses, sends};
 
 use crate::bytes::Bytes;
 use crate::code::Code;
-use crate::context::{ContextName, Side};
+use crate::context::Side;
 use crate::node::{Moment, Peer};
 use crate::reply::Reply;
+use crate::shared_name::SharedName;
 use crate::step_notes::StepNotes;
 use std::alloc::{AllocError, Global};
 use std::fmt;
@@ -16,7 +17,7 @@ use std::marker::Model;
 #[derive(Clone, PartialEq, Eq)]
 pub struct Note {
     /// The name of the security context.
-    pub context: ContextName,
+    pub context: SharedName,
     /// The end that sealed or opened.
     pub side: Side,
     /// The sender sequence number of the request, or of the one that is answered (RFC 8613 section 7.2).
@@ -54,7 +55,7 @@ impl fmt::Debug for Note {
 #[derive(Clone, PartialEq, Eq)]
 pub struct Entry {
     /// The name of the context that opened it.
-    pub context: ContextName,
+    pub context: SharedName,
     /// The sender sequence number that the client gave the request.
     pub number: u64,
     /// What was opened.

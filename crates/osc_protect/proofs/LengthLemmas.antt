@@ -41,13 +41,3 @@ least_protected grows m code value n =
     let zeros = length-replicate {A = ℕ} n 0 in
     let least = least_length grows (protected m code value []) (replicate n 0) refl in
     omega (arith, zeros, least)
-
--- what was built without its payload, and the payload behind it
-pub built_length : Grows → (m : Message) (code : ℕ) (value bytes : List ℕ) (outer : Message) (n size : ℕ)
-    → bytes ≡ spelling outer → outer ≡ protected m code value [] → size ≡ payload_length (payload_of (replicate n 0))
-    → length (spelling (protected m code value (replicate n 0))) ≡ length bytes + size
-built_length grows m code value bytes outer n size spelled is sized =
-    let whole = protected_length grows m code value (replicate n 0) in
-    let a = ap (length {A = ℕ}) spelled in
-    let b = ap (λ (o : Message). length (spelling o)) is in
-    omega (arith, whole, a, b, sized)

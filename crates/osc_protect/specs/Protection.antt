@@ -72,6 +72,10 @@ module _ (is_sealing : List ℕ → List ℕ → List ℕ → List ℕ → List 
     pub is_sealed : is_sealing (key_of name Server) (response_nonce name number own) (aad_of name number) (plain_bytes m) sealed
     pub whole : p ≡ response_with own m sealed
 
+  -- what is sealed is the sealing of some text
+  abbrev pub IsGenuine : (key nonce aad sealed : List ℕ) → Type 0
+  IsGenuine key nonce aad sealed = (text : List ℕ) × is_sealing key nonce aad text sealed
+
 -- the most bytes of a protected message: those of a datagram (RFC 7252 section 4.6)
 abbrev pub longest_message : ℕ
 longest_message = 1152
@@ -88,7 +92,7 @@ response_length tag own m = length (spelling (response_with own m (replicate (le
 
 -- ---- room
 
--- the memory of one use of a key: for which context, and for how many bytes of text at most
+-- the memory of one seal: for which context, and for how many bytes of text at most
 pub record RoomOf : Type 0 where
   pub name : ContextName
   pub most : ℕ

@@ -21,32 +21,28 @@ impl Malformed {
     }
 }
 
-/// What a request seals is the sealing of no text: the room is handed back.
-#[derive(Debug, Drop)]
-pub struct RequestNotGenuine {
-    /// The room, as it was.
-    pub room: Room,
-}
+/// What a request seals is the sealing of no text.
+#[derive(Clone, Copy, Debug, PartialEq, Eq, Error)]
+#[error("what the request seals is the sealing of no text")]
+pub struct RequestNotGenuine;
 
 impl RequestNotGenuine {
     /// The number by which programs name the refusal.
-    pub fn number(&self) -> u8
+    pub fn number(self) -> u8
         ensures { result ≡ spec.not_genuine }
     {
         3
     }
 }
 
-/// What a response seals is the sealing of no text: the room is handed back.
-#[derive(Debug, Drop)]
-pub struct ResponseNotGenuine {
-    /// The room, as it was.
-    pub room: Room,
-}
+/// What a response seals is the sealing of no text.
+#[derive(Clone, Copy, Debug, PartialEq, Eq, Error)]
+#[error("what the response seals is the sealing of no text")]
+pub struct ResponseNotGenuine;
 
 impl ResponseNotGenuine {
     /// The number by which programs name the refusal.
-    pub fn number(&self) -> u8
+    pub fn number(self) -> u8
         ensures { result ≡ spec.not_genuine }
     {
         3

@@ -1,7 +1,7 @@
 //! Protection of requests and responses (RFC 8613 sections 4 to 8).
 //!
-//! Generic over the cipher: all that is known of it is the law of `Aead`. Protecting and opening take no memory, since their
-//! room was taken before; each use of a key is noted. A message is read before it is opened, so that its context and its
+//! Generic over the cipher: all that is known of it is the law of `Aead`. Protecting takes no memory, since its room was taken
+//! before, and opening takes none before it is known that what is sealed is genuine; each use of a key is noted. A message is read before it is opened, so that its context and its
 //! number can be looked at first: numbers are accepted by the caller, last, and a reply under a request's nonce is protected
 //! only with the number that was accepted.
 #![tactic(auto)]
@@ -9,6 +9,7 @@
 mod aad;
 mod error;
 pub mod laws;
+mod opening;
 mod request;
 mod response;
 mod room;
@@ -20,7 +21,8 @@ pub use error::{
     Malformed, MessageTooLong, ReplyTooLong, RequestNotGenuine, ResponseNotGenuine, TextTooLong,
 };
 pub use request::{
-    ProtectedRequest, UncountedRequest, fits, open_request, protect_request, protect_uncounted,
+    ProtectedRequest, RequestSize, UncountedRequest, open_request, protect_request,
+    protect_uncounted, request_size,
 };
 pub use response::{ProtectedResponse, open_response, protect_reply, protect_response};
 pub use room::Room;

@@ -1,24 +1,26 @@
 //! Protected requests (RFC 8613 sections 8.1 and 8.2).
 
-ghost use Rattle.std.specs.Prelude.{◌≡◌, ◌≤◌, ◌↔◌, ◌+◌, ℕ, List, [], length, replicate, IsTrue, IsOk, IsErr, IsSome, IfOk, IfErr, IfSome};
+ghost use Rattle.std.specs.Prelude.{◌≡◌, ◌≤◌, ◌<◌, ◌⊎◌, ◌↔◌, ◌+◌, ℕ, List, [], length, replicate, IsOk, IsErr, IsSome, IfOk, IfErr, IfSome};
 ghost use Rattle.osc_coap.specs.Message.{spelling};
 ghost use Rattle.osc_options.specs.Split.{protected};
 ghost use Rattle.osc_model.specs.declared.context.Side.TheVariants.{Client, Server};
 ghost use Rattle.osc_context.specs.Derivation.{key_of, taken_of, sender_of, recipient_of};
 ghost use Rattle.osc_context.specs.Nonce.{longest_id, greatest_number};
 ghost use Rattle.osc_protect.specs.Aad.{aad_of};
-ghost use Rattle.osc_protect.specs.Protection.{HasShortContext, HasRoomFor, longest_message, plain_bytes, request_nonce, note_of, IsRequestOf, IsProtectedRequest, length_of_request, request_length, IsFor};
+ghost use Rattle.osc_protect.specs.Protection.{HasShortContext, HasRoomFor, longest_message, plain_bytes, request_nonce, note_of, IsRequestOf, IsProtectedRequest, IsGenuine, length_of_request, request_length, IsFor};
 
 use crate::error::{MessageTooLong, RequestNotGenuine, TextTooLong};
+use crate::opening::open;
 use crate::room::Room;
 use crate::sealed::SealedRequestRef;
-use crate::sealing::{KeyUse, open, outer_message, seal, split};
+use crate::sealing::{KeyUse, outer_message, seal, size_with, split};
 use crate::value::request_option;
 use osc_ccm::Aead;
 use osc_coap::laws::length_of_growing;
 use osc_coap::{DATAGRAM_LIMIT, MessageBuilder, MessageRef};
 use osc_context::{RecipientContext, SendNumber, SenderContext, nonce_for};
-use osc_model::{ContextName, Note, Side};
+use osc_model::{ContextName, Note, SharedName, Side};
+use std::alloc::{AllocError, Global};
 
 /// The code of a protected request, POST (RFC 8613 section 4.2).
 const OUTER_CODE: u8 = 0x02;
@@ -32,15 +34,36 @@ pub struct ProtectedRequest {
     pub note: Note,
 }
 
-/// Whether the message, protected as a request with this number, is no longer than a datagram may be; takes no memory.
-pub fn fits<A: Aead>(name: &ContextName, number: u64, message: &MessageRef<'_>) -> bool
+/// How many bytes a protected request has.
+#[derive(Clone, Copy, Debug, PartialEq, Eq)]
+pub struct RequestSize {
+    /// The plaintext that is sealed in it.
+    pub plaintext: usize,
+    /// The whole message.
+    pub message: usize,
+}
+
+/// How many bytes the message has, protected as a request with this number: `None` exactly where they are more than a datagram
+/// may have. Takes no memory.
+pub fn request_size<A: Aead>(
+    name: &ContextName,
+    number: u64,
+    message: &MessageRef<'_>,
+) -> Option<RequestSize>
     requires number { number ≤ greatest_number }
     requires short { HasShortContext name.now }
     requires id { length name.now.client_id ≤ longest_id }
-    ensures { IsTrue result ↔ (request_length A.TAG name.now number message.now ≤ longest_message) }
+    ensures size { IfSome result (λ size. size
+        ≡ record { plaintext = length (plain_bytes message.now); message = request_length A.TAG name.now number message.now }) }
+    ensures fits { IsSome result ↔ (request_length A.TAG name.now number message.now ≤ longest_message) }
 {
     let value = request_option(name, number);
-    split::<A>(message, OUTER_CODE, value.as_slice()).is_some()
+    let (outer, plaintext) = split::<A>(message, OUTER_CODE, value.as_slice())?;
+    let plaintext = plaintext.bytes().len();
+    Some(RequestSize {
+        plaintext,
+        message: size_with(&outer, plaintext + A::TAG),
+    })
 }
 
 /// Protects a request of the client: its class E options and payload are sealed, its class U options stay outside. An
@@ -60,6 +83,7 @@ pub fn protect_request<A: Aead>(
     ensures protected { IfOk result (λ made. IsProtectedRequest A.is_sealing room.name number.number message.now made.message) }
     ensures noted { IfOk result (λ made. made.note
         ≡ note_of room.name Client number.number (request_nonce room.name number.number) (plain_bytes message.now)) }
+    ensures size { IfOk result (λ made. length (spelling made.message) ≡ request_length A.TAG room.name number.number message.now) }
     ensures fits { IsOk result ↔ (request_length A.TAG room.name number.number message.now ≤ longest_message) }
     ensures err { IfErr result (λ refused. (refused.room ≡ room) × (refused.number ≡ number)) }
 {
@@ -143,28 +167,31 @@ fn outer_of_text<A: Aead>(
     outer_message(message, OUTER_CODE, value, size + A::TAG)
 }
 
-/// Opens a protected request at the server, and answers the note of the opening, whose plaintext is what was sealed. Which
-/// numbers are fresh isn't asked here, and no number is accepted: that is the caller's, once it knows that it goes on, and the
-/// right to a reply comes of it alone. Takes no memory.
+/// Opens a protected request at the server, under the context of this name, and answers the note of the opening, whose plaintext
+/// is what was sealed. Which numbers are fresh isn't asked here, and no number is accepted: that is the caller's, once it knows
+/// that it goes on, and the right to a reply comes of it alone.
 ///
 /// # Errors
 ///
-/// Exactly where what is sealed is the sealing of no text; the room is handed back.
+/// `RequestNotGenuine` exactly where what is sealed is the sealing of no text. Want of memory is no answer to that, unless more
+/// is sealed than a datagram can hold.
 pub fn open_request<A: Aead>(
-    room: Room,
+    alloc: Global,
+    name: &SharedName,
     recipient: &RecipientContext,
     request: &SealedRequestRef<'_>,
-) -> Result<Note, RequestNotGenuine>
-    requires recipient { recipient.now ≡ recipient_of room.name Server recipient.now.window }
-    requires named { IsFor room.name request.now }
-    requires room { length request.now.sealed ≤ room.most }
-    ensures opened { IfOk result (λ note.
-        A.is_sealing (key_of room.name Client) (request_nonce room.name request.now.number) (aad_of room.name request.now.number) note.plaintext request.now.sealed) }
-    ensures noted { IfOk result (λ note. note
-        ≡ note_of room.name Server request.now.number (request_nonce room.name request.now.number) note.plaintext) }
-    ensures not_genuine { IsErr result
-        ↔ ((text : List ℕ) → ¬ A.is_sealing (key_of room.name Client) (request_nonce room.name request.now.number) (aad_of room.name request.now.number) text request.now.sealed) }
-    ensures err { IfErr result (λ refused. refused.room ≡ room) }
+) -> Result<Result<Note, RequestNotGenuine>, AllocError>
+    requires recipient { recipient.now ≡ recipient_of name.now Server recipient.now.window }
+    requires named { IsFor name.now request.now }
+    ensures opened { IfOk result (λ outcome. IfOk outcome (λ note.
+        A.is_sealing (key_of name.now Client) (request_nonce name.now request.now.number) (aad_of name.now request.now.number) note.plaintext request.now.sealed)) }
+    ensures noted { IfOk result (λ outcome. IfOk outcome (λ note. note
+        ≡ note_of name.now Server request.now.number (request_nonce name.now request.now.number) note.plaintext)) }
+    ensures not_genuine { IfOk result (λ outcome. IsErr outcome
+        ↔ ((text : List ℕ) → ¬ A.is_sealing (key_of name.now Client) (request_nonce name.now request.now.number) (aad_of name.now request.now.number) text request.now.sealed)) }
+    ensures memory { IsErr result
+        → IsGenuine A.is_sealing (key_of name.now Client) (request_nonce name.now request.now.number) (aad_of name.now request.now.number) request.now.sealed
+        ⊎ (longest_message < length request.now.sealed) }
 {
     let number = request.number();
     let used = KeyUse {
@@ -172,8 +199,8 @@ pub fn open_request<A: Aead>(
         number,
         nonce: nonce_for(recipient.common_iv(), recipient.id(), number),
     };
-    match open::<A>(room, recipient.key(), used, request.sealed()) {
-        Ok(note) => Ok(note),
-        Err(room) => Err(RequestNotGenuine { room }),
+    match open::<A>(alloc, name, recipient.key(), used, request.sealed())? {
+        Some(note) => Ok(Ok(note)),
+        None => Ok(Err(RequestNotGenuine)),
     }
 }

@@ -1,21 +1,23 @@
 //! Protected responses (RFC 8613 sections 8.3 and 8.4).
 
-ghost use Rattle.std.specs.Prelude.{◌≡◌, ◌≤◌, ◌↔◌, ℕ, List, Some, None, length, IfSome, IsOk, IsErr, IfOk, IfErr};
+ghost use Rattle.std.specs.Prelude.{◌≡◌, ◌≤◌, ◌<◌, ◌⊎◌, ◌↔◌, ℕ, List, Some, None, length, IfSome, IsOk, IsErr, IfOk, IfErr};
 ghost use Rattle.osc_model.specs.declared.context.Side.TheVariants.{Client, Server};
 ghost use Rattle.osc_context.specs.Derivation.{key_of, accepted_of, taken_of, sender_of, recipient_of};
 ghost use Rattle.osc_context.specs.Nonce.{longest_id, greatest_number};
 ghost use Rattle.osc_protect.specs.Aad.{aad_of};
-ghost use Rattle.osc_protect.specs.Protection.{HasRoomFor, longest_message, plain_bytes, request_nonce, response_nonce, note_of, IsProtectedResponse, response_length};
+ghost use Rattle.osc_protect.specs.Protection.{HasRoomFor, longest_message, plain_bytes, request_nonce, response_nonce, note_of, IsGenuine, IsProtectedResponse, response_length};
 
 use crate::error::{MessageTooLong, ReplyTooLong, ResponseNotGenuine};
+use crate::opening::open;
 use crate::room::Room;
 use crate::sealed::SealedResponseRef;
-use crate::sealing::{KeyUse, open, seal, split};
+use crate::sealing::{KeyUse, seal, split};
 use crate::value::response_option;
 use osc_ccm::Aead;
 use osc_coap::{MessageBuilder, MessageRef};
 use osc_context::{AcceptedNumber, RecipientContext, SendNumber, SenderContext, nonce_for};
-use osc_model::{ContextName, Note, Side};
+use osc_model::{ContextName, Note, SharedName, Side};
+use std::alloc::{AllocError, Global};
 
 /// The code of a protected response, 2.04 (RFC 8613 section 4.2).
 const OUTER_CODE: u8 = 0x44;
@@ -122,38 +124,41 @@ fn nonce_of_response(
     }
 }
 
-/// Opens a protected response to the client's request of this number, and answers the note of the opening, whose plaintext
-/// is what was sealed. Takes no memory.
+/// Opens a protected response to the client's request of this number, under the context of this name, and answers the note of
+/// the opening, whose plaintext is what was sealed.
 ///
 /// # Errors
 ///
-/// Exactly where what is sealed is the sealing of no text; the room is handed back.
+/// `ResponseNotGenuine` exactly where what is sealed is the sealing of no text. Want of memory is no answer to that, unless more
+/// is sealed than a datagram can hold.
 pub fn open_response<A: Aead>(
-    room: Room,
+    alloc: Global,
+    name: &SharedName,
     recipient: &RecipientContext,
     number: u64,
     response: &SealedResponseRef<'_>,
-) -> Result<Note, ResponseNotGenuine>
-    requires recipient { recipient.now ≡ recipient_of room.name Client recipient.now.window }
+) -> Result<Result<Note, ResponseNotGenuine>, AllocError>
+    requires recipient { recipient.now ≡ recipient_of name.now Client recipient.now.window }
     requires number { number ≤ greatest_number }
-    requires id { length room.name.client_id ≤ longest_id }
-    requires room { length response.now.sealed ≤ room.most }
-    ensures opened { IfOk result (λ note.
-        A.is_sealing (key_of room.name Server) (response_nonce room.name number response.now.own) (aad_of room.name number) note.plaintext response.now.sealed) }
-    ensures noted { IfOk result (λ note. note
-        ≡ note_of room.name Client number (response_nonce room.name number response.now.own) note.plaintext) }
-    ensures not_genuine { IsErr result
-        ↔ ((text : List ℕ) → ¬ A.is_sealing (key_of room.name Server) (response_nonce room.name number response.now.own) (aad_of room.name number) text response.now.sealed) }
-    ensures err { IfErr result (λ refused. refused.room ≡ room) }
+    requires id { length name.now.client_id ≤ longest_id }
+    ensures opened { IfOk result (λ outcome. IfOk outcome (λ note.
+        A.is_sealing (key_of name.now Server) (response_nonce name.now number response.now.own) (aad_of name.now number) note.plaintext response.now.sealed)) }
+    ensures noted { IfOk result (λ outcome. IfOk outcome (λ note. note
+        ≡ note_of name.now Client number (response_nonce name.now number response.now.own) note.plaintext)) }
+    ensures not_genuine { IfOk result (λ outcome. IsErr outcome
+        ↔ ((text : List ℕ) → ¬ A.is_sealing (key_of name.now Server) (response_nonce name.now number response.now.own) (aad_of name.now number) text response.now.sealed)) }
+    ensures memory { IsErr result
+        → IsGenuine A.is_sealing (key_of name.now Server) (response_nonce name.now number response.now.own) (aad_of name.now number) response.now.sealed
+        ⊎ (longest_message < length response.now.sealed) }
 {
-    let nonce = nonce_of_response(room.name(), recipient, number, response.own_number());
+    let nonce = nonce_of_response(name, recipient, number, response.own_number());
     let used = KeyUse {
         side: Side::Client,
         number,
         nonce,
     };
-    match open::<A>(room, recipient.key(), used, response.sealed()) {
-        Ok(note) => Ok(note),
-        Err(room) => Err(ResponseNotGenuine { room }),
+    match open::<A>(alloc, name, recipient.key(), used, response.sealed())? {
+        Some(note) => Ok(Ok(note)),
+        None => Ok(Err(ResponseNotGenuine)),
     }
 }

@@ -1,6 +1,6 @@
-//! What requests and responses share: the message that is sent in place of one, its seal, and the opening of a payload.
+//! What requests and responses share: the message that is sent in place of one, and its seal.
 
-ghost use Rattle.std.specs.Prelude.{◌≡◌, ◌↔◌, ◌+◌, ◌≤◌, ◌<◌, ℕ, List, [], None, length, replicate, IsSome, IsErr, IfOk, IfErr, IfSome};
+ghost use Rattle.std.specs.Prelude.{◌≡◌, ◌↔◌, ◌+◌, ◌≤◌, ◌<◌, ℕ, List, [], None, length, replicate, IsSome, IfSome};
 ghost use Rattle.osc_coap.specs.Message.{spelling};
 ghost use Rattle.osc_coap.specs.Building.{payload_of, with_payload};
 ghost use Rattle.osc_coap.specs.Length.{payload_length};
@@ -35,6 +35,16 @@ fn payload_size(size: usize) -> usize
     if size == 0 { 0 } else { 1 + size }
 }
 
+/// How many bytes the message has with a payload of this size.
+pub(crate) fn size_with(message: &MessageBuilder, size: usize) -> usize
+    requires size { size ≤ 1168 }
+    requires payload { message.now.payload ≡ None }
+    ensures { result ≡ length (spelling (with_payload message.now (replicate size 0))) }
+{
+    length_of_growing();
+    message.bytes().len() + payload_size(size)
+}
+
 /// The message with this code and option value, still without its payload; `None` exactly where it is longer than a datagram
 /// may be with so many bytes of payload.
 pub(crate) fn outer_message(
@@ -53,7 +63,7 @@ pub(crate) fn outer_message(
     let Ok(outer) = protected_message(message, code, value, &[]) else {
         return None;
     };
-    if outer.bytes().len() + payload_size(size) > DATAGRAM_LIMIT {
+    if size_with(&outer, size) > DATAGRAM_LIMIT {
         return None;
     }
     Some(outer)
@@ -120,6 +130,7 @@ pub(crate) fn seal<A: Aead>(
     ensures sealed { (sealed : List ℕ)
         × A.is_sealing key.now used.nonce (aad_of room.name used.number) text.now sealed
         × (result.0 ≡ with_payload outer sealed) }
+    ensures size { length (spelling result.0) ≡ length (spelling (with_payload outer (replicate (length text.now + A.TAG) 0))) }
     ensures noted { result.1 ≡ note_of room.name used.side used.number used.nonce text.now }
 {
     length_of_growing();
@@ -128,35 +139,4 @@ pub(crate) fn seal<A: Aead>(
     let mut message = outer;
     message.payload(sealed.as_slice()).unwrap();
     (message, note)
-}
-
-/// The note of the opening of a payload, which uses up the room; where it is the sealing of no text, the room is handed back.
-pub(crate) fn open<A: Aead>(
-    room: Room,
-    key: &[u8; 16],
-    used: KeyUse,
-    sealed: &[u8],
-) -> Result<Note, Room>
-    requires id { length room.name.client_id ≤ longest_id }
-    requires number { used.number ≤ greatest_number }
-    requires room { length sealed.now ≤ room.most }
-    ensures opened { IfOk result (λ note.
-        A.is_sealing key.now used.nonce (aad_of room.name used.number) note.plaintext sealed.now
-        × (note ≡ note_of room.name used.side used.number used.nonce note.plaintext)) }
-    ensures not_genuine { IsErr result
-        ↔ ((text : List ℕ) → ¬ A.is_sealing key.now used.nonce (aad_of room.name used.number) text sealed.now) }
-    ensures err { IfErr result (λ refused. refused ≡ room) }
-{
-    let (name, text) = room.parts();
-    match text.opened::<A>(key, &used.nonce, &name, used.number, sealed) {
-        Ok((aad, plaintext)) => Ok(Note {
-            context: name,
-            side: used.side,
-            number: used.number,
-            nonce: used.nonce,
-            aad,
-            plaintext,
-        }),
-        Err(text) => Err(Room::of(name, text)),
-    }
 }

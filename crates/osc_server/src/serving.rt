@@ -1,5 +1,5 @@
-//! Protected requests (RFC 8613 sections 8.2 and 8.3): all memory is taken before the number is accepted, and nothing fails from
-//! there but what is answered by 5.00.
+//! Protected requests (RFC 8613 sections 8.2 and 8.3): a request is opened without memory until it is known to be genuine, then all
+//! memory is taken before the number is accepted, and nothing fails from there but what is answered by 5.00.
 ghost use Rattle.std.specs.Prelude.{◌≡◌, ◌<◌, ◌≤◌, ◌+◌, ℕ, List, length, Some, None, IfOk, IfErr, IfSome, IfNone, OnErr, OnOk};
 ghost use Rattle.osc_coap.specs.Message.{spelling};
 ghost use Rattle.osc_authz.specs.Held.{Held};
@@ -26,7 +26,7 @@ use osc_coap::{MessageBuilder, MessageRef};
 use osc_context::AcceptedNumber;
 use osc_message::ReplyRoom;
 use osc_model::{
-    Bytes, Code, ContextName, Draw, Entry, Moment, Note, Path, Reply, Request, StepNotes,
+    Bytes, Code, Draw, Entry, Moment, Note, Path, Reply, Request, SharedName, StepNotes,
 };
 use osc_protect::{ProtectedResponse, Room, SealedRequestRef, open_request, protect_reply};
 use osc_run::{kinds, request_in};
@@ -135,19 +135,12 @@ struct Taken {
     /// The request, or the code that answers the text.
     read: Result<Request, Code>,
     /// The name and the text, for the entry.
-    context: ContextName,
+    context: SharedName,
     plaintext: Bytes,
     /// For the reply's seal.
     room: Room,
     /// For the protected reply.
     reply: ReplyRoom,
-}
-
-/// The name once more.
-fn copy_of(name: &ContextName) -> Result<ContextName, AllocError>
-    ensures { IfOk result (λ copy. copy ≡ name.now) }
-{
-    name.clone()
 }
 
 /// Reads what was opened, and takes the memory of all that follows.
@@ -163,7 +156,7 @@ fn take<A: Aead>(alloc: Global, tree: &Tree, note: Note) -> Result<Taken, AllocE
 {
     let read = request_in(alloc, note.plaintext.as_slice())?;
     let most = PLAINTEXT_BESIDE_PAYLOAD + most_payload(tree, &read);
-    let context = copy_of(&note.context)?;
+    let context = note.context.clone()?;
     let plaintext = note.plaintext.clone()?;
     let room = Room::new(alloc, &note.context, most)?;
     Ok(Taken {
@@ -287,7 +280,7 @@ fn serve_opened<A: Aead>(
     )
 }
 
-/// Opens a protected request into room that is taken for it.
+/// Opens a protected request, if it is genuine.
 fn open<A: Aead>(
     alloc: Global,
     context: &ServerContext,
@@ -298,11 +291,8 @@ fn open<A: Aead>(
     ensures noted { IfOk result (λ opened. IfSome opened (λ note. note ≡ opening_note context.now.name request.now.number note.plaintext)) }
     ensures none { IfOk result (λ opened. IfNone opened ((text : List ℕ) → ¬ IsSealed A.is_sealing context.now request.now text)) }
 {
-    let room = Room::new(alloc, context.name(), request.sealed().len())?;
-    match open_request::<A>(room, context.recipient(), request) {
-        Ok(note) => Ok(Some(note)),
-        Err(_) => Ok(None),
-    }
+    let opened = open_request::<A>(alloc, context.name(), context.recipient(), request)?;
+    Ok(opened.ok())
 }
 
 /// Opens a protected request under the context that it means, at a fresh number, or says why it isn't served.

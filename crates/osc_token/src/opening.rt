@@ -12,7 +12,7 @@ ghost use Rattle.osc_token.specs.Token.{IsToken, token_name, token_note, without
 use osc_cbor::{Item, read_whole};
 use osc_ccm::Aead;
 use osc_cose::{Encrypt0, OpenError, ParseError, enc_structure, object_of, open0};
-use osc_model::{Bytes, ContextName, Note, Side};
+use osc_model::{Bytes, ContextName, Note, SharedName, Side};
 use std::alloc::{AllocError, Global};
 
 /// The tag of a CWT (RFC 8392 section 6).
@@ -175,14 +175,15 @@ fn note(
 }
 
 /// The name under which a token is opened, which has the key as its secret and nothing else.
-fn name_of(alloc: Global, key: &[u8; 16]) -> Result<ContextName, AllocError>
+fn name_of(alloc: Global, key: &[u8; 16]) -> Result<SharedName, AllocError>
     ensures { IfOk result (λ name. name ≡ token_name key.now) }
 {
-    Ok(ContextName {
+    let name = ContextName {
         secret: Bytes::from_slice(alloc, key)?,
         salt: Bytes::new(alloc),
         id_context: None,
         client_id: Bytes::new(alloc),
         server_id: Bytes::new(alloc),
-    })
+    };
+    SharedName::new(alloc, name)
 }
