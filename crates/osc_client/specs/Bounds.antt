@@ -1,12 +1,13 @@
 -- What a client keeps true of its parts; no public contract rests on it.
-use Rattle.std.specs.Prelude.{◌≡◌, ◌≢◌, ◌≤◌, true, List, [], Option, Some, None, IfSome}
+use Rattle.std.specs.Prelude.{◌≡◌, ◌≢◌, ◌≤◌, true, ℕ, List, [], length, Option, Some, None, IfSome}
 use Rattle.std.specs.List.{AllByRecursion}
 use Rattle.osc_model.specs.declared.node.Peer.{Peer}
 use Rattle.osc_authz.specs.Begun.{Made as ClientContext}
 use Rattle.osc_authz.specs.declared.granted.ClientDesk.{ClientDesk}
+use Rattle.osc_coap.specs.Message.{Message}
 use Rattle.osc_message.specs.Confirmables.{Open, is_named}
 use Rattle.osc_model.specs.declared.context.ContextName.{ContextName}
-use Rattle.osc_protect.specs.Protection.{longest_message}
+use Rattle.osc_protect.specs.Protection.{plain_bytes, request_length}
 use Rattle.osc_context.specs.Nonce.{greatest_number}
 use Rattle.osc_client.specs.Case.{counts}
 use Rattle.osc_client.specs.declared.case.Case.{Case}
@@ -41,11 +42,13 @@ HasContext context (Some waiting) = NeedsContext context waiting.what × IsLawfu
 abbrev pub IsOfGrant : ClientDesk → Option ClientContext → Type 0
 IsOfGrant desk context = IfSome context (λ made. made.name.id_context ≡ desk.id_context)
 
--- room for any request of the context of this name
-pub record IsRoomFor (name : ContextName) (room : AskRoom) : Type 0 where
-  pub seal : room.seal ≡ record { name = name; most = longest_message }
-  pub plaintext : room.plaintext ≡ longest_message
-  pub datagram : room.datagram ≡ longest_message
+-- the room that a request takes, protected at this number under the context of this name
+abbrev pub room_for : (tag : ℕ) → ContextName → ℕ → Message → AskRoom
+room_for tag name number plain = record {
+  seal = record { name = name; most = length (plain_bytes plain) };
+  plaintext = length (plain_bytes plain);
+  datagram = request_length tag name number plain;
+}
 
 -- an outcome that leaves nothing open
 abbrev pub IsEnd : Outcome → Type 0

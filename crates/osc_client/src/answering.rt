@@ -24,7 +24,7 @@ use osc_coap::laws::reading;
 use osc_model::{ClientResult, Code, Note, Reply, StepNotes};
 use osc_options::numbers::OSCORE;
 use osc_options::{PlaintextError, has_option, reply_of};
-use osc_protect::{Room, SealedResponseRef, open_response, read_response};
+use osc_protect::{SealedResponseRef, open_response, read_response};
 use std::alloc::{AllocError, Global};
 
 /// What an answer that counts comes to.
@@ -191,8 +191,9 @@ fn open<A: Aead>(
 {
     // For the proof alone: the call tells how long the ID is.
     let _id = context.sender().id();
-    let room = Room::new(alloc, context.name(), response.sealed().len())?;
-    Ok(open_response::<A>(room, context.recipient(), ask.number, response).ok())
+    let name = context.name();
+    let opened = open_response::<A>(alloc, name, context.recipient(), ask.number, response)?;
+    Ok(opened.ok())
 }
 
 /// The reply that a plaintext is, if it is one.

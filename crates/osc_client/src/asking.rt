@@ -4,7 +4,7 @@ ghost use Rattle.osc_coap.specs.Length.{datagram_limit};
 ghost use Rattle.osc_coap.specs.Message.{spelling};
 ghost use Rattle.osc_context.specs.Nonce.{greatest_number};
 ghost use Rattle.osc_protect.specs.Protection.{HasShortContext, IsProtectedRequest, longest_message, plain_bytes, request_length};
-ghost use Rattle.osc_client.specs.Bounds.{IsRoomFor};
+ghost use Rattle.osc_client.specs.Bounds.{room_for};
 ghost use Rattle.osc_client.specs.Sending.{plain_request};
 ghost use Rattle.osc_client.specs.Way.{through as through_of};
 ghost use Rattle.osc_run.specs.ClientKinds.{request_note};
@@ -15,13 +15,13 @@ use crate::way::Origin;
 use osc_authz::ClientContext;
 use osc_ccm::Aead;
 use osc_coap::laws::length_of_spelling;
-use osc_coap::{DATAGRAM_LIMIT, DatagramTooLong, Kind, MessageBuilder};
+use osc_coap::{DatagramTooLong, Kind, MessageBuilder};
 use osc_message::{Buffer, ReplyRoom};
-use osc_model::{Note, Request};
+use osc_model::{Note, Request, SharedName};
 use osc_options::laws::merged_options;
 use osc_options::request_message;
 use osc_protect::laws::protected_messages_are_longer;
-use osc_protect::{ProtectedRequest, Room, fits, protect_request};
+use osc_protect::{ProtectedRequest, RequestSize, Room, protect_request, request_size};
 use std::alloc::{AllocError, Global};
 
 /// The request as a message that goes to the server; refused only where it is longer than a datagram may be.
@@ -41,18 +41,20 @@ fn plain_message(
     through(origin, plain)
 }
 
-/// The request as a message under the context's next number, where it fits a datagram once it is protected.
+/// The request as a message, and how long it is under the context's next number, where it fits a datagram once it is protected.
 pub(crate) fn fitting<A: Aead>(
     context: &ClientContext,
     origin: &Option<Origin>,
     id: u16,
     token: &[u8; 8],
     request: &Request,
-) -> Option<MessageBuilder>
+) -> Option<(MessageBuilder, RequestSize)>
     requires code { 0 < request.now.code.0 }
     requires number { context.now.next ≤ greatest_number }
     requires short { HasShortContext context.now.name }
-    ensures plain { IfSome result (λ plain. plain ≡ through_of origin.now (plain_request id token.now request.now)) }
+    ensures plain { IfSome result (λ fitting. fitting.0 ≡ through_of origin.now (plain_request id token.now request.now)) }
+    ensures size { IfSome result (λ fitting. fitting.1
+        ≡ record { plaintext = length (plain_bytes fitting.0); message = request_length A.TAG context.now.name context.now.next fitting.0 }) }
     ensures fits { IsSome result
         ↔ (request_length A.TAG context.now.name context.now.next (through_of origin.now (plain_request id token.now request.now)) ≤ longest_message) }
 {
@@ -61,14 +63,10 @@ pub(crate) fn fitting<A: Aead>(
     // For the proof alone: the call tells how long the ID is.
     let _id = context.sender().id();
     let plain = plain_message(origin, id, token, request).ok()?;
-    if fits::<A>(
-        context.name(),
-        context.sender().next_number(),
-        &plain.message(),
-    ) {
-        Some(plain)
-    } else {
-        None
+    let number = context.sender().next_number();
+    match request_size::<A>(context.name(), number, &plain.message()) {
+        Some(size) => Some((plain, size)),
+        None => None,
     }
 }
 
@@ -84,14 +82,15 @@ pub(crate) struct AskRoom {
 }
 
 impl AskRoom {
-    /// Room for any request under this context.
-    pub fn new(alloc: Global, context: &ClientContext) -> Result<AskRoom, AllocError>
-        ensures { IfOk result (λ room. IsRoomFor context.now.name room) }
+    /// Room for a request of this size under the context of this name.
+    pub fn new(alloc: Global, name: &SharedName, size: RequestSize) -> Result<AskRoom, AllocError>
+        ensures { IfOk result (λ room. room
+            ≡ record { seal = record { name = name.now; most = size.plaintext }; plaintext = size.plaintext; datagram = size.message }) }
     {
         Ok(AskRoom {
-            seal: Room::new(alloc, context.name(), DATAGRAM_LIMIT)?,
-            plaintext: Buffer::new(alloc, DATAGRAM_LIMIT)?,
-            datagram: ReplyRoom::new(alloc, DATAGRAM_LIMIT)?,
+            seal: Room::new(alloc, name, size.plaintext)?,
+            plaintext: Buffer::new(alloc, size.plaintext)?,
+            datagram: ReplyRoom::new(alloc, size.message)?,
         })
     }
 }
@@ -118,16 +117,14 @@ pub(crate) fn protected<A: Aead>(
     requires number { context.old.next ≤ greatest_number }
     requires short { HasShortContext context.old.name }
     requires fits { request_length A.TAG context.old.name context.old.next plain.now ≤ longest_message }
-    requires room { IsRoomFor context.old.name room }
+    requires room { room ≡ room_for A.TAG context.old.name context.old.next plain.now }
     ensures protected { IsProtectedRequest A.is_sealing context.old.name context.old.next plain.now result.message }
     ensures note { result.note ≡ request_note context.old.name context.old.next (plain_bytes plain.now) }
     ensures ask { result.ask ≡ record { number = context.old.next; plaintext = plain_bytes plain.now } }
     ensures lawful { result.ask.number ≤ greatest_number }
-    ensures datagram { result.datagram ≡ longest_message }
-    ensures short { length (spelling result.message) ≤ longest_message }
+    ensures datagram { length (spelling result.message) ≤ result.datagram }
     ensures next { context.new ≡ record context.old { next = context.old.next + 1 } }
 {
-    length_of_spelling();
     let AskRoom {
         seal,
         plaintext,
@@ -140,8 +137,6 @@ pub(crate) fn protected<A: Aead>(
         number,
         &plain.message(),
     ).unwrap();
-    // For the proof alone: the call tells how long the message is.
-    let _bytes = message.bytes();
     let plaintext = plaintext.fill(note.plaintext.as_slice());
     Asked {
         message,

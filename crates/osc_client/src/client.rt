@@ -22,7 +22,7 @@ ghost use Rattle.osc_message.specs.Ticks.{acts};
 ghost use Rattle.osc_run.specs.ClientKinds.{ClientStep, IsSkipped};
 ghost use Rattle.osc_client.specs.State.{core, skipped_to};
 ghost use Rattle.osc_client.specs.Sending.{IsFree, IsHindered, acts_at, is_over_by, opened, plain_of, restarted};
-ghost use Rattle.osc_client.specs.Bounds.{AsksFor, IsLawful, IsRoomFor, NeedsContext};
+ghost use Rattle.osc_client.specs.Bounds.{AsksFor, IsLawful, NeedsContext, room_for};
 ghost use Rattle.osc_client.specs.Lawful.{IsLawfulClient};
 ghost use Rattle.osc_client.specs.Way.{IsLawfulOrigin};
 
@@ -284,7 +284,7 @@ impl Client {
         requires { 0 < request.now.code.0 }
         ensures free { IfOk result (λ prepared. IfOk prepared (λ parts. (context : AnyContext)
             × IsFree A.is_sealing A.TAG self.now request.now draw.now context
-            × (parts.0 ≡ plain_of self.now draw.now request.now) × IsRoomFor context.name parts.1)) }
+            × (parts.0 ≡ plain_of self.now draw.now request.now) × (parts.1 ≡ room_for A.TAG context.name context.next parts.0))) }
         ensures hindered { IfOk result (λ prepared. IfErr prepared (λ number. IsHindered A.is_sealing A.TAG self.now request.now draw.now number)) }
         ensures needs_memory { IsErr result → (context : AnyContext) × IsFree A.is_sealing A.TAG self.now request.now draw.now context }
     {
@@ -299,7 +299,7 @@ impl Client {
         }
         let id = self.endpoint.own_id(draw);
         match fitting::<A>(context, &self.origin, id, &draw.token(), request) {
-            Some(plain) => Ok(Ok((plain, AskRoom::new(alloc, context)?))),
+            Some((plain, size)) => Ok(Ok((plain, AskRoom::new(alloc, context.name(), size)?))),
             None => Ok(Err(TOO_LONG)),
         }
     }
