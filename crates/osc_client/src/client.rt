@@ -41,7 +41,7 @@ use osc_ccm::Aead;
 use osc_coap::{Kind, MessageBuilder, MessageRef};
 use osc_context::NUMBER_LIMIT;
 use osc_message::laws::ticks_at_rest;
-use osc_message::{Handling, Heard, ReplyRoom, noted, reset, sending_bytes, sending_message};
+use osc_message::{Handling, Heard, ReplyRoom, noted, reset, sending_message};
 use osc_model::{ClientResult, Code, Datagrams, Draw, Moment, Peer, Request, Step, StepNotes};
 use osc_run::kinds;
 use std::alloc::{AllocError, Global};
@@ -377,24 +377,12 @@ impl Client {
         match case {
             Case::Ignored => Ok(Step::sending(Datagrams::new(alloc))),
             Case::Reset(id) => sending_message(alloc, from, &reset(id)),
-            Case::Repeated(id) => self.repeat(alloc, now, from, id),
+            Case::Repeated(id) => self.endpoint.repeat(alloc, now, from, id),
             Case::Empty(kind, id) => Ok(self.settle_empty(alloc, now, from, kind, id)),
             Case::Refused(message) => self.refuse(alloc, now, from, message),
             Case::Rejected(message) => sending_message(alloc, from, &reset(message.id())),
             Case::Dropped(message) => Ok(self.ignore(alloc, now, from, message)),
             Case::Counted(message) => self.count::<A>(alloc, now, from, message),
-        }
-    }
-
-    /// Sends again what answered the message of this ID, if anything did.
-    fn repeat(&self, alloc: Global, now: Moment, from: Peer, id: u16) -> Result<Step, AllocError>
-        ensures again { IfOk result (λ step. step ≡ sends (again from (noted_reply_of self.now.endpoint.seen now from id))) }
-        ensures fits { IfOk result (λ step. AreSendable step.out) }
-        ensures needs_memory { IsErr result → IsSome (noted_reply_of self.now.endpoint.seen now from id) }
-    {
-        match self.endpoint.noted_reply(now, from, id) {
-            Some(bytes) => sending_bytes(alloc, from, bytes.clone()?),
-            None => Ok(Step::sending(Datagrams::new(alloc))),
         }
     }
 
@@ -404,8 +392,7 @@ impl Client {
         ensures silent { result.out ≡ [] }
     {
         let is_ended = is_ended(self.next_hop, from, kind, id, &self.waiting);
-        self.endpoint
-            .settle(now, from, &Heard::Empty(kind, id), Handling::Dropped);
+        self.endpoint.settle_empty(now, from, kind, id);
         if is_ended {
             self.waiting = None;
             return Step {
@@ -444,8 +431,7 @@ impl Client {
         ensures step { result ≡ sends [] }
         ensures kept { self.new ≡ record self.old { endpoint = settled self.old.endpoint now from (heard.Message message.entry) handling.Dropped } }
     {
-        self.endpoint
-            .settle(now, from, &Heard::Message(message), Handling::Dropped);
+        self.endpoint.settle_dropped(now, from, message);
         Step::sending(Datagrams::new(alloc))
     }
 

@@ -1,5 +1,5 @@
 //! The message layer of a node.
-ghost use Rattle.std.specs.Prelude.{◌≡◌, ◌≤◌, ◌<◌, ◌+◌, ◌↔◌, length, not, true, false, IsOk, IfOk, OnOk, OnErr, IfSome, IfNone};
+ghost use Rattle.std.specs.Prelude.{◌≡◌, ◌≤◌, ◌<◌, ◌+◌, ◌↔◌, length, not, true, false, IsErr, IsOk, IfOk, IsSome, OnOk, OnErr, IfSome, IfNone};
 ghost use Rattle.std.specs.Option.{option_copied};
 ghost use Rattle.osc_model.specs.declared.node.Moment.{Moment as AnyMoment};
 ghost use Rattle.osc_message.specs.Received.{Receives};
@@ -9,9 +9,12 @@ ghost use Rattle.osc_message.specs.Bounds.{most_open};
 ghost use Rattle.osc_message.specs.Ticks.{tick_sends, tick_starts, tick_gives_up, acts};
 ghost use Rattle.osc_message.specs.Timeout.{timeout_of};
 ghost use Rattle.osc_message.specs.Endpoint.{fresh, own_id as own_id_of, id_taken, settled, after_tick};
-ghost use Rattle.osc_message.specs.Sending.{AreSendable, FitsDatagram, IsSendableHandling, IsSendableReply, reply_start as reply_start_of, reply_id as reply_id_of, replied};
+ghost use Rattle.osc_message.specs.Sending.{AreSendable, again, FitsDatagram, IsSendableHandling, IsSendableReply, reply_start as reply_start_of, reply_id as reply_id_of, replied};
 ghost use Rattle.osc_message.specs.Limits.{IsWithinLimits};
+ghost use Rattle.osc_message.specs.declared.handling.Handling.TheVariants.{Dropped};
+ghost use Rattle.osc_message.specs.declared.heard.Heard.TheVariants as heard;
 ghost use Rattle.osc_message.specs.declared.received.Received.{Received as AnyReceived};
+ghost use Rattle.osc_model.specs.Step.{sends};
 
 use crate::confirmable::{Open, acknowledge};
 use crate::deadline::deadline;
@@ -19,11 +22,11 @@ use crate::handling::{Handling, acknowledge_by, handle};
 use crate::heard::{Heard, hear};
 use crate::queue::{has_open, push, takes};
 use crate::received::receive;
-use crate::sending::{is_confirmable, reply_kind};
+use crate::sending::{is_confirmable, reply_kind, sending_bytes};
 use crate::tick::{Ticked, tick};
-use osc_coap::{MessageBuilder, MessageRef};
+use osc_coap::{Kind, MessageBuilder, MessageRef};
 use osc_dedup::Duplicates;
-use osc_model::{Bytes, Draw, Moment, Peer};
+use osc_model::{Bytes, Datagrams, Draw, Moment, Peer, Step};
 use std::alloc::{AllocError, Global};
 use std::marker::Model;
 use thiserror::Error;
@@ -111,6 +114,38 @@ impl<const PLACES: usize> Endpoint<PLACES> {
         ensures short { IsSendableReply (option_copied result) }
     {
         self.seen.look(now, from, id)?.reply.as_ref()
+    }
+
+    /// The step that sends again what answered the message of this ID, if anything did; memory is taken for that alone.
+    pub fn repeat(
+        &self,
+        alloc: Global,
+        now: Moment,
+        from: Peer,
+        id: u16,
+    ) -> Result<Step, AllocError>
+        ensures again { IfOk result (λ step. step ≡ sends (again from (reply_noted self.now.seen now from id))) }
+        ensures fits { IfOk result (λ step. AreSendable step.out) }
+        ensures needs_memory { IsErr result → IsSome (reply_noted self.now.seen now from id) }
+    {
+        match self.noted_reply(now, from, id) {
+            Some(bytes) => sending_bytes(alloc, from, bytes.clone()?),
+            None => Ok(Step::sending(Datagrams::new(alloc))),
+        }
+    }
+
+    /// An empty acknowledgement or Reset came: what it names is acknowledged. Takes no memory.
+    pub fn settle_empty(&mut self, now: Moment, from: Peer, kind: Kind, id: u16)
+        ensures { self.new ≡ settled self.old now from (heard.Empty kind id) Dropped }
+    {
+        self.settle(now, from, &Heard::Empty(kind, id), Handling::Dropped);
+    }
+
+    /// A message came that the node drops: it isn't noted, and an acknowledgement acknowledges all the same. Takes no memory.
+    pub fn settle_dropped(&mut self, now: Moment, from: Peer, message: MessageRef<'_>)
+        ensures { self.new ≡ settled self.old now from (heard.Message message.entry) Dropped }
+    {
+        self.settle(now, from, &Heard::Message(message), Handling::Dropped);
     }
 
     /// Makes the changes of what was heard: a message is noted, a confirmable one acknowledged. It was answered by at most 1,152

@@ -8,6 +8,10 @@ use Rattle.std.proofs.lemmas.Bool.Decides.{nat_tests}
 use Rattle.std.proofs.lemmas.List.{take-append-drop}
 use Rattle.std.proofs.lemmas.Slice.Eq.{bytes_eq-Decides}
 use Rattle.osc_proxy.specs.ProxyUri.{HostAndPort, IsHost, IsPort, IsProxyUri, Reads, is_host_byte, is_digit, decimal, port_named, port_spelling, path_spelling}
+use Rattle.osc_coap.specs.Message.{NumberAndValue}
+use Rattle.osc_options.specs.Recognised.{recognised}
+use Rattle.osc_options.specs.Requests.{value}
+use Rattle.osc_proxy.specs.Route.{Names, NamesBy, by_scheme}
 use Rattle.osc_proxy.specs.Reading.{is_end, port_of, port_at, port_behind, with_port, authority, host_and_port}
 
 -- ---- the digits of a port
@@ -257,3 +261,13 @@ as_found uri (Some named) e = uri_found uri named e
 
 pub reads : (uri : List ℕ) → Reads uri (host_and_port uri)
 reads uri = as_found uri (host_and_port uri) refl
+
+-- ---- whatever options a message has, they name something or nothing
+
+pub names_something : (options : List NumberAndValue) → (named : Option HostAndPort) × Names options named
+names_something options = by (value 35 (recognised 0 options)) (value 39 (recognised 0 options))
+  where
+    by : (uri scheme : Option (List ℕ)) → (named : Option HostAndPort) × NamesBy uri scheme (recognised 0 options) named
+    by (Some uri) scheme = (host_and_port uri, reads uri)
+    by None (Some scheme) = (by_scheme scheme (value 3 (recognised 0 options)) (value 7 (recognised 0 options)), refl)
+    by None None = (None, refl)

@@ -11,6 +11,7 @@ ghost use Rattle.osc_proxy.specs.ProxyUri.{HostAndPort};
 ghost use Rattle.osc_proxy.specs.Route.{Names, route};
 
 use crate::exchanges::Exchanges;
+use crate::laws::something_is_named;
 use crate::route::{Route, route_of};
 use crate::targets::Targets;
 use osc_coap::{Kind, MessageRef, is_request_code, is_response_code};
@@ -94,8 +95,9 @@ fn message_case<'a>(
         × (result ≡ spec.message_case targets.now exchanges.now from named message.entry) }
     ensures asks { AsksFor exchanges.now from result }
 {
-    let route = route_of(targets, &message);
+    something_is_named();
     if is_request_code(message.code()) {
+        let route = route_of(targets, &message);
         routed(message, route)
     } else if is_response_code(message.code()) {
         response_case(exchanges, from, message)

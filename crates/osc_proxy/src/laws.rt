@@ -59,6 +59,11 @@ pub fn options_that_are_forwarded()
     ensures order { (before : ℕ) (options : List NumberAndValue) → AreInOrder before options → AreInOrder before (forwarded_options options) }
 {}
 
+/// Whatever options a message has, they name a host and a port, or nothing that is known.
+pub fn something_is_named()
+    ensures { (options : List NumberAndValue) → (named : Option HostAndPort) × Names options named }
+{}
+
 /// A request without a Proxy-Uri whose Proxy-Scheme is `coap` names the host of its Uri-Host and the port of its Uri-Port.
 pub fn named_by_options()
     ensures { (options : List NumberAndValue) (named : Option HostAndPort) (host : List ℕ) → value_in 35 (recognised 0 options) ≡ None

@@ -26,7 +26,7 @@ pub use exchanges::{Exchange, Exchanges, FailureRoom};
 pub use forwarding::{answer_message, forwarded_message, forwarded_token};
 pub use proxy::Proxy;
 pub use proxy_uri::{DEFAULT_PORT, Origin, read_proxy_uri};
-pub use route::{Route, named_by, route_of};
+pub use route::{Route, route_of};
 pub use targets::{Target, Targets};
 pub use token::Token;
 pub use unsafe_options::has_unrecognised_unsafe;

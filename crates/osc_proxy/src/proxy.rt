@@ -32,7 +32,7 @@ use crate::ticking::{finish, rest, room_for};
 use osc_coap::{Kind, MessageBuilder, MessageRef};
 use osc_message::laws::{ticks_send_few, what_nodes_send};
 use osc_message::{
-    Handling, Heard, Outbox, is_confirmable, noted, reset, sending_bytes, sending_message,
+    Handling, Heard, Outbox, is_confirmable, noted, reset, sending_message,
 };
 use osc_model::{Bytes, Code, Datagrams, Draw, Moment, Peer, RefusedRequest, Step};
 use std::alloc::{AllocError, Global};
@@ -144,7 +144,7 @@ impl Proxy {
         match case {
             Case::Ignored => Ok(Step::sending(Datagrams::new(alloc))),
             Case::Reset(id) => sending_message(alloc, from, &reset(id)),
-            Case::Repeated(id) => self.repeat(alloc, now, from, id),
+            Case::Repeated(id) => self.endpoint.repeat(alloc, now, from, id),
             Case::Empty(kind, id) => Ok(self.settle_empty(alloc, now, from, kind, id)),
             Case::Ended(id, key) => self.end(alloc, now, from, draw, id, key),
             Case::Refused(message, why) => self.refuse(alloc, now, from, draw, message, why),
@@ -155,25 +155,12 @@ impl Proxy {
         }
     }
 
-    /// Sends again what answered the message of this ID, if anything did.
-    fn repeat(&self, alloc: Global, now: Moment, from: Peer, id: u16) -> Result<Step, AllocError>
-        ensures sent { IfOk result (λ step. step ≡ sends (again from (noted_reply_of self.now.endpoint.seen now from id))) }
-        ensures fits { IfOk result (λ step. AreSendable step.out) }
-        ensures needs_memory { OnErr result (IsSome (noted_reply_of self.now.endpoint.seen now from id)) }
-    {
-        match self.endpoint.noted_reply(now, from, id) {
-            Some(bytes) => sending_bytes(alloc, from, bytes.clone()?),
-            None => Ok(Step::sending(Datagrams::new(alloc))),
-        }
-    }
-
     /// Settles what an empty acknowledgement or Reset names.
     fn settle_empty(&mut self, alloc: Global, now: Moment, from: Peer, kind: Kind, id: u16) -> Step
         ensures step { result ≡ sends [] }
         ensures kept { self.new ≡ record self.old { exchanges = all_left now from id self.old.exchanges; endpoint = settled self.old.endpoint now from (heard.Empty kind id) handling.Dropped } }
     {
-        self.endpoint
-            .settle(now, from, &Heard::Empty(kind, id), Handling::Dropped);
+        self.endpoint.settle_empty(now, from, kind, id);
         self.exchanges.leave(now, from, id);
         Step::sending(Datagrams::new(alloc))
     }
@@ -185,8 +172,7 @@ impl Proxy {
     {
         let kind = message.kind();
         let id = message.id();
-        self.endpoint
-            .settle(now, from, &Heard::Message(message), Handling::Dropped);
+        self.endpoint.settle_dropped(now, from, message);
         self.exchanges.leave_by(now, from, kind, id);
         Step::sending(Datagrams::new(alloc))
     }

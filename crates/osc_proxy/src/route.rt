@@ -1,10 +1,11 @@
 //! Where a request goes (RFC 7252 sections 5.7.2 and 5.10.2).
-ghost use Rattle.std.specs.Prelude.{◌≡◌, Option, option_map};
+ghost use Rattle.std.specs.Prelude.{◌≡◌, true, false, Option, option_map, IfSome, IfNone};
 ghost use Rattle.osc_options.specs.Recognised.{recognised};
 ghost use Rattle.osc_options.specs.Requests.{value as value_in};
 ghost use Rattle.osc_proxy.specs.ProxyUri.{HostAndPort};
 ghost use Rattle.osc_proxy.specs.Route as spec;
 
+use crate::laws::something_is_named;
 use crate::proxy_uri::{DEFAULT_PORT, Origin, read_proxy_uri};
 use crate::targets::Targets;
 use crate::unsafe_options::has_unrecognised_unsafe;
@@ -52,39 +53,32 @@ fn named_by_scheme<'a>(message: &MessageRef<'a>, scheme: &[u8]) -> Option<Origin
     })
 }
 
-/// The host and the port that a request names for its target, lent from it. A Proxy-Uri decides alone where it is there; else
-/// Proxy-Scheme has to be `coap`, and Uri-Host has to be there.
-pub fn named_by<'a>(message: &MessageRef<'a>) -> Option<Origin<'a>>
-    ensures { spec.Names message.now.options (option_map (λ origin. (origin.host.now, origin.port)) result) }
+/// What a request that is for a proxy names for its target, lent from it: a host and a port, or nothing that is known. A Proxy-Uri decides
+/// alone where it is there; else Proxy-Scheme has to be `coap`, and Uri-Host has to be there. `None` where the request is for no proxy.
+fn named_to_proxy<'a>(message: &MessageRef<'a>) -> Option<Option<Origin<'a>>>
+    ensures some { IfSome result (λ named. (spec.is_for_proxy message.now.options ≡ true)
+        × spec.Names message.now.options (option_map (λ origin. (origin.host.now, origin.port)) named)) }
+    ensures none { IfNone result (spec.is_for_proxy message.now.options ≡ false) }
 {
     if let Some(uri) = value_of(message, PROXY_URI) {
-        return read_proxy_uri(uri);
+        return Some(read_proxy_uri(uri));
     }
-    match value_of(message, PROXY_SCHEME) {
-        Some(scheme) => named_by_scheme(message, scheme),
-        None => None,
-    }
+    let scheme = value_of(message, PROXY_SCHEME)?;
+    Some(named_by_scheme(message, scheme))
 }
 
-/// Whether the request is for a proxy.
-fn is_for_proxy(message: &MessageRef<'_>) -> bool
-    ensures { result ≡ spec.is_for_proxy message.now.options }
-{
-    value_of(message, PROXY_URI).is_some() || value_of(message, PROXY_SCHEME).is_some()
-}
-
-/// Where a request with these options goes; takes no memory.
+/// Where a request with these options goes; takes no memory. Each option is looked for once.
 pub fn route_of(targets: &Targets, message: &MessageRef<'_>) -> Route
     ensures { (named : Option HostAndPort) × spec.Names message.now.options named × (result ≡ spec.route targets.now message.now.options named) }
 {
-    let named = named_by(message);
+    something_is_named();
     if has_unrecognised_unsafe(message) {
         return Route::BadOption;
     }
-    if !is_for_proxy(message) {
-        return Route::NotFound;
+    match named_to_proxy(message) {
+        Some(named) => to_named(targets, named),
+        None => Route::NotFound,
     }
-    to_named(targets, named)
 }
 
 /// Where a request for this host and port goes.

@@ -20,7 +20,7 @@ use Rattle.osc_message.specs.Confirmables.{Open}
 use Rattle.osc_message.specs.Endpoint.{EndpointState, id_taken, noted, settled, acknowledged_by, after_tick}
 use Rattle.osc_message.specs.Ticks.{acts, tick_sends}
 use Rattle.osc_message.specs.Heard.{noted_reply}
-use Rattle.osc_message.specs.Sending.{FitsDatagram, is_confirmable, replied}
+use Rattle.osc_message.specs.Sending.{AreSendable, FitsDatagram, again, is_confirmable, replied}
 use Rattle.osc_server.specs.Table.{answered}
 use Rattle.osc_server.specs.Parts.{IsMessage, IsQuiet, KeepsMessages, SendsTo}
 
@@ -139,3 +139,13 @@ sent_again peer bytes message fits = record {
   fits = All-push (λ sent. FitsDatagram sent.bytes) [] (record { to = peer; bytes = bytes }) (All-nil (λ sent. FitsDatagram sent.bytes)) fits;
   addressed = All-push (λ sent. sent.to ≡ peer) [] (record { to = peer; bytes = bytes }) (All-nil (λ sent. sent.to ≡ peer)) refl;
 }
+
+-- what answered a message before goes to its sender again
+pub repeat_sends : (peer : Peer) (reply : Option Bytes) → ForSome reply IsMessage → AreSendable (again peer reply) → SendsTo peer (again peer reply)
+repeat_sends peer None message fits = record {
+  one = omega arith;
+  messages = All-nil (λ sent. IsMessage sent.bytes);
+  fits = fits;
+  addressed = All-nil (λ sent. sent.to ≡ peer);
+}
+repeat_sends peer (Some bytes) message fits = sent_again peer bytes (message bytes refl) (All-head (λ sent. FitsDatagram sent.bytes) _ _ fits)

@@ -30,9 +30,9 @@ use crate::refusal::{Refusal, refused_for};
 use crate::serving::{Served, serve};
 use osc_authz::{Post, ServerDesk};
 use osc_ccm::Aead;
-use osc_coap::{Kind, MessageBuilder, MessageRef};
+use osc_coap::{MessageBuilder, MessageRef};
 use osc_message::laws::what_is_heard;
-use osc_message::{Buffer, Handling, Heard, ReplyRoom, reset, sending_bytes, sending_message};
+use osc_message::{Buffer, Handling, Heard, ReplyRoom, reset, sending_message};
 use osc_model::{Code, Datagrams, Draw, Moment, Peer, Reply, Request, Step, StepNotes};
 use osc_protect::read_request;
 use osc_run::kinds;
@@ -176,7 +176,7 @@ impl Server {
             Case::Reset(id) => sending_message(alloc, from, &reset(id)),
             Case::Repeated(id) => self.repeat(alloc, now, from, id),
             Case::Empty(kind, id) => {
-                self.settle_empty(now, from, kind, id);
+                self.endpoint.settle_empty(now, from, kind, id);
                 Ok(Step::sending(Datagrams::new(alloc)))
             }
             Case::BadOption(request) => {
@@ -202,14 +202,6 @@ impl Server {
                 self.refuse(alloc, now, from, draw, request, Code::UNAUTHORIZED)
             }
         }
-    }
-
-    /// What an empty acknowledgement or Reset names is acknowledged.
-    fn settle_empty(&mut self, now: Moment, from: Peer, kind: Kind, id: u16)
-        ensures { self.new ≡ record self.old { endpoint = settled self.old.endpoint now from (heard.Empty kind id) Dropped } }
-    {
-        self.endpoint
-            .settle(now, from, &Heard::Empty(kind, id), Handling::Dropped);
     }
 
     /// Answers a GET on an open path.
@@ -248,10 +240,7 @@ impl Server {
         ensures sent { IfOk result (λ step. SendsTo from step.out) }
         ensures needs_memory { IsErr result → IsSome (noted_reply_of self.now.endpoint.seen now from id) }
     {
-        match self.endpoint.noted_reply(now, from, id) {
-            Some(bytes) => sending_bytes(alloc, from, bytes.clone()?),
-            None => Ok(Step::sending(Datagrams::new(alloc))),
-        }
+        self.endpoint.repeat(alloc, now, from, id)
     }
 
     /// Answers the request, which isn't served, with a reply of this code alone.

@@ -1,17 +1,28 @@
-use Rattle.std.proofs.Common.{Some, subst, sym, ap, ◌∙◌}
-use Rattle.std.proofs.lemmas.Result.{IfOk-weaker}
-use Rattle.osc_message.specs.Sending.{FitsDatagram}
+use Rattle.std.proofs.Common.{◌≡◌, ap, subst, sym, Result, Ok, Err}
+use Rattle.std.specs.Prelude.{IfOk}
+use Rattle.osc_message.specs.Heard.{noted_reply}
+use Rattle.osc_message.specs.Sending.{AreSendable, again}
+use Rattle.osc_model.specs.Step.{sends}
+use Rattle.osc_model.specs.declared.bytes.Bytes.{Bytes}
+use Rattle.osc_model.specs.declared.node.Peer.{Peer}
+use Rattle.osc_model.specs.declared.step.Datagram.{Datagram}
+use Rattle.osc_model.specs.declared.step.Step.{Step}
+use Rattle.std.specs.Prelude.{List, Option}
+use Rattle.std.specs.Option.{ForSome}
 use Rattle.osc_server.specs.Parts.{IsMessage, SendsTo}
-use Rattle.osc_server.proofs.Notes.{noted_message, sent_again}
+use Rattle.osc_server.proofs.Notes.{noted_message, repeat_sends}
 use Rattle.osc_server.proofs.server.Server.repeat.Goals as goal
 
-pub returns-in_ok-clone-in-Some-clause-sent : goal.returns-in_ok-clone-in-Some-clause-sent
-returns-in_ok-clone-in-Some-clause-sent c =
-    let spelled : IsMessage c.in_ok-clone-in-Some.field-0 =
-    noted_message c.self.inside.endpoint.seen c.args.now c.args.from c.args.id c.self.invariant.messages c.in_ok-clone-in-Some.field-0
-    (sym c.in-Some.ensures.noted ∙ ap Some (sym c.in_ok-clone-in-Some.ensures.cases))
-    in
-    let short : FitsDatagram c.in_ok-clone-in-Some.field-0 = subst FitsDatagram (sym c.in_ok-clone-in-Some.ensures.cases) c.in-Some.ensures.short in
-    IfOk-weaker c.sending_bytes.result _ _
-    (λ step sent. subst (SendsTo c.args.from) (sym (ap (λ s. s.out) sent)) (sent_again c.args.from c.in_ok-clone-in-Some.field-0 spelled short))
-    c.sending_bytes.ensures.sent
+by : {E : Type 0} (peer : Peer) (reply : Option Bytes) (result : Result Step E) → ForSome reply IsMessage
+    → IfOk result (λ step. step ≡ sends (again peer reply)) → IfOk result (λ step. AreSendable step.out) → IfOk result (λ step. SendsTo peer step.out)
+by peer reply (Ok step) message is fits =
+    let out : step.out ≡ again peer reply = ap (λ (s : Step). s.out) is in
+    subst (SendsTo peer) (sym out) (repeat_sends peer reply message (subst AreSendable out fits))
+by peer reply (Err error) message is fits = tt
+
+pub returns-clause-sent : goal.returns-clause-sent
+returns-clause-sent c =
+    let inside = c.self.inside in
+    let now = c.args.now in
+    by c.args.from (noted_reply inside.endpoint.seen now c.args.from c.args.id) c.repeat.result
+    (noted_message inside.endpoint.seen now c.args.from c.args.id c.self.invariant.messages) c.repeat.ensures.again c.repeat.ensures.fits
