@@ -10,7 +10,7 @@ use crate::tokens::{KEY, post_of};
 use osc_authz::ServerDesk;
 use osc_coap::MessageRef;
 use osc_context::{SenderContext, derive, joined_salt};
-use osc_model::{Bytes, ContextName, Datagram, Method, Moment, Path, Side, Step};
+use osc_model::{Bytes, ContextName, Datagram, Method, Moment, Path, SharedName, Side, Step};
 use osc_scope::Scope;
 use osc_server::Server;
 use osc_token::Audience;
@@ -94,18 +94,19 @@ fn post_datagram(alloc: Global, id: u8) -> Result<Vec<u8>, AllocError> {
 
 // The name of the context that the post of this token id makes where those of the ids from 1 on were posted before: the server takes
 // the least recipient ID that is free and isn't the client's, which is 0.
-fn name_of(alloc: Global, id: u8) -> Result<ContextName, AllocError>
+fn name_of(alloc: Global, id: u8) -> Result<SharedName, AllocError>
     ensures { IfOk result (λ name. name.id_context ≡ None) }
 {
     let (client_id, server_id) = pair(alloc, &[id], &[0])?;
     let (secret, salt) = keying(alloc, id)?;
-    Ok(ContextName {
+    let name = ContextName {
         secret,
         salt,
         id_context: None,
         client_id,
         server_id,
-    })
+    };
+    SharedName::new(alloc, name)
 }
 
 // The master secret and the master salt.
@@ -122,7 +123,7 @@ fn requests_under(alloc: Global, id: u8, asked: Method) -> Result<Vec<Bytes>, Al
     requests
 }
 
-fn requests_of(alloc: Global, name: &ContextName, asked: Method) -> Result<Vec<Bytes>, AllocError>
+fn requests_of(alloc: Global, name: &SharedName, asked: Method) -> Result<Vec<Bytes>, AllocError>
     requires { name.now.id_context ≡ None }
 {
     match derive(alloc, name, Side::Client) {
@@ -134,7 +135,7 @@ fn requests_of(alloc: Global, name: &ContextName, asked: Method) -> Result<Vec<B
 // The requests, each under the next number; its message ID is its place.
 fn protect_all(
     alloc: Global,
-    name: &ContextName,
+    name: &SharedName,
     sender: &mut SenderContext,
     asked: Method,
 ) -> Result<Vec<Bytes>, AllocError>
@@ -161,7 +162,7 @@ fn method_at(asked: Method, place: u16) -> Method {
 // The request of this message ID under the next number; no bytes where there is no number left.
 fn protected_request(
     alloc: Global,
-    name: &ContextName,
+    name: &SharedName,
     sender: &mut SenderContext,
     method: Method,
     id: u16,
@@ -179,7 +180,7 @@ fn protected_request(
 
 fn protected_bytes(
     alloc: Global,
-    name: &ContextName,
+    name: &SharedName,
     sender: &mut SenderContext,
     message: &MessageRef<'_>,
 ) -> Result<Bytes, AllocError>

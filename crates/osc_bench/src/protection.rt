@@ -8,7 +8,7 @@ ghost use Rattle.osc_protect.specs.Protection.{IsFor};
 use osc_ccm::Ccm;
 use osc_coap::{DATAGRAM_LIMIT, MessageRef};
 use osc_context::{RecipientContext, SenderContext, derive};
-use osc_model::{Bytes, ContextName, Side};
+use osc_model::{Bytes, ContextName, SharedName, Side};
 use osc_protect::{
     MessageTooLong, ProtectedRequest, Room, SealedRequestRef, open_request, protect_request,
     read_request,
@@ -25,8 +25,8 @@ pub extern "C" fn osc_bench_protect(alloc: Global, request: &[u8], rounds: u64) 
     }
 }
 
-/// Protects the request once and opens it so many times, each time in new room, and answers how many bytes of
-/// plaintext came out in all; 0 where it is no message or there is no memory.
+/// Protects the request once and opens it so many times, and answers how many bytes of plaintext came out in all; 0 where
+/// it is no message or there is no memory.
 #[unsafe(no_mangle)]
 pub extern "C" fn osc_bench_unprotect(alloc: Global, request: &[u8], rounds: u64) -> u64 {
     match MessageRef::parse(request) {
@@ -36,18 +36,19 @@ pub extern "C" fn osc_bench_unprotect(alloc: Global, request: &[u8], rounds: u64
 }
 
 // A context with IDs of one byte and no id context.
-fn name_of(alloc: Global) -> Result<ContextName, AllocError>
+fn name_of(alloc: Global) -> Result<SharedName, AllocError>
     ensures { IfOk result (λ name. name.id_context ≡ None) }
 {
     let (secret, salt) = pair(alloc, &[1; 16], &[2; 8])?;
     let (client_id, server_id) = pair(alloc, &[0], &[1])?;
-    Ok(ContextName {
+    let name = ContextName {
         secret,
         salt,
         id_context: None,
         client_id,
         server_id,
-    })
+    };
+    SharedName::new(alloc, name)
 }
 
 // Copies of both.
@@ -59,7 +60,7 @@ pub(crate) fn pair(alloc: Global, one: &[u8], other: &[u8]) -> Result<(Bytes, By
 // The request under the next number, if there is one and it fits.
 pub(crate) fn protect_next(
     alloc: Global,
-    name: &ContextName,
+    name: &SharedName,
     sender: &mut SenderContext,
     request: &MessageRef<'_>,
 ) -> Result<Option<ProtectedRequest>, AllocError>
@@ -93,7 +94,7 @@ fn bytes_protected(
 
 fn bytes_protected_under(
     alloc: Global,
-    name: &ContextName,
+    name: &SharedName,
     request: &MessageRef<'_>,
     rounds: u64,
 ) -> Result<u64, AllocError>
@@ -108,7 +109,7 @@ fn bytes_protected_under(
 // Protects the request so many times, each time under the next number.
 fn protect_again(
     alloc: Global,
-    name: &ContextName,
+    name: &SharedName,
     sender: &mut SenderContext,
     request: &MessageRef<'_>,
     rounds: u64,
@@ -126,7 +127,7 @@ fn protect_again(
 // How long the request is under the next number; 0 where there is none, and where it doesn't fit.
 fn protected_length(
     alloc: Global,
-    name: &ContextName,
+    name: &SharedName,
     sender: &mut SenderContext,
     request: &MessageRef<'_>,
 ) -> Result<u64, AllocError>
@@ -151,7 +152,7 @@ fn bytes_opened(alloc: Global, request: &MessageRef<'_>, rounds: u64) -> Result<
 
 fn bytes_opened_under(
     alloc: Global,
-    name: &ContextName,
+    name: &SharedName,
     request: &MessageRef<'_>,
     rounds: u64,
 ) -> Result<u64, AllocError>
@@ -170,7 +171,7 @@ fn bytes_opened_under(
 // The request under the first number, if it fits.
 fn protect_once(
     alloc: Global,
-    name: &ContextName,
+    name: &SharedName,
     request: &MessageRef<'_>,
 ) -> Result<Option<ProtectedRequest>, AllocError>
     requires { name.now.id_context ≡ None }
@@ -184,7 +185,7 @@ fn protect_once(
 // Opens the protected request so many times, where it is one of this name.
 fn open_protected(
     alloc: Global,
-    name: &ContextName,
+    name: &SharedName,
     protected: &MessageRef<'_>,
     rounds: u64,
 ) -> Result<u64, AllocError> {
@@ -196,7 +197,7 @@ fn open_protected(
 
 fn open_derived(
     alloc: Global,
-    name: &ContextName,
+    name: &SharedName,
     sealed: &SealedRequestRef<'_>,
     rounds: u64,
 ) -> Result<u64, AllocError>
@@ -211,27 +212,23 @@ fn open_derived(
 // Opens the request once.
 fn open_once(
     alloc: Global,
-    name: &ContextName,
+    name: &SharedName,
     recipient: &RecipientContext,
     sealed: &SealedRequestRef<'_>,
 ) -> Result<usize, AllocError>
     requires recipient { recipient.now ≡ recipient_of name.now Server recipient.now.window }
     requires named { IsFor name.now sealed.now }
 {
-    let room = Room::new(alloc, name, sealed.sealed().len())?;
-    match open_request::<Ccm<8>>(room, recipient, sealed) {
+    match open_request::<Ccm<8>>(alloc, name, recipient, sealed)? {
         Ok(note) => Ok(note.plaintext.len()),
-        Err(error) => {
-            drop(error);
-            Ok(0)
-        }
+        Err(_) => Ok(0),
     }
 }
 
-// Opens the request so many times, each time in new room.
+// Opens the request so many times.
 fn open_again(
     alloc: Global,
-    name: &ContextName,
+    name: &SharedName,
     recipient: &RecipientContext,
     sealed: &SealedRequestRef<'_>,
     rounds: u64,

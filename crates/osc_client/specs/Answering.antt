@@ -109,6 +109,10 @@ pub data CountsInMemory (waiting : Option Waiting) (message : Message) : Type 0 
 
 -- ---- what is kept then
 
+abbrev pub awaited_after : Outcome → Awaited → Option Awaited
+awaited_after (Stays opened) awaited = Some awaited
+awaited_after outcome awaited = None
+
 abbrev pub waits_after : Outcome → Waiting → Option Waiting
 waits_after (Stays opened) waiting = Some waiting
 waits_after outcome waiting = None

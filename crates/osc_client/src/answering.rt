@@ -1,5 +1,5 @@
 //! What an answer that counts comes to.
-ghost use Rattle.std.specs.Prelude.{◌≡◌, ◌≢◌, ◌≤◌, ℕ, List, [], true, None, Some, IfOk, IfErr, IsErr, IsSome, IfSome, IfNone, unwrap_or};
+ghost use Rattle.std.specs.Prelude.{◌≡◌, ◌≢◌, ◌≤◌, ℕ, List, [], true, None, Some, IfOk, IfErr, IsErr, OnErr, IsSome, IfSome, IfNone, unwrap_or};
 ghost use Rattle.osc_context.specs.Nonce.{greatest_number};
 ghost use Rattle.osc_cbor.specs.Data.{DataItem};
 ghost use Rattle.osc_cbor.specs.Spelling.{IsWhole};
@@ -9,7 +9,7 @@ ghost use Rattle.osc_options.specs.Split.{has_oscore as has_oscore_in};
 ghost use Rattle.osc_protect.specs.Protection.{IsResponse};
 ghost use Rattle.osc_run.specs.ClientKinds.{response_note};
 ghost use Rattle.osc_run.specs.Texts.{IsReplyIn};
-ghost use Rattle.osc_client.specs.Answering.{AskComes, Comes, ExchangeComes, IsFinish, IsRead, IsSealedFor, code_of, context_after, is_error as is_error_of, is_success as is_success_of, notes_of, waits_after};
+ghost use Rattle.osc_client.specs.Answering.{AskComes, Comes, ExchangeComes, IsFinish, IsRead, IsSealedFor, awaited_after, code_of, context_after, is_error as is_error_of, is_success as is_success_of, notes_of, waits_after};
 ghost use Rattle.osc_client.specs.Bounds.{IsEnd, IsLawful, NeedsContext};
 ghost use Rattle.osc_client.specs.Opened.{ComesOf};
 ghost use Rattle.osc_client.specs.declared.answering.Outcome.TheVariants as outcome;
@@ -40,11 +40,18 @@ pub enum Outcome {
     Ends(ClientResult),
 }
 
-/// What an answer comes to, and what waits still.
+/// What an answer comes to, or want of memory for it, and what waits then.
 #[derive(Drop)]
 pub(crate) struct Learnt {
-    pub outcome: Outcome,
+    pub outcome: Result<Outcome, AllocError>,
     pub waiting: Option<Waiting>,
+}
+
+/// The same of what is awaited.
+#[derive(Drop)]
+struct Judged {
+    outcome: Result<Outcome, AllocError>,
+    awaited: Option<Awaited>,
 }
 
 /// Whether the code is of class 4 or 5.
@@ -209,20 +216,69 @@ fn reply_in(alloc: Global, plaintext: &[u8]) -> Result<Option<Reply>, AllocError
     }
 }
 
-/// What an answer that counts comes to, and what waits then. Want of memory hands back what waits.
+/// What an answer to an exchange comes to, and what is awaited then.
+fn judge_exchange(
+    alloc: Global,
+    desk: &ClientDesk,
+    begun: OpenExchange,
+    message: &MessageRef<'_>,
+) -> Judged
+    ensures comes { IfOk result.outcome (λ outcome. ExchangeComes desk.now begun message.now outcome) }
+    ensures awaited { IfOk result.outcome (λ outcome. result.awaited ≡ awaited_after outcome (awaited.Exchange begun)) }
+    ensures memory { OnErr result.outcome (result.awaited ≡ Some (awaited.Exchange begun)) }
+    ensures read { IsErr result.outcome → IsRead (awaited.Exchange begun) message.now }
+{
+    match exchange_outcome(alloc, desk, begun, message) {
+        Ok(Ok(outcome)) => Judged {
+            outcome: Ok(outcome),
+            awaited: None,
+        },
+        Ok(Err(back)) => Judged {
+            outcome: Ok(Outcome::Stays(None)),
+            awaited: Some(Awaited::Exchange(back)),
+        },
+        Err(back) => Judged {
+            outcome: Err(AllocError),
+            awaited: Some(Awaited::Exchange(back)),
+        },
+    }
+}
+
+/// What an answer to a protected request comes to, and what is awaited then.
+fn judge_ask<A: Aead>(
+    alloc: Global,
+    context: &ClientContext,
+    ask: OpenAsk,
+    message: &MessageRef<'_>,
+) -> Judged
+    requires { ask.number ≤ greatest_number }
+    ensures comes { IfOk result.outcome (λ outcome. AskComes A.is_sealing context.now ask message.now outcome) }
+    ensures awaited { IfOk result.outcome (λ outcome. result.awaited ≡ awaited_after outcome (awaited.Ask ask)) }
+    ensures memory { OnErr result.outcome (result.awaited ≡ Some (awaited.Ask ask)) }
+    ensures read { IsErr result.outcome → IsRead (awaited.Ask ask) message.now }
+{
+    let outcome = ask_outcome::<A>(alloc, context, &ask, message);
+    let awaited = match &outcome {
+        Ok(Outcome::Stays(_)) | Err(_) => Some(Awaited::Ask(ask)),
+        Ok(_) => None,
+    };
+    Judged { outcome, awaited }
+}
+
+/// What an answer that counts comes to, and what waits then: all that waited, where memory is wanting.
 pub(crate) fn outcome_of<A: Aead>(
     alloc: Global,
     desk: &ClientDesk,
     context: &Option<ClientContext>,
     waiting: Waiting,
     message: &MessageRef<'_>,
-) -> Result<Learnt, Waiting>
+) -> Learnt
     requires context { NeedsContext context.now waiting.what }
     requires number { IsLawful waiting.what }
-    ensures comes { IfOk result (λ come. Comes A.is_sealing desk.now context.now waiting.what message.now come.outcome) }
-    ensures waits { IfOk result (λ come. come.waiting ≡ waits_after come.outcome waiting) }
-    ensures memory { IfErr result (λ back. back ≡ waiting) }
-    ensures read { IsErr result → IsRead waiting.what message.now }
+    ensures comes { IfOk result.outcome (λ outcome. Comes A.is_sealing desk.now context.now waiting.what message.now outcome) }
+    ensures waits { IfOk result.outcome (λ outcome. result.waiting ≡ waits_after outcome waiting) }
+    ensures memory { OnErr result.outcome (result.waiting ≡ Some waiting) }
+    ensures read { IsErr result.outcome → IsRead waiting.what message.now }
 {
     let Waiting {
         token,
@@ -230,53 +286,21 @@ pub(crate) fn outcome_of<A: Aead>(
         until,
         what,
     } = waiting;
-    match what {
-        Awaited::Exchange(begun) => match exchange_outcome(alloc, desk, begun, message) {
-            Ok(Ok(outcome)) => Ok(Learnt {
-                outcome,
-                waiting: None,
-            }),
-            Ok(Err(back)) => Ok(Learnt {
-                outcome: Outcome::Stays(None),
-                waiting: Some(Waiting {
-                    token,
-                    id,
-                    until,
-                    what: Awaited::Exchange(back),
-                }),
-            }),
-            Err(back) => Err(Waiting {
-                token,
-                id,
-                until,
-                what: Awaited::Exchange(back),
-            }),
-        },
-        Awaited::Ask(ask) => {
-            let context = context.as_ref().unwrap();
-            match ask_outcome::<A>(alloc, context, &ask, message) {
-                Ok(Outcome::Stays(opened)) => Ok(Learnt {
-                    outcome: Outcome::Stays(opened),
-                    waiting: Some(Waiting {
-                        token,
-                        id,
-                        until,
-                        what: Awaited::Ask(ask),
-                    }),
-                }),
-                Ok(outcome) => Ok(Learnt {
-                    outcome,
-                    waiting: None,
-                }),
-                Err(_) => Err(Waiting {
-                    token,
-                    id,
-                    until,
-                    what: Awaited::Ask(ask),
-                }),
-            }
-        }
-    }
+    let judged = match what {
+        Awaited::Exchange(begun) => judge_exchange(alloc, desk, begun, message),
+        Awaited::Ask(ask) => judge_ask::<A>(alloc, context.as_ref().unwrap(), ask, message),
+    };
+    let Judged { outcome, awaited } = judged;
+    let waiting = match awaited {
+        Some(what) => Some(Waiting {
+            token,
+            id,
+            until,
+            what,
+        }),
+        None => None,
+    };
+    Learnt { outcome, waiting }
 }
 
 /// What is noted of an outcome; a context that was made takes the place of the old one.

@@ -452,9 +452,16 @@ impl Client {
         let (out, bytes) = acknowledged(alloc, from, &message)?;
         let waiting = self.waiting.take().unwrap();
         let id = waiting.id;
-        match outcome_of::<A>(alloc, &self.desk, &self.context, waiting, &message) {
-            Ok(Learnt { outcome, waiting }) => {
-                self.waiting = waiting;
+        let Learnt { outcome, waiting } = outcome_of::<A>(
+            alloc,
+            &self.desk,
+            &self.context,
+            waiting,
+            &message,
+        );
+        self.waiting = waiting;
+        match outcome {
+            Ok(outcome) => {
                 let notes = learn(&mut self.context, outcome);
                 self.endpoint.settle(
                     now,
@@ -464,10 +471,7 @@ impl Client {
                 );
                 Ok(Step { out, notes })
             }
-            Err(waiting) => {
-                self.waiting = Some(waiting);
-                Err(AllocError)
-            }
+            Err(_) => Err(AllocError),
         }
     }
 

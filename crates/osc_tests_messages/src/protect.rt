@@ -8,7 +8,7 @@ ghost use Rattle.osc_protect.specs.Protection.{HasShortContext, IsFor};
 use osc_ccm::Ccm;
 use osc_coap::{DATAGRAM_LIMIT, MessageRef};
 use osc_context::{ID_LIMIT, RecipientContext, SendNumber, derive};
-use osc_model::{Bytes, ContextName, Note, Side};
+use osc_model::{Bytes, ContextName, Note, SharedName, Side};
 use osc_protect::*;
 use std::alloc::{AllocError, Global};
 use std::fmt;
@@ -102,23 +102,24 @@ fn id_context_of(rt: &impl Abort, alloc: Global, bytes: &[u8]) -> Option<Bytes>
 }
 
 /// The name of a context.
-fn name_of(rt: &impl Abort, alloc: Global, context: &Context) -> ContextName
+fn name_of(rt: &impl Abort, alloc: Global, context: &Context) -> SharedName
     ensures { HasShortContext result }
 {
-    ContextName {
+    let name = ContextName {
         secret: Bytes::from_slice(alloc, &SECRET).expect(rt, "memory"),
         salt: Bytes::from_slice(alloc, context.salt).expect(rt, "memory"),
         id_context: id_context_of(rt, alloc, context.id_context),
         client_id: Bytes::from_slice(alloc, context.client_id).expect(rt, "memory"),
         server_id: Bytes::from_slice(alloc, b"\x01").expect(rt, "memory"),
-    }
+    };
+    SharedName::new(alloc, name).expect(rt, "memory")
 }
 
 /// The number that this side takes next, once it has skipped to this one.
 fn number_of(
     rt: &impl Abort,
     alloc: Global,
-    name: &ContextName,
+    name: &SharedName,
     side: Side,
     number: u64,
 ) -> SendNumber
@@ -136,7 +137,7 @@ fn number_of(
 fn protect_at(
     rt: &impl Abort,
     alloc: Global,
-    name: &ContextName,
+    name: &SharedName,
     number: u64,
     datagram: &[u8],
 ) -> ProtectedRequest
@@ -148,34 +149,39 @@ fn protect_at(
     protect_request::<Ccm<8>>(room, number, &message).expect(rt, "a request that fits")
 }
 
-/// What the server opens of a request in this room.
-fn open_in(room: Room, recipient: &RecipientContext, sealed: &SealedRequestRef<'_>) -> Option<Note>
-    requires recipient { recipient.now ≡ recipient_of room.name Server recipient.now.window }
-    requires named { IsFor room.name sealed.now }
-    requires room { length sealed.now.sealed ≤ room.most }
+/// What the server opens of a request with this recipient context, if it is genuine.
+fn open_with(
+    rt: &impl Abort,
+    alloc: Global,
+    name: &SharedName,
+    recipient: &RecipientContext,
+    sealed: &SealedRequestRef<'_>,
+) -> Option<Note>
+    requires recipient { recipient.now ≡ recipient_of name.now Server recipient.now.window }
+    requires named { IsFor name.now sealed.now }
 {
-    open_request::<Ccm<8>>(room, recipient, sealed).ok()
+    let opened = open_request::<Ccm<8>>(alloc, name, recipient, sealed).expect(rt, "memory");
+    opened.ok()
 }
 
 /// What the server opens of a request of this context, if it is genuine.
 fn open_under(
     rt: &impl Abort,
     alloc: Global,
-    name: &ContextName,
+    name: &SharedName,
     sealed: &SealedRequestRef<'_>,
 ) -> Option<Note>
     requires { IsFor name.now sealed.now }
 {
     let (sender, recipient) = derive(alloc, name, Side::Server).expect(rt, "a context");
     drop(sender);
-    let room = Room::new(alloc, name, sealed.sealed().len()).expect(rt, "memory");
-    let opened = open_in(room, &recipient, sealed);
+    let opened = open_with(rt, alloc, name, &recipient, sealed);
     drop(recipient);
     opened
 }
 
 /// What the server opens of a request, if it is genuine.
-fn open_at(rt: &impl Abort, alloc: Global, name: &ContextName, datagram: &[u8]) -> Option<Note> {
+fn open_at(rt: &impl Abort, alloc: Global, name: &SharedName, datagram: &[u8]) -> Option<Note> {
     let message = MessageRef::parse(datagram).expect(rt, "a message");
     let sealed = read_request(&message).expect(rt, "a request");
     assert!(rt; sealed.is_for(name));
@@ -200,7 +206,7 @@ const REQUEST_TEXT: &[u8] = b"\x01\xb3tv1";
 fn opens_alike(
     rt: &impl Abort,
     alloc: Global,
-    name: &ContextName,
+    name: &SharedName,
     sealed: &Note,
     example: &Example,
 ) -> bool {
@@ -211,7 +217,7 @@ fn opens_alike(
 }
 
 /// Whether the client protects the example as published, and the server opens it.
-fn is_protected(rt: &impl Abort, alloc: Global, name: &ContextName, example: &Example) -> bool
+fn is_protected(rt: &impl Abort, alloc: Global, name: &SharedName, example: &Example) -> bool
     requires { HasShortContext name.now }
 {
     let made = protect_at(rt, alloc, name, 20, example.message);
@@ -242,7 +248,7 @@ const AAD: &[u8] = b"\x83\x68Encrypt0\x40\x48\x85\x01\x81\x0a\x40\x41\x14\x40";
 /// The nonce of that example.
 const NONCE: [u8; 13] = *b"\x46\x22\xd4\xdd\x6d\x94\x41\x68\xee\xfb\x54\x98\x68";
 
-fn is_sealed_as_published(rt: &impl Abort, alloc: Global, name: &ContextName) -> bool
+fn is_sealed_as_published(rt: &impl Abort, alloc: Global, name: &SharedName) -> bool
     requires { HasShortContext name.now }
 {
     let made = protect_at(rt, alloc, name, 20, REQUESTS[0].message);
@@ -262,7 +268,7 @@ fn the_nonce_and_the_associated_data(rt: HostRuntime) {
 fn uncounted_at(
     rt: &impl Abort,
     alloc: Global,
-    name: &ContextName,
+    name: &SharedName,
     datagram: &[u8],
     text: &[u8],
 ) -> Option<UncountedRequest>
@@ -308,15 +314,14 @@ fn texts_that_are_too_long(rt: HostRuntime) {
 fn reply_under(
     rt: &impl Abort,
     alloc: Global,
-    name: &ContextName,
+    name: &SharedName,
     sealed: &SealedRequestRef<'_>,
     reply: &MessageRef<'_>,
 ) -> ProtectedResponse
     requires { IsFor name.now sealed.now }
 {
     let (sender, mut recipient) = derive(alloc, name, Side::Server).expect(rt, "a context");
-    let room = Room::new(alloc, name, sealed.sealed().len()).expect(rt, "memory");
-    let opened = open_in(room, &recipient, sealed).expect(rt, "a genuine request");
+    let opened = open_with(rt, alloc, name, &recipient, sealed).expect(rt, "a genuine request");
     drop(opened);
     let room = Room::new(alloc, name, DATAGRAM_LIMIT).expect(rt, "memory");
     assert!(rt; recipient.is_fresh(sealed.number()));
@@ -343,7 +348,7 @@ fn replied(rt: &impl Abort, alloc: Global, request: &[u8], reply: &[u8]) -> Prot
 fn respond(
     rt: &impl Abort,
     alloc: Global,
-    name: &ContextName,
+    name: &SharedName,
     number: u64,
     datagram: &[u8],
 ) -> ProtectedResponse
@@ -371,7 +376,7 @@ fn sealed_responses(rt: HostRuntime) {
 }
 
 /// Whether a response under a number of the server's own is the published one.
-fn is_numbered(rt: &impl Abort, alloc: Global, name: &ContextName) -> bool
+fn is_numbered(rt: &impl Abort, alloc: Global, name: &SharedName) -> bool
     requires { length name.now.client_id ≤ longest_id }
 {
     let made = respond(rt, alloc, name, 0, RESPONSES[1].message);
@@ -392,7 +397,7 @@ fn sealed_responses_with_a_number(rt: HostRuntime) {
 fn open_response_at(
     rt: &impl Abort,
     alloc: Global,
-    name: &ContextName,
+    name: &SharedName,
     number: u64,
     datagram: &[u8],
 ) -> Option<Note>
@@ -403,8 +408,8 @@ fn open_response_at(
     let (sender, recipient) = derive(alloc, name, Side::Client).expect(rt, "a context");
     assert!(rt; sender.id().len() <= ID_LIMIT);
     drop(sender);
-    let room = Room::new(alloc, name, sealed.sealed().len()).expect(rt, "memory");
-    open_response::<Ccm<8>>(room, &recipient, number, &sealed).ok()
+    let opened = open_response::<Ccm<8>>(alloc, name, &recipient, number, &sealed);
+    opened.expect(rt, "memory").ok()
 }
 
 /// Whether the client opens the published text.
@@ -417,7 +422,7 @@ fn is_opened(note: &Note) -> bool {
 fn opens(
     rt: &impl Abort,
     alloc: Global,
-    name: &ContextName,
+    name: &SharedName,
     number: u64,
     datagram: &[u8],
 ) -> Option<bool>
@@ -503,7 +508,7 @@ const NAMED: [(usize, &[u8], bool); 6] = [
 ];
 
 /// Whether a request of these options and payload names a context.
-fn is_for(rt: &impl Abort, alloc: Global, name: &ContextName, options: &[u8]) -> bool {
+fn is_for(rt: &impl Abort, alloc: Global, name: &SharedName, options: &[u8]) -> bool {
     let datagram = with_options(alloc, options).expect(rt, "memory");
     let message = MessageRef::parse(&datagram).expect(rt, "a message");
     read_request(&message).expect(rt, "a request").is_for(name)
@@ -562,7 +567,7 @@ fn post_of(alloc: Global, size: usize) -> Result<Vec<u8>, AllocError> {
 fn protected_length(
     rt: &impl Abort,
     alloc: Global,
-    name: &ContextName,
+    name: &SharedName,
     too_long: &MessageRef<'_>,
     message: &MessageRef<'_>,
 ) -> usize
@@ -583,7 +588,7 @@ fn protected_length(
 fn protected_size(
     rt: &impl Abort,
     alloc: Global,
-    name: &ContextName,
+    name: &SharedName,
     too_long: usize,
     size: usize,
 ) -> usize
@@ -605,22 +610,32 @@ fn long_requests(rt: HostRuntime) {
     drop(name);
 }
 
-/// Whether a POST with so many bytes of payload fits, protected, a datagram.
-fn post_fits(rt: &impl Abort, alloc: Global, name: &ContextName, size: usize) -> bool
+/// How many bytes a POST with so many bytes of payload has, protected, if it fits a datagram.
+fn post_size(rt: &impl Abort, alloc: Global, name: &SharedName, size: usize) -> Option<RequestSize>
     requires short { HasShortContext name.now }
     requires id { length name.now.client_id ≤ longest_id }
 {
     let datagram = post_of(alloc, size).expect(rt, "memory");
     let message = MessageRef::parse(&datagram).expect(rt, "a message");
-    fits::<Ccm<8>>(name, 0, &message)
+    request_size::<Ccm<8>>(name, 0, &message)
+}
+
+/// So many bytes of plaintext in so many of message.
+fn size_of(plaintext: usize, message: usize) -> Option<RequestSize> {
+    Some(RequestSize { plaintext, message })
 }
 
 #[test]
 fn what_fits(rt: HostRuntime) {
     let name = name_of(&rt, rt.alloc(), &CONTEXTS[0]);
     assert!(rt; name.client_id.len() <= ID_LIMIT);
-    for (size, fitting) in [(0, true), (1134, true), (1135, false), (1147, false)] {
-        assert!(rt; post_fits(&rt, rt.alloc(), &name, size) == fitting);
+    for (size, whole) in [
+        (0, size_of(1, 17)),
+        (1134, size_of(1136, 1152)),
+        (1135, None),
+        (1147, None),
+    ] {
+        assert!(rt; post_size(&rt, rt.alloc(), &name, size) == whole);
     }
     drop(name);
 }
@@ -639,7 +654,7 @@ fn prints<T: fmt::Debug>(rt: &impl Abort, alloc: Global, value: &T, text: &str) 
     format!(in alloc; "{value:?}").expect(rt, "memory").as_str() == text
 }
 
-fn room_is_hidden(rt: &impl Abort, alloc: Global, name: &ContextName) -> bool {
+fn room_is_hidden(rt: &impl Abort, alloc: Global, name: &SharedName) -> bool {
     let room = Room::new(alloc, name, 7).expect(rt, "memory");
     let hidden = prints(rt, alloc, &room, "Room");
     drop(room);

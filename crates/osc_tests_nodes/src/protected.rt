@@ -9,7 +9,7 @@ use osc_authz::ServerDesk;
 use osc_ccm::Ccm;
 use osc_coap::{Kind, MessageBuilder, MessageRef};
 use osc_context::{SendNumber, derive};
-use osc_model::{Bytes, ContextName, Draw, Moment, Peer, Side, Step};
+use osc_model::{Bytes, ContextName, Draw, Moment, Peer, SharedName, Side, Step};
 use osc_protect::{
     MessageTooLong, ProtectedRequest, Room, open_response, protect_request, read_response,
 };
@@ -50,18 +50,19 @@ const FIRST: Exchanged = Exchanged { nonce: 2, id: 1 };
 
 /// The name of the context that the exchange makes (RFC 9203 section 4.3): the salt is the token's, which is empty, and the two
 /// nonces, each as CBOR.
-fn name(alloc: Global, exchanged: Exchanged) -> Result<ContextName, AllocError>
+fn name(alloc: Global, exchanged: Exchanged) -> Result<SharedName, AllocError>
     ensures { IfOk result (λ name. HasShortContext name) }
 {
     let (secret, salt) = material(alloc, exchanged.nonce)?;
     let (client_id, server_id) = ids(alloc, exchanged.id)?;
-    Ok(ContextName {
+    let name = ContextName {
         secret,
         salt,
         id_context: None,
         client_id,
         server_id,
-    })
+    };
+    SharedName::new(alloc, name)
 }
 
 /// The master secret, and the master salt where the server's nonce ends in this byte.
@@ -84,7 +85,7 @@ fn ids(alloc: Global, id: u8) -> Result<(Bytes, Bytes), AllocError> {
 }
 
 /// The number that the client takes, where it has skipped to this one.
-fn number_of(alloc: Global, name: &ContextName, number: u64) -> Result<SendNumber, Fail>
+fn number_of(alloc: Global, name: &SharedName, number: u64) -> Result<SendNumber, Fail>
     ensures { IfOk result (λ taken. taken ≡ taken_of name.now Client taken.number) }
 {
     let (mut sender, _) = derive(alloc, name, Side::Client)?;
@@ -142,7 +143,7 @@ fn request_under(
 /// The message, protected under this number of the context.
 fn protected(
     alloc: Global,
-    name: &ContextName,
+    name: &SharedName,
     number: u64,
     message: &MessageRef<'_>,
 ) -> Result<Vec<u8>, Fail>
@@ -168,8 +169,7 @@ fn opened(alloc: Global, exchanged: Exchanged, number: u64, reply: &[u8]) -> Res
     let response = read_response(&message)?;
     let name = name(alloc, exchanged)?;
     let (_, recipient) = derive(alloc, &name, Side::Client)?;
-    let room = Room::new(alloc, &name, response.sealed().len())?;
-    match open_response::<Ccm<8>>(room, &recipient, number, &response) {
+    match open_response::<Ccm<8>>(alloc, &name, &recipient, number, &response)? {
         Ok(note) => Ok(Vec::from_slice(alloc, note.plaintext.as_slice())?),
         Err(_) => Err("not genuine")?,
     }

@@ -1,6 +1,6 @@
 //! Runs as rows: what each step did, in small numbers.
 use osc_model::{
-    Bytes, ClientResult, Code, ContextName, Entry, Moment, Note, Reply, Side, StepNotes,
+    Bytes, ClientResult, Code, ContextName, Entry, Moment, Note, Reply, SharedName, Side, StepNotes,
 };
 use osc_run::{Grant, Minted, Noted, Notes};
 use osc_scope::Scope;
@@ -86,15 +86,16 @@ pub(crate) const RUN: [Row; 10] = [
 ];
 
 /// The name with this secret, and client ID 01, or with nothing else.
-fn name(rt: &impl Abort, alloc: Global, secret: u8, of_token: bool) -> ContextName {
+fn name(rt: &impl Abort, alloc: Global, secret: u8, of_token: bool) -> SharedName {
     let client_id: &[u8] = if of_token { b"" } else { b"\x01" };
-    ContextName {
+    let name = ContextName {
         secret: Bytes::from_slice(alloc, &[secret]).expect(rt, "memory"),
         salt: Bytes::new(alloc),
         id_context: None,
         client_id: Bytes::from_slice(alloc, client_id).expect(rt, "memory"),
         server_id: Bytes::new(alloc),
-    }
+    };
+    SharedName::new(alloc, name).expect(rt, "memory")
 }
 
 /// The note of a use by this end.

@@ -1,7 +1,7 @@
 //! Tokens, byte by byte. What is sealed was computed by another implementation of AES-CCM.
 use osc_ccm::Ccm;
 use osc_cose::{seal0, write0};
-use osc_model::{Bytes, ContextName, Note, Side};
+use osc_model::{Bytes, ContextName, Note, SharedName, Side};
 use osc_token::{Audience, Claims, InputMaterial, MintError, mint, open_token};
 use std::alloc::{AllocError, Global};
 use std::process::Abort;
@@ -58,14 +58,15 @@ fn minted(alloc: Global, claims: Claims) -> Result<Vec<u8>, MintError> {
 
 /// The note of the opening of the text.
 fn note(rt: &impl Abort, alloc: Global) -> Note {
+    let name = ContextName {
+        secret: Bytes::from_slice(alloc, &KEY).expect(rt, "memory"),
+        salt: Bytes::new(alloc),
+        id_context: None,
+        client_id: Bytes::new(alloc),
+        server_id: Bytes::new(alloc),
+    };
     Note {
-        context: ContextName {
-            secret: Bytes::from_slice(alloc, &KEY).expect(rt, "memory"),
-            salt: Bytes::new(alloc),
-            id_context: None,
-            client_id: Bytes::new(alloc),
-            server_id: Bytes::new(alloc),
-        },
+        context: SharedName::new(alloc, name).expect(rt, "memory"),
         side: Side::Server,
         number: 0,
         nonce: IV,

@@ -7,7 +7,9 @@ use crate::quiet::is_quiet;
 use osc_authz::ServerContext;
 use osc_ccm::Ccm;
 use osc_client::Client;
-use osc_model::{ClientResult, Code, ContextName, Draw, Moment, Path, Peer, Reply, Request};
+use osc_model::{
+    ClientResult, Code, ContextName, Draw, Moment, Path, Peer, Reply, Request, SharedName,
+};
 use osc_run::Actor;
 use osc_scope::{Scope, Verdict};
 use osc_tree::Tree;
@@ -115,7 +117,7 @@ fn may_begin(world: &World, next: Next) -> bool {
 }
 
 /// The live context at the server of this name.
-fn held<'a>(world: &'a World, now: Moment, name: &ContextName) -> Option<&'a ServerContext> {
+fn held<'a>(world: &'a World, now: Moment, name: &SharedName) -> Option<&'a ServerContext> {
     let kid_context = match &name.id_context {
         Some(bytes) => Some(bytes.as_slice()),
         None => None,

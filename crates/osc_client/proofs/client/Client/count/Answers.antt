@@ -15,16 +15,16 @@ invariant_of-self g c =
     ap (counts c.self.inside.next_hop c.args.from c.args.message) (sym waits) ∙ ap (λ s. counts s.next_hop c.args.from c.args.message s.waiting) c.self.view_is ∙ c.requires in
     let own : KeepsOwn c.self.inside.next_hop (Some w) c.self.inside.endpoint.sending = rw waits at c.self.invariant.0 in
     let none = counted_gone c.self.inside.next_hop c.args.from c.args.message w c.self.inside.endpoint.sending counted own in
-    let has = has_after c.in-Ok.field-0.outcome c.self.inside.context w (rw waits at c.self.invariant.1) in (
-      own_none c.self.inside.next_hop c.in-Ok.field-0.waiting c.settle.new.self.sending (ap (λ e. e.sending) c.settle.ensures ∙ none),
-      rw (c.learn-notes.ensures.context, c.in-Ok.ensures.waits) has,
+    let has = has_after c.in-Ok.outcome c.self.inside.context w (rw waits at c.self.invariant.1) in (
+      own_none c.self.inside.next_hop c.outcome_of-outcome.result.waiting c.settle.new.self.sending (ap (λ e. e.sending) c.settle.ensures ∙ none),
+      rw (c.learn-notes.ensures.context, (rw c.in-Ok.is at c.outcome_of-outcome.ensures.waits)) has,
       rw c.learn-notes.ensures.context
-          (grant_after g.A.Aead.is_sealing c.self.inside.desk c.args.message c.self.inside.context w.what c.in-Ok.field-0.outcome c.in-Ok.ensures.comes c.self.invariant.2),
+          (grant_after g.A.Aead.is_sealing c.self.inside.desk c.args.message c.self.inside.context w.what c.in-Ok.outcome (rw c.in-Ok.is at c.outcome_of-outcome.ensures.comes) c.self.invariant.2),
     )
 
 pub returns-in-Err-clause-needs_memory : goal.returns-in-Err-clause-needs_memory
 returns-in-Err-clause-needs_memory g c =
     let w = c.unwrap-waiting.result in
     let waits : c.self.inside.waiting ≡ Some w = search rules in
-    let err : IsErr c.outcome_of.result = rw c.in-Err.is refl in
-    is_read w (ap (λ s. s.waiting) (sym c.self.view_is) ∙ waits) (c.outcome_of.ensures.read err)
+    let err : IsErr c.outcome_of-outcome.result.outcome = rw c.in-Err.is refl in
+    is_read w (ap (λ s. s.waiting) (sym c.self.view_is) ∙ waits) (c.outcome_of-outcome.ensures.read err)
