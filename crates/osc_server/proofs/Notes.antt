@@ -148,4 +148,4 @@ repeat_sends peer None message fits = record {
   fits = fits;
   addressed = All-nil (λ sent. sent.to ≡ peer);
 }
-repeat_sends peer (Some bytes) message fits = sent_again peer bytes (message bytes refl) (All-head (λ sent. FitsDatagram sent.bytes) _ _ fits)
+repeat_sends peer (Some bytes) message fits = sent_again peer bytes (message bytes refl) (All-head (λ sent. FitsDatagram sent.bytes) (record { to = peer; bytes = bytes }) [] fits)

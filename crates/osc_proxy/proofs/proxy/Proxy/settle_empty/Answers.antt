@@ -4,5 +4,5 @@ use Rattle.osc_proxy.proofs.proxy.Proxy.settle_empty.Goals as goal
 pub invariant_of-self : goal.invariant_of-self
 invariant_of-self c =
     let inside = c.self.inside in
-    each_at _ _ _ _ c.leave.ensures c.settle.ensures
+    each_at _ _ _ _ c.leave.ensures c.settle_empty.ensures
     (each_left c.args.now c.args.from c.args.id inside.exchanges inside.endpoint.sending c.self.invariant)
