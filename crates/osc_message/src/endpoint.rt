@@ -12,11 +12,12 @@ ghost use Rattle.osc_message.specs.Sending.{AreSendable, FitsDatagram, IsSendabl
 ghost use Rattle.osc_message.specs.Limits.{IsWithinLimits};
 ghost use Rattle.osc_message.specs.declared.received.Received.{Received as AnyReceived};
 
-use crate::confirmable::{Open, acknowledge};
+use crate::confirmable::acknowledge;
 use crate::deadline::deadline;
 use crate::handling::{Handling, acknowledge_by, handle};
 use crate::heard::{Heard, hear};
 use crate::queue::{MOST_OPEN, has_open, push, takes};
+use crate::queued::Queued;
 use crate::received::receive;
 use crate::sending::{is_confirmable, reply_kind};
 use crate::tick::{Ticked, tick};
@@ -47,7 +48,7 @@ impl QueueFull {
 /// message that is outstanding and 16 that wait.
 pub struct Endpoint {
     seen: Duplicates,
-    sending: Vec<Open>,
+    sending: Vec<Queued>,
     // The ID of the next message of the node's own, once it has made one.
     next_id: Option<u16>,
 }
@@ -66,13 +67,14 @@ impl Drop for Endpoint {
 impl Model for Endpoint {
     ghost use Rattle.std.specs.Prelude.{◌≤◌, vec_capacity};
     ghost use Rattle.osc_message.specs.Endpoint.{EndpointState};
-    ghost use Rattle.osc_message.specs.Bounds.{AreShort, IsSound, most_open};
+    ghost use Rattle.osc_message.specs.Bounds.{AreShort, most_open};
+    ghost use Rattle.osc_message.specs.Queue.{IsSoundQueue, messages};
 
     ghost Value = { EndpointState };
 
-    ghost view = { λ e. record { seen = e.seen; sending = e.sending.items; next_id = e.next_id } };
+    ghost view = { λ e. record { seen = e.seen; sending = messages e.sending.items; next_id = e.next_id } };
 
-    ghost invariant = { λ e. (most_open ≤ vec_capacity e.sending) × IsSound e.sending.items × AreShort e.seen };
+    ghost invariant = { λ e. (most_open ≤ vec_capacity e.sending) × IsSoundQueue e.sending.items × AreShort e.seen };
 }
 
 impl Endpoint {
@@ -199,7 +201,7 @@ impl Endpoint {
 
     /// Whether `send` takes a confirmable message to this peer.
     ///
-    /// The work grows with the square of the number of open messages.
+    /// The work grows with the number of open messages.
     pub fn takes(&self, to: Peer) -> bool
         ensures { result ≡ takes_of to self.now.sending }
     {
@@ -209,7 +211,7 @@ impl Endpoint {
     /// Takes a confirmable message, of at most 1,152 bytes, and answers whether it goes out now; else it waits for its turn. Its
     /// initial timeout is the draw's. Takes no memory.
     ///
-    /// The work grows with the square of the number of open messages.
+    /// The work grows with the number of open messages.
     ///
     /// # Errors
     ///
