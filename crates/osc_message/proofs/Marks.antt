@@ -2,13 +2,13 @@
 use Rattle.std.proofs.Common.{◌≡◌, ℕ, ◌+◌, ◌<◌, Bool, true, false, not, cond, ◌||◌, List, [], ◌∷◌, ◌++◌, length, filter, count_by, take, drop, get_or, set, zero, suc, refl, ap, ap₂, sym, ◌∙◌, subst, append_assoc, arith}
 use Rattle.std.specs.List.{All, list_any, remove}
 use Rattle.std.proofs.lemmas.List.Elements.{All-head, All-drop}
-use Rattle.osc_message.specs.Bounds.{IsBounded}
-use Rattle.std.proofs.lemmas.List.{take_more, drop_more, take-map, drop-map, map-append}
+use Rattle.std.proofs.lemmas.List.{append-nil, take_more, drop_more, take-map, drop-map, map-append}
 use Rattle.std.proofs.lemmas.List.Sums.{sum_by-cons}
 use Rattle.osc_model.specs.declared.node.Moment.{Moment}
 use Rattle.osc_model.specs.declared.node.Peer.{Peer}
 use Rattle.osc_message.specs.declared.queued.Queued.{Queued}
 use Rattle.osc_message.specs.Confirmables.{Open, same_peer, is_to, is_named, has_open, peers_of}
+use Rattle.osc_message.specs.Bounds.{IsBounded}
 use Rattle.osc_message.specs.Ticks.{due_of, dues}
 use Rattle.osc_message.specs.Queue.{messages, IsMarkedFor, AreMarked, marked_one, marked}
 use Rattle.osc_message.proofs.Limits.{weight_is, open_push, open_same}
@@ -19,13 +19,6 @@ use Rattle.osc_message.proofs.Peers.{same_peer_equiv, length_peers, weight}
 pub any_messages : (t : Open → Bool) (xs : List Queued) → list_any t (messages xs) ≡ list_any (λ x. t x.message) xs
 any_messages t [] = refl
 any_messages t (x ∷ xs) = ap (λ b. t x.message || b) (any_messages t xs)
-
-pub count_messages : (t : Open → Bool) (xs : List Queued) → count_by t (messages xs) ≡ count_by (λ x. t x.message) xs
-count_messages t [] = refl
-count_messages t (x ∷ xs) =
-    sum_by-cons (λ m. cond (t m) 1 0) x.message (messages xs)
-    ∙ ap (λ n. cond (t x.message) 1 0 + n) (count_messages t xs)
-    ∙ sym (sum_by-cons (λ y. cond (t y.message) 1 0) x xs)
 
 pub filter_messages : (t : Open → Bool) (xs : List Queued) → messages (filter (λ x. t x.message) xs) ≡ filter t (messages xs)
 filter_messages t [] = refl
@@ -122,13 +115,9 @@ peers_more m (x ∷ xs) = by (same_peer m.to x.to) (has_open x.to xs) (has_open 
         let short : length (peers_of (x ∷ xs)) + weight a ≡ length (peers_of xs) + 1 = ap (λ c. length (peers_of (x ∷ xs)) + weight c) (sym f) ∙ length_peers x xs in
         sums s a b (λ same. sym f ∙ (sym (open_same m.to x.to xs (e ∙ same)) ∙ g)) _ _ _ _ behind long short
 
-append_nil : (xs : List Open) → xs ++ [] ≡ xs
-append_nil [] = refl
-append_nil (x ∷ xs) = ap (λ ys. x ∷ ys) (append_nil xs)
-
 firsts : (xs : List Queued) (earlier : List Open) → ((p : Peer) → IsMarkedFor p (has_open p earlier) xs)
     → count_by (λ x. x.first) xs + length (peers_of earlier) ≡ length (peers_of (earlier ++ messages xs))
-firsts [] earlier marks = omega (arith, ap (λ ms. length (peers_of ms)) (append_nil earlier))
+firsts [] earlier marks = omega (arith, ap (λ ms. length (peers_of ms)) (append-nil earlier))
 firsts (x ∷ xs) earlier marks =
     let m = x.message in
     let one : x.first ≡ not (has_open m.to earlier) = (marks m.to).0 (same_peer_equiv.refl m.to) in
@@ -262,7 +251,7 @@ front_removed p xs i =
     ∙ ap (take i) (messages_marked p false (remove xs i))
     ∙ take-map (λ x. x.message) i (remove xs i)
     ∙ ap messages (take_removed xs i)
-    ∙ sym (append_nil (messages (take i xs)))
+    ∙ sym (append-nil (messages (take i xs)))
 
 pub back_removed : (p : Peer) (xs : List Queued) (i : ℕ) (x : Queued) (later : List Queued) → drop i xs ≡ x ∷ later → messages (drop i (marked p false (remove xs i))) ≡ messages later
 back_removed p xs i x later split =

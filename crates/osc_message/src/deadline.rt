@@ -35,7 +35,8 @@ fn first_of(a: Option<u64>, b: Option<u64>) -> Option<u64>
     }
 }
 
-/// The first moment at which a tick does anything, in ms, or none; the work grows with the square of the number of open messages.
+/// The first moment at which a tick does anything, in ms, or none. The work grows with the number of open messages, and so again for
+/// each one that waits and is the first to its peer.
 pub(crate) fn deadline(all: &[Queued]) -> Option<u64>
     requires { IsSoundQueue all.now }
     ensures { (now : AnyMoment) → is_reached now result ≡ acts now (messages all.now) }
@@ -47,7 +48,7 @@ pub(crate) fn deadline(all: &[Queued]) -> Option<u64>
     first
 }
 
-/// Whether a tick does anything at this moment; the work grows with the square of the number of open messages.
+/// Whether a tick does anything at this moment; the work is that of `deadline`.
 pub(crate) fn is_due(now: Moment, all: &[Queued]) -> bool
     requires { IsSoundQueue all.now }
     ensures { result ≡ acts now (messages all.now) }

@@ -242,7 +242,8 @@ impl Endpoint {
     /// Sends what is due at this moment, gives up what nobody acknowledged, and lets the notes go whose lifetime has ended.
     /// Where nothing is sent or given up no memory is taken; without memory all stays as it was.
     ///
-    /// The work grows with the square of the number of open messages.
+    /// The work grows with the number of open messages, and so again for each one that goes out for the first time or is given
+    /// up: at most one for each peer.
     pub fn on_tick(&mut self, alloc: Global, now: Moment) -> Result<Ticked, AllocError>
         ensures sent { IfOk result (λ done. done.out ≡ tick_sends now self.old.sending) }
         ensures fits { IfOk result (λ done. AreSendable done.out) }
@@ -259,7 +260,7 @@ impl Endpoint {
 
     /// The first moment at which a tick sends or gives up anything, in ms, or none where no tick would.
     ///
-    /// The work grows with the square of the number of open messages.
+    /// The work grows with the number of open messages, and so again for each peer to which one waits and none is outstanding.
     pub fn next_deadline(&self) -> Option<u64>
         ensures some { IfSome result (λ deadline. (now : AnyMoment) → (acts now self.now.sending ≡ true) ↔ (deadline ≤ now.ms)) }
         ensures none { IfNone result ((now : AnyMoment) → acts now self.now.sending ≡ false) }

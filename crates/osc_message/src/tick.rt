@@ -67,7 +67,7 @@ fn add_given_up(given_up: &mut MessageNames, message: &Open, due: Due) -> Result
     }
 }
 
-/// What a tick does; the work grows with the square of the number of open messages.
+/// What a tick does. The work grows with the number of open messages, and so again for each one that goes out for the first time.
 pub(crate) fn make_plan(alloc: Global, now: Moment, all: &[Queued]) -> Result<Plan, AllocError>
     requires { IsSoundQueue all.now }
     ensures dues { IfOk result (λ plan. plan.dues.items ≡ filter_map (λ pair. Some pair.1) (dues_of now (messages all.now))) }
