@@ -499,7 +499,7 @@ impl Client {
     /// The first moment at which a tick sends, gives up or ends anything, in ms, or none where no tick would. What was acknowledged ends
     /// 247 seconds after it was sent.
     ///
-    /// The work grows with the square of the number of open messages.
+    /// The work is that of `Endpoint::next_deadline`.
     pub fn next_deadline(&self) -> Option<u64>
         ensures some { IfSome result (λ deadline. (now : AnyMoment) → (acts_at self.now now ≡ true) ↔ (deadline ≤ now.ms)) }
         ensures none { IfNone result ((now : AnyMoment) → acts_at self.now now ≡ false) }

@@ -2,6 +2,7 @@ pub mod Came
 pub mod Few
 pub mod Idle
 pub mod Limits
+pub mod Marks
 pub mod Notes
 pub mod Peers
 pub mod Places

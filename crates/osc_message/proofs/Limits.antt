@@ -22,7 +22,7 @@ abbrev pub count : (Open → Bool) → List Open → ℕ
 count t [] = 0
 count t (x ∷ xs) = weight (t x) + count t xs
 
-weight_is : (b : Bool) → cond b 1 0 ≡ weight b
+pub weight_is : (b : Bool) → cond b 1 0 ≡ weight b
 weight_is true = refl
 weight_is false = refl
 
@@ -61,7 +61,7 @@ no_one false = refl
 
 -- ---- peers
 
-open_same : (p q : Peer) (all : List Open) → same_peer p q ≡ true → has_open p all ≡ has_open q all
+pub open_same : (p q : Peer) (all : List Open) → same_peer p q ≡ true → has_open p all ≡ has_open q all
 open_same p q all same = sym (any_peers p all) ∙ list_any_congr same_peer_equiv p q (peers_of all) same ∙ any_peers q all
 
 outstanding_same : (p q : Peer) (all : List Open) → same_peer p q ≡ true → has_outstanding p all ≡ has_outstanding q all
@@ -254,7 +254,7 @@ held_all now p all earlier (message ∷ later) one =
 
 -- ---- where none is, the first alone goes out
 
-open_push : (p : Peer) (earlier : List Open) (message : Open) (to : Bool) → is_to p message ≡ to → has_open p (earlier ++ message ∷ []) ≡ (has_open p earlier || (to || false))
+pub open_push : (p : Peer) (earlier : List Open) (message : Open) (to : Bool) → is_to p message ≡ to → has_open p (earlier ++ message ∷ []) ≡ (has_open p earlier || (to || false))
 open_push p earlier message to e = list_any-append (is_to p) earlier (message ∷ []) ∙ ap (λ b. has_open p earlier || (b || false)) e
 
 or_true : (a : Bool) → weight (a || true) ≡ 1

@@ -7,7 +7,9 @@ use Rattle.std.specs.Option.{option_to_list}
 use Rattle.osc_model.specs.declared.node.Moment.{Moment}
 use Rattle.osc_message.specs.Confirmables.{Open}
 use Rattle.osc_message.specs.Bounds.{IsBounded}
+use Rattle.osc_message.specs.Queue.{messages}
 use Rattle.osc_message.specs.Ticks.{after}
+use Rattle.osc_message.specs.declared.queued.Queued.{Queued}
 use Rattle.osc_message.specs.declared.due.Due.{Due}
 
 -- the member at a place, and those behind it
@@ -27,29 +29,38 @@ cons_option_is None xs = refl
 cons_option_is (Some x) xs = refl
 
 -- one message's change, and what it leaves for the walk
-pub changed : (now : Moment) (whole xs ys : List Open) (ds : List Due) (p q i : ℕ) (due : Due) → p < length xs → i < length ds → due ≡ get_or ds i due
-    → take p xs ++ filter_map (after now) (zip (drop p xs) (drop i ds)) ≡ whole
-    → ((message : Open) (later : List Open) → drop p xs ≡ message ∷ later → take q ys ≡ take p xs ++ option_to_list (after now (message, due)))
-    → ((message : Open) (later : List Open) → drop p xs ≡ message ∷ later → drop q ys ≡ later)
-    → take q ys ++ filter_map (after now) (zip (drop q ys) (drop (i + 1) ds)) ≡ whole
+pub changed : (now : Moment) (whole : List Open) (xs ys : List Queued) (ds : List Due) (p q i : ℕ) (due : Due) → p < length xs → i < length ds → due ≡ get_or ds i due
+    → messages (take p xs) ++ filter_map (after now) (zip (messages (drop p xs)) (drop i ds)) ≡ whole
+    → ((queued : Queued) (later : List Queued) → drop p xs ≡ queued ∷ later → messages (take q ys) ≡ messages (take p xs) ++ option_to_list (after now (queued.message, due)))
+    → ((queued : Queued) (later : List Queued) → drop p xs ≡ queued ∷ later → messages (drop q ys) ≡ messages later)
+    → messages (take q ys) ++ filter_map (after now) (zip (messages (drop q ys)) (drop (i + 1) ds)) ≡ whole
 changed now whole xs ys ds p q i due inside more is before front back = by (drop p xs) refl
   where
-    by : (rest : List Open) → drop p xs ≡ rest → take q ys ++ filter_map (after now) (zip (drop q ys) (drop (i + 1) ds)) ≡ whole
+    by : (rest : List Queued) → drop p xs ≡ rest → messages (take q ys) ++ filter_map (after now) (zip (messages (drop q ys)) (drop (i + 1) ds)) ≡ whole
     by [] split = absurd (omega (arith, length-drop p xs, ap length split))
-    by (message ∷ later) split =
+    by (queued ∷ later) split =
         let others = drop (i + 1) ds in
-        let rest = filter_map (after now) (zip later others) in
+        let rest = filter_map (after now) (zip (messages later) others) in
         let next : drop i ds ≡ due ∷ others = drop_more ds i due more ∙ ap (λ d. d ∷ others) (sym is) in
-        ap₂ (λ a b. a ++ filter_map (after now) (zip b others)) (front message later split) (back message later split)
-        ∙ append_assoc (take p xs) (option_to_list (after now (message, due))) rest
-        ∙ ap (λ zs. take p xs ++ zs) (sym (cons_option_is (after now (message, due)) rest))
-        ∙ ap₂ (λ a b. take p xs ++ filter_map (after now) (zip a b)) (sym split) (sym next)
+        ap₂ (λ a b. a ++ filter_map (after now) (zip b others)) (front queued later split) (back queued later split)
+        ∙ append_assoc (messages (take p xs)) (option_to_list (after now (queued.message, due))) rest
+        ∙ ap (λ zs. messages (take p xs) ++ zs) (sym (cons_option_is (after now (queued.message, due)) rest))
+        ∙ ap₂ (λ a b. messages (take p xs) ++ filter_map (after now) (zip (messages a) b)) (sym split) (sym next)
         ∙ before
 
-pub still_bounded : (xs ys : List Open) (p q : ℕ) → p < length xs → All IsBounded (drop p xs)
-    → ((message : Open) (later : List Open) → drop p xs ≡ message ∷ later → drop q ys ≡ later) → All IsBounded (drop q ys)
+pub still_bounded : (xs ys : List Queued) (p q : ℕ) → p < length xs → All IsBounded (messages (drop p xs))
+    → ((queued : Queued) (later : List Queued) → drop p xs ≡ queued ∷ later → messages (drop q ys) ≡ messages later) → All IsBounded (messages (drop q ys))
 still_bounded xs ys p q inside all back = by (drop p xs) refl all
   where
-    by : (rest : List Open) → drop p xs ≡ rest → All IsBounded rest → All IsBounded (drop q ys)
+    by : (rest : List Queued) → drop p xs ≡ rest → All IsBounded (messages rest) → All IsBounded (messages (drop q ys))
     by [] split all = absurd (omega (arith, length-drop p xs, ap length split))
-    by (message ∷ later) split all = rw (back message later split) (All-tail IsBounded message later all)
+    by (queued ∷ later) split all = rw (back queued later split) (All-tail IsBounded queued.message (messages later) all)
+
+-- one more is put behind what came of those before
+pub added : {Y : Type 0} (f : Open × Due → Option Y) (pair : Open × Due) (old new total : List Y) (pairs rest : List (Open × Due)) → pairs ≡ pair ∷ rest
+    → old ++ filter_map f pairs ≡ total → new ≡ old ++ option_to_list (f pair) → new ++ filter_map f rest ≡ total
+added f pair old new total pairs rest split before is =
+    ap (λ ys. ys ++ filter_map f rest) is
+    ∙ append_assoc old (option_to_list (f pair)) (filter_map f rest)
+    ∙ ap (λ ys. old ++ ys) (sym (cons_option_is (f pair) (filter_map f rest)) ∙ ap (filter_map f) (sym split))
+    ∙ before

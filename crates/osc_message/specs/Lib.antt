@@ -6,6 +6,7 @@ pub mod Ticks
 pub mod Endpoint
 pub mod Sending
 pub mod Bounds
+pub mod Queue
 pub mod Limits
 pub mod Timeout
 pub mod Schedule

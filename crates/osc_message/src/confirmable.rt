@@ -1,9 +1,10 @@
 //! Open confirmable messages, and their initial timeout (RFC 7252 sections 4.2 and 4.8).
 ghost use Rattle.std.specs.Prelude.{◌≡◌, ◌≤◌, vec_capacity};
-ghost use Rattle.osc_message.specs.Bounds.{IsSound};
+ghost use Rattle.osc_message.specs.Queue.{IsSoundQueue, messages};
 ghost use Rattle.osc_message.specs.Timeout.{timeout_of};
 ghost use Rattle.osc_message.specs.Confirmables.{is_named as is_named_of, acknowledged};
 
+use crate::queued::{Queued, mark};
 use osc_model::{Bytes, Draw, Moment, Peer};
 
 /// How a message that went out stands.
@@ -46,10 +47,11 @@ fn is_named(message: &Open, peer: Peer, id: u16) -> bool
 }
 
 /// Takes out what this peer acknowledged by this ID.
-pub(crate) fn acknowledge(sending: &mut Vec<Open>, peer: Peer, id: u16)
-    ensures items { sending.new.items ≡ acknowledged peer id sending.old.items }
-    ensures sound { IsSound sending.old.items → IsSound sending.new.items }
-    ensures capacity { vec_capacity sending.new ≡ vec_capacity sending.old }
+pub(crate) fn acknowledge(queue: &mut Vec<Queued>, peer: Peer, id: u16)
+    ensures items { messages queue.new.items ≡ acknowledged peer id (messages queue.old.items) }
+    ensures sound { IsSoundQueue queue.old.items → IsSoundQueue queue.new.items }
+    ensures capacity { vec_capacity queue.new ≡ vec_capacity queue.old }
 {
-    sending.retain(|message| !is_named(message, peer, id));
+    queue.retain(|queued| !is_named(&queued.message, peer, id));
+    mark(queue, peer);
 }

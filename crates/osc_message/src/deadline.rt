@@ -1,25 +1,27 @@
 //! When the next tick has to come.
-ghost use Rattle.std.specs.Prelude.{◌≡◌, ◌||◌, not};
-ghost use Rattle.std.specs.List.{All};
+ghost use Rattle.std.specs.Prelude.{◌≡◌, ◌||◌, not, List};
 ghost use Rattle.osc_model.specs.declared.node.Moment.{Moment as AnyMoment};
 ghost use Rattle.osc_message.specs.Bounds.{IsBounded, is_reached};
+ghost use Rattle.osc_message.specs.Confirmables.{Open as AnyOpen, has_open};
+ghost use Rattle.osc_message.specs.Queue.{IsSoundQueue, messages};
 ghost use Rattle.osc_message.specs.Ticks.{due_of as due_of_spec, is_kept, acts};
 
-use crate::confirmable::Open;
 use crate::due::{Due, due_at, due_of_waiting};
+use crate::queued::Queued;
 use osc_model::Moment;
 
 /// When something is due of a message, in ms, or none where nothing will be as things stand.
-fn deadline_of(all: &[Open], earlier: &[Open], message: &Open) -> Option<u64>
-    requires { IsBounded message.now }
-    ensures { (now : AnyMoment) → is_reached now result ≡ not (is_kept (due_of_spec now all.now earlier.now message.now message.now.sent)) }
+fn deadline_of(all: &[Queued], queued: &Queued) -> Option<u64>
+    requires { IsBounded queued.now.message }
+    ensures { (now : AnyMoment) (earlier : List AnyOpen) → queued.now.first ≡ not (has_open queued.now.message.to earlier)
+        → is_reached now result ≡ not (is_kept (due_of_spec now (messages all.now) earlier queued.now.message queued.now.message.sent)) }
 {
-    match message.sent {
-        None => match due_of_waiting(all, earlier, message) {
+    match queued.message.sent {
+        None => match due_of_waiting(all, queued) {
             Due::Keep => None,
             _ => Some(0),
         },
-        Some(sent) => Some(due_at(message, sent)),
+        Some(sent) => Some(due_at(&queued.message, sent)),
     }
 }
 
@@ -33,22 +35,23 @@ fn first_of(a: Option<u64>, b: Option<u64>) -> Option<u64>
     }
 }
 
-/// The first moment at which a tick does anything, in ms, or none; the work grows with the square of the number of open messages.
-pub(crate) fn deadline(all: &[Open]) -> Option<u64>
-    requires { All IsBounded all.now }
-    ensures { (now : AnyMoment) → is_reached now result ≡ acts now all.now }
+/// The first moment at which a tick does anything, in ms, or none. The work grows with the number of open messages, and so again for
+/// each one that waits and is the first to its peer.
+pub(crate) fn deadline(all: &[Queued]) -> Option<u64>
+    requires { IsSoundQueue all.now }
+    ensures { (now : AnyMoment) → is_reached now result ≡ acts now (messages all.now) }
 {
     let mut first = None;
     for index in 0..all.len() {
-        first = first_of(first, deadline_of(all, &all[..index], &all[index]));
+        first = first_of(first, deadline_of(all, &all[index]));
     }
     first
 }
 
-/// Whether a tick does anything at this moment; the work grows with the square of the number of open messages.
-pub(crate) fn is_due(now: Moment, all: &[Open]) -> bool
-    requires { All IsBounded all.now }
-    ensures { result ≡ acts now all.now }
+/// Whether a tick does anything at this moment; the work is that of `deadline`.
+pub(crate) fn is_due(now: Moment, all: &[Queued]) -> bool
+    requires { IsSoundQueue all.now }
+    ensures { result ≡ acts now (messages all.now) }
 {
     deadline(all).is_some_and(|first| first <= now.ms)
 }

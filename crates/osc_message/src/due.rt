@@ -1,10 +1,13 @@
 //! What is due of a confirmable message at a tick (RFC 7252 sections 4.2 and 4.8).
-ghost use Rattle.std.specs.Prelude.{◌≡◌, ◌≤◌, ◌<◌, ◌+◌, ◌-◌, ◌^◌};
+ghost use Rattle.std.specs.Prelude.{◌≡◌, ◌≤◌, ◌<◌, ◌+◌, ◌-◌, ◌^◌, not, List};
 ghost use Rattle.osc_message.specs.Bounds.{IsBounded};
+ghost use Rattle.osc_message.specs.Confirmables.{Open as AnyOpen, has_open};
+ghost use Rattle.osc_message.specs.Queue.{messages};
 ghost use Rattle.osc_message.specs.Ticks.{due_at as due_at_of, outstanding_due, waiting_due, due_of as due_of_spec};
 
 use crate::confirmable::{Open, Sent};
-use crate::queue::{has_open, has_outstanding};
+use crate::queue::has_outstanding;
+use crate::queued::Queued;
 use osc_model::Moment;
 
 /// How often a message is retransmitted at most: MAX_RETRANSMIT.
@@ -59,24 +62,26 @@ fn due_of_outstanding(now: Moment, message: &Open, sent: Sent) -> Due
     }
 }
 
-/// Whether a waiting message goes out, where `earlier` were made before it and `all` stand there.
-pub(crate) fn due_of_waiting(all: &[Open], earlier: &[Open], message: &Open) -> Due
-    ensures { result ≡ waiting_due all.now earlier.now message.now }
+/// Whether a waiting message goes out, where `all` stand there and it is marked beside those that were made before it.
+pub(crate) fn due_of_waiting(all: &[Queued], queued: &Queued) -> Due
+    ensures { (earlier : List AnyOpen) → queued.now.first ≡ not (has_open queued.now.message.to earlier)
+        → result ≡ waiting_due (messages all.now) earlier queued.now.message }
 {
-    if has_outstanding(all, message.to) || has_open(earlier, message.to) {
-        Due::Keep
-    } else {
+    if queued.first && !has_outstanding(all, queued.message.to) {
         Due::Send
+    } else {
+        Due::Keep
     }
 }
 
-/// What is due of a message, where `earlier` were made before it and `all` stand there.
-pub(crate) fn due_of(now: Moment, all: &[Open], earlier: &[Open], message: &Open) -> Due
-    requires { IsBounded message.now }
-    ensures { result ≡ due_of_spec now all.now earlier.now message.now message.now.sent }
+/// What is due of a message, where `all` stand there and it is marked beside those that were made before it.
+pub(crate) fn due_of(now: Moment, all: &[Queued], queued: &Queued) -> Due
+    requires { IsBounded queued.now.message }
+    ensures { (earlier : List AnyOpen) → queued.now.first ≡ not (has_open queued.now.message.to earlier)
+        → result ≡ due_of_spec now (messages all.now) earlier queued.now.message queued.now.message.sent }
 {
-    match message.sent {
-        None => due_of_waiting(all, earlier, message),
-        Some(sent) => due_of_outstanding(now, message, sent),
+    match queued.message.sent {
+        None => due_of_waiting(all, queued),
+        Some(sent) => due_of_outstanding(now, &queued.message, sent),
     }
 }

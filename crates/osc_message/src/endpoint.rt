@@ -16,11 +16,12 @@ ghost use Rattle.osc_message.specs.declared.heard.Heard.TheVariants as heard;
 ghost use Rattle.osc_message.specs.declared.received.Received.{Received as AnyReceived};
 ghost use Rattle.osc_model.specs.Step.{sends};
 
-use crate::confirmable::{Open, acknowledge};
+use crate::confirmable::acknowledge;
 use crate::deadline::deadline;
 use crate::handling::{Handling, acknowledge_by, handle};
 use crate::heard::{Heard, hear};
 use crate::queue::{has_open, push, takes};
+use crate::queued::Queued;
 use crate::received::receive;
 use crate::sending::{is_confirmable, reply_kind, sending_bytes};
 use crate::tick::{Ticked, tick};
@@ -52,7 +53,7 @@ impl QueueFull {
 /// enough for any: to each of 64 peers one message that is outstanding and 16 that wait.
 pub struct Endpoint<const PLACES: usize> {
     seen: Duplicates,
-    sending: Vec<Open>,
+    sending: Vec<Queued>,
     // The ID of the next message of the node's own, once it has made one.
     next_id: Option<u16>,
 }
@@ -71,13 +72,14 @@ impl<const PLACES: usize> Drop for Endpoint<PLACES> {
 impl<const PLACES: usize> Model for Endpoint<PLACES> {
     ghost use Rattle.std.specs.Prelude.{◌≤◌, vec_capacity};
     ghost use Rattle.osc_message.specs.Endpoint.{EndpointState};
-    ghost use Rattle.osc_message.specs.Bounds.{AreShort, IsSound};
+    ghost use Rattle.osc_message.specs.Bounds.{AreShort};
+    ghost use Rattle.osc_message.specs.Queue.{IsSoundQueue, messages};
 
     ghost Value = { EndpointState };
 
-    ghost view = { λ e. record { seen = e.seen; sending = e.sending.items; next_id = e.next_id } };
+    ghost view = { λ e. record { seen = e.seen; sending = messages e.sending.items; next_id = e.next_id } };
 
-    ghost invariant = { λ e. (PLACES ≤ vec_capacity e.sending) × IsSound e.sending.items × AreShort e.seen };
+    ghost invariant = { λ e. (PLACES ≤ vec_capacity e.sending) × IsSoundQueue e.sending.items × AreShort e.seen };
 }
 
 impl<const PLACES: usize> Endpoint<PLACES> {
@@ -236,7 +238,7 @@ impl<const PLACES: usize> Endpoint<PLACES> {
 
     /// Whether `send` takes a confirmable message to this peer.
     ///
-    /// The work grows with the square of the number of open messages.
+    /// The work grows with the number of open messages.
     pub fn takes(&self, to: Peer) -> bool
         ensures value { result ≡ takes_in PLACES to self.now.sending }
         ensures enough { most_open ≤ PLACES → result ≡ takes_of to self.now.sending }
@@ -247,7 +249,7 @@ impl<const PLACES: usize> Endpoint<PLACES> {
     /// Takes a confirmable message, of at most 1,152 bytes, and answers whether it goes out now; else it waits for its turn. Its
     /// initial timeout is the draw's. Takes no memory.
     ///
-    /// The work grows with the square of the number of open messages.
+    /// The work grows with the number of open messages.
     ///
     /// # Errors
     ///
@@ -279,7 +281,8 @@ impl<const PLACES: usize> Endpoint<PLACES> {
     /// Sends what is due at this moment, gives up what nobody acknowledged, and lets the notes go whose lifetime has ended.
     /// Where nothing is sent or given up no memory is taken; without memory all stays as it was.
     ///
-    /// The work grows with the square of the number of open messages.
+    /// The work grows with the number of open messages, and so again for each one that goes out for the first time or is given
+    /// up: at most one for each peer.
     pub fn on_tick(&mut self, alloc: Global, now: Moment) -> Result<Ticked, AllocError>
         ensures sent { IfOk result (λ done. done.out ≡ tick_sends now self.old.sending) }
         ensures fits { IfOk result (λ done. AreSendable done.out) }
@@ -296,7 +299,7 @@ impl<const PLACES: usize> Endpoint<PLACES> {
 
     /// The first moment at which a tick sends or gives up anything, in ms, or none where no tick would.
     ///
-    /// The work grows with the square of the number of open messages.
+    /// The work grows with the number of open messages, and so again for each peer to which one waits and none is outstanding.
     pub fn next_deadline(&self) -> Option<u64>
         ensures some { IfSome result (λ deadline. (now : AnyMoment) → (acts now self.now.sending ≡ true) ↔ (deadline ≤ now.ms)) }
         ensures none { IfNone result ((now : AnyMoment) → acts now self.now.sending ≡ false) }

@@ -1,10 +1,12 @@
 //! What a node made of a message, and what that changes.
 ghost use Rattle.std.specs.Prelude.{◌≡◌, ◌≤◌, vec_capacity};
-ghost use Rattle.osc_message.specs.Bounds.{AreShort, IsSound};
+ghost use Rattle.osc_message.specs.Bounds.{AreShort};
+ghost use Rattle.osc_message.specs.Queue.{IsSoundQueue, messages};
 ghost use Rattle.osc_message.specs.Endpoint.{lifetime as lifetime_of, noted, acknowledged_by, handled_seen, handled_sending};
 ghost use Rattle.osc_message.specs.Sending.{IsSendableHandling, IsSendableReply};
 
-use crate::confirmable::{Open, acknowledge};
+use crate::confirmable::acknowledge;
+use crate::queued::Queued;
 use osc_coap::Kind;
 use osc_dedup::{Duplicates, Noted};
 use osc_model::{Bytes, Moment, Peer};
@@ -52,9 +54,9 @@ fn note(seen: &mut Duplicates, now: Moment, from: Peer, kind: Kind, id: u16, rep
 }
 
 /// Ends the repeats of the message that an acknowledgement or a Reset names.
-pub(crate) fn acknowledge_by(sending: &mut Vec<Open>, from: Peer, kind: Kind, id: u16)
-    ensures items { sending.new.items ≡ acknowledged_by from kind id sending.old.items }
-    ensures sound { IsSound sending.old.items → IsSound sending.new.items }
+pub(crate) fn acknowledge_by(sending: &mut Vec<Queued>, from: Peer, kind: Kind, id: u16)
+    ensures items { messages sending.new.items ≡ acknowledged_by from kind id (messages sending.old.items) }
+    ensures sound { IsSoundQueue sending.old.items → IsSoundQueue sending.new.items }
     ensures capacity { vec_capacity sending.new ≡ vec_capacity sending.old }
 {
     match kind {
@@ -66,7 +68,7 @@ pub(crate) fn acknowledge_by(sending: &mut Vec<Open>, from: Peer, kind: Kind, id
 /// Makes the changes of what the node made of a message.
 pub(crate) fn handle(
     seen: &mut Duplicates,
-    sending: &mut Vec<Open>,
+    sending: &mut Vec<Queued>,
     now: Moment,
     from: Peer,
     kind: Kind,
@@ -75,8 +77,8 @@ pub(crate) fn handle(
 )
     ensures seen { seen.new ≡ handled_seen now from kind id handling seen.old }
     ensures short { IsSendableHandling handling → AreShort seen.old → AreShort seen.new }
-    ensures items { sending.new.items ≡ handled_sending from handling sending.old.items }
-    ensures sound { IsSound sending.old.items → IsSound sending.new.items }
+    ensures items { messages sending.new.items ≡ handled_sending from handling (messages sending.old.items) }
+    ensures sound { IsSoundQueue sending.old.items → IsSoundQueue sending.new.items }
     ensures capacity { vec_capacity sending.new ≡ vec_capacity sending.old }
 {
     match handling {

@@ -15,6 +15,7 @@ pub mod laws;
 mod name;
 mod outbox;
 mod queue;
+mod queued;
 mod received;
 mod sending;
 mod tick;

@@ -2,14 +2,16 @@
 ghost use Rattle.std.specs.Prelude.{◌≡◌, ◌≤◌, ◌<◌, ◌+◌, ◌^◌, true, [], ◌∷◌, ◌++◌, List, length, take, drop, map, Some, IfOk, OnOk, OnErr, vec_len, vec_capacity};
 ghost use Rattle.std.specs.List.{All, filter_map, zip};
 ghost use Rattle.std.specs.Option.{option_to_list};
-ghost use Rattle.osc_message.specs.Bounds.{IsBounded, IsSound};
+ghost use Rattle.osc_message.specs.Bounds.{IsBounded};
+ghost use Rattle.osc_message.specs.Queue.{AreMarked, IsSoundQueue, messages};
 ghost use Rattle.osc_message.specs.Ticks.{datagram_of, name_of as name_in, started_of, given_up_of, sent_again, after, dues_of, ticked, tick_sends, tick_starts, tick_gives_up, acts};
-ghost use Rattle.osc_message.specs.declared.confirmable.Open.{Open as AnyOpen};
+ghost use Rattle.osc_message.specs.declared.queued.Queued.{Queued as AnyQueued};
 
 use crate::confirmable::{Open, Sent};
 use crate::deadline::is_due;
 use crate::due::{Due, due_of};
 use crate::name::{MessageName, MessageNames};
+use crate::queued::{Queued, mark};
 use osc_model::{Datagram, Datagrams, Moment};
 use std::alloc::{AllocError, Global};
 
@@ -65,25 +67,25 @@ fn add_given_up(given_up: &mut MessageNames, message: &Open, due: Due) -> Result
     }
 }
 
-/// What a tick does; the work grows with the square of the number of open messages.
-pub(crate) fn make_plan(alloc: Global, now: Moment, all: &[Open]) -> Result<Plan, AllocError>
-    requires { All IsBounded all.now }
-    ensures dues { IfOk result (λ plan. plan.dues.items ≡ filter_map (λ pair. Some pair.1) (dues_of now all.now)) }
-    ensures out { IfOk result (λ plan. plan.out ≡ tick_sends now all.now) }
-    ensures started { IfOk result (λ plan. plan.started ≡ tick_starts now all.now) }
-    ensures given_up { IfOk result (λ plan. plan.given_up ≡ tick_gives_up now all.now) }
+/// What a tick does. The work grows with the number of open messages, and so again for each one that goes out for the first time.
+pub(crate) fn make_plan(alloc: Global, now: Moment, all: &[Queued]) -> Result<Plan, AllocError>
+    requires { IsSoundQueue all.now }
+    ensures dues { IfOk result (λ plan. plan.dues.items ≡ filter_map (λ pair. Some pair.1) (dues_of now (messages all.now))) }
+    ensures out { IfOk result (λ plan. plan.out ≡ tick_sends now (messages all.now)) }
+    ensures started { IfOk result (λ plan. plan.started ≡ tick_starts now (messages all.now)) }
+    ensures given_up { IfOk result (λ plan. plan.given_up ≡ tick_gives_up now (messages all.now)) }
 {
     let mut dues = Vec::with_capacity(alloc, all.len())?;
     let mut out = Datagrams::new(alloc);
     let mut started = MessageNames::new(alloc);
     let mut given_up = MessageNames::new(alloc);
     for index in 0..all.len() {
-        let message = &all[index];
-        let due = due_of(now, all, &all[..index], message);
+        let queued = &all[index];
+        let due = due_of(now, all, queued);
         dues.push(due)?;
-        add_copy(&mut out, message, due)?;
-        add_started(&mut started, message, due)?;
-        add_given_up(&mut given_up, message, due)?;
+        add_copy(&mut out, &queued.message, due)?;
+        add_started(&mut started, &queued.message, due)?;
+        add_given_up(&mut given_up, &queued.message, due)?;
     }
     Ok(Plan {
         dues,
@@ -94,7 +96,7 @@ pub(crate) fn make_plan(alloc: Global, now: Moment, all: &[Open]) -> Result<Plan
 }
 
 /// It goes out: for the first time, or once more.
-fn mark(message: &mut Open, now: Moment)
+fn go_out(message: &mut Open, now: Moment)
     requires { IsBounded message.old }
     ensures { message.new ≡ record message.old { sent = Some (sent_again now message.old.sent) } }
 {
@@ -110,13 +112,16 @@ fn mark(message: &mut Open, now: Moment)
     });
 }
 
-/// Makes what is due of the message at this place, and answers the place of the next one.
-fn change(sending: &mut Vec<Open>, place: usize, due: Due, now: Moment) -> usize
+/// Makes what is due of the message at this place, and answers the place of the next one. Behind one that is given up the next one
+/// to its peer is the first.
+fn change(sending: &mut Vec<Queued>, place: usize, due: Due, now: Moment) -> usize
     requires place { place < vec_len sending.old }
-    requires bounded { All IsBounded (drop place sending.old.items) }
-    ensures front { (message : AnyOpen) (later : List AnyOpen) → drop place sending.old.items ≡ message ∷ later
-        → take result sending.new.items ≡ take place sending.old.items ++ option_to_list (after now (message, due)) }
-    ensures back { (message : AnyOpen) (later : List AnyOpen) → drop place sending.old.items ≡ message ∷ later → drop result sending.new.items ≡ later }
+    requires bounded { All IsBounded (messages (drop place sending.old.items)) }
+    ensures front { (queued : AnyQueued) (later : List AnyQueued) → drop place sending.old.items ≡ queued ∷ later
+        → messages (take result sending.new.items) ≡ messages (take place sending.old.items) ++ option_to_list (after now (queued.message, due)) }
+    ensures back { (queued : AnyQueued) (later : List AnyQueued) → drop place sending.old.items ≡ queued ∷ later
+        → messages (drop result sending.new.items) ≡ messages later }
+    ensures marked { AreMarked sending.old.items → AreMarked sending.new.items }
     ensures moved { vec_len sending.old + result ≡ vec_len sending.new + place + 1 }
     ensures len { vec_len sending.new ≤ vec_len sending.old }
     ensures capacity { vec_capacity sending.new ≡ vec_capacity sending.old }
@@ -124,21 +129,23 @@ fn change(sending: &mut Vec<Open>, place: usize, due: Due, now: Moment) -> usize
     match due {
         Due::Keep => place + 1,
         Due::Send => {
-            mark(&mut sending[place], now);
+            go_out(&mut sending[place].message, now);
             place + 1
         }
         Due::GiveUp => {
-            let _given_up = sending.remove(place);
+            let given_up = sending.remove(place);
+            mark(sending, given_up.message.to);
             place
         }
     }
 }
 
 /// Makes what is due of each message.
-pub(crate) fn apply(sending: &mut Vec<Open>, dues: &[Due], now: Moment)
-    requires bounded { All IsBounded sending.old.items }
+pub(crate) fn apply(sending: &mut Vec<Queued>, dues: &[Due], now: Moment)
+    requires bounded { All IsBounded (messages sending.old.items) }
     requires each { length dues.now ≡ vec_len sending.old }
-    ensures items { sending.new.items ≡ filter_map (after now) (zip sending.old.items dues.now) }
+    ensures items { messages sending.new.items ≡ filter_map (after now) (zip (messages sending.old.items) dues.now) }
+    ensures marked { AreMarked sending.old.items → AreMarked sending.new.items }
     ensures len { vec_len sending.new ≤ vec_len sending.old }
     ensures capacity { vec_capacity sending.new ≡ vec_capacity sending.old }
 {
@@ -172,13 +179,13 @@ impl Ticked {
 }
 
 /// Plans what is due, and makes it; without memory for the plan all stays as it was.
-fn act(sending: &mut Vec<Open>, alloc: Global, now: Moment) -> Result<Ticked, AllocError>
-    requires { IsSound sending.old.items }
-    ensures out { IfOk result (λ done. done.out ≡ tick_sends now sending.old.items) }
-    ensures started { IfOk result (λ done. done.started ≡ tick_starts now sending.old.items) }
-    ensures given_up { IfOk result (λ done. done.given_up ≡ tick_gives_up now sending.old.items) }
-    ensures items { OnOk result (sending.new.items ≡ ticked now sending.old.items) }
-    ensures sound { IsSound sending.new.items }
+fn act(sending: &mut Vec<Queued>, alloc: Global, now: Moment) -> Result<Ticked, AllocError>
+    requires { IsSoundQueue sending.old.items }
+    ensures out { IfOk result (λ done. done.out ≡ tick_sends now (messages sending.old.items)) }
+    ensures started { IfOk result (λ done. done.started ≡ tick_starts now (messages sending.old.items)) }
+    ensures given_up { IfOk result (λ done. done.given_up ≡ tick_gives_up now (messages sending.old.items)) }
+    ensures items { OnOk result (messages sending.new.items ≡ ticked now (messages sending.old.items)) }
+    ensures sound { IsSoundQueue sending.new.items }
     ensures capacity { vec_capacity sending.new ≡ vec_capacity sending.old }
     ensures err { OnErr result (sending.new ≡ sending.old) }
 {
@@ -198,19 +205,19 @@ fn act(sending: &mut Vec<Open>, alloc: Global, now: Moment) -> Result<Ticked, Al
 
 /// Does what is due. Where nothing is, no memory is taken; without memory all stays as it was.
 pub(crate) fn tick(
-    sending: &mut Vec<Open>,
+    sending: &mut Vec<Queued>,
     alloc: Global,
     now: Moment,
 ) -> Result<Ticked, AllocError>
-    requires { IsSound sending.old.items }
-    ensures out { IfOk result (λ done. done.out ≡ tick_sends now sending.old.items) }
-    ensures started { IfOk result (λ done. done.started ≡ tick_starts now sending.old.items) }
-    ensures given_up { IfOk result (λ done. done.given_up ≡ tick_gives_up now sending.old.items) }
-    ensures items { OnOk result (sending.new.items ≡ ticked now sending.old.items) }
-    ensures sound { IsSound sending.new.items }
+    requires { IsSoundQueue sending.old.items }
+    ensures out { IfOk result (λ done. done.out ≡ tick_sends now (messages sending.old.items)) }
+    ensures started { IfOk result (λ done. done.started ≡ tick_starts now (messages sending.old.items)) }
+    ensures given_up { IfOk result (λ done. done.given_up ≡ tick_gives_up now (messages sending.old.items)) }
+    ensures items { OnOk result (messages sending.new.items ≡ ticked now (messages sending.old.items)) }
+    ensures sound { IsSoundQueue sending.new.items }
     ensures capacity { vec_capacity sending.new ≡ vec_capacity sending.old }
     ensures err { OnErr result (sending.new ≡ sending.old) }
-    ensures needs_memory { OnErr result (acts now sending.old.items ≡ true) }
+    ensures needs_memory { OnErr result (acts now (messages sending.old.items) ≡ true) }
 {
     if is_due(now, sending) {
         act(sending, alloc, now)

@@ -2,9 +2,10 @@ use Rattle.std.proofs.Common.{◌≡◌, ◌||◌, not, take, drop}
 use Rattle.std.specs.List.{list_any}
 use Rattle.osc_model.specs.declared.node.Moment.{Moment}
 use Rattle.osc_message.specs.Bounds.{is_reached}
+use Rattle.osc_message.specs.Queue.{messages}
 use Rattle.osc_message.specs.Ticks.{dues, is_kept, acts}
 use Rattle.osc_message.proofs.deadline.deadline.Given as goal
 
 abbrev pub invariant-loop-index : goal.invariant-loop-index
 invariant-loop-index l =
-    (now : Moment) → (is_reached now l.first || list_any (λ pair. not (is_kept pair.1)) (dues now l.all (take l.index l.all) (drop l.index l.all))) ≡ acts now l.all
+    (now : Moment) → (is_reached now l.first || list_any (λ pair. not (is_kept pair.1)) (dues now (messages l.all) (messages (take l.index l.all)) (messages (drop l.index l.all)))) ≡ acts now (messages l.all)

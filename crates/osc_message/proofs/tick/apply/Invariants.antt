@@ -1,14 +1,16 @@
 use Rattle.std.proofs.Common.{◌≡◌, ◌++◌, ◌+◌, ◌≤◌, length, take, drop, vec_len, vec_capacity}
 use Rattle.std.specs.List.{All, filter_map, zip}
 use Rattle.osc_message.specs.Bounds.{IsBounded}
+use Rattle.osc_message.specs.Queue.{AreMarked, messages}
 use Rattle.osc_message.specs.Ticks.{after}
 use Rattle.osc_message.proofs.tick.apply.Given as goal
 
 abbrev pub invariant-loop-due : goal.invariant-loop-due
 invariant-loop-due l = record {
-  items : take l.place l.sending.items ++ filter_map (after l.now) (zip (drop l.place l.sending.items) (drop l.due-index l.dues)) ≡ filter_map (after l.now) (zip l.initial.sending.items l.dues);
+  items : messages (take l.place l.sending.items) ++ filter_map (after l.now) (zip (messages (drop l.place l.sending.items)) (drop l.due-index l.dues)) ≡ filter_map (after l.now) (zip (messages l.initial.sending.items) l.dues);
   each : vec_len l.sending + l.due-index ≡ length l.dues + l.place;
-  bounded : All IsBounded (drop l.place l.sending.items);
+  bounded : All IsBounded (messages (drop l.place l.sending.items));
+  marked : AreMarked l.initial.sending.items → AreMarked l.sending.items;
   len : vec_len l.sending ≤ vec_len l.initial.sending;
   capacity : vec_capacity l.sending ≡ vec_capacity l.initial.sending;
 }

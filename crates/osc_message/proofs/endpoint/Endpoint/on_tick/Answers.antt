@@ -1,5 +1,6 @@
 use Rattle.std.proofs.Common.{subst, sym, arith}
 use Rattle.osc_message.specs.Bounds.{AreShort}
+use Rattle.osc_message.specs.Queue.{messages}
 use Rattle.osc_message.specs.Sending.{AreSendable}
 use Rattle.osc_message.proofs.Notes.{alive_short}
 use Rattle.osc_message.proofs.Sound.{ticks_fit}
@@ -15,4 +16,4 @@ invariant_of-self-2 g c =
 
 pub returns-clause-fits : goal.returns-clause-fits
 returns-clause-fits g c =
-    subst AreSendable (sym c.in_ok-done.ensures.out) (ticks_fit c.args.now c.self.inside.sending.items c.self.invariant.1)
+    subst AreSendable (sym c.in_ok-done.ensures.out) (ticks_fit c.args.now (messages c.self.inside.sending.items) c.self.invariant.1.sound)

@@ -1,0 +1,23 @@
+use Rattle.std.proofs.Common.{◌||◌, not, ◌+◌, take, drop, ap, sym, ◌∙◌, arith}
+use Rattle.std.specs.List.{list_any}
+use Rattle.osc_message.specs.Bounds.{is_reached}
+use Rattle.osc_message.specs.Queue.{messages}
+use Rattle.osc_message.specs.Ticks.{due_of, dues, is_kept}
+use Rattle.osc_message.proofs.Marks.{bounded_at_place, due_at_place, first_at_place, or_assoc}
+use Rattle.osc_message.proofs.deadline.deadline.Goals as goal
+
+pub deadline_of-requires : goal.deadline_of-requires
+deadline_of-requires c = bounded_at_place c.args.all.now c.loop-index.index c.index-all-index.result (omega arith) c.index-all-index.is c.requires.sound.bounded
+
+pub loop-index-preserved : goal.loop-index-preserved
+loop-index-preserved c = λ now.
+    let all = c.args.all.now in
+    let i = c.loop-index.index in
+    let x = c.index-all-index.result in
+    let rest = list_any (λ pair. not (is_kept pair.1)) (dues now (messages all) (messages (take (i + 1) all)) (messages (drop (i + 1) all))) in
+    let due = due_of now (messages all) (messages (take i all)) x.message x.message.sent in
+    let this = c.deadline_of.ensures now (messages (take i all)) (first_at_place all i x (omega arith) c.index-all-index.is c.requires.marked) in
+    ap (λ b. b || rest) (c.first_of-first.ensures now ∙ ap (λ b. is_reached now c.loop-index.first || b) this)
+    ∙ or_assoc (is_reached now c.loop-index.first) (not (is_kept due)) rest
+    ∙ ap (λ pairs. is_reached now c.loop-index.first || list_any (λ pair. not (is_kept pair.1)) pairs) (sym (due_at_place now all i x (omega arith) c.index-all-index.is))
+    ∙ c.loop-index.invariant now
