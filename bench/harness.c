@@ -24,6 +24,10 @@ uint64_t osc_bench_serve(uint16_t resources, uint32_t apart, const uint8_t *data
 uint64_t osc_bench_repeat(const uint8_t *datagram, size_t length, uint64_t rounds);
 uint64_t osc_bench_serve_gets(uint8_t contexts, uint16_t rounds);
 uint64_t osc_bench_serve_posts(uint8_t contexts, uint16_t rounds);
+uint64_t osc_bench_serve_forged(uint16_t rounds);
+uint64_t osc_bench_ask(uint64_t rounds);
+uint64_t osc_bench_tick(uint16_t open, uint64_t rounds);
+uint64_t osc_bench_deadline(uint16_t open, uint64_t rounds);
 uint64_t osc_bench_read_item(const uint8_t *bytes, size_t length, uint64_t rounds);
 uint64_t osc_bench_protect(const uint8_t *request, size_t length, uint64_t rounds);
 uint64_t osc_bench_unprotect(const uint8_t *request, size_t length, uint64_t rounds);
@@ -126,9 +130,10 @@ static void repeat(const char *name, const uint8_t *datagram, size_t length) {
 }
 
 /* ---- protected requests: a reply has a header and a token of 4 bytes each, an empty option OSCORE, the marker, and what is sealed
-   with a tag of 8 bytes: a code, and for a GET an ETag of 9 bytes, the marker and 64 bytes */
+   with a tag of 8 bytes: a code, and for a GET an ETag of 9 bytes, the marker and 64 bytes. A forgery's has the header, the token,
+   the marker and "Decryption failed" */
 
-enum { REQUESTS = 4608, CHANGED = 19, CONTENT = 93 };
+enum { REQUESTS = 4608, CHANGED = 19, CONTENT = 93, REFUSED = 26 };
 
 typedef uint64_t (*protected_run)(uint8_t contexts, uint16_t rounds);
 
@@ -147,6 +152,11 @@ static void serve_protected(const char *name, protected_run run, uint8_t context
     row(name, REQUESTS, whole - set_up);
 }
 
+static uint64_t serve_forged(uint8_t contexts, uint16_t rounds) {
+    (void)contexts;
+    return osc_bench_serve_forged(rounds);
+}
+
 static int protected_requests(void) {
     static const uint8_t CONTEXTS[] = {1, 64};
     for (size_t i = 0; i < sizeof CONTEXTS; i++) {
@@ -156,10 +166,54 @@ static int protected_requests(void) {
             return 1;
         }
     }
+    if (osc_bench_serve_forged(REQUESTS) != REQUESTS * REFUSED) {
+        fprintf(stderr, "bench: a forged request was not refused\n");
+        return 1;
+    }
     serve_protected("Server::on_datagram, protected GET, 1 context", osc_bench_serve_gets, 1);
     serve_protected("Server::on_datagram, protected GET, 64 contexts", osc_bench_serve_gets, 64);
     serve_protected("Server::on_datagram, protected POST, 1 context", osc_bench_serve_posts, 1);
     serve_protected("Server::on_datagram, protected POST, 64 contexts", osc_bench_serve_posts, 64);
+    serve_protected("Server::on_datagram, a forged request, 1 context", serve_forged, 1);
+    return 0;
+}
+
+/* ---- a client's requests: a header of 4 bytes, a token of 8, an option OSCORE of 4, the marker, and what is sealed with a tag of 8
+   bytes: a code, an option of 4 bytes, the marker and 64 bytes */
+
+enum { ASKS = 20000, ASKED = 95 };
+
+/* What so many rounds take, without the set-up that a call with none has. */
+static void beside_set_up(const char *name, rounds_run run, uint64_t rounds) {
+    double set_up = best_of(run, 0);
+    row(name, rounds, best_of(run, rounds) - set_up);
+}
+
+static int asks(void) {
+    /* From 256 on a number takes a byte more. */
+    if (osc_bench_ask(256) != 256 * ASKED || osc_bench_ask(257) != 257 * ASKED + 1) {
+        fprintf(stderr, "bench: a request was not asked\n");
+        return 1;
+    }
+    beside_set_up("Client::ask, 64 bytes", osc_bench_ask, ASKS);
+    return 0;
+}
+
+/* ---- ticks at which nothing is due; each message would be sent again after two seconds */
+
+enum { OPEN = 1000, TICKS = 2000, TIMEOUT = 2000 };
+
+static uint64_t tick(uint64_t rounds) { return osc_bench_tick(OPEN, rounds); }
+
+static uint64_t deadline(uint64_t rounds) { return osc_bench_deadline(OPEN, rounds); }
+
+static int ticks(void) {
+    if (tick(1) != 2 * OPEN || deadline(2) != 2 * TIMEOUT) {
+        fprintf(stderr, "bench: messages were not open or have another deadline\n");
+        return 1;
+    }
+    beside_set_up("Endpoint::on_tick, 1,000 open messages", tick, TICKS);
+    beside_set_up("Endpoint::next_deadline, 1,000 open messages", deadline, TICKS);
     return 0;
 }
 
@@ -518,6 +572,6 @@ int main(int count, char **words) {
     serve("Server::on_datagram, GET, 1st of 1,024", 1024, 1, GET_R000, sizeof GET_R000);
     serve("Server::on_datagram, GET, 1,000th of 1,024", 1024, 1, GET_R999, sizeof GET_R999);
     repeat("Server::on_datagram, a repeat", GET_R000, sizeof GET_R000);
-    if (protected_requests() != 0 || cbor() != 0 || oscore() != 0 || tokens() != 0 || worlds() != 0) return 1;
+    if (protected_requests() != 0 || asks() != 0 || ticks() != 0 || cbor() != 0 || oscore() != 0 || tokens() != 0 || worlds() != 0) return 1;
     return ciphers();
 }

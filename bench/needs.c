@@ -1,5 +1,5 @@
-/* What nodes need: the most bytes of the heap that a call of osc_bench held, and how deep the stack went. The heap is counted at malloc, free
-   and realloc, by what was asked for; the stack is one of this program's own, painted before each call. */
+/* What nodes need: the most bytes of the heap that a call of osc_bench held, how many blocks it took, and how deep the stack went. The heap is
+   counted at malloc, free and realloc, by what was asked for; the stack is one of this program's own, painted before each call. */
 #include <stddef.h>
 #include <stdint.h>
 #include <stdio.h>
@@ -10,6 +10,8 @@
 uint64_t osc_bench_serve(uint16_t resources, uint32_t apart, const uint8_t *datagram, size_t length, uint64_t rounds);
 uint64_t osc_bench_serve_gets(uint8_t contexts, uint16_t rounds);
 uint64_t osc_bench_serve_posts(uint8_t contexts, uint16_t rounds);
+uint64_t osc_bench_serve_forged(uint16_t rounds);
+uint64_t osc_bench_ask(uint64_t rounds);
 uint64_t osc_bench_post(uint8_t others, uint64_t rounds);
 uint64_t osc_bench_client(uint8_t posts);
 uint64_t osc_bench_forward(uint8_t requests);
@@ -24,9 +26,11 @@ typedef union {
     max_align_t align;
 } header;
 
-static size_t live, peak;
+/* Blocks: calls of malloc, of realloc without a block, and of realloc with one that has to grow. */
+static size_t live, peak, blocks;
 
 static void grow(size_t size) {
+    blocks++;
     live += size;
     if (live > peak) peak = live;
 }
@@ -53,6 +57,7 @@ void *__wrap_realloc(void *bytes, size_t size) {
     block = __real_realloc(block, sizeof(header) + size);
     if (!block) return NULL;
     block->size = size;
+    if (size > before) blocks++;
     /* While the bytes move, both blocks may be held. */
     if (live + size > peak) peak = live + size;
     live = live - before + size;
@@ -122,6 +127,44 @@ static need measured(uint64_t (*of)(void)) {
     return it;
 }
 
+/* ---- blocks taken by one call: by how many more a run of one round more takes, for each of 100 rounds behind the first 1,000 */
+
+enum { WARM = 1000, COUNTED = 100 };
+
+static uint64_t open_get(uint16_t rounds) { return osc_bench_serve(1, 1, GET, sizeof GET, rounds); }
+static uint64_t protected_get(uint16_t rounds) { return osc_bench_serve_gets(1, rounds); }
+static uint64_t protected_post(uint16_t rounds) { return osc_bench_serve_posts(1, rounds); }
+static uint64_t ask(uint16_t rounds) { return osc_bench_ask(rounds); }
+
+static size_t blocks_of(uint64_t (*of)(uint16_t), uint16_t rounds) {
+    size_t before = blocks;
+    if (!of(rounds)) {
+        fprintf(stderr, "needs: a call did not do what it was to do\n");
+        exit(1);
+    }
+    return blocks - before;
+}
+
+static int compare(const void *one, const void *other) {
+    size_t a = *(const size_t *)one, b = *(const size_t *)other;
+    return (a > b) - (a < b);
+}
+
+/* Most calls take the number in the middle; where others take more or fewer, the least and the greatest stand beside it. */
+static void blocks_row(const char *name, uint64_t (*of)(uint16_t)) {
+    size_t by[COUNTED];
+    size_t before = blocks_of(of, WARM);
+    for (uint16_t i = 0; i < COUNTED; i++) {
+        size_t after = blocks_of(of, WARM + i + 1);
+        by[i] = after - before;
+        before = after;
+    }
+    qsort(by, COUNTED, sizeof by[0], compare);
+    printf("%-52s %9zu blocks", name, by[COUNTED / 2]);
+    if (by[0] != by[COUNTED - 1]) printf(", %zu to %zu", by[0], by[COUNTED - 1]);
+    printf("\n");
+}
+
 static void heap_row(const char *name, size_t bytes) { printf("%-52s %9zu bytes\n", name, bytes); }
 
 int main(void) {
@@ -138,6 +181,12 @@ int main(void) {
     heap_row("Proxy, of one target", measured(proxy_alone).heap);
     heap_row("the first open exchange", measured(proxy_1).heap - measured(proxy_alone).heap);
     heap_row("for each open exchange, 1 of 64", (measured(proxy_64).heap - measured(proxy_1).heap) / 63);
+    puts("Blocks of the heap");
+    blocks_row("a GET that isn't protected", open_get);
+    blocks_row("a protected GET", protected_get);
+    blocks_row("a protected POST that appends", protected_post);
+    blocks_row("a forged request", osc_bench_serve_forged);
+    blocks_row("Client::ask", ask);
     puts("Stack");
     heap_row("Server::on_datagram, a GET that isn't protected", measured(get_once).stack - frame);
     heap_row("Server::on_datagram, protected GETs", measured(gets).stack - frame);

@@ -35,6 +35,23 @@ pub extern "C" fn osc_bench_serve_posts(alloc: Global, contexts: u8, rounds: u16
     bytes_served(alloc, contexts, Method::Post, rounds)
 }
 
+/// Serves so many forged requests, at most 4,608, by a server that holds one context: POSTs of 64 bytes and DELETEs, as
+/// `osc_bench_serve_posts` asks, each under a number of its own and with a bit of its tag turned over. Answers how many bytes the
+/// refusals have in all, which aren't protected; 0 for want of memory, and where the resource doesn't have 64 bytes in the end.
+///
+/// Whatever `rounds` is, 4,609 requests are protected first, and the first one, a POST that makes the resource, is served as it is.
+#[unsafe(no_mangle)]
+pub extern "C" fn osc_bench_serve_forged(alloc: Global, rounds: u16) -> u64 {
+    match empty_server(alloc) {
+        Ok(mut server) => {
+            let sent = refuse_under_first(alloc, &mut server, rounds);
+            drop(server);
+            sent.unwrap_or(0)
+        }
+        Err(_) => 0,
+    }
+}
+
 // How many requests are served at most.
 const MOST_ROUNDS: u16 = 4608;
 
@@ -53,7 +70,7 @@ fn bytes_served(alloc: Global, contexts: u8, asked: Method, rounds: u16) -> u64 
 }
 
 // A server without resources and contexts, where nothing is open.
-fn empty_server(alloc: Global) -> Result<Server, AllocError> {
+pub(crate) fn empty_server(alloc: Global) -> Result<Server, AllocError> {
     let desk = ServerDesk::new(alloc, KEY, Audience::new(alloc, "s")?);
     Server::new(alloc, Tree::new(alloc), desk, Scope::new(alloc))
 }
@@ -247,6 +264,94 @@ fn serve_places(
         }
     }
     Ok(sent)
+}
+
+// Posts a token, protects the requests under its context, and serves the first one and so many forged ones.
+fn refuse_under_first(alloc: Global, server: &mut Server, rounds: u16) -> Result<u64, AllocError> {
+    post(alloc, server, 1)?;
+    let requests = requests_under(alloc, 1, Method::Post)?;
+    let sent = refuse_some(alloc, server, &requests, rounds.min(MOST_ROUNDS));
+    drop(requests);
+    sent
+}
+
+// Serves the first request, and so many forgeries of those behind it. How many bytes the refusals have; 0 where the resource doesn't
+// have the payload of the first one in the end.
+fn refuse_some(
+    alloc: Global,
+    server: &mut Server,
+    requests: &[Bytes],
+    rounds: u16,
+) -> Result<u64, AllocError>
+    requires { rounds ≤ MOST_ROUNDS }
+{
+    serve_places(alloc, server, requests, 0, 1)?;
+    let forgeries = forgeries_of(alloc, requests)?;
+    let sent = refuse_places(alloc, server, &forgeries, rounds);
+    drop(forgeries);
+    let sent = sent?;
+    if stored(alloc, server)? == PAYLOAD {
+        Ok(sent)
+    } else {
+        Ok(0)
+    }
+}
+
+// The requests, each with the last bit of its tag turned over.
+fn forgeries_of(alloc: Global, requests: &[Bytes]) -> Result<Vec<Bytes>, AllocError> {
+    let mut forgeries = Vec::new(alloc);
+    for request in requests {
+        forgeries.push(forgery_of(alloc, request.as_slice())?)?;
+    }
+    Ok(forgeries)
+}
+
+// The request with its last bit turned over.
+fn forgery_of(alloc: Global, request: &[u8]) -> Result<Bytes, AllocError> {
+    let mut forgery = Vec::from_slice(alloc, request)?;
+    if let Some(last) = forgery.last_mut() {
+        *last ^= 1;
+    }
+    Ok(Bytes::from_vec(forgery))
+}
+
+// Serves so many of the forgeries, from the second on, a millisecond after one another. How many bytes the refusals have.
+fn refuse_places(
+    alloc: Global,
+    server: &mut Server,
+    forgeries: &[Bytes],
+    rounds: u16,
+) -> Result<u64, AllocError>
+    requires { rounds ≤ MOST_ROUNDS }
+{
+    let mut sent = 0u64;
+    for place in 1..rounds + 1 {
+        if let Some(forgery) = forgeries.get(place as usize) {
+            let now = Moment { ms: place as u64 };
+            let step = answer(alloc, server, now, [0; 32], forgery.as_slice())?;
+            sent = sent.wrapping_add(length_of_refusal(step));
+        }
+    }
+    Ok(sent)
+}
+
+// How many bytes the step sends, where that is a refusal of what isn't genuine.
+fn length_of_refusal(step: Step) -> u64 {
+    let length = length_in_refusal(step.out.as_slice());
+    drop(step);
+    length
+}
+
+fn length_in_refusal(datagrams: &[Datagram]) -> u64 {
+    match datagrams {
+        [sent] if is_refusal(sent.bytes.as_slice()) => sent.bytes.len() as u64,
+        _ => 0,
+    }
+}
+
+// Whether this is an acknowledgement of 4.00 with the requests' token and, unprotected, a payload.
+fn is_refusal(datagram: &[u8]) -> bool {
+    matches!(datagram, [0x64, 0x80, _, _, 1, 2, 3, 4, 0xff, ..])
 }
 
 // How many bytes the step sends, where that is a protected reply.

@@ -80,18 +80,22 @@ fn tokens_read(alloc: Global, rounds: u64) -> Result<u64, AllocError> {
     Ok(granted)
 }
 
-// The payload of a post of the token of this id.
-pub(crate) fn post_of(alloc: Global, id: u8) -> Result<Vec<u8>, AllocError> {
+// What a client was granted with the token of this id; where it isn't taken, as for want of memory.
+pub(crate) fn desk_of(alloc: Global, id: u8) -> Result<ClientDesk, AllocError> {
     let token = token_of(alloc, id)?;
     let secret = Bytes::from_slice(alloc, &[id; 16])?;
     match ClientDesk::new(Bytes::from_vec(token), secret, Bytes::new(alloc), None) {
-        Ok(client) => {
-            let body = first_post(alloc, &client, id);
-            drop(client);
-            body
-        }
-        Err(_) => Ok(Vec::new(alloc)),
+        Ok(desk) => Ok(desk),
+        Err(_) => Err(AllocError),
     }
+}
+
+// The payload of a post of the token of this id.
+pub(crate) fn post_of(alloc: Global, id: u8) -> Result<Vec<u8>, AllocError> {
+    let client = desk_of(alloc, id)?;
+    let body = first_post(alloc, &client, id);
+    drop(client);
+    body
 }
 
 // The payload of the client's first post.
