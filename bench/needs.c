@@ -29,8 +29,21 @@ typedef union {
 /* Blocks: calls of malloc, of realloc without a block, and of realloc with one that has to grow. */
 static size_t live, peak, blocks;
 
+enum { STACK = 4 << 20, PAINT = 0xa5 };
+static uint8_t stack[STACK] __attribute__((aligned(64)));
+
+/* How many blocks are taken when the stack is painted anew, where that is asked. */
+static size_t paint_at;
+
+/* Paints what is free of the stack, from within a call; below the frame 128 bytes are left. */
+static __attribute__((noinline)) void paint_anew(void) {
+    uint8_t *here = __builtin_frame_address(0);
+    memset(stack, PAINT, (size_t)(here - stack) - 128);
+}
+
 static void grow(size_t size) {
     blocks++;
+    if (blocks == paint_at) paint_anew();
     live += size;
     if (live > peak) peak = live;
 }
@@ -64,8 +77,6 @@ void *__wrap_realloc(void *bytes, size_t size) {
     return block + 1;
 }
 
-enum { STACK = 4 << 20, PAINT = 0xa5 };
-static uint8_t stack[STACK] __attribute__((aligned(64)));
 static ucontext_t outside, inside;
 static uint64_t (*called)(void);
 static uint64_t answer;
@@ -111,6 +122,12 @@ static uint64_t contexts_1(void) { osc_bench_serve_gets(1, 0); return 1; }
 static uint64_t contexts_64(void) { osc_bench_serve_gets(64, 0); return 1; }
 static uint64_t gets(void) { return osc_bench_serve_gets(1, 1000); }
 static uint64_t posts(void) { return osc_bench_serve_posts(1, 1000); }
+static uint64_t forgeries(void) { return osc_bench_serve_forged(1000); }
+static uint64_t no_forgeries(void) { return osc_bench_serve_forged(0); }
+static uint64_t asks(void) { return osc_bench_ask(1000); }
+static uint64_t no_asks(void) { return osc_bench_ask(0); }
+static uint64_t no_gets(void) { return osc_bench_serve_gets(1, 0); }
+static uint64_t no_posts(void) { return osc_bench_serve_posts(1, 0); }
 static uint64_t token_post(void) { return osc_bench_post(0, 1); }
 static uint64_t client_alone(void) { osc_bench_client(0); return 1; }
 static uint64_t client_posting(void) { return osc_bench_client(1); }
@@ -165,6 +182,17 @@ static void blocks_row(const char *name, uint64_t (*of)(uint16_t)) {
     printf("\n");
 }
 
+/* What the rounds need of the stack, without the set-up: it is painted once as many blocks were taken as in a run without rounds. */
+static size_t stack_behind(uint64_t (*set_up)(void), uint64_t (*of)(void)) {
+    size_t before = blocks;
+    set_up();
+    size_t taken = blocks - before;
+    paint_at = blocks + taken;
+    size_t depth = measured(of).stack;
+    paint_at = 0;
+    return depth;
+}
+
 static void heap_row(const char *name, size_t bytes) { printf("%-52s %9zu bytes\n", name, bytes); }
 
 int main(void) {
@@ -191,8 +219,12 @@ int main(void) {
     heap_row("Server::on_datagram, a GET that isn't protected", measured(get_once).stack - frame);
     heap_row("Server::on_datagram, protected GETs", measured(gets).stack - frame);
     heap_row("Server::on_datagram, protected POSTs", measured(posts).stack - frame);
+    heap_row("the same, protected GETs behind the token's post", stack_behind(no_gets, gets) - frame);
+    heap_row("the same, protected POSTs behind the token's post", stack_behind(no_posts, posts) - frame);
+    heap_row("the same, forged requests behind the token's post", stack_behind(no_forgeries, forgeries) - frame);
     heap_row("ServerDesk::post", measured(token_post).stack - frame);
     heap_row("Client::exchange", measured(client_posting).stack - frame);
+    heap_row("Client::ask", stack_behind(no_asks, asks) - frame);
     heap_row("Proxy::on_datagram", measured(proxy_64).stack - frame);
     return 0;
 }
