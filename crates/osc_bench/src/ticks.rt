@@ -1,6 +1,6 @@
 //! Ticks beside open messages.
 
-use osc_message::Endpoint;
+use osc_message::{Endpoint, MOST_OPEN};
 use osc_model::{Bytes, Draw, Moment, Peer};
 use std::alloc::{AllocError, Global};
 
@@ -43,7 +43,7 @@ const PEERS: u16 = 63;
 const DRAW: Draw = Draw([0; 32]);
 
 // Two endpoints: what the same one answers each time might be asked once for all by a compiler.
-fn endpoints_with(alloc: Global, open: u16) -> Result<Vec<Endpoint>, AllocError> {
+fn endpoints_with(alloc: Global, open: u16) -> Result<Vec<Endpoint<MOST_OPEN>>, AllocError> {
     let mut endpoints = Vec::new(alloc);
     for _ in 0..2 {
         endpoints.push(endpoint_with(alloc, open)?)?;
@@ -52,14 +52,14 @@ fn endpoints_with(alloc: Global, open: u16) -> Result<Vec<Endpoint>, AllocError>
 }
 
 // An endpoint to which so many messages were given at the first moment, as far as it took them.
-fn endpoint_with(alloc: Global, open: u16) -> Result<Endpoint, AllocError> {
-    let mut endpoint = Endpoint::new(alloc)?;
+fn endpoint_with(alloc: Global, open: u16) -> Result<Endpoint<MOST_OPEN>, AllocError> {
+    let mut endpoint = Endpoint::<MOST_OPEN>::new(alloc)?;
     let filled = fill(alloc, &mut endpoint, open.min(EACH * PEERS));
     filled?;
     Ok(endpoint)
 }
 
-fn fill(alloc: Global, endpoint: &mut Endpoint, open: u16) -> Result<(), AllocError> {
+fn fill(alloc: Global, endpoint: &mut Endpoint<MOST_OPEN>, open: u16) -> Result<(), AllocError> {
     for number in 0..open {
         send(alloc, endpoint, number)?;
     }
@@ -67,7 +67,7 @@ fn fill(alloc: Global, endpoint: &mut Endpoint, open: u16) -> Result<(), AllocEr
 }
 
 // Sends the message of this number, the 16th to a peer before the first to the next.
-fn send(alloc: Global, endpoint: &mut Endpoint, number: u16) -> Result<(), AllocError> {
+fn send(alloc: Global, endpoint: &mut Endpoint<MOST_OPEN>, number: u16) -> Result<(), AllocError> {
     let bytes = Bytes::from_slice(alloc, &[b'p'; 64])?;
     let to = Peer {
         address: [127, 0, 0, 1],
@@ -79,7 +79,11 @@ fn send(alloc: Global, endpoint: &mut Endpoint, number: u16) -> Result<(), Alloc
 }
 
 // How many messages are open at all of them behind so many ticks.
-fn open_behind(alloc: Global, endpoints: &mut [Endpoint], rounds: u64) -> Result<u64, AllocError> {
+fn open_behind(
+    alloc: Global,
+    endpoints: &mut [Endpoint<MOST_OPEN>],
+    rounds: u64,
+) -> Result<u64, AllocError> {
     for round in 0..rounds {
         if let Some(endpoint) = endpoints.get_mut((round % 2) as usize) {
             tick(alloc, endpoint)?;
@@ -88,14 +92,14 @@ fn open_behind(alloc: Global, endpoints: &mut [Endpoint], rounds: u64) -> Result
     Ok(open_at(endpoints))
 }
 
-fn tick(alloc: Global, endpoint: &mut Endpoint) -> Result<(), AllocError> {
+fn tick(alloc: Global, endpoint: &mut Endpoint<MOST_OPEN>) -> Result<(), AllocError> {
     let ticked = endpoint.on_tick(alloc, Moment::START)?;
     drop(ticked);
     Ok(())
 }
 
 // How many messages are open at all of them.
-fn open_at(endpoints: &[Endpoint]) -> u64 {
+fn open_at(endpoints: &[Endpoint<MOST_OPEN>]) -> u64 {
     let mut open = 0u64;
     for endpoint in endpoints {
         open = open.wrapping_add(endpoint.open_messages() as u64);
@@ -104,7 +108,7 @@ fn open_at(endpoints: &[Endpoint]) -> u64 {
 }
 
 // The sum of so many deadlines.
-fn sum_of_deadlines(endpoints: &[Endpoint], rounds: u64) -> u64 {
+fn sum_of_deadlines(endpoints: &[Endpoint<MOST_OPEN>], rounds: u64) -> u64 {
     let mut sum = 0u64;
     for round in 0..rounds {
         if let Some(endpoint) = endpoints.get((round % 2) as usize) {

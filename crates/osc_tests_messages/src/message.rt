@@ -6,6 +6,9 @@ use osc_message::*;
 use osc_model::{Bytes, Draw, Moment, Peer};
 use std::alloc::{AllocError, Global};
 
+/// A message layer with places for as many confirmable messages as are ever open.
+type Endpoint = osc_message::Endpoint<MOST_OPEN>;
+
 const PEER: Peer = Peer {
     address: [192, 0, 2, 1],
     port: 5683,
