@@ -205,6 +205,7 @@ impl Server {
     }
 
     /// Answers a GET on an open path.
+    #[inline(never)]
     fn get(
         &mut self,
         alloc: Global,
@@ -244,6 +245,7 @@ impl Server {
     }
 
     /// Answers the request, which isn't served, with a reply of this code alone.
+    #[inline(never)]
     fn refuse(
         &mut self,
         alloc: Global,
@@ -338,6 +340,7 @@ impl Server {
     }
 
     /// Judges a post to authz-info, and answers it. All memory is taken before the desk changes.
+    #[inline(never)]
     fn posted<A: Aead>(
         &mut self,
         alloc: Global,
@@ -368,6 +371,7 @@ impl Server {
     }
 
     /// Answers a protected request. Its number is accepted once nothing can fail.
+    #[inline(never)]
     fn protected<A: Aead>(
         &mut self,
         alloc: Global,
@@ -406,6 +410,7 @@ impl Server {
     }
 
     /// Says why a protected request isn't served.
+    #[inline(never)]
     fn complain(
         &mut self,
         alloc: Global,

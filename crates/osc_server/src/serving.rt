@@ -144,6 +144,7 @@ struct Taken {
 }
 
 /// Reads what was opened, and takes the memory of all that follows.
+#[inline(never)]
 fn take<A: Aead>(alloc: Global, tree: &Tree, note: Note) -> Result<Taken, AllocError>
     ensures note { IfOk result (λ taken. taken.note ≡ note) }
     ensures read { IfOk result (λ taken. taken.read ≡ read_request note.plaintext) }
@@ -250,6 +251,7 @@ fn reply<A: Aead>(
 }
 
 /// Accepts the number of a request that was opened, and serves the request; takes no memory but the tree's.
+#[inline(never)]
 fn serve_opened<A: Aead>(
     alloc: Global,
     now: Moment,
@@ -296,6 +298,7 @@ fn open<A: Aead>(
 }
 
 /// Opens a protected request under the context that it means, at a fresh number, or says why it isn't served.
+#[inline(never)]
 fn opened<A: Aead>(
     alloc: Global,
     now: Moment,
