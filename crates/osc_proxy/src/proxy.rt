@@ -31,9 +31,7 @@ use crate::targets::Targets;
 use crate::ticking::{finish, rest, room_for};
 use osc_coap::{Kind, MessageBuilder, MessageRef};
 use osc_message::laws::{ticks_send_few, what_nodes_send};
-use osc_message::{
-    Handling, Heard, Outbox, is_confirmable, noted, reset, sending_message,
-};
+use osc_message::{Handling, Heard, Outbox, is_confirmable, noted, reset, sending_message};
 use osc_model::{Bytes, Code, Datagrams, Draw, Moment, Peer, RefusedRequest, Step};
 use std::alloc::{AllocError, Global};
 use std::marker::Model;
