@@ -2,8 +2,8 @@
 #![tactic(auto)]
 
 use osc_programs::{
-    Ended, ask, ended_by, forward, issue_token, lab, running_fault, serve, sim, started_by_io,
-    status, token_fault,
+    Ended, Lines, Silent, ask, ended_by, forward, issue_token, lab, running_fault, serve, sim,
+    started_by_io, status, token_fault,
 };
 use osc_words::{TokenWords, Words, WordsError, fault_line, read_words};
 use std::process::ExitCode;
@@ -31,8 +31,8 @@ fn run(rt: &HostRuntime) -> io::Result<Ended> {
             only,
         )),
         Ok(Words::Token(words)) => Ok(print_token(rt, &words)),
-        Ok(Words::Server { turns }) => Ok(tell(rt, serve(alloc, rt, &mut rt.reader(), turns))),
-        Ok(Words::Proxy { turns }) => Ok(tell(rt, forward(alloc, rt, &mut rt.reader(), turns))),
+        Ok(Words::Server { turns, log }) => Ok(tell(rt, run_server(rt, turns, log))),
+        Ok(Words::Proxy { turns, log }) => Ok(tell(rt, run_proxy(rt, turns, log))),
         Ok(Words::Client(words)) => Ok(tell(
             rt,
             ask(alloc, rt, &mut rt.reader(), &mut io::writer(rt), &words),
@@ -42,6 +42,28 @@ fn run(rt: &HostRuntime) -> io::Result<Ended> {
             lab(alloc, rt, &mut rt.reader(), &mut io::writer(rt), turns),
         )),
         Err(error) => explain(rt, &error),
+    }
+}
+
+/// A server, whose log goes to the standard error where one is wanted.
+fn run_server(rt: &HostRuntime, turns: u64, log: bool) -> Ended {
+    let mut reader = rt.reader();
+    if log {
+        let mut lines = Lines::new(rt.stderr());
+        serve(rt.alloc(), rt, &mut reader, &mut lines, turns)
+    } else {
+        serve(rt.alloc(), rt, &mut reader, &mut Silent, turns)
+    }
+}
+
+/// A proxy likewise.
+fn run_proxy(rt: &HostRuntime, turns: u64, log: bool) -> Ended {
+    let mut reader = rt.reader();
+    if log {
+        let mut lines = Lines::new(rt.stderr());
+        forward(rt.alloc(), rt, &mut reader, &mut lines, turns)
+    } else {
+        forward(rt.alloc(), rt, &mut reader, &mut Silent, turns)
     }
 }
 

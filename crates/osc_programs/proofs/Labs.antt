@@ -36,18 +36,9 @@ use Rattle.osc_programs.specs.Lab.{Lab, Learnt, learnt, learnt_by, all_told, Tel
 use Rattle.osc_programs.specs.Lab as lab
 use Rattle.osc_programs.specs.declared.ended.Ended.{Ended}
 use Rattle.osc_programs.specs.declared.ended.Ended.TheVariants.{Failed}
+use Rattle.osc_programs.proofs.Appended.{appends_more, appends_none}
 
 -- ---- what was written
-
-pub appends_none : (w : Option (List ℕ)) → Appends w w []
-appends_none None = tt
-appends_none (Some xs) = sym (append-nil xs)
-
-pub appends_more : (a b c : Option (List ℕ)) (some more : List ℕ) → Appends a b some → Appends b c more → Appends a c (some ++ more)
-appends_more None b c some more p q = tt
-appends_more (Some xs) None c some more p q = absurd p
-appends_more (Some xs) (Some ys) None some more p q = absurd q
-appends_more (Some xs) (Some ys) (Some zs) some more p q = q ∙ ap (λ bytes. bytes ++ more) p ∙ append_assoc xs some more
 
 -- nothing more
 pub appends_as : (a b : Option (List ℕ)) (some other : List ℕ) → some ≡ other → Appends a b some → Appends a b other

@@ -1,3 +1,4 @@
+pub mod Appended
 pub mod Talking
 pub mod Taken
 pub mod OpenPaths

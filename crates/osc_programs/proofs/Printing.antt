@@ -8,3 +8,10 @@ learnt_pieces client learnt learnt-is e = rw e (simp append_assoc)
 
 pub open_pieces : (client : List ℕ) → client ++ (codes " open" ++ 10 ∷ []) ≡ line (client ++ codes " open")
 open_pieces client = simp append_assoc
+
+pub who_pieces : (ms dotted dotted-is port : List ℕ) → dotted ≡ dotted-is
+    → ms ++ (codes " " ++ (dotted ++ (codes ":" ++ (port ++ codes " ")))) ≡ ms ++ codes " " ++ dotted-is ++ codes ":" ++ port ++ codes " "
+who_pieces ms dotted dotted-is port e = rw e (simp append_assoc)
+
+pub refused_pieces : (code why why-is : List ℕ) → why ≡ why-is → codes "refused " ++ (code ++ (codes ": " ++ why)) ≡ codes "refused " ++ code ++ codes ": " ++ why-is
+refused_pieces code why why-is e = rw e (simp append_assoc)

@@ -1,5 +1,6 @@
 pub mod Ended
 pub mod TokenLine
+pub mod Log
 pub mod Turning
 pub mod Serving
 pub mod Conversation

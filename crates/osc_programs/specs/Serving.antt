@@ -1,5 +1,5 @@
 -- What `osc server` and `osc proxy` do: the node of the settings takes its turns.
-use Rattle.std.specs.Prelude.{◌≡◌, ℕ, [], map}
+use Rattle.std.specs.Prelude.{◌≡◌, ℕ, List, [], map}
 use Rattle.std.specs.FinMap as map
 use Rattle.std.specs.FinSet as set
 use Rattle.osc_model.specs.declared.code.Method.TheVariants.{Get}
@@ -37,16 +37,16 @@ pub record IsProxyOf (settings : ProxySettings) (proxy : Proxy) : Type 0 where
 
 -- ---- their turns
 
--- The server of these settings takes so many turns.
-pub record Serves (settings : ServerSettings) (turns : ℕ) : Type 0 where
+-- The server of these settings takes so many turns, and this is told of them.
+pub record Serves (settings : ServerSettings) (turns : ℕ) (log : List ℕ) : Type 0 where
   pub first : Server
   pub last : Server
   pub is_server : IsServerOf settings first
-  pub runs : Runs (ServerSteps is_sealing) turns first last
+  pub runs : Runs (ServerSteps is_sealing) turns log first last
 
--- The proxy of these settings takes so many turns.
-pub record Forwards (settings : ProxySettings) (turns : ℕ) : Type 0 where
+-- The proxy of these settings takes so many turns, and this is told of them.
+pub record Forwards (settings : ProxySettings) (turns : ℕ) (log : List ℕ) : Type 0 where
   pub first : Proxy
   pub last : Proxy
   pub is_proxy : IsProxyOf settings first
-  pub runs : Runs ProxySteps turns first last
+  pub runs : Runs ProxySteps turns log first last

@@ -9,6 +9,7 @@ use Rattle.osc_model.specs.declared.step.Datagram.{Datagram}
 use Rattle.osc_model.specs.declared.step.Step.{Step}
 use Rattle.osc_turn.specs.Pace.{busy_after, is_due}
 use Rattle.osc_turn.specs.Ports.{Arrival, grown}
+use Rattle.osc_programs.specs.Log.{IsStepText, lost_text}
 
 -- ---- what a node is handed with each event
 
@@ -62,17 +63,30 @@ module _ {N : Type 0} (is_step : N → Moment → Draw → Option Arrival → St
     pub steps : is_step old.node now draw came step new.node
     pub pace : new.busy ≡ busy_after old.busy now (is_some came)
 
-  -- so many turns, one after another, and what they sent
-  pub data Turns : ℕ → Running N → List Datagram → Running N → Type 0 where
-    none : (first : Running N) → Turns 0 first [] first
-    more : (n : ℕ) (first between last : Running N) (out : List Datagram) (step : Step) → Turns n first out between → TakesTurn between step last
-        → Turns (suc n) first (out ++ step.out) last
+  -- a turn of the next moment and draw for whose step there was no memory: what came is lost, and the node is as before
+  pub record LosesTurn (old new : Running N) : Type 0 where
+    pub now : Moment
+    pub draw : Draw
+    pub gives : Gives old.supply now draw new.supply
+    pub node : new.node ≡ old.node
+    pub rested : new.busy ≡ None
 
-  -- The node takes so many turns from the start on.
-  pub record Runs (turns : ℕ) (old new : N) : Type 0 where
+  -- a turn of either kind, what it sent, and what is told of it
+  pub data GoesOn (old : Running N) : List Datagram → List ℕ → Running N → Type 0 where
+    taken : (step : Step) (text : List ℕ) (new : Running N) → (turn : TakesTurn old step new) → IsStepText turn.now step text → GoesOn old step.out text new
+    lost : (new : Running N) → LosesTurn old new → GoesOn old [] lost_text new
+
+  -- so many turns, one after another, what they sent, and what is told of them
+  pub data Turns : ℕ → Running N → List Datagram → List ℕ → Running N → Type 0 where
+    none : (first : Running N) → Turns 0 first [] [] first
+    more : (n : ℕ) (first between last : Running N) (out more_out : List Datagram) (log text : List ℕ) → Turns n first out log between
+        → GoesOn between more_out text last → Turns (suc n) first (out ++ more_out) (log ++ text) last
+
+  -- The node takes so many turns from the start on, and this is told of them.
+  pub record Runs (turns : ℕ) (log : List ℕ) (old new : N) : Type 0 where
     pub start : Supply
     pub seeded : IsSeeded start
     pub sent : List Datagram
     pub last : Running N
-    pub takes : Turns turns (record { node = old; busy = None; supply = start }) sent last
+    pub takes : Turns turns (record { node = old; busy = None; supply = start }) sent log last
     pub ends : new ≡ last.node

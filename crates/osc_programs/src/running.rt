@@ -1,9 +1,10 @@
 //! Nodes that run on a socket: a server, and a proxy.
 ghost use Rattle.std.specs.FinSet as set;
-ghost use Rattle.std.specs.Prelude.{◌≡◌, IfErr, IfOk, IfSome, map, option_map, string_bytes};
+ghost use Rattle.std.specs.Prelude.{◌≡◌, ℕ, List, IfErr, IfOk, IfSome, map, option_map, string_bytes};
 ghost use Rattle.osc_model.specs.declared.code.Method.TheVariants as AnyMethod;
 ghost use Rattle.osc_turn.specs.Ports.{grown};
 ghost use Rattle.osc_programs.specs.Ended as ends;
+ghost use Rattle.osc_programs.specs.Log.{Tells};
 ghost use Rattle.osc_programs.specs.Serving as spec;
 ghost use Rattle.osc_programs.specs.Turning as turning;
 ghost use Rattle.osc_settings.specs.Document.{StandsFor};
@@ -12,6 +13,7 @@ ghost use Rattle.osc_settings.specs.declared.proxy.ProxySettings.{ProxySettings 
 ghost use Rattle.osc_settings.specs.declared.server.ServerSettings.{ServerSettings as ServedBy};
 
 use crate::ended::{Ended, ended_by_io};
+use crate::log::Log;
 use crate::supply::supply_of;
 use crate::turns::take_turns;
 use crate::udp::UdpPort;
@@ -35,36 +37,39 @@ use std::random::RandomSource;
 use std::time::Clock;
 
 /// Runs a server with the settings that the reader gives, for so many turns. It tells once, on the standard error, where it
-/// listens, if that can be written. A datagram that can't be sent is lost, as on the way; a turn that fails ends it.
-pub fn serve<R: Clock + Eprint + Net + RandomSource, I: Read>(
+/// listens, if that can be written, and the log tells of each turn. A datagram that can't be sent is lost, as on the way, and so is one
+/// for whose step there is no memory; a receive that fails ends it.
+pub fn serve<R: Clock + Eprint + Net + RandomSource, I: Read, L: Log>(
     alloc: Global,
     runtime: &R,
     reader: &mut I,
+    log: &mut L,
     turns: u64,
 ) -> Ended
-    ensures done { result ≡ Ended.Done → (settings : ServedBy) × IfSome (I.remaining reader.old) (λ text. StandsFor AreServerSettings text settings)
-        × spec.Serves settings turns }
+    ensures done { result ≡ Ended.Done → (settings : ServedBy) × (text : List ℕ) × IfSome (I.remaining reader.old) (λ bytes. StandsFor AreServerSettings bytes settings)
+        × spec.Serves settings turns text × Tells (L.told log.old) (L.told log.new) text }
     ensures ends { ends.EndsNode result }
 {
     match server_settings(alloc, reader) {
-        Ok(settings) => serve_by(alloc, runtime, settings, turns),
+        Ok(settings) => serve_by(alloc, runtime, settings, log, turns),
         Err(ended) => ended,
     }
 }
 
 /// Runs a forward proxy with the settings that the reader gives, as `serve` runs a server.
-pub fn forward<R: Clock + Eprint + Net + RandomSource, I: Read>(
+pub fn forward<R: Clock + Eprint + Net + RandomSource, I: Read, L: Log>(
     alloc: Global,
     runtime: &R,
     reader: &mut I,
+    log: &mut L,
     turns: u64,
 ) -> Ended
-    ensures done { result ≡ Ended.Done → (settings : ForwardedBy) × IfSome (I.remaining reader.old) (λ text. StandsFor AreProxySettings text settings)
-        × spec.Forwards settings turns }
+    ensures done { result ≡ Ended.Done → (settings : ForwardedBy) × (text : List ℕ) × IfSome (I.remaining reader.old) (λ bytes. StandsFor AreProxySettings bytes settings)
+        × spec.Forwards settings turns text × Tells (L.told log.old) (L.told log.new) text }
     ensures ends { ends.EndsNode result }
 {
     match proxy_settings(alloc, reader) {
-        Ok(settings) => forward_by(alloc, runtime, settings, turns),
+        Ok(settings) => forward_by(alloc, runtime, settings, log, turns),
         Err(ended) => ended,
     }
 }
@@ -119,34 +124,36 @@ fn proxy_settings<I: Read>(alloc: Global, reader: &mut I) -> Result<ProxySetting
 
 // ---- nodes
 
-fn serve_by<R: Clock + Eprint + Net + RandomSource>(
+fn serve_by<R: Clock + Eprint + Net + RandomSource, L: Log>(
     alloc: Global,
     runtime: &R,
     settings: ServerSettings,
+    log: &mut L,
     turns: u64,
 ) -> Ended
-    ensures done { result ≡ Ended.Done → spec.Serves settings turns }
+    ensures done { result ≡ Ended.Done → (text : List ℕ) × spec.Serves settings turns text × Tells (L.told log.old) (L.told log.new) text }
     ensures ends { ends.EndsNode result }
 {
     let bind = settings.bind;
     match server_of(alloc, settings) {
-        Ok(mut server) => run(alloc, runtime, bind, &mut server, turns),
+        Ok(mut server) => run(alloc, runtime, bind, &mut server, log, turns),
         Err(_) => Ended::OutOfMemory,
     }
 }
 
-fn forward_by<R: Clock + Eprint + Net + RandomSource>(
+fn forward_by<R: Clock + Eprint + Net + RandomSource, L: Log>(
     alloc: Global,
     runtime: &R,
     settings: ProxySettings,
+    log: &mut L,
     turns: u64,
 ) -> Ended
-    ensures done { result ≡ Ended.Done → spec.Forwards settings turns }
+    ensures done { result ≡ Ended.Done → (text : List ℕ) × spec.Forwards settings turns text × Tells (L.told log.old) (L.told log.new) text }
     ensures ends { ends.EndsNode result }
 {
     let bind = settings.bind;
     match proxy_of(alloc, settings) {
-        Ok(mut proxy) => run(alloc, runtime, bind, &mut proxy, turns),
+        Ok(mut proxy) => run(alloc, runtime, bind, &mut proxy, log, turns),
         Err(_) => Ended::OutOfMemory,
     }
 }
@@ -209,19 +216,20 @@ fn target_of(setting: &TargetSetting) -> Result<Target, AllocError>
 // ---- turns
 
 // The node takes so many turns at this address.
-fn run<R: Clock + Eprint + Net + RandomSource, N: Node<Ccm<8>>>(
+fn run<R: Clock + Eprint + Net + RandomSource, N: Node<Ccm<8>>, L: Log>(
     alloc: Global,
     runtime: &R,
     bind: Peer,
     node: &mut N,
+    log: &mut L,
     turns: u64,
 ) -> Ended
     ensures done { result ≡ Ended.Done
-        → turning.Runs N.is_step turns node.old node.new }
+        → (text : List ℕ) × turning.Runs N.is_step turns text node.old node.new × Tells (L.told log.old) (L.told log.new) text }
     ensures ends { ends.EndsNode result }
 {
     match bound(runtime, bind) {
-        Ok(mut port) => started(alloc, runtime, &mut port, node, turns),
+        Ok(mut port) => started(alloc, runtime, &mut port, node, log, turns),
         Err(ended) => ended,
     }
 }
@@ -239,20 +247,21 @@ pub(crate) fn bound<R: Net>(runtime: &R, bind: Peer) -> Result<UdpPort, Ended>
     }
 }
 
-fn started<R: Clock + Eprint + RandomSource, N: Node<Ccm<8>>>(
+fn started<R: Clock + Eprint + RandomSource, N: Node<Ccm<8>>, L: Log>(
     alloc: Global,
     runtime: &R,
     port: &mut UdpPort,
     node: &mut N,
+    log: &mut L,
     turns: u64,
 ) -> Ended
     ensures done { result ≡ Ended.Done
-        → turning.Runs N.is_step turns node.old node.new }
+        → (text : List ℕ) × turning.Runs N.is_step turns text node.old node.new × Tells (L.told log.old) (L.told log.new) text }
     ensures ends { ends.EndsNode result }
 {
     tell_address(alloc, runtime, port);
     match supply_of(runtime) {
-        Ok(mut supply) => take_turns(alloc, &mut supply, port, node, turns),
+        Ok(mut supply) => take_turns(alloc, &mut supply, port, node, log, turns),
         Err(ended) => ended,
     }
 }

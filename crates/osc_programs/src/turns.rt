@@ -1,35 +1,38 @@
 //! Turns of a node at a port, at the moments of a clock and with the bytes of a generator.
 ghost use Rattle.std.specs.Prelude.{◌≡◌, ◌≢◌, ◌⊎◌, ◌<◌, ℕ, List, None, IfErr, IfOk, OnErr, OnOk};
 ghost use Rattle.osc_model.specs.declared.step.Datagram.{Datagram as AnyDatagram};
-ghost use Rattle.osc_model.specs.declared.step.Step.{Step as AnyStep};
 ghost use Rattle.osc_turn.specs.Ports.{grown};
 ghost use Rattle.osc_programs.specs.Ended as ends;
+ghost use Rattle.osc_programs.specs.Log.{Tells};
 ghost use Rattle.osc_programs.specs.Turning as spec;
 
 use crate::ended::Ended;
+use crate::log::Log;
 use crate::supply::{Supply, Watch, moment_and_draw};
 use osc_ccm::Ccm;
 use osc_turn::{Node, Pace, Port, TurnError, Turned, paced_turn};
 use std::alloc::Global;
 
-/// The node takes so many turns, unless one fails. A datagram that can't be sent is lost, as on the way.
-pub(crate) fn take_turns<W: Watch + Drop, P: Port, N: Node<Ccm<8>>>(
+/// The node takes so many turns, unless one fails, and the log tells of each. A datagram that can't be sent is lost, as on the way; so
+/// is what came where there is no memory for its step.
+pub(crate) fn take_turns<W: Watch + Drop, P: Port, N: Node<Ccm<8>>, L: Log>(
     alloc: Global,
     supply: &mut Supply<W>,
     port: &mut P,
     node: &mut N,
+    log: &mut L,
     turns: u64,
 ) -> Ended
-    ensures turns { (taken : ℕ) × (out : List AnyDatagram) × (last : spec.Running N)
+    ensures turns { (taken : ℕ) × (out : List AnyDatagram) × (text : List ℕ) × (last : spec.Running N)
         × spec.Turns N.is_step taken
-        (record { node = node.old; busy = None; supply = supply.old }) out last
-        × (node.new ≡ last.node) × (P.sent port.new ≡ grown (P.sent port.old) out)
+        (record { node = node.old; busy = None; supply = supply.old }) out text last
+        × (node.new ≡ last.node) × (P.sent port.new ≡ grown (P.sent port.old) out) × Tells (L.told log.old) (L.told log.new) text
         × (((result ≡ Ended.Done) × (taken ≡ turns)) ⊎ ((result ≢ Ended.Done) × (taken < turns))) }
     ensures ends { ends.EndsNode result }
 {
     let mut pace = Pace::START;
     for _ in 0..turns {
-        match one_turn(alloc, supply, port, node, &mut pace) {
+        match one_turn(alloc, supply, port, node, log, &mut pace) {
             Ok(()) => {}
             Err(ended) => return ended,
         }
@@ -37,28 +40,37 @@ pub(crate) fn take_turns<W: Watch + Drop, P: Port, N: Node<Ccm<8>>>(
     Ended::Done
 }
 
-// One turn, whose step is let go.
-fn one_turn<W: Watch + Drop, P: Port, N: Node<Ccm<8>>>(
+// One turn, of which the log tells.
+fn one_turn<W: Watch + Drop, P: Port, N: Node<Ccm<8>>, L: Log>(
     alloc: Global,
     supply: &mut Supply<W>,
     port: &mut P,
     node: &mut N,
+    log: &mut L,
     pace: &mut Pace,
 ) -> Result<(), Ended>
-    ensures ok { OnOk result ((step : AnyStep)
-        × spec.TakesTurn N.is_step
-        (record { node = node.old; busy = pace.old.busy_since; supply = supply.old }) step
+    ensures ok { OnOk result ((text : List ℕ) × (out : List AnyDatagram)
+        × spec.GoesOn N.is_step
+        (record { node = node.old; busy = pace.old.busy_since; supply = supply.old }) out text
         (record { node = node.new; busy = pace.new.busy_since; supply = supply.new })
-        × (P.sent port.new ≡ grown (P.sent port.old) step.out)) }
-    ensures err { OnErr result ((node.new ≡ node.old) × (P.sent port.new ≡ P.sent port.old)) }
+        × (P.sent port.new ≡ grown (P.sent port.old) out) × Tells (L.told log.old) (L.told log.new) text) }
+    ensures err { OnErr result ((node.new ≡ node.old) × (P.sent port.new ≡ P.sent port.old) × (log.new ≡ log.old)) }
     ensures fault { IfErr result ends.IsFault }
 {
-    match take_turn(alloc, supply, port, node, pace) {
+    let (now, draw) = moment_and_draw(supply)?;
+    match paced_turn::<Ccm<8>, _, _>(alloc, port, node, pace, now, &draw) {
         Ok(turned) => {
+            log.step(alloc, now, &turned.step);
             drop(turned);
             Ok(())
         }
-        Err(ended) => Err(ended),
+        Err(TurnError::Memory) => {
+            // Before the next tick it takes what comes, so a node without memory waits between its turns.
+            *pace = Pace::START;
+            log.lost();
+            Ok(())
+        }
+        Err(TurnError::Port(_)) => Err(Ended::PortFailed),
     }
 }
 

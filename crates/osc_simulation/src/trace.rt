@@ -45,7 +45,7 @@ pub(crate) fn wanted_bytes_text(
 
 /// A code as the standard writes it, as `2.05`.
 #[derive(Clone, Copy)]
-pub(crate) struct CodeText(pub u8);
+pub struct CodeText(pub u8);
 
 impl fmt::Display for CodeText {
     ghost output = { λ code. Some (text.code_text code.0) };

@@ -7,6 +7,8 @@ mod broken;
 #[cfg(test)]
 mod lab;
 #[cfg(test)]
+mod logs;
+#[cfg(test)]
 mod programs;
 #[cfg(test)]
 mod scripts;

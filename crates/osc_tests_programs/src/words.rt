@@ -51,8 +51,8 @@ fn turns_asked(alloc: Global, words: &[&str]) -> Option<(&'static str, u64)> {
 
 fn turns_of(words: &Words) -> Option<(&'static str, u64)> {
     match words {
-        Words::Server { turns } => Some(("server", *turns)),
-        Words::Proxy { turns } => Some(("proxy", *turns)),
+        Words::Server { turns, .. } => Some(("server", *turns)),
+        Words::Proxy { turns, .. } => Some(("proxy", *turns)),
         Words::Client(words) => Some(("client", words.turns)),
         Words::Lab { turns } => Some(("lab", *turns)),
         _ => None,
@@ -84,6 +84,36 @@ fn a_server_and_a_proxy_go_on_by_default(rt: HostRuntime) {
             Some((subcommand, u64::MAX))
         );
     }
+}
+
+// Whether the words want a log.
+fn log_asked(alloc: Global, words: &[&str]) -> Option<bool> {
+    match read_words(alloc, words) {
+        Ok(Words::Server { log, .. }) | Ok(Words::Proxy { log, .. }) => Some(log),
+        _ => None,
+    }
+}
+
+#[test]
+fn a_server_and_a_proxy_tell_where_that_is_wanted(rt: HostRuntime) {
+    for subcommand in ["server", "proxy"] {
+        for (words, log) in [
+            (["osc", subcommand].as_slice(), Some(false)),
+            (["osc", subcommand, "--turns", "1"].as_slice(), Some(false)),
+            (["osc", subcommand, "--log"].as_slice(), Some(true)),
+            (
+                ["osc", subcommand, "--turns", "1", "--log"].as_slice(),
+                Some(true),
+            ),
+            (["osc", subcommand, "--log", "--log"].as_slice(), None),
+        ] {
+            assert_eq!(rt; log_asked(rt.alloc(), words), log);
+        }
+    }
+    assert_eq!(rt;
+        log_asked(rt.alloc(), &["osc", "lab", "--turns", "1", "--log"]),
+        None
+    );
 }
 
 #[test]
@@ -400,7 +430,7 @@ fn shows(alloc: Global, words: &[&str], part: &str) -> Result<bool, AllocError> 
     }
 }
 
-const SHOWN: [(&[&str], &str); 17] = [
+const SHOWN: [(&[&str], &str); 19] = [
     (&["osc", "--version"], "osc 0.1.0\n"),
     (&["osc", "-V"], "osc 0.1.0\n"),
     (&["osc", "help"], "\n  sim     Runs the script"),
@@ -414,6 +444,14 @@ const SHOWN: [(&[&str], &str); 17] = [
     (&["osc", "help", "token"], "      --nbf <N>"),
     (&["osc", "token", "--help"], "\nExample: osc token --key"),
     (&["osc", "server", "--help"], "\nExample: osc server"),
+    (
+        &["osc", "server", "--help"],
+        "\n      --log        Tells of each request",
+    ),
+    (
+        &["osc", "help", "proxy"],
+        "\n      --log        Tells of each request",
+    ),
     (&["osc", "help", "proxy"], "\nExample: osc proxy"),
     (&["osc", "help", "client"], "      --format <N>"),
     (&["osc", "client", "--help"], "\nExample: osc client"),

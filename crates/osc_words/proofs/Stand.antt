@@ -16,8 +16,8 @@ asked_by_method : (entered : Option (Text × List Row)) (read : Words) → AreWo
 asked_by_method None read s = absurd s
 asked_by_method (Some entered) (Sim bytes only) s = tt
 asked_by_method (Some entered) (Token words) s = tt
-asked_by_method (Some entered) (Server turns) s = tt
-asked_by_method (Some entered) (Proxy turns) s = tt
+asked_by_method (Some entered) (Server turns log) s = tt
+asked_by_method (Some entered) (Proxy turns log) s = tt
 asked_by_method (Some entered) (Client words) s = code_of_method (value_of (option.Client Method) entered.1) words.request.code (s.1.0 Method)
 asked_by_method (Some entered) (Lab turns) s = tt
 

@@ -26,12 +26,13 @@ use Rattle.osc_words.specs.declared.words.Words.TheVariants.{Sim, Token, Server,
 use Rattle.osc_words.specs.declared.words.WordsError.{WordsError}
 use Rattle.osc_words.specs.declared.words.WordsError.TheVariants.{Clap, Value, Memory}
 
-abbrev pub bytes_rule : Rule
-bytes_rule = record (new_rule (codes "bytes")) { long = Some (codes "bytes"); action = Some SetTrue }
+-- --NAME
+abbrev pub flag_rule : Text → Rule
+flag_rule name = record (new_rule name) { long = Some name; action = Some SetTrue }
 
 -- osc sim [--bytes] [--only CLIENT]
 abbrev pub sim_app : App
-sim_app = with_rule (with_rule (new_app (codes "sim")) bytes_rule) (value_rule (codes "only") false)
+sim_app = with_rule (with_rule (new_app (codes "sim")) (flag_rule (codes "bytes"))) (value_rule (codes "only") false)
 
 abbrev pub token_options : List TokenOption
 token_options = Key ∷ Audience ∷ Id ∷ Secret ∷ Scope ∷ Salt ∷ Context ∷ Expires ∷ NotBefore ∷ Iv ∷ []
@@ -40,9 +41,13 @@ token_options = Key ∷ Audience ∷ Id ∷ Secret ∷ Scope ∷ Salt ∷ Contex
 abbrev pub token_app : App
 token_app = fold (λ app option. with_rule app (option_rule option)) (new_app (codes "token")) token_options
 
--- osc NAME --turns N, or osc NAME [--turns N]
-abbrev pub turns_app : Text → Bool → App
-turns_app name required = with_rule (new_app name) (value_rule (codes "turns") required)
+-- osc NAME [--turns N] [--log]
+abbrev pub node_app : Text → App
+node_app name = with_rule (with_rule (new_app name) (value_rule (codes "turns") false)) (flag_rule (codes "log"))
+
+-- osc lab --turns N
+abbrev pub lab_app : App
+lab_app = with_rule (new_app (codes "lab")) (value_rule (codes "turns") true)
 
 abbrev pub client_options : List ClientOption
 client_options = client_option.Turns ∷ client_option.Method ∷ client_option.Path ∷ client_option.Payload ∷ client_option.Format ∷ []
@@ -57,7 +62,7 @@ bare_program = record { top = record (new_app (codes "osc")).top { subcommand_re
 
 abbrev pub program : App
 program = fold (λ app command. with_subcommand app command.top) bare_program
-    (sim_app ∷ token_app ∷ turns_app (codes "server") false ∷ turns_app (codes "proxy") false ∷ client_app ∷ turns_app (codes "lab") true ∷ [])
+    (sim_app ∷ token_app ∷ node_app (codes "server") ∷ node_app (codes "proxy") ∷ client_app ∷ lab_app ∷ [])
 
 -- a flag was given
 abbrev pub is_set : Text → List Row → Bool
@@ -69,8 +74,10 @@ AreWords None words = ⊥
 AreWords (Some entered) (Sim bytes only) =
     (entered.0 ≡ codes "sim") × (bytes ≡ is_set (codes "bytes") entered.1) × IsGiven SpellsClient (value_of option.SimOnly entered.1) only
 AreWords (Some entered) (Token words) = (entered.0 ≡ codes "token") × token.AreTokenWords entered.1 words
-AreWords (Some entered) (Server turns) = (entered.0 ≡ codes "server") × SpellsTurns (value_of option.ServerTurns entered.1) turns
-AreWords (Some entered) (Proxy turns) = (entered.0 ≡ codes "proxy") × SpellsTurns (value_of option.ProxyTurns entered.1) turns
+AreWords (Some entered) (Server turns log) =
+    (entered.0 ≡ codes "server") × SpellsTurns (value_of option.ServerTurns entered.1) turns × (log ≡ is_set (codes "log") entered.1)
+AreWords (Some entered) (Proxy turns log) =
+    (entered.0 ≡ codes "proxy") × SpellsTurns (value_of option.ProxyTurns entered.1) turns × (log ≡ is_set (codes "log") entered.1)
 AreWords (Some entered) (Client words) = (entered.0 ≡ codes "client") × client.AreClientWords entered.1 words
 AreWords (Some entered) (Lab turns) = (entered.0 ≡ codes "lab") × IsGiven SpellsNumber (value_of option.LabTurns entered.1) (Some turns)
 

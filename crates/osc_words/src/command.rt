@@ -22,6 +22,8 @@ use std::alloc::{AllocError, Global};
 const TOKEN_EXAMPLE: &str =
     "Example: osc token --key 404142434445464748494a4b4c4d4e4f --aud s --id 01 --secret 0123456789abcdef --scope /log:GET+POST";
 
+const LOG_HELP: &str = "Tells of each request that is served or refused, on the standard error";
+
 /// Reads a command line, the program's own name first.
 ///
 /// # Errors
@@ -82,6 +84,7 @@ fn server_asked(options: &ArgMatches<'_>) -> Result<Words, WordsError>
 {
     Ok(Words::Server {
         turns: given::turns(options, NamedOption::ServerTurns)?,
+        log: is_set(options, "log"),
     })
 }
 
@@ -91,6 +94,7 @@ fn proxy_asked(options: &ArgMatches<'_>) -> Result<Words, WordsError>
 {
     Ok(Words::Proxy {
         turns: given::turns(options, NamedOption::ProxyTurns)?,
+        log: is_set(options, "log"),
     })
 }
 
@@ -137,7 +141,7 @@ fn with_tools<'a>(alloc: Global) -> Result<Command<'a>, AllocError>
 // The command with the subcommands of the nodes that are asked.
 fn with_nodes<'a>(alloc: Global, command: Command<'a>) -> Result<Command<'a>, AllocError>
     ensures { IfOk result (λ more. app_of more
-        ≡ with_subcommand (with_subcommand (app_of command.entry) (spec.turns_app (codes "server") false).top) (spec.turns_app (codes "proxy") false).top) }
+        ≡ with_subcommand (with_subcommand (app_of command.entry) (spec.node_app (codes "server")).top) (spec.node_app (codes "proxy")).top) }
 {
     command
         .subcommand(server_command(alloc)?)?
@@ -147,7 +151,7 @@ fn with_nodes<'a>(alloc: Global, command: Command<'a>) -> Result<Command<'a>, Al
 // The command with the subcommands that ask.
 fn with_asking<'a>(alloc: Global, command: Command<'a>) -> Result<Command<'a>, AllocError>
     ensures { IfOk result (λ more. app_of more
-        ≡ with_subcommand (with_subcommand (app_of command.entry) spec.client_app.top) (spec.turns_app (codes "lab") true).top) }
+        ≡ with_subcommand (with_subcommand (app_of command.entry) spec.client_app.top) spec.lab_app.top) }
 {
     command
         .subcommand(client_command(alloc)?)?
@@ -170,14 +174,10 @@ fn sim_command<'a>(alloc: Global) -> Result<Command<'a>, AllocError>
     ensures app { IfOk result (λ command. app_of command ≡ spec.sim_app) }
     ensures local { IfOk result (λ command. (out-Command command).has_globals ≡ false) }
 {
-    let bytes = Arg::new(alloc, "bytes")
-        .long("bytes")
-        .help("Prints the bytes of each datagram")
-        .action(ArgAction::SetTrue);
     let command = Command::new(alloc, "sim")
         .about("Runs the script on the standard input, and prints its trace")
-        .after_help("Example: osc sim --bytes --only c1 < SCRIPT")
-        .arg(bytes)?;
+        .after_help("Example: osc sim --bytes --only c1 < SCRIPT");
+    let command = with_flag(alloc, command, "bytes", "Prints the bytes of each datagram")?;
     with_option(alloc, command, NamedOption::SimOnly, false)
 }
 
@@ -202,24 +202,26 @@ fn token_command<'a>(alloc: Global) -> Result<Command<'a>, AllocError>
 
 // The subcommand that runs a server.
 fn server_command<'a>(alloc: Global) -> Result<Command<'a>, AllocError>
-    ensures app { IfOk result (λ command. app_of command ≡ spec.turns_app (codes "server") false) }
+    ensures app { IfOk result (λ command. app_of command ≡ spec.node_app (codes "server")) }
     ensures local { IfOk result (λ command. (out-Command command).has_globals ≡ false) }
 {
     let command = Command::new(alloc, "server")
         .about("Runs a server on a UDP socket, by the settings on the standard input")
-        .after_help("Example: osc server < SETTINGS");
-    with_option(alloc, command, NamedOption::ServerTurns, false)
+        .after_help("Example: osc server --log < SETTINGS");
+    let command = with_option(alloc, command, NamedOption::ServerTurns, false)?;
+    with_flag(alloc, command, "log", LOG_HELP)
 }
 
 // The subcommand that runs a forward proxy.
 fn proxy_command<'a>(alloc: Global) -> Result<Command<'a>, AllocError>
-    ensures app { IfOk result (λ command. app_of command ≡ spec.turns_app (codes "proxy") false) }
+    ensures app { IfOk result (λ command. app_of command ≡ spec.node_app (codes "proxy")) }
     ensures local { IfOk result (λ command. (out-Command command).has_globals ≡ false) }
 {
     let command = Command::new(alloc, "proxy")
         .about("Runs a forward proxy on a UDP socket, by the settings on the standard input")
         .after_help("Example: osc proxy --turns 1000 < SETTINGS");
-    with_option(alloc, command, NamedOption::ProxyTurns, false)
+    let command = with_option(alloc, command, NamedOption::ProxyTurns, false)?;
+    with_flag(alloc, command, "log", LOG_HELP)
 }
 
 // The subcommand that asks a server.
@@ -245,7 +247,7 @@ fn client_command<'a>(alloc: Global) -> Result<Command<'a>, AllocError>
 
 // The subcommand that runs a script over sockets.
 fn lab_command<'a>(alloc: Global) -> Result<Command<'a>, AllocError>
-    ensures app { IfOk result (λ command. app_of command ≡ spec.turns_app (codes "lab") true) }
+    ensures app { IfOk result (λ command. app_of command ≡ spec.lab_app) }
     ensures local { IfOk result (λ command. (out-Command command).has_globals ≡ false) }
 {
     let command = Command::new(alloc, "lab")
@@ -254,6 +256,23 @@ fn lab_command<'a>(alloc: Global) -> Result<Command<'a>, AllocError>
         )
         .after_help("Example: osc lab --turns 1000000 < SCRIPT");
     with_option(alloc, command, NamedOption::LabTurns, true)
+}
+
+// A flag.
+fn with_flag<'a>(
+    alloc: Global,
+    command: Command<'a>,
+    name: &'a str,
+    help: &'a str,
+) -> Result<Command<'a>, AllocError>
+    ensures app { IfOk result (λ more. app_of more ≡ with_rule (app_of command.entry) (spec.flag_rule name.entry.now)) }
+    ensures local { IfOk result (λ more. (out-Command more).has_globals ≡ (out-Command command.entry).has_globals) }
+{
+    let arg = Arg::new(alloc, name)
+        .long(name)
+        .help(help)
+        .action(ArgAction::SetTrue);
+    command.arg(arg)
 }
 
 // An option with one value.

@@ -22,13 +22,16 @@ pub enum Words {
     },
     /// `osc token`: print a token.
     Token(TokenWords),
-    /// `osc server [--turns N]`: run a server for so many turns. Where none are given, there are `u64::MAX`.
+    /// `osc server [--turns N] [--log]`: run a server for so many turns, and tell of each where `log` says so. Where no turns are
+    /// given, there are `u64::MAX`.
     Server {
         turns: u64,
+        log: bool,
     },
-    /// `osc proxy [--turns N]`: run a forward proxy likewise.
+    /// `osc proxy [--turns N] [--log]`: run a forward proxy likewise.
     Proxy {
         turns: u64,
+        log: bool,
     },
     /// `osc client`: post a token and send a request.
     Client(ClientWords),

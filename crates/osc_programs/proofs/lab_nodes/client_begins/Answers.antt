@@ -1,4 +1,5 @@
-use Rattle.osc_programs.proofs.Labs.{always_ok, appends_none, at_exit, began, did_by_line, nothing_learnt, stops_at_once}
+use Rattle.osc_programs.proofs.Labs.{always_ok, at_exit, began, did_by_line, nothing_learnt, stops_at_once}
+use Rattle.osc_programs.proofs.Appended.{appends_none}
 use Rattle.osc_programs.proofs.lab_nodes.client_begins.Goals as goal
 
 pub returns-in_err-reserve-clause-stopped : goal.returns-in_err-reserve-clause-stopped

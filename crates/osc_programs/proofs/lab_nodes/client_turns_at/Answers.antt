@@ -1,5 +1,6 @@
 use Rattle.osc_programs.specs.Lab.{a_step}
-use Rattle.osc_programs.proofs.Labs.{always_ok, appends_none, at_exit, behind, did_in_turn, nothing_learnt, stops_at_once}
+use Rattle.osc_programs.proofs.Labs.{always_ok, at_exit, behind, did_in_turn, nothing_learnt, stops_at_once}
+use Rattle.osc_programs.proofs.Appended.{appends_none}
 use Rattle.osc_programs.proofs.lab_nodes.client_turns_at.Goals as goal
 
 pub returns-in_err-reserve-clause-stopped : goal.returns-in_err-reserve-clause-stopped

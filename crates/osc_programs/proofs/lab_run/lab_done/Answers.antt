@@ -3,7 +3,8 @@ use Rattle.std.specs.FinMap as map
 use Rattle.std.proofs.lemmas.Result.{on_ok_weaker, IfErr-weaker}
 use Rattle.osc_simulation.specs.SetUp.{CanPutAll}
 use Rattle.osc_programs.specs.Lab.{in_script, no_script}
-use Rattle.osc_programs.proofs.Labs.{appends_none, at_exit, printed_by, stopped_by}
+use Rattle.osc_programs.proofs.Labs.{at_exit, printed_by, stopped_by}
+use Rattle.osc_programs.proofs.Appended.{appends_none}
 use Rattle.osc_programs.proofs.Taken.{fault_lab}
 use Rattle.osc_programs.proofs.lab_run.lab_done.Goals as goal
 

@@ -2,7 +2,8 @@ use Rattle.std.proofs.Common.{◌≡◌, ◌∙◌, ap}
 use Rattle.std.proofs.lemmas.Result.{on_ok_weaker, IfErr-weaker}
 use Rattle.osc_simulation.specs.Names.{Names, granted}
 use Rattle.osc_programs.specs.Lab.{IsFirst, in_lines, lab_of, unbegun}
-use Rattle.osc_programs.proofs.Labs.{appends_none, at_exit}
+use Rattle.osc_programs.proofs.Labs.{at_exit}
+use Rattle.osc_programs.proofs.Appended.{appends_none}
 use Rattle.osc_programs.proofs.lab_run.lab_lines.Goals as goal
 
 pub returns-in_err-names-clause-early : goal.returns-in_err-names-clause-early

@@ -1,6 +1,7 @@
 use Rattle.std.proofs.Common.{[]}
 use Rattle.osc_programs.specs.Lab.{no_line}
-use Rattle.osc_programs.proofs.Labs.{appends_none, at_exit, one_more_line, stops_in}
+use Rattle.osc_programs.proofs.Labs.{at_exit, one_more_line, stops_in}
+use Rattle.osc_programs.proofs.Appended.{appends_none}
 use Rattle.osc_programs.proofs.lab_run.run_lines.Goals as goal
 
 pub loop-line-init : goal.loop-line-init

@@ -1,6 +1,7 @@
 use Rattle.std.proofs.Common.{◌+◌, arith, refl}
 use Rattle.osc_programs.specs.Lab.{no_whole_turn, stays}
-use Rattle.osc_programs.proofs.Labs.{appends_none, at_exit, leads_more, one_more_whole, stops_more, tells_more, tells_none}
+use Rattle.osc_programs.proofs.Labs.{at_exit, leads_more, one_more_whole, stops_more, tells_more, tells_none}
+use Rattle.osc_programs.proofs.Appended.{appends_none}
 use Rattle.osc_programs.proofs.lab_run.take_whole_turns.Goals as goal
 
 pub loop-init : goal.loop-init

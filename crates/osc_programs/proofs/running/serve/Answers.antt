@@ -3,7 +3,7 @@ use Rattle.osc_programs.proofs.running.serve.Goals as goal
 
 pub returns-in-Ok : goal.returns-in-Ok
 returns-in-Ok g c = record {
-  done = λ done. (c.in-Ok.settings, c.in-Ok.ensures.settings, c.serve_by.ensures.done done);
+  done = λ done. let told = c.serve_by.ensures.done done in (c.in-Ok.settings, told.0, c.in-Ok.ensures.settings, told.1, told.2);
   ends = c.serve_by.ensures.ends;
 }
 

@@ -1,4 +1,6 @@
 use Rattle.osc_programs.proofs.running.serve_by.Goals as goal
 
 pub returns-in-Ok-clause-done : goal.returns-in-Ok-clause-done
-returns-in-Ok-clause-done g c = λ done. record { first = c.in-Ok.server; last = c.run.new.node; is_server = c.in-Ok.ensures; runs = c.run.ensures.done done }
+returns-in-Ok-clause-done g c = λ done.
+    let told = c.run.ensures.done done in
+    (told.0, record { first = c.in-Ok.server; last = c.run.new.node; is_server = c.in-Ok.ensures; runs = told.1 }, told.2)

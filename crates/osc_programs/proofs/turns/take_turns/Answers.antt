@@ -1,17 +1,28 @@
-use Rattle.std.proofs.Common.{◌∙◌, arith, inl, inr, refl}
+use Rattle.std.proofs.Common.{◌∙◌, ap, arith, inl, inr, refl, subst, sym}
+use Rattle.osc_programs.specs.Log.{Tells}
 use Rattle.osc_programs.specs.Turning as spec
-use Rattle.osc_programs.proofs.Taken.{grown_none, grown_more, fault_node, no_end, one_more}
+use Rattle.osc_programs.proofs.Taken.{grown_none, grown_more, fault_node, no_end, one_more, tells_more, tells_none}
 use Rattle.osc_programs.proofs.turns.take_turns.Goals as goal
 
 pub loop-init : goal.loop-init
-loop-init g c = (omega arith, _, spec.none _, grown_none _)
+loop-init g c = (omega arith, _, _, spec.none _, grown_none _, tells_none _)
 
 pub returns-in-Err : goal.returns-in-Err
 returns-in-Err g c =
     let so_far = c.loop.invariant in
     let kept = c.in-Err.ensures.err in
     record {
-      turns = (c.loop.counter, so_far.1, _, so_far.2, kept.0, kept.1 ∙ so_far.3, inr (no_end c.in-Err.ended c.in-Err.ensures.fault, c.loop-test.true));
+      turns = (
+        c.loop.counter,
+        so_far.1,
+        so_far.2,
+        _,
+        so_far.3,
+        kept.0,
+        kept.1 ∙ so_far.4,
+        subst (λ log. Tells (g.L.Log.told c.args.log.now) (g.L.Log.told log) so_far.2) (sym kept.2) so_far.5,
+        inr (no_end c.in-Err.ended c.in-Err.ensures.fault, c.loop-test.true),
+      );
       ends = fault_node c.in-Err.ended c.in-Err.ensures.fault;
     }
 
@@ -21,11 +32,13 @@ loop-preserved g c =
     let turn = c.in-Ok.ensures.ok in (
       omega (arith, c.loop-test.true),
       _,
-      one_more g.N.Node.is_step c.loop.counter _ _ _ so_far.1 turn.0 so_far.2 turn.1,
-      grown_more _ _ _ so_far.1 turn.0.out so_far.3 turn.2,
+      _,
+      one_more g.N.Node.is_step c.loop.counter _ _ _ so_far.1 turn.1 so_far.2 turn.0 so_far.3 turn.2,
+      grown_more _ _ _ so_far.1 turn.1 so_far.4 turn.3,
+      tells_more _ _ _ so_far.2 turn.0 so_far.5 turn.4,
     )
 
 pub returns : goal.returns
 returns g c =
     let so_far = c.loop.invariant in
-    record { turns = (c.loop.counter, so_far.1, _, so_far.2, refl, so_far.3, inl (refl, omega (arith, so_far.0, c.loop-test.false))); ends = tt }
+    record { turns = (c.loop.counter, so_far.1, so_far.2, _, so_far.3, refl, so_far.4, so_far.5, inl (refl, omega (arith, so_far.0, c.loop-test.false))); ends = tt }

@@ -1,12 +1,13 @@
-use Rattle.std.proofs.Common.{◌≡◌, ◌≤◌, List, None}
+use Rattle.std.proofs.Common.{◌≡◌, ◌≤◌, ℕ, List, None}
 use Rattle.osc_model.specs.declared.step.Datagram.{Datagram}
 use Rattle.osc_turn.specs.Ports.{grown}
+use Rattle.osc_programs.specs.Log.{Tells}
 use Rattle.osc_programs.specs.Turning as spec
 use Rattle.osc_programs.proofs.turns.take_turns.Given as goal
 
--- so many turns were taken, and what they sent was handed to the port
+-- so many turns were taken, what they sent was handed to the port, and the log told of them
 abbrev pub invariant-loop : goal.invariant-loop
 invariant-loop g l =
-    (l.counter ≤ l.turns) × (out : List Datagram)
-    × spec.Turns g.N.Node.is_step l.counter (record { node = l.initial.node; busy = None; supply = l.initial.supply }) out (record { node = l.node; busy = l.pace.busy_since; supply = l.supply })
-    × (g.P.Port.sent l.port ≡ grown (g.P.Port.sent l.initial.port) out)
+    (l.counter ≤ l.turns) × (out : List Datagram) × (text : List ℕ)
+    × spec.Turns g.N.Node.is_step l.counter (record { node = l.initial.node; busy = None; supply = l.initial.supply }) out text (record { node = l.node; busy = l.pace.busy_since; supply = l.supply })
+    × (g.P.Port.sent l.port ≡ grown (g.P.Port.sent l.initial.port) out) × Tells (g.L.Log.told l.initial.log) (g.L.Log.told l.log) text

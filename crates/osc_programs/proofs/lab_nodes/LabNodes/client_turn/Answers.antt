@@ -3,7 +3,8 @@ use Rattle.std.proofs.lemmas.Option.{slice_get_past, slice_get_read}
 use Rattle.std.proofs.lemmas.Result.{on_ok_weaker}
 use Rattle.std.specs.Prelude.{slice_get}
 use Rattle.osc_programs.specs.Lab.{no_client, stays}
-use Rattle.osc_programs.proofs.Labs.{appends_none, client_leads, client_took_turn, no_item, stops_at_once}
+use Rattle.osc_programs.proofs.Labs.{client_leads, client_took_turn, no_item, stops_at_once}
+use Rattle.osc_programs.proofs.Appended.{appends_none}
 use Rattle.osc_programs.proofs.lab_nodes.LabNodes.client_turn.Goals as goal
 
 pub returns-in_default-clause-leads : goal.returns-in_default-clause-leads

@@ -1,4 +1,5 @@
-use Rattle.osc_programs.proofs.Labs.{appends_none, at_exit, leads_more, stops_at_once}
+use Rattle.osc_programs.proofs.Labs.{at_exit, leads_more, stops_at_once}
+use Rattle.osc_programs.proofs.Appended.{appends_none}
 use Rattle.osc_programs.proofs.lab_nodes.LabNodes.round.Goals as goal
 
 pub returns-in_err-server-clause-stopped : goal.returns-in_err-server-clause-stopped

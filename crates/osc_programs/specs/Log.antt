@@ -1,0 +1,128 @@
+-- The lines by which a node tells what its steps did: one for each datagram that a step sends.
+use Rattle.std.specs.Prelude.{◌≡◌, ◌⊎◌, ◌==◌, ℕ, Bool, true, false, ◌&&◌, nat_le, if◌then◌else◌, List, [], ◌∷◌, ◌++◌, map, Option, Some, None, Result, Ok, Err, codes, decimal, slice_get, unwrap_or}
+use Rattle.std.specs.List.{flat_map}
+use Rattle.std.specs.Io.KnownBytes.{Appends}
+use Rattle.std.specs.Net.Text.{ipv4_text}
+use Rattle.osc_model.specs.Code.{method_of}
+use Rattle.osc_model.specs.StepNotes.{StepNotes}
+use Rattle.osc_model.specs.declared.code.Code.{Code}
+use Rattle.osc_model.specs.declared.code.Method.{Method}
+use Rattle.osc_model.specs.declared.node.Moment.{Moment}
+use Rattle.osc_model.specs.declared.node.Peer.{Peer}
+use Rattle.osc_model.specs.declared.request.Request.{Request}
+use Rattle.osc_model.specs.declared.step.Datagram.{Datagram}
+use Rattle.osc_model.specs.declared.step.Entry.{Entry}
+use Rattle.osc_model.specs.declared.step.RefusedRequest.{RefusedRequest}
+use Rattle.osc_model.specs.declared.step.Step.{Step}
+use Rattle.osc_run.specs.Texts.{read_request}
+use Rattle.osc_scope.specs.Text.{name_of}
+use Rattle.osc_simulation.specs.Text.{code_text, line}
+
+-- ---- why a request was refused
+
+-- the reasons that have a number, in words
+abbrev pub reason_words : ℕ → List ℕ
+reason_words number =
+    if number == 3 then codes "what it seals is not genuine"
+    else (if number == 21 then codes "its protection is malformed"
+    else (if number == 22 then codes "it names no live security context"
+    else (if number == 23 then codes "its number was used, or is too old"
+    else (if number == 24 then codes "the scope of its token can not be read"
+    else (if number == 25 then codes "its token is not genuine"
+    else (if number == 26 then codes "its token has expired"
+    else (if number == 27 then codes "its token is not valid yet"
+    else (if number == 28 then codes "its token is for another audience"
+    else (if number == 29 then codes "the claims of its token can not be read"
+    else (if number == 30 then codes "a field is missing, or of another type or length"
+    else (if number == 31 then codes "too many tokens have a security context"
+    else codes "for another reason")))))))))))
+
+-- the codes that tell the reason themselves, in words
+abbrev pub code_words : ℕ → List ℕ
+code_words code =
+    if code == 129 then codes "it is not protected"
+    else (if code == 130 then codes "it has an option that can not be heeded"
+    else (if code == 132 then codes "there is nothing here but what is forwarded"
+    else (if code == 133 then codes "its method is none of this path"
+    else (if code == 141 then codes "it is too long to be forwarded"
+    else (if code == 163 then codes "too many exchanges are open"
+    else (if code == 165 then codes "nothing is forwarded there"
+    else codes "for another reason"))))))
+
+-- WHY (NUMBER), or WHY where the code tells it
+abbrev pub why_text : Code → Option ℕ → List ℕ
+why_text why None = code_words why.0
+why_text why (Some number) = reason_words number ++ codes " (" ++ decimal number ++ codes ")"
+
+-- ---- what a datagram did
+
+-- refused CODE: WHY
+abbrev pub refused_text : RefusedRequest → List ℕ
+refused_text refused = codes "refused " ++ code_text refused.code.0 ++ codes ": " ++ why_text refused.code refused.reason
+
+-- a method's name, or the code of what has none
+abbrev pub method_text : Code → Option Method → List ℕ
+method_text request None = code_text request.0
+method_text request (Some method) = name_of method
+
+-- a byte of a path, as itself where it is printable ASCII: nothing that a client sends starts a line or moves a cursor
+abbrev pub shown_byte : ℕ → ℕ
+shown_byte byte = if nat_le 33 byte && nat_le byte 126 then byte else 63
+
+abbrev pub path_text : Option (List ℕ) → List ℕ
+path_text None = codes "-"
+path_text (Some path) = map shown_byte path
+
+-- METHOD PATH, or what is told of a text that is no request
+abbrev pub asked_text : Result Request Code → List ℕ
+asked_text (Ok request) = method_text request.code (method_of request.code) ++ codes " " ++ path_text request.path
+asked_text (Err why) = codes "what is no request"
+
+-- served METHOD PATH: CODE
+abbrev pub served_text : Entry → List ℕ
+served_text entry = codes "served " ++ asked_text (read_request entry.plaintext) ++ codes ": " ++ code_text entry.reply.code.0
+
+-- a message's code is its second byte (RFC 7252 section 3)
+abbrev pub code_in : List ℕ → ℕ
+code_in bytes = unwrap_or (slice_get bytes 1) 0
+
+-- what a step refused or served, or else the code of what it sent
+abbrev pub what_text : Option RefusedRequest → Option Entry → List ℕ → List ℕ
+what_text (Some refused) served bytes = refused_text refused
+what_text None (Some entry) bytes = served_text entry
+what_text None None bytes = codes "sent " ++ code_text (code_in bytes)
+
+-- ---- a step
+
+-- MOMENT A.B.C.D:PORT
+abbrev pub who_text : Moment → Peer → List ℕ
+who_text now peer = decimal now.ms ++ codes " " ++ ipv4_text peer.address ++ codes ":" ++ decimal peer.port ++ codes " "
+
+-- MOMENT A.B.C.D:PORT WHAT
+abbrev pub line_text : Moment → StepNotes → Datagram → List ℕ
+line_text now notes datagram = line (who_text now datagram.to ++ what_text notes.refused notes.served datagram.bytes)
+
+abbrev pub step_text : Moment → Step → List ℕ
+step_text now step = flat_map (line_text now step.notes) step.out
+
+-- what is told of a step for whose lines there was no memory
+abbrev pub untold_text : List ℕ
+untold_text = line (codes "out of memory: what a step did is not told")
+
+-- what is told where there was no memory for a step
+abbrev pub lost_text : List ℕ
+lost_text = line (codes "out of memory: what came is lost")
+
+abbrev pub IsStepText : Moment → Step → List ℕ → Type 0
+IsStepText now step text = (text ≡ step_text now step) ⊎ (text ≡ untold_text)
+
+-- ---- where it is told
+
+-- a log: whether a write of it failed, and what it wrote so far, where contracts can see it
+pub record Told : Type 0 where
+  pub failed : Bool
+  pub text : Option (List ℕ)
+
+-- this was told behind what was told before, unless a write failed
+abbrev pub Tells : Told → Told → List ℕ → Type 0
+Tells old new text = new.failed ≡ false → (old.failed ≡ false) × Appends old.text new.text text

@@ -1,0 +1,303 @@
+//! The lines by which a node tells what its steps did.
+ghost use Rattle.std.specs.Prelude.{◌≡◌, IfOk, List, None, Ok, ℕ, false, map, option_map, string_bytes};
+ghost use Rattle.std.specs.Io.KnownBytes.{Appends};
+ghost use Rattle.osc_model.specs.Code.{method_of};
+ghost use Rattle.osc_scope.specs.Text.{name_of};
+ghost use Rattle.osc_run.specs.Texts.{read_request};
+ghost use Rattle.osc_programs.specs.Log as spec;
+
+use osc_model::{
+    Code, Datagram, Entry, Method, Moment, Path, Peer, RefusedRequest, Request, Step, StepNotes,
+};
+use osc_run::request_in;
+use osc_simulation::CodeText;
+use std::alloc::{AllocError, Global};
+use std::io::Write;
+use std::net::{Ipv4Addr, SocketAddrV4};
+
+/// Where a node tells what its steps did.
+pub trait Log {
+    ghost use Rattle.osc_programs.specs.Log.{Told};
+
+    // Whether a write failed so far, and what was written, where contracts can see it.
+    ghost told: { Self → Told };
+
+    /// Tells of a step at this moment, by a line for each datagram that it sent; or, by one line, that there was no memory for them.
+    /// What can't be written is nobody's failure.
+    fn step(&mut self, alloc: Global, now: Moment, step: &Step)
+        ensures { (text : List ℕ) × spec.IsStepText now step.now text × spec.Tells (told self.old) (told self.new) text };
+
+    /// Tells that there was no memory for a step.
+    fn lost(&mut self)
+        ensures { spec.Tells (told self.old) (told self.new) spec.lost_text };
+}
+
+/// Tells nothing.
+#[derive(Clone, Copy, Debug, Drop)]
+pub struct Silent;
+
+impl Log for Silent {
+    ghost told = { λ _. record { failed = false; text = None } };
+
+    fn step(&mut self, _alloc: Global, _now: Moment, _step: &Step) {}
+
+    fn lost(&mut self) {}
+}
+
+/// Tells by lines.
+#[derive(Drop)]
+pub struct Lines<W: Write + Drop> {
+    writer: W,
+    failed: bool,
+}
+
+impl<W: Write + Drop> Lines<W> {
+    /// Lines that this writer takes.
+    pub fn new(writer: W) -> Lines<W>
+        ensures writer { result.writer ≡ writer }
+        ensures failed { result.failed ≡ false }
+    {
+        Lines {
+            writer,
+            failed: false,
+        }
+    }
+
+    /// The writer.
+    pub fn into_writer(self) -> W
+        ensures { result ≡ self.writer }
+    {
+        self.writer
+    }
+
+    fn write(&mut self, text: &[u8])
+        ensures { self.new.failed ≡ false → (self.old.failed ≡ false) × Appends (W.contents self.old.writer) (W.contents self.new.writer) text.now }
+    {
+        if self.writer.write_all(text).is_err() {
+            self.failed = true;
+        }
+    }
+}
+
+impl<W: Write + Drop> Log for Lines<W> {
+    ghost told = { λ lines. record { failed = lines.failed; text = W.contents lines.writer } };
+
+    fn step(&mut self, alloc: Global, now: Moment, step: &Step) {
+        match step_text(alloc, now, step) {
+            Ok(text) => self.write(&text),
+            Err(_) => self.write(b"out of memory: what a step did is not told\n"),
+        }
+    }
+
+    fn lost(&mut self) {
+        self.write(b"out of memory: what came is lost\n");
+    }
+}
+
+// ---- a step
+
+/// The lines of a step at this moment: `MOMENT A.B.C.D:PORT WHAT` for each datagram that it sends, where WHAT is `refused CODE: WHY`,
+/// `served METHOD PATH: CODE` or else `sent CODE`. Nothing of a payload or a key stands in them.
+pub fn step_text(alloc: Global, now: Moment, step: &Step) -> Result<Vec<u8>, AllocError>
+    ensures { IfOk result (λ text. text.items ≡ spec.step_text now step.now) }
+{
+    let mut text = Vec::new(alloc);
+    for datagram in step.out.as_slice() {
+        text.extend_from_slice(&line_text(alloc, now, &step.notes, datagram)?)?;
+    }
+    Ok(text)
+}
+
+fn line_text(
+    alloc: Global,
+    now: Moment,
+    notes: &StepNotes,
+    datagram: &Datagram,
+) -> Result<Vec<u8>, AllocError>
+    ensures { IfOk result (λ line. line.items ≡ spec.line_text now notes.now datagram.now) }
+{
+    let who = who_text(alloc, now, datagram.to)?;
+    let what = what_text(alloc, notes, datagram.bytes.as_slice())?;
+    let mut line = Vec::from_slice(alloc, who.as_bytes())?;
+    line.extend_from_slice(&what)?;
+    line.push(b'\n')?;
+    Ok(line)
+}
+
+// When, and who: the moment in milliseconds, and an address.
+fn who_text(alloc: Global, now: Moment, peer: Peer) -> Result<String, AllocError>
+    ensures { IfOk result (λ text. string_bytes text ≡ spec.who_text now peer) }
+{
+    let ms = now.ms;
+    let address = Ipv4Addr::from_octets(peer.address);
+    let port = peer.port;
+    format!(in alloc; "{ms} {address}:{port} ")
+}
+
+// What the step refused or served, or else what it sent.
+fn what_text(alloc: Global, notes: &StepNotes, bytes: &[u8]) -> Result<Vec<u8>, AllocError>
+    ensures { IfOk result (λ text. text.items ≡ spec.what_text notes.now.refused notes.now.served bytes.now) }
+{
+    match (notes.refused(), notes.served()) {
+        (Some(refused), _) => refused_text(alloc, refused),
+        (None, Some(entry)) => served_text(alloc, entry),
+        (None, None) => sent_text(alloc, bytes),
+    }
+}
+
+fn sent_text(alloc: Global, bytes: &[u8]) -> Result<Vec<u8>, AllocError>
+    ensures { IfOk result (λ text. text.items ≡ spec.what_text None None bytes.now) }
+{
+    let code = CodeText(bytes.get(1).copied().unwrap_or(0));
+    let text = format!(in alloc; "sent {code}")?;
+    Vec::from_slice(alloc, text.as_bytes())
+}
+
+// ---- what was served
+
+fn served_text(alloc: Global, entry: &Entry) -> Result<Vec<u8>, AllocError>
+    ensures { IfOk result (λ text. text.items ≡ spec.served_text entry.now) }
+{
+    let asked = asked_text(alloc, entry.plaintext.as_slice())?;
+    let code = CodeText(entry.reply.code.0);
+    let answered = format!(in alloc; ": {code}")?;
+    let mut text = Vec::from_slice(alloc, b"served ")?;
+    text.extend_from_slice(&asked)?;
+    text.extend_from_slice(answered.as_bytes())?;
+    Ok(text)
+}
+
+// The method and the path of what was opened.
+fn asked_text(alloc: Global, plaintext: &[u8]) -> Result<Vec<u8>, AllocError>
+    ensures { IfOk result (λ text. text.items ≡ spec.asked_text (read_request plaintext.now)) }
+{
+    match request_in(alloc, plaintext)? {
+        Ok(request) => request_text(alloc, &request),
+        Err(_) => Vec::from_slice(alloc, b"what is no request"),
+    }
+}
+
+fn request_text(alloc: Global, request: &Request) -> Result<Vec<u8>, AllocError>
+    ensures { IfOk result (λ text. text.items ≡ spec.asked_text (Ok request.now)) }
+{
+    let method = method_text(alloc, request.code)?;
+    let path = path_text(alloc, request.path.as_ref())?;
+    let mut text = Vec::from_slice(alloc, method.as_bytes())?;
+    text.push(b' ')?;
+    text.extend_from_slice(&path)?;
+    Ok(text)
+}
+
+fn method_text(alloc: Global, request: Code) -> Result<String, AllocError>
+    ensures { IfOk result (λ text. string_bytes text ≡ spec.method_text request (method_of request)) }
+{
+    match Method::from_code(request) {
+        Some(method) => method_name(method).to_string(alloc),
+        None => CodeText(request.0).to_string(alloc),
+    }
+}
+
+fn method_name(method: Method) -> &'static str
+    ensures { result.now ≡ name_of method }
+{
+    match method {
+        Method::Get => "GET",
+        Method::Post => "POST",
+        Method::Put => "PUT",
+        Method::Delete => "DELETE",
+    }
+}
+
+// The path, of which each byte that isn't printable ASCII shows as `?`.
+fn path_text(alloc: Global, path: Option<&Path>) -> Result<Vec<u8>, AllocError>
+    ensures { IfOk result (λ text. text.items ≡ spec.path_text (option_map (λ path. path.now) path.entry)) }
+{
+    match path {
+        Some(path) => shown(alloc, path.text()),
+        None => Vec::from_slice(alloc, b"-"),
+    }
+}
+
+fn shown(alloc: Global, bytes: &[u8]) -> Result<Vec<u8>, AllocError>
+    ensures { IfOk result (λ text. text.items ≡ map spec.shown_byte bytes.now) }
+{
+    let mut text = Vec::new(alloc);
+    for byte in bytes {
+        text.push(shown_byte(*byte))?;
+    }
+    Ok(text)
+}
+
+fn shown_byte(byte: u8) -> u8
+    ensures { result ≡ spec.shown_byte byte }
+{
+    if 33 <= byte && byte <= 126 {
+        byte
+    } else {
+        b'?'
+    }
+}
+
+// ---- why a request was refused
+
+fn refused_text(alloc: Global, refused: RefusedRequest) -> Result<Vec<u8>, AllocError>
+    ensures { IfOk result (λ text. text.items ≡ spec.refused_text refused) }
+{
+    let text = refused_line(alloc, refused)?;
+    Vec::from_slice(alloc, text.as_bytes())
+}
+
+fn refused_line(alloc: Global, refused: RefusedRequest) -> Result<String, AllocError>
+    ensures { IfOk result (λ text. string_bytes text ≡ spec.refused_text refused) }
+{
+    let code = CodeText(refused.code.0);
+    let why = why_text(alloc, refused.code, refused.reason)?;
+    format!(in alloc; "refused {code}: {why}")
+}
+
+fn why_text(alloc: Global, why: Code, reason: Option<u8>) -> Result<String, AllocError>
+    ensures { IfOk result (λ text. string_bytes text ≡ spec.why_text why reason) }
+{
+    match reason {
+        Some(number) => {
+            let words = reason_words(number);
+            format!(in alloc; "{words} ({number})")
+        }
+        None => code_words(why.0).to_string(alloc),
+    }
+}
+
+fn reason_words(number: u8) -> &'static str
+    ensures { result.now ≡ spec.reason_words number }
+{
+    match number {
+        3 => "what it seals is not genuine",
+        21 => "its protection is malformed",
+        22 => "it names no live security context",
+        23 => "its number was used, or is too old",
+        24 => "the scope of its token can not be read",
+        25 => "its token is not genuine",
+        26 => "its token has expired",
+        27 => "its token is not valid yet",
+        28 => "its token is for another audience",
+        29 => "the claims of its token can not be read",
+        30 => "a field is missing, or of another type or length",
+        31 => "too many tokens have a security context",
+        _ => "for another reason",
+    }
+}
+
+fn code_words(code: u8) -> &'static str
+    ensures { result.now ≡ spec.code_words code }
+{
+    match code {
+        129 => "it is not protected",
+        130 => "it has an option that can not be heeded",
+        132 => "there is nothing here but what is forwarded",
+        133 => "its method is none of this path",
+        141 => "it is too long to be forwarded",
+        163 => "too many exchanges are open",
+        165 => "nothing is forwarded there",
+        _ => "for another reason",
+    }
+}
