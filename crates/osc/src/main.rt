@@ -6,8 +6,9 @@ use osc_programs::{
     started_by_io, status, token_fault,
 };
 use osc_words::{TokenWords, Words, WordsError, fault_line, read_words};
+use std::env;
+use std::io::{self, IsTerminal};
 use std::process::ExitCode;
-use std::{env, io};
 
 fn main(rt: HostRuntime) -> ExitCode {
     let ended = match run(&rt) {
@@ -23,25 +24,58 @@ fn run(rt: &HostRuntime) -> io::Result<Ended> {
     let arguments: Vec<String> = env::args(rt)?.collect(alloc)?;
     let words: Vec<&str> = arguments.iter().map(|word| word.as_str()).collect(alloc)?;
     match read_words(alloc, &words) {
-        Ok(Words::Sim { bytes, only }) => Ok(sim(
+        Ok(words) => {
+            announce(rt, &words);
+            Ok(follow(rt, words))
+        }
+        Err(error) => explain(rt, &error),
+    }
+}
+
+/// Does what these words ask for.
+fn follow(rt: &HostRuntime, words: Words) -> Ended {
+    let alloc = rt.alloc();
+    match words {
+        Words::Sim { bytes, only } => sim(
             alloc,
             &mut rt.reader(),
             &mut io::writer(rt),
             bytes,
             only,
-        )),
-        Ok(Words::Token(words)) => Ok(print_token(rt, &words)),
-        Ok(Words::Server { turns, log }) => Ok(tell(rt, run_server(rt, turns, log))),
-        Ok(Words::Proxy { turns, log }) => Ok(tell(rt, run_proxy(rt, turns, log))),
-        Ok(Words::Client(words)) => Ok(tell(
+        ),
+        Words::Token(words) => print_token(rt, &words),
+        Words::Server { turns, log } => tell(rt, run_server(rt, turns, log)),
+        Words::Proxy { turns, log } => tell(rt, run_proxy(rt, turns, log)),
+        Words::Client(words) => tell(
             rt,
             ask(alloc, rt, &mut rt.reader(), &mut io::writer(rt), &words),
-        )),
-        Ok(Words::Lab { turns }) => Ok(tell(
+        ),
+        Words::Lab { turns } => tell(
             rt,
             lab(alloc, rt, &mut rt.reader(), &mut io::writer(rt), turns),
-        )),
-        Err(error) => explain(rt, &error),
+        ),
+    }
+}
+
+/// Where the standard input is a terminal, a line on the standard error says what is read from it.
+fn announce(rt: &HostRuntime, words: &Words) {
+    if let Some(line) = awaited(words) {
+        if rt.reader().is_terminal() {
+            notice(rt, line);
+        }
+    }
+}
+
+/// What is read from the standard input, if anything is.
+fn awaited(words: &Words) -> Option<&'static str> {
+    match words {
+        Words::Sim { .. } | Words::Lab { .. } => {
+            Some("reading the script from standard input; end with Ctrl-D")
+        }
+        Words::Server { .. } | Words::Proxy { .. } | Words::Client(_) => {
+            Some("reading the settings from standard input; end with Ctrl-D")
+        }
+        Words::Token(_) => None,
     }
 }
 
