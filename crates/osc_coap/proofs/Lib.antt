@@ -8,3 +8,4 @@ pub mod LengthLaws
 pub mod FewerLaws
 pub mod BuildLaws
 pub mod PlaintextLaws
+pub mod PayloadLaws

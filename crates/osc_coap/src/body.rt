@@ -1,6 +1,6 @@
 //! Options and a payload, written behind one another: what messages and plaintexts have alike.
 
-ghost use Rattle.std.specs.Prelude.{◌≡◌, ◌<◌, ◌≤◌, ◌↔◌, ◌+◌, ◌++◌, length, IsOk, OnOk, OnErr};
+ghost use Rattle.std.specs.Prelude.{◌≡◌, ◌<◌, ◌≤◌, ◌↔◌, ◌+◌, ◌++◌, ℕ, List, length, replicate, IsOk, OnOk, OnErr};
 ghost use Rattle.arrayvec.specs.ArrayVec.{array_vec_len};
 ghost use Rattle.osc_coap.specs.Message.{nibble, extension, option_spelling, payload_spelling};
 ghost use Rattle.osc_coap.specs.Building.{payload_of};
@@ -8,10 +8,14 @@ ghost use Rattle.osc_coap.specs.Length.{datagram_limit, extension_length as exte
 
 use crate::error::DatagramTooLong;
 use crate::options::PAYLOAD_MARKER;
+use crate::payload::{PayloadWriter, write_last};
 use arrayvec::ArrayVec;
 
 /// The most bytes of a message (RFC 7252 section 4.6).
 pub const DATAGRAM_LIMIT: usize = 1152;
+
+/// Nought bytes, as many as a datagram may have.
+static NOUGHT: [u8; DATAGRAM_LIMIT] = [0; DATAGRAM_LIMIT];
 
 /// The four bits that stand for an option's delta or length (RFC 7252 section 3.1).
 #[tactic(auto, unfolding(crate::specs::Message::nibble))]
@@ -132,6 +136,28 @@ pub(crate) fn push_payload(
     Ok(())
 }
 
+/// So many nought bytes.
+fn nought(size: usize) -> &'static [u8]
+    requires { size ≤ datagram_limit }
+    ensures { result.now ≡ replicate size 0 }
+{
+    &NOUGHT[..size]
+}
+
+/// Appends the marker and a payload of so many nought bytes, if there is room.
+fn push_nought(out: &mut ArrayVec<u8, DATAGRAM_LIMIT>, size: usize) -> Result<(), DatagramTooLong>
+    ensures variant { IsOk result
+        ↔ (length (out.old.items ++ payload_spelling (payload_of (replicate size 0))) ≤ datagram_limit) }
+    ensures ok { OnOk result
+        (out.new.items ≡ out.old.items ++ payload_spelling (payload_of (replicate size 0))) }
+    ensures err { OnErr result (out.new ≡ out.old) }
+{
+    if size > DATAGRAM_LIMIT {
+        return Err(DatagramTooLong);
+    }
+    push_payload(out, nought(size))
+}
+
 /// What the builders of messages and of plaintexts write: bytes, and the number of the last option, or 0.
 #[derive(Drop)]
 pub(crate) struct Writer {
@@ -165,5 +191,25 @@ impl Writer {
         ensures err { OnErr result (self.new ≡ self.old) }
     {
         push_payload(&mut self.bytes, payload)
+    }
+
+    /// Adds the marker and a payload of so many bytes, if there is room, and has it written where it lies. No bytes are
+    /// no payload.
+    pub(crate) fn write_payload<W: PayloadWriter>(
+        &mut self,
+        size: usize,
+        writer: &W,
+    ) -> Result<(), DatagramTooLong>
+        requires { W.can_write writer.now size }
+        ensures variant { IsOk result
+            ↔ (length (self.old.bytes.items ++ payload_spelling (payload_of (replicate size 0))) ≤ datagram_limit) }
+        ensures ok { OnOk result ((written : List ℕ) × (length written ≡ size) × W.is_written writer.now written
+            × (self.new.bytes.items ≡ self.old.bytes.items ++ payload_spelling (payload_of written))
+            × (self.new.last ≡ self.old.last)) }
+        ensures err { OnErr result (self.new ≡ self.old) }
+    {
+        push_nought(&mut self.bytes, size)?;
+        write_last(&mut self.bytes, size, writer);
+        Ok(())
     }
 }

@@ -1,6 +1,6 @@
 //! A message built into a datagram.
 
-ghost use Rattle.std.specs.Prelude.{◌≡◌, ◌<◌, ◌≤◌, ◌↔◌, [], None, length, IsOk, OnOk, OnErr};
+ghost use Rattle.std.specs.Prelude.{◌≡◌, ◌<◌, ◌≤◌, ◌↔◌, ℕ, List, [], None, length, replicate, IsOk, OnOk, OnErr};
 ghost use Rattle.arrayvec.specs.ArrayVec.{array_vec_len};
 ghost use Rattle.osc_coap.specs.Message.{Message, Spells, spelling};
 ghost use Rattle.osc_coap.specs.Length.{datagram_limit};
@@ -10,6 +10,7 @@ use crate::body::{DATAGRAM_LIMIT, Writer, append};
 use crate::error::DatagramTooLong;
 use crate::kind::Kind;
 use crate::message::MessageRef;
+use crate::payload::PayloadWriter;
 use arrayvec::ArrayVec;
 use std::fmt;
 use std::marker::Model;
@@ -81,6 +82,28 @@ impl MessageBuilder {
         ensures err { OnErr result (self.new ≡ self.old) }
     {
         self.written.payload(payload)
+    }
+
+    /// Sets a payload of so many bytes, which is written where it is sent from. No bytes are no payload.
+    ///
+    /// # Errors
+    ///
+    /// Exactly where the message would be longer than a datagram may be; nothing is written then.
+    pub fn write_payload<W: PayloadWriter>(
+        &mut self,
+        size: usize,
+        writer: &W,
+    ) -> Result<(), DatagramTooLong>
+        requires code { 0 < self.old.code }
+        requires first { self.old.payload ≡ None }
+        requires can { W.can_write writer.now size }
+        ensures variant { IsOk result
+            ↔ (length (spelling (with_payload self.old (replicate size 0))) ≤ datagram_limit) }
+        ensures ok { OnOk result ((written : List ℕ) × (length written ≡ size) × W.is_written writer.now written
+            × (self.new ≡ with_payload self.old written)) }
+        ensures err { OnErr result (self.new ≡ self.old) }
+    {
+        self.written.write_payload(size, writer)
     }
 
     /// The datagram.

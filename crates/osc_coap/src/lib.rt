@@ -11,6 +11,7 @@ mod kind;
 pub mod laws;
 mod message;
 mod options;
+mod payload;
 mod plaintext;
 
 pub use body::{DATAGRAM_LIMIT, option_length};
@@ -21,4 +22,5 @@ pub use header::kind_and_id;
 pub use kind::Kind;
 pub use message::MessageRef;
 pub use options::{Options, PAYLOAD_MARKER};
+pub use payload::PayloadWriter;
 pub use plaintext::{PlaintextBuilder, PlaintextRef};

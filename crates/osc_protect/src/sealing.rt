@@ -10,10 +10,9 @@ ghost use Rattle.osc_protect.specs.Aad.{aad_of};
 ghost use Rattle.osc_protect.specs.Protection.{plain_bytes, longest_message, note_of};
 
 use crate::room::Room;
-use arrayvec::ArrayVec;
 use osc_ccm::Aead;
 use osc_coap::laws::length_of_growing;
-use osc_coap::{DATAGRAM_LIMIT, MessageBuilder, MessageRef, PlaintextBuilder};
+use osc_coap::{DATAGRAM_LIMIT, MessageBuilder, MessageRef, PayloadWriter, PlaintextBuilder};
 use osc_model::{Note, Side};
 use osc_options::{plaintext_of, protected_message};
 
@@ -93,24 +92,55 @@ pub(crate) fn split<A: Aead>(
     Some((outer, plaintext))
 }
 
-/// The sealing of a text.
-fn seal_text<A: Aead>(
+/// The sealing of a text, which is written as a payload where it is sent from.
+#[derive(Drop)]
+struct Sealing<'a, A> {
+    cipher: A,
+    nonce: &'a [u8; 13],
+    aad: &'a [u8],
+    text: &'a [u8],
+}
+
+impl<A: Aead> PayloadWriter for Sealing<'_, A> {
+    ghost can_write = { λ sealing size. (size ≡ length sealing.text.now + A.TAG) × (size ≤ longest_message)
+        × (length sealing.aad.now ≤ 31) };
+
+    ghost is_written = { λ sealing sealed.
+        A.is_sealing (A.key_of sealing.cipher) sealing.nonce.now sealing.aad.now sealing.text.now sealed };
+
+    fn write(&self, payload: &mut [u8]) {
+        self.cipher
+            .seal(self.nonce, self.aad, self.text, payload)
+            .unwrap();
+    }
+}
+
+/// Seals a text as the payload of a message.
+fn seal_payload<A: Aead>(
+    message: &mut MessageBuilder,
     key: &[u8; 16],
     nonce: &[u8; 13],
     aad: &[u8],
     text: &[u8],
-) -> ArrayVec<u8, DATAGRAM_LIMIT>
-    requires text { length text.now + A.TAG ≤ longest_message }
+)
+    requires code { 0 < message.old.code }
+    requires payload { message.old.payload ≡ None }
+    requires fits { length (spelling (with_payload message.old (replicate (length text.now + A.TAG) 0))) ≤ longest_message }
     requires aad { length aad.now ≤ 31 }
-    ensures { A.is_sealing key.now nonce.now aad.now text.now result.items }
+    ensures { (sealed : List ℕ)
+        × A.is_sealing key.now nonce.now aad.now text.now sealed
+        × (message.new ≡ with_payload message.old sealed) }
 {
-    let mut sealed = ArrayVec::from([0; DATAGRAM_LIMIT]);
-    let cipher = A::from_key(key);
-    let count = cipher
-        .seal(nonce, aad, text, sealed.as_mut_slice())
+    length_of_growing();
+    let sealing = Sealing {
+        cipher: A::from_key(key),
+        nonce,
+        aad,
+        text,
+    };
+    message
+        .write_payload(text.len() + A::TAG, &sealing)
         .unwrap();
-    sealed.truncate(count);
-    sealed
 }
 
 /// Seals a text as the payload of a message, and notes it, which uses up the room.
@@ -135,8 +165,7 @@ pub(crate) fn seal<A: Aead>(
 {
     length_of_growing();
     let note = room.note(used.side, used.number, used.nonce, text);
-    let sealed = seal_text::<A>(key, &used.nonce, note.aad.as_slice(), text);
     let mut message = outer;
-    message.payload(sealed.as_slice()).unwrap();
+    seal_payload::<A>(&mut message, key, &used.nonce, note.aad.as_slice(), text);
     (message, note)
 }
