@@ -7,7 +7,7 @@ ghost use Rattle.osc_protect.specs.Protection.{IsFor};
 
 use osc_ccm::Ccm;
 use osc_coap::{DATAGRAM_LIMIT, MessageRef};
-use osc_context::{RecipientContext, SenderContext, derive};
+use osc_context::{NUMBER_LIMIT, RecipientContext, SenderContext, derive};
 use osc_model::{Bytes, ContextName, SharedName, Side};
 use osc_protect::{
     MessageTooLong, ProtectedRequest, Room, SealedRequestRef, open_request, protect_request,
@@ -68,11 +68,14 @@ pub(crate) fn protect_next(
     requires sender { sender.old ≡ sender_of name.now Client sender.old.next }
     ensures { sender.new ≡ sender_of name.now Client sender.new.next }
 {
-    let room = Room::new(alloc, name, DATAGRAM_LIMIT)?;
-    let Ok(number) = sender.take_number() else {
-        drop(room);
+    // For the proof alone: the call tells how long the ID is.
+    let _id = sender.id();
+    let next = sender.next_number();
+    if next > NUMBER_LIMIT {
         return Ok(None);
-    };
+    }
+    let room = Room::new(alloc, name, next, DATAGRAM_LIMIT)?;
+    let number = sender.take_number().unwrap();
     match protect_request::<Ccm<8>>(room, number, request) {
         Ok(made) => Ok(Some(made)),
         Err(MessageTooLong { room, number }) => {

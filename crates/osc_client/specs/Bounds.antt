@@ -45,7 +45,7 @@ IsOfGrant desk context = IfSome context (λ made. made.name.id_context ≡ desk.
 -- the room that a request takes, protected at this number under the context of this name
 abbrev pub room_for : (tag : ℕ) → ContextName → ℕ → Message → AskRoom
 room_for tag name number plain = record {
-  seal = record { name = name; most = length (plain_bytes plain) };
+  seal = record { name = name; number = number; most = length (plain_bytes plain) };
   plaintext = length (plain_bytes plain);
   datagram = request_length tag name number plain;
 }

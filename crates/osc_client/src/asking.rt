@@ -17,7 +17,7 @@ use osc_ccm::Aead;
 use osc_coap::laws::length_of_spelling;
 use osc_coap::{DatagramTooLong, Kind, MessageBuilder};
 use osc_message::{Buffer, ReplyRoom};
-use osc_model::{Note, Request, SharedName};
+use osc_model::{Note, Request};
 use osc_options::laws::merged_options;
 use osc_options::request_message;
 use osc_protect::laws::protected_messages_are_longer;
@@ -82,13 +82,24 @@ pub(crate) struct AskRoom {
 }
 
 impl AskRoom {
-    /// Room for a request of this size under the context of this name.
-    pub fn new(alloc: Global, name: &SharedName, size: RequestSize) -> Result<AskRoom, AllocError>
-        ensures { IfOk result (λ room. room
-            ≡ record { seal = record { name = name.now; most = size.plaintext }; plaintext = size.plaintext; datagram = size.message }) }
+    /// Room for a request of this size under the context's next number.
+    pub fn new(
+        alloc: Global,
+        context: &ClientContext,
+        size: RequestSize,
+    ) -> Result<AskRoom, AllocError>
+        requires { context.now.next ≤ greatest_number }
+        ensures { IfOk result (λ room. room ≡ record {
+          seal = record { name = context.now.name; number = context.now.next; most = size.plaintext };
+          plaintext = size.plaintext;
+          datagram = size.message;
+        }) }
     {
+        // For the proof alone: the call tells how long the ID is.
+        let _id = context.sender().id();
+        let number = context.sender().next_number();
         Ok(AskRoom {
-            seal: Room::new(alloc, name, size.plaintext)?,
+            seal: Room::new(alloc, context.name(), number, size.plaintext)?,
             plaintext: Buffer::new(alloc, size.plaintext)?,
             datagram: ReplyRoom::new(alloc, size.message)?,
         })

@@ -299,7 +299,7 @@ impl Client {
         }
         let id = self.endpoint.own_id(draw);
         match fitting::<A>(context, &self.origin, id, &draw.token(), request) {
-            Some((plain, size)) => Ok(Ok((plain, AskRoom::new(alloc, context.name(), size)?))),
+            Some((plain, size)) => Ok(Ok((plain, AskRoom::new(alloc, context, size)?))),
             None => Ok(Err(TOO_LONG)),
         }
     }

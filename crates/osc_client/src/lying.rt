@@ -44,7 +44,9 @@ pub(crate) fn lie_under<A: Aead>(
     ensures lied { IfOk result (λ step. LiesUnder A.is_sealing A.TAG to context.now number text.now outside.now step) }
     ensures fits { IfOk result (λ step. AreSendable step.out) }
 {
-    let room = Room::new(alloc, context.name(), DATAGRAM_LIMIT)?;
+    // For the proof alone: the call tells how long the ID is.
+    let _id = context.sender().id();
+    let room = Room::new(alloc, context.name(), number, DATAGRAM_LIMIT)?;
     match protect_uncounted::<A>(room, context.sender(), number, &outside.message(), text) {
         Ok(UncountedRequest { message, note }) => Ok(Step {
             out: message_out(alloc, to, &message)?,

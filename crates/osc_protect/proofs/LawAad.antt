@@ -4,10 +4,13 @@ use Rattle.std.specs.Prelude.{codes}
 use Rattle.std.proofs.lemmas.Bool.{lt-ltb}
 use Rattle.std.proofs.lemmas.List.{append_cancel_left, append_cancel_right}
 use Rattle.osc_model.specs.declared.context.ContextName.{ContextName}
+use Rattle.osc_cbor.specs.Data.{byte_string}
 use Rattle.osc_cbor.specs.Head.{head}
+use Rattle.osc_cbor.specs.Spelling.{spelling}
 use Rattle.osc_cose.specs.Encrypt0.{enc_structure}
 use Rattle.osc_context.specs.Nonce.{partial_iv}
 use Rattle.osc_protect.specs.Aad.{external_aad, aad_of}
+use Rattle.osc_protect.proofs.AadLemmas.{aad_of_is, short_string_length}
 use Rattle.osc_protect.proofs.ValuePartialIv.{partial_iv-short, one_number}
 
 head_small : (major n : ℕ) → n < 24 → head major n ≡ (32 * major + n) ∷ []
@@ -41,7 +44,7 @@ one_external name m n e =
 length-six : (a b c d e f : List ℕ) → length (a ++ (b ++ (c ++ (d ++ (e ++ f))))) ≡ length a + (length b + (length c + (length d + (length e + length f))))
 length-six a b c d e f = simp length-append
 
-external_short : (name : ContextName) (n : ℕ) → length name.client_id ≤ 7 → length (external_aad name n) < 24
+external_short : (name : ContextName) (n : ℕ) → length name.client_id ≤ 7 → length (external_aad name n) ≤ 19
 unfolding external_aad
 external_short name n id =
     let piv = partial_iv-short n in
@@ -72,4 +75,16 @@ one_aad name m n id e =
     let b = append_cancel_left (head 3 8 ++ codes "Encrypt0") _ _ a in
     let c = append_cancel_left (head 2 0 ++ []) _ _ b in
     let same = append_cancel_right (head 2 (length (external_aad name m)) ++ external_aad name m) (head 2 (length (external_aad name n)) ++ external_aad name n) [] c in
-    one_external name m n (one_string (external_aad name m) (external_aad name n) (external_short name m id) (external_short name n id) same)
+    one_external name m n (one_string (external_aad name m) (external_aad name n) (omega (arith, external_short name m id)) (omega (arith, external_short name n id)) same)
+
+-- how many bytes it has at most
+pub aad_short : (name : ContextName) (n : ℕ) → length name.client_id ≤ 7 → length (aad_of name n) ≤ 31
+aad_short name n id =
+    let external = external_short name n id in
+    let string = spelling (byte_string (external_aad name n)) in
+    omega (
+      arith,
+      ap length (aad_of_is name n),
+      length-append (131 ∷ 104 ∷ 69 ∷ 110 ∷ 99 ∷ 114 ∷ 121 ∷ 112 ∷ 116 ∷ 48 ∷ 64 ∷ []) string,
+      short_string_length (external_aad name n) (omega (arith, external)),
+    )

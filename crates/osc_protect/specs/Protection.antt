@@ -92,9 +92,10 @@ response_length tag own m = length (spelling (response_with own m (replicate (le
 
 -- ---- room
 
--- the memory of one seal: for which context, and for how many bytes of text at most
+-- the memory of one seal: for which context, about the request of which number, and for how many bytes of text at most
 pub record RoomOf : Type 0 where
   pub name : ContextName
+  pub number : ℕ
   pub most : ℕ
 
 -- a text that isn't longer than a message may be has room

@@ -6,11 +6,20 @@ ghost use Rattle.osc_protect.specs.Aad.{aad_of};
 ghost use Rattle.osc_protect.specs.Protection.{longest_message, note_of, IsGenuine};
 
 use crate::aad::associated_data;
-use crate::sealing::KeyUse;
 use osc_ccm::Aead;
 use osc_coap::DATAGRAM_LIMIT;
-use osc_model::{Bytes, Note, SharedName};
+use osc_model::{Bytes, Note, SharedName, Side};
 use std::alloc::{AllocError, Global};
+
+/// One use of a key, to open.
+#[derive(Clone, Copy)]
+pub(crate) struct KeyUse {
+    /// The end that opens.
+    pub(crate) side: Side,
+    /// The request's number.
+    pub(crate) number: u64,
+    pub(crate) nonce: [u8; 13],
+}
 
 /// Writes the text of which these bytes are the sealing to the beginning of `out`, and answers how long it is; `None` exactly
 /// where they are the sealing of none.

@@ -10,10 +10,10 @@ ghost use Rattle.osc_protect.specs.Aad.{aad_of};
 ghost use Rattle.osc_protect.specs.Protection.{HasShortContext, HasRoomFor, longest_message, plain_bytes, request_nonce, note_of, IsRequestOf, IsProtectedRequest, IsGenuine, length_of_request, request_length, IsFor};
 
 use crate::error::{MessageTooLong, RequestNotGenuine, TextTooLong};
-use crate::opening::open;
+use crate::opening::{KeyUse, open};
 use crate::room::Room;
 use crate::sealed::SealedRequestRef;
-use crate::sealing::{KeyUse, outer_message, seal, size_with, split};
+use crate::sealing::{outer_message, seal, size_with, split};
 use crate::value::request_option;
 use osc_ccm::Aead;
 use osc_coap::laws::length_of_growing;
@@ -67,7 +67,7 @@ pub fn request_size<A: Aead>(
 }
 
 /// Protects a request of the client: its class E options and payload are sealed, its class U options stay outside. An
-/// option 9 of the message is replaced. The number, which is of the room's context, is spent. Takes no memory.
+/// option 9 of the message is replaced. The number, which is the room's and of its context, is spent. Takes no memory.
 ///
 /// # Errors
 ///
@@ -78,6 +78,7 @@ pub fn protect_request<A: Aead>(
     message: &MessageRef<'_>,
 ) -> Result<ProtectedRequest, MessageTooLong>
     requires number { number ≡ taken_of room.name Client number.number }
+    requires about { room.number ≡ number.number }
     requires short { HasShortContext room.name }
     requires room { HasRoomFor (plain_bytes message.now) room.most }
     ensures protected { IfOk result (λ made. IsProtectedRequest A.is_sealing room.name number.number message.now made.message) }
@@ -87,17 +88,19 @@ pub fn protect_request<A: Aead>(
     ensures fits { IsOk result ↔ (request_length A.TAG room.name number.number message.now ≤ longest_message) }
     ensures err { IfErr result (λ refused. (refused.room ≡ room) × (refused.number ≡ number)) }
 {
-    let id = number.id();
-    let used = KeyUse {
-        side: Side::Client,
-        number: number.get(),
-        nonce: nonce_for(number.common_iv(), id, number.get()),
-    };
+    let nonce = nonce_for(number.common_iv(), number.id(), number.get());
     let value = request_option(room.name(), number.get());
     let Some((outer, plaintext)) = split::<A>(message, OUTER_CODE, value.as_slice()) else {
         return Err(MessageTooLong { room, number });
     };
-    let (message, note) = seal::<A>(outer, room, number.key(), used, plaintext.bytes());
+    let (message, note) = seal::<A>(
+        outer,
+        room,
+        number.key(),
+        Side::Client,
+        nonce,
+        plaintext.bytes(),
+    );
     number.spend();
     Ok(ProtectedRequest { message, note })
 }
@@ -111,8 +114,9 @@ pub struct UncountedRequest {
     pub note: Note,
 }
 
-/// Seals any text as a request of the client under any number, as a holder can that keeps no rule: kind, message ID, token
-/// and class U options are the message's, its code, its class E options and its payload are left out. No number is spent.
+/// Seals any text as a request of the client under any number, for which the room is, as a holder can that keeps no rule: kind,
+/// message ID, token and class U options are the message's, its code, its class E options and its payload are left out. No number is
+/// spent.
 /// Takes no memory.
 ///
 /// # Errors
@@ -127,6 +131,7 @@ pub fn protect_uncounted<A: Aead>(
 ) -> Result<UncountedRequest, TextTooLong>
     requires sender { sender.now ≡ sender_of room.name Client sender.now.next }
     requires number { number ≤ greatest_number }
+    requires about { room.number ≡ number }
     requires short { HasShortContext room.name }
     requires room { HasRoomFor text.now room.most }
     ensures protected { IfOk result (λ made. IsRequestOf A.is_sealing text.now room.name number message.now made.message) }
@@ -134,17 +139,12 @@ pub fn protect_uncounted<A: Aead>(
     ensures fits { IsOk result ↔ (length_of_request (length text.now + A.TAG) room.name number message.now ≤ longest_message) }
     ensures err { IfErr result (λ refused. refused.room ≡ room) }
 {
-    let id = sender.id();
-    let used = KeyUse {
-        side: Side::Client,
-        number,
-        nonce: nonce_for(sender.common_iv(), id, number),
-    };
+    let nonce = nonce_for(sender.common_iv(), sender.id(), number);
     let value = request_option(room.name(), number);
     let Some(outer) = outer_of_text::<A>(message, value.as_slice(), text.len()) else {
         return Err(TextTooLong { room });
     };
-    let (message, note) = seal::<A>(outer, room, sender.key(), used, text);
+    let (message, note) = seal::<A>(outer, room, sender.key(), Side::Client, nonce, text);
     Ok(UncountedRequest { message, note })
 }
 

@@ -8,10 +8,10 @@ ghost use Rattle.osc_protect.specs.Aad.{aad_of};
 ghost use Rattle.osc_protect.specs.Protection.{HasRoomFor, longest_message, plain_bytes, request_nonce, response_nonce, note_of, IsGenuine, IsProtectedResponse, response_length};
 
 use crate::error::{MessageTooLong, ReplyTooLong, ResponseNotGenuine};
-use crate::opening::open;
+use crate::opening::{KeyUse, open};
 use crate::room::Room;
 use crate::sealed::SealedResponseRef;
-use crate::sealing::{KeyUse, seal, split};
+use crate::sealing::{seal, split};
 use crate::value::response_option;
 use osc_ccm::Aead;
 use osc_coap::{MessageBuilder, MessageRef};
@@ -32,7 +32,7 @@ pub struct ProtectedResponse {
 }
 
 /// Protects the server's reply under the nonce of the request that it answers, with an empty option value. The right to it is
-/// the request's number, which the server of the room's context accepted: it is spent. Takes no memory.
+/// the request's number, for which the room is, and which the server of the room's context accepted: it is spent. Takes no memory.
 ///
 /// # Errors
 ///
@@ -44,6 +44,7 @@ pub fn protect_reply<A: Aead>(
     message: &MessageRef<'_>,
 ) -> Result<ProtectedResponse, ReplyTooLong>
     requires number { number ≡ accepted_of room.name Server number.number }
+    requires about { room.number ≡ number.number }
     requires sender { sender.now ≡ sender_of room.name Server sender.now.next }
     requires room { HasRoomFor (plain_bytes message.now) room.most }
     ensures protected { IfOk result (λ made. IsProtectedResponse A.is_sealing room.name number.number None message.now made.message) }
@@ -52,22 +53,25 @@ pub fn protect_reply<A: Aead>(
     ensures fits { IsOk result ↔ (response_length A.TAG None message.now ≤ longest_message) }
     ensures err { IfErr result (λ refused. (refused.room ≡ room) × (refused.number ≡ number)) }
 {
-    let used = KeyUse {
-        side: Side::Server,
-        number: number.get(),
-        nonce: nonce_for(number.common_iv(), number.id(), number.get()),
-    };
+    let nonce = nonce_for(number.common_iv(), number.id(), number.get());
     let value = response_option(None);
     let Some((outer, plaintext)) = split::<A>(message, OUTER_CODE, value.as_slice()) else {
         return Err(ReplyTooLong { room, number });
     };
-    let (message, note) = seal::<A>(outer, room, sender.key(), used, plaintext.bytes());
+    let (message, note) = seal::<A>(
+        outer,
+        room,
+        sender.key(),
+        Side::Server,
+        nonce,
+        plaintext.bytes(),
+    );
     number.spend();
     Ok(ProtectedResponse { message, note })
 }
 
-/// Protects a response of the server to the request of this number under a nonce of its own: the number that it spends, which
-/// the server of the room's context took, is its Partial IV. Takes no memory.
+/// Protects a response of the server to the request of this number, for which the room is, under a nonce of its own: the number that
+/// it spends, which the server of the room's context took, is its Partial IV. Takes no memory.
 ///
 /// # Errors
 ///
@@ -79,6 +83,7 @@ pub fn protect_response<A: Aead>(
     message: &MessageRef<'_>,
 ) -> Result<ProtectedResponse, MessageTooLong>
     requires number { number ≡ taken_of room.name Server number.number }
+    requires about { room.number ≡ request }
     requires request { request ≤ greatest_number }
     requires id { length room.name.client_id ≤ longest_id }
     requires room { HasRoomFor (plain_bytes message.now) room.most }
@@ -90,16 +95,19 @@ pub fn protect_response<A: Aead>(
     ensures err { IfErr result (λ refused. (refused.room ≡ room) × (refused.number ≡ number)) }
 {
     let id = number.id();
-    let used = KeyUse {
-        side: Side::Server,
-        number: request,
-        nonce: nonce_for(number.common_iv(), id, number.get()),
-    };
+    let nonce = nonce_for(number.common_iv(), id, number.get());
     let value = response_option(Some(number.get()));
     let Some((outer, plaintext)) = split::<A>(message, OUTER_CODE, value.as_slice()) else {
         return Err(MessageTooLong { room, number });
     };
-    let (message, note) = seal::<A>(outer, room, number.key(), used, plaintext.bytes());
+    let (message, note) = seal::<A>(
+        outer,
+        room,
+        number.key(),
+        Side::Server,
+        nonce,
+        plaintext.bytes(),
+    );
     number.spend();
     Ok(ProtectedResponse { message, note })
 }

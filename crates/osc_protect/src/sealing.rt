@@ -5,7 +5,7 @@ ghost use Rattle.osc_coap.specs.Message.{spelling};
 ghost use Rattle.osc_coap.specs.Building.{payload_of, with_payload};
 ghost use Rattle.osc_coap.specs.Length.{payload_length};
 ghost use Rattle.osc_options.specs.Split.{protected, plaintext_of as plaintext_in};
-ghost use Rattle.osc_context.specs.Nonce.{longest_id, greatest_number};
+ghost use Rattle.osc_context.specs.Nonce.{longest_id};
 ghost use Rattle.osc_protect.specs.Aad.{aad_of};
 ghost use Rattle.osc_protect.specs.Protection.{plain_bytes, longest_message, note_of};
 
@@ -15,16 +15,6 @@ use osc_coap::laws::length_of_growing;
 use osc_coap::{DATAGRAM_LIMIT, MessageBuilder, MessageRef, PayloadWriter, PlaintextBuilder};
 use osc_model::{Note, Side};
 use osc_options::{plaintext_of, protected_message};
-
-/// One use of a key.
-#[derive(Clone, Copy)]
-pub(crate) struct KeyUse {
-    /// The end that seals or opens.
-    pub(crate) side: Side,
-    /// The request's number.
-    pub(crate) number: u64,
-    pub(crate) nonce: [u8; 13],
-}
 
 /// How many bytes a payload of this size takes, with its marker.
 fn payload_size(size: usize) -> usize
@@ -148,24 +138,24 @@ pub(crate) fn seal<A: Aead>(
     outer: MessageBuilder,
     room: Room,
     key: &[u8; 16],
-    used: KeyUse,
+    side: Side,
+    nonce: [u8; 13],
     text: &[u8],
 ) -> (MessageBuilder, Note)
     requires code { 0 < outer.code }
     requires payload { outer.payload ≡ None }
     requires fits { length (spelling (with_payload outer (replicate (length text.now + A.TAG) 0))) ≤ longest_message }
     requires id { length room.name.client_id ≤ longest_id }
-    requires number { used.number ≤ greatest_number }
     requires room { length text.now ≤ room.most }
     ensures sealed { (sealed : List ℕ)
-        × A.is_sealing key.now used.nonce (aad_of room.name used.number) text.now sealed
+        × A.is_sealing key.now nonce (aad_of room.name room.number) text.now sealed
         × (result.0 ≡ with_payload outer sealed) }
     ensures size { length (spelling result.0) ≡ length (spelling (with_payload outer (replicate (length text.now + A.TAG) 0))) }
-    ensures noted { result.1 ≡ note_of room.name used.side used.number used.nonce text.now }
+    ensures noted { result.1 ≡ note_of room.name side room.number nonce text.now }
 {
     length_of_growing();
-    let note = room.note(used.side, used.number, used.nonce, text);
+    let note = room.note(side, nonce, text);
     let mut message = outer;
-    seal_payload::<A>(&mut message, key, &used.nonce, note.aad.as_slice(), text);
+    seal_payload::<A>(&mut message, key, &nonce, note.aad.as_slice(), text);
     (message, note)
 }

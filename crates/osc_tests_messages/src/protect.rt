@@ -1,9 +1,9 @@
 //! Protection: the published examples, what is read before it is opened, what is too long, and what is printed.
 ghost use Rattle.std.specs.Prelude.{◌≡◌, ◌≤◌, length, IfSome};
-ghost use Rattle.osc_model.specs.declared.context.Side.TheVariants.{Server};
+ghost use Rattle.osc_model.specs.declared.context.Side.TheVariants.{Client, Server};
 ghost use Rattle.osc_context.specs.Derivation.{taken_of, recipient_of};
 ghost use Rattle.osc_context.specs.Nonce.{longest_id};
-ghost use Rattle.osc_protect.specs.Protection.{HasShortContext, IsFor};
+ghost use Rattle.osc_protect.specs.Protection.{HasShortContext, IsFor, note_of, request_nonce};
 
 use osc_ccm::Ccm;
 use osc_coap::{DATAGRAM_LIMIT, MessageRef};
@@ -133,6 +133,22 @@ fn number_of(
     number
 }
 
+/// Room for a request of this number.
+fn room_of(
+    rt: &impl Abort,
+    alloc: Global,
+    name: &SharedName,
+    number: &SendNumber,
+    most: usize,
+) -> Room
+    requires { number.now ≡ taken_of name.now Client number.now.number }
+    ensures { result ≡ record { name = name.now; number = number.now.number; most = most } }
+{
+    // For the proof alone: the call tells how long the ID is.
+    let _id = number.id();
+    Room::new(alloc, name, number.get(), most).expect(rt, "memory")
+}
+
 /// The client protects a request of this number.
 fn protect_at(
     rt: &impl Abort,
@@ -145,7 +161,7 @@ fn protect_at(
 {
     let message = MessageRef::parse(datagram).expect(rt, "a message");
     let number = number_of(rt, alloc, name, Side::Client, number);
-    let room = Room::new(alloc, name, DATAGRAM_LIMIT).expect(rt, "memory");
+    let room = room_of(rt, alloc, name, &number, DATAGRAM_LIMIT);
     protect_request::<Ccm<8>>(room, number, &message).expect(rt, "a request that fits")
 }
 
@@ -159,6 +175,8 @@ fn open_with(
 ) -> Option<Note>
     requires recipient { recipient.now ≡ recipient_of name.now Server recipient.now.window }
     requires named { IsFor name.now sealed.now }
+    ensures { IfSome result (λ note. note
+        ≡ note_of name.now Server sealed.now.number (request_nonce name.now sealed.now.number) note.plaintext) }
 {
     let opened = open_request::<Ccm<8>>(alloc, name, recipient, sealed).expect(rt, "memory");
     opened.ok()
@@ -277,7 +295,9 @@ fn uncounted_at(
     let message = MessageRef::parse(datagram).expect(rt, "a message");
     let (sender, recipient) = derive(alloc, name, Side::Client).expect(rt, "a context");
     drop(recipient);
-    let room = Room::new(alloc, name, DATAGRAM_LIMIT).expect(rt, "memory");
+    // For the proof alone: the call tells how long the ID is.
+    let _id = sender.id();
+    let room = Room::new(alloc, name, 20, DATAGRAM_LIMIT).expect(rt, "memory");
     protect_uncounted::<Ccm<8>>(room, &sender, 20, &message, text).ok()
 }
 
@@ -322,8 +342,8 @@ fn reply_under(
 {
     let (sender, mut recipient) = derive(alloc, name, Side::Server).expect(rt, "a context");
     let opened = open_with(rt, alloc, name, &recipient, sealed).expect(rt, "a genuine request");
+    let room = Room::answering(alloc, &opened, DATAGRAM_LIMIT).expect(rt, "memory");
     drop(opened);
-    let room = Room::new(alloc, name, DATAGRAM_LIMIT).expect(rt, "memory");
     assert!(rt; recipient.is_fresh(sealed.number()));
     let number = recipient.accept(sealed.number());
     drop(recipient);
@@ -356,7 +376,7 @@ fn respond(
 {
     let message = MessageRef::parse(datagram).expect(rt, "a message");
     let number = number_of(rt, alloc, name, Side::Server, number);
-    let room = Room::new(alloc, name, DATAGRAM_LIMIT).expect(rt, "memory");
+    let room = Room::new(alloc, name, 20, DATAGRAM_LIMIT).expect(rt, "memory");
     protect_response::<Ccm<8>>(room, 20, number, &message).expect(rt, "a response that fits")
 }
 
@@ -574,7 +594,7 @@ fn protected_length(
     requires { HasShortContext name.now }
 {
     let number = number_of(rt, alloc, name, Side::Client, 0);
-    let room = Room::new(alloc, name, DATAGRAM_LIMIT).expect(rt, "memory");
+    let room = room_of(rt, alloc, name, &number, DATAGRAM_LIMIT);
     let MessageTooLong { room, number } = protect_request::<Ccm<8>>(
         room, number, too_long,
     ).expect_err(rt, "it is too long");
@@ -655,7 +675,9 @@ fn prints<T: fmt::Debug>(rt: &impl Abort, alloc: Global, value: &T, text: &str) 
 }
 
 fn room_is_hidden(rt: &impl Abort, alloc: Global, name: &SharedName) -> bool {
-    let room = Room::new(alloc, name, 7).expect(rt, "memory");
+    let number = number_of(rt, alloc, name, Side::Client, 0);
+    let room = room_of(rt, alloc, name, &number, 7);
+    number.spend();
     let hidden = prints(rt, alloc, &room, "Room");
     drop(room);
     hidden

@@ -100,6 +100,7 @@ fn protect_in(
     message: &MessageRef<'_>,
 ) -> Result<ProtectedRequest, Fail>
     requires number { number ≡ taken_of room.name Client number.number }
+    requires about { room.number ≡ number.number }
     requires short { HasShortContext room.name }
     requires room { 1152 ≤ room.most }
 {
@@ -149,10 +150,16 @@ fn protected(
 ) -> Result<Vec<u8>, Fail>
     requires { HasShortContext name.now }
 {
-    let room = Room::new(alloc, name, 1152)?;
     let taken = number_of(alloc, name, number)?;
-    let made = protect_in(room, taken, message)?;
-    bytes_of(alloc, made)
+    // For the proof alone: the call tells how long the ID is.
+    let _id = taken.id();
+    match Room::new(alloc, name, taken.get(), 1152) {
+        Ok(room) => bytes_of(alloc, protect_in(room, taken, message)?),
+        Err(error) => {
+            taken.spend();
+            Err(error)?
+        }
+    }
 }
 
 fn bytes_of(alloc: Global, made: ProtectedRequest) -> Result<Vec<u8>, Fail> {
