@@ -1,6 +1,6 @@
 -- The security contexts of a server, by the ids of the tokens that made them. For each token id there are a confirmed context,
 -- whose key the client was seen to have, and a pending one of the newest post, until a request opens under it.
-use Rattle.std.specs.Prelude.{◌≡◌, ◌≢◌, ℕ, ◌/◌, ◌≤◌, ◌<◌, Bool, true, false, ◌&&◌, ◌||◌, nat_le, nat_lt, if◌then◌else◌, List, [], ◌∷◌, ◌++◌, length, map, filter, find, bytes_eq, Option, Some, None, option_map}
+use Rattle.std.specs.Prelude.{◌≡◌, ◌≢◌, ℕ, ◌/◌, ◌≤◌, ◌<◌, Bool, true, false, ◌&&◌, ◌||◌, nat_le, nat_lt, if◌then◌else◌, List, [], ◌∷◌, ◌++◌, length, map, filter, find, bytes_eq, slice_get, Option, Some, None, option_map, option_and_then}
 use Rattle.std.specs.Option.{option_map_or}
 use Rattle.std.specs.List.{All, Contains, IsDistinct, list_any}
 use Rattle.osc_model.specs.declared.node.Moment.{Moment}
@@ -58,6 +58,10 @@ holds_id id holding = option_map_or (has_id id) holding.confirmed false || optio
 -- the context with this recipient ID
 abbrev pub with_id : List ℕ → List Holding → Option Held
 with_id id table = find (has_id id) (contexts table)
+
+-- the context that a request has opened under of the token id at this place
+abbrev pub confirmed_at : ℕ → List Holding → Option Held
+confirmed_at place table = option_and_then (λ holding. holding.confirmed) (slice_get table place)
 
 -- a kid context, where a request has one, names the id context
 abbrev pub is_named : Option (List ℕ) → Held → Bool

@@ -16,7 +16,7 @@ ghost use Rattle.osc_authz.specs.Agreement.{Agrees, Answers};
 ghost use Rattle.osc_authz.specs.Held.{Held};
 ghost use Rattle.osc_authz.specs.Payload.{post_fields as fields_of};
 ghost use Rattle.osc_token.specs.Reading.{IsItem};
-ghost use Rattle.osc_authz.specs.Table.{IsTable, IsFull, accepted, alive, meant, taking, with_id};
+ghost use Rattle.osc_authz.specs.Table.{IsTable, IsFull, accepted, alive, confirmed_at, meant, taking, with_id};
 ghost use Rattle.osc_authz.specs.Post.{Posts};
 
 use crate::agreement::context_of;
@@ -275,13 +275,21 @@ impl ServerDesk {
         table::with_id(&self.table, id)
     }
 
+    /// The context that a request has opened under of the token id at this place, as [`ServerDesk::accept`] answers it; no look-up.
+    pub fn confirmed_at(&self, place: usize) -> Option<&ServerContext>
+        ensures { option_map (λ context. context.now) result ≡ confirmed_at place self.now.table }
+    {
+        self.table.get(place)?.confirmed.as_ref()
+    }
+
     /// A request with this fresh number opened under the context with this recipient ID: its window takes the number, and the
-    /// right to one reply comes of it. If the context was pending, it is confirmed, and the older one of its token id goes.
-    /// Takes no memory.
-    pub fn accept(&mut self, id: &[u8], number: u64) -> AcceptedNumber
+    /// right to one reply comes of it. If the context was pending, it is confirmed, and the older one of its token id goes. Answers
+    /// the place of the context's token id as well, so that it needn't be looked up again. Takes no memory.
+    pub fn accept(&mut self, id: &[u8], number: u64) -> (AcceptedNumber, usize)
         requires fresh { (held : Held) × (with_id id.now self.old.table ≡ Some held) × IsFresh held.window number }
         requires number { number ≤ greatest_number }
-        ensures right { IfSome (with_id id.now self.old.table) (λ held. result ≡ accepted_of held.name Server number) }
+        ensures right { IfSome (with_id id.now self.old.table) (λ held. result.0 ≡ accepted_of held.name Server number) }
+        ensures placed { IfSome (with_id id.now self.old.table) (λ held. confirmed_at result.1 self.new.table ≡ Some (taking number held)) }
         ensures found { IfSome (with_id id.now self.old.table) (λ held. with_id id.now self.new.table ≡ Some (taking number held)) }
         ensures accepted { self.new ≡ record self.old { table = accepted id.now number self.old.table } }
         ensures table { IsTable self.new.table }

@@ -2,11 +2,11 @@
 
 ghost use Rattle.std.specs.Prelude.{◌≡◌, ◌≤◌, ◌++◌, true, false, find, option_map, bytes_eq, IsSome};
 ghost use Rattle.std.specs.Option.{option_map_or, IfSome};
-ghost use Rattle.osc_model.specs.declared.context.ContextName.{ContextName as AnyName};
 ghost use Rattle.osc_model.specs.declared.context.Side.TheVariants.{Server};
 ghost use Rattle.osc_context.specs.Derivation.{accepted_of};
 ghost use Rattle.osc_context.specs.Nonce.{greatest_number};
 ghost use Rattle.osc_window.specs.Window.{IsFresh};
+ghost use Rattle.osc_authz.specs.Held.{Held};
 ghost use Rattle.osc_authz.specs.Table.{is_live as is_live_of, holds_live as holds_live_of, holds_id, listed, has_id, taking, accepted_in};
 
 use crate::context::ServerContext;
@@ -107,10 +107,14 @@ impl Holding {
         requires number { number ≤ greatest_number }
         requires confirmed { IfSome self.old.confirmed (λ held. has_id id.now held ≡ true → IsFresh held.window number) }
         requires pending { IfSome self.old.pending (λ held. has_id id.now held ≡ true → IsFresh held.window number) }
-        ensures right { (name : AnyName)
-            → IfSome self.old.confirmed (λ held. has_id id.now held ≡ true → held.name ≡ name)
-            → IfSome self.old.pending (λ held. has_id id.now held ≡ true → held.name ≡ name)
-            → result ≡ accepted_of name Server number }
+        ensures right { (held : Held)
+            → IfSome self.old.confirmed (λ context. has_id id.now context ≡ true → context ≡ held)
+            → IfSome self.old.pending (λ context. has_id id.now context ≡ true → context ≡ held)
+            → result ≡ accepted_of held.name Server number }
+        ensures confirmed { (held : Held)
+            → IfSome self.old.confirmed (λ context. has_id id.now context ≡ true → context ≡ held)
+            → IfSome self.old.pending (λ context. has_id id.now context ≡ true → context ≡ held)
+            → self.new.confirmed ≡ Some (taking number held) }
         ensures accepted { self.new ≡ accepted_in id.now number self.old }
     {
         if is_of(&self.pending, id) {

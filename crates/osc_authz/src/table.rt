@@ -7,7 +7,7 @@ ghost use Rattle.osc_context.specs.Derivation.{accepted_of};
 ghost use Rattle.osc_context.specs.Nonce.{greatest_number};
 ghost use Rattle.osc_window.specs.Window.{IsFresh};
 ghost use Rattle.osc_authz.specs.Held.{Held};
-ghost use Rattle.osc_authz.specs.Table.{IsTable, IsFull, IsLeastFree, accepted, alive, has_token, holds_id, ids, with_id as with_id_of, without_pending, with_pending};
+ghost use Rattle.osc_authz.specs.Table.{IsTable, IsFull, IsLeastFree, accepted, alive, confirmed_at, has_token, holds_id, ids, taking, with_id as with_id_of, without_pending, with_pending};
 
 use crate::context::ServerContext;
 use crate::holding::Holding;
@@ -38,16 +38,17 @@ fn place_of_id(table: &[Holding], id: &[u8]) -> Option<usize>
 }
 
 /// The window of the context with this recipient ID takes this fresh number. If it was pending, it is confirmed, and the
-/// older one of its token id goes.
-pub(crate) fn accept(table: &mut [Holding], id: &[u8], number: u64) -> AcceptedNumber
+/// older one of its token id goes. Answers the place of the token id as well.
+pub(crate) fn accept(table: &mut [Holding], id: &[u8], number: u64) -> (AcceptedNumber, usize)
     requires table { IsTable table.old }
     requires fresh { (held : Held) × (with_id_of id.now table.old ≡ Some held) × IsFresh held.window number }
     requires number { number ≤ greatest_number }
-    ensures right { IfSome (with_id_of id.now table.old) (λ held. result ≡ accepted_of held.name Server number) }
+    ensures right { IfSome (with_id_of id.now table.old) (λ held. result.0 ≡ accepted_of held.name Server number) }
+    ensures placed { IfSome (with_id_of id.now table.old) (λ held. confirmed_at result.1 table.new ≡ Some (taking number held)) }
     ensures accepted { table.new ≡ accepted id.now number table.old }
 {
     match place_of_id(table, id) {
-        Some(index) => table[index].accept(id, number),
+        Some(index) => (table[index].accept(id, number), index),
         // The context is there.
         None => unreachable!(),
     }

@@ -244,7 +244,8 @@ fn accepted(desk: &mut ServerDesk, id: u8) -> bool {
     if let Some(context) = desk.get(&[id])
         && context.recipient().is_fresh(0)
     {
-        desk.accept(&[id], 0).spend();
+        let (number, _) = desk.accept(&[id], 0);
+        number.spend();
         return true;
     }
     false
