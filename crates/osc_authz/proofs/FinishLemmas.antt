@@ -4,7 +4,7 @@ use Rattle.std.specs.Prelude.{Result, Ok}
 use Rattle.std.proofs.lemmas.Bool.{false≢true}
 use Rattle.osc_model.specs.Code.{code}
 use Rattle.osc_model.specs.declared.code.Code.{Code}
-use Rattle.osc_authz.specs.Begun.{Begun, Made}
+use Rattle.osc_authz.specs.Begun.{Begun, ClientContextState}
 use Rattle.osc_authz.specs.Client.{Finishes, another_code, no_answer, equal_ids, made, made_name}
 use Rattle.osc_authz.specs.Exchange.{IsAnswer}
 use Rattle.osc_authz.specs.declared.error.FinishError.{FinishError}
@@ -25,7 +25,7 @@ code_is came b e h = ap with_number (code_if came.0 (nat_eq came.0 65) (λ i. na
 -- ---- it comes to one thing
 
 module _ (one_answer : (payload nonce2 server_id nonces ids : List ℕ) → IsAnswer payload nonce2 server_id → IsAnswer payload nonces ids → (nonce2 ≡ nonces) × (server_id ≡ ids)) where
-  pub finishes_once : (desk : ClientDesk) (begun : Begun) (came : Code) (payload : List ℕ) (result other : Result Made FinishError)
+  pub finishes_once : (desk : ClientDesk) (begun : Begun) (came : Code) (payload : List ℕ) (result other : Result ClientContextState FinishError)
       → Finishes desk begun came payload result → Finishes desk begun came payload other → result ≡ other
   finishes_once desk begun came payload result other (another_code differs is) (another_code differs2 is') = is ∙ sym is'
   finishes_once desk begun came payload result other (another_code differs is) (no_answer its none is') = absurd (differs its)

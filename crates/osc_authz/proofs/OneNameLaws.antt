@@ -18,7 +18,7 @@ use Rattle.osc_token.specs.Token.{IsToken, algorithm_header, claims_item, token_
 use Rattle.osc_token.specs.declared.claims.Claims.{Claims}
 use Rattle.osc_authz.specs.Agreed.{IsAgreed}
 use Rattle.osc_authz.specs.Agreement.{new_context, Agrees, Answers, refused, full, agreed}
-use Rattle.osc_authz.specs.Begun.{Begun, Made}
+use Rattle.osc_authz.specs.Begun.{Begun, ClientContextState}
 use Rattle.osc_authz.specs.Client.{Finishes, made_name}
 use Rattle.osc_authz.specs.Contexts.{pending_of}
 use Rattle.osc_authz.specs.Desk.{DeskState}
@@ -109,7 +109,7 @@ module _ (IsSealing : List ℕ → List ℕ → List ℕ → List ℕ → List �
     (one_token : (key bytes protected iv text others ivs other : List ℕ) → IsToken IsSealing key bytes protected iv text → IsToken IsSealing key bytes others ivs other
     → (protected ≡ others) × (iv ≡ ivs) × (text ≡ other))
     (before after : DeskState) (now : Moment) (draw : Draw) (post : Post) (answer : PostAnswer)
-    (claims : Claims) (entries : List Entry) (client : ClientDesk) (begun : Begun) (finished : Result Made FinishError)
+    (claims : Claims) (entries : List Entry) (client : ClientDesk) (begun : Begun) (finished : Result ClientContextState FinishError)
     (size : length draw.0 ≡ 32) (nonce_size : length begun.nonce1 ≡ 8) (holds : HoldsToken IsSealing before.key claims entries client)
     (posts : Posts IsSealing before now (spelling (post_item client.token begun.nonce1 (begun.recipient_id ∷ []))) draw post after)
     (ok : post.answer ≡ Ok answer) where
@@ -161,7 +161,7 @@ module _ (IsSealing : List ℕ → List ℕ → List ℕ → List ℕ → List �
       id
       (sym posted.2)
 
-  abbrev ok_made : ContextName → Result Made FinishError
+  abbrev ok_made : ContextName → Result ClientContextState FinishError
   ok_made n = Ok (record { name = n; next = 0 })
 
   by : Finishes client begun (code 2 1) (spelling (answer_item answer.nonce2 (answer.recipient_id ∷ []))) finished → finished ≡ ok_made its.name

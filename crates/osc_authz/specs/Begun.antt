@@ -8,6 +8,6 @@ pub record Begun : Type 0 where
   pub recipient_id : ℕ
 
 -- a context, and the sender sequence number that it takes next
-pub record Made : Type 0 where
+pub record ClientContextState : Type 0 where
   pub name : ContextName
   pub next : ℕ

@@ -6,12 +6,12 @@ use Rattle.osc_model.specs.declared.context.ContextName.{ContextName}
 use Rattle.osc_context.specs.MasterSalt.{master_salt}
 use Rattle.osc_authz.specs.Exchange.{IsAnswer}
 use Rattle.osc_authz.specs.declared.granted.ClientDesk.{ClientDesk}
-use Rattle.osc_authz.specs.Begun.{Begun, Made}
+use Rattle.osc_authz.specs.Begun.{Begun, ClientContextState}
 use Rattle.osc_authz.specs.declared.error.FinishError.{FinishError}
 use Rattle.osc_authz.specs.declared.error.FinishError.TheVariants.{Fields, EqualIds}
 
 -- The recipient ID that the client offers is 00, or 01 where its context has that already.
-abbrev pub offered_id : Option Made → ℕ
+abbrev pub offered_id : Option ClientContextState → ℕ
 offered_id None = 0
 offered_id (Some made) = if bytes_eq made.name.server_id (0 ∷ []) then 1 else 0
 
@@ -26,7 +26,7 @@ made_name desk begun nonce2 server_id = record {
 }
 
 -- what an exchange comes to by an answer of this code and payload
-pub data Finishes (desk : ClientDesk) (begun : Begun) (came : Code) (payload : List ℕ) (result : Result Made FinishError) : Type 0 where
+pub data Finishes (desk : ClientDesk) (begun : Begun) (came : Code) (payload : List ℕ) (result : Result ClientContextState FinishError) : Type 0 where
   another_code : came ≢ code 2 1 → result ≡ Err Fields → Finishes desk begun came payload result
   no_answer : came ≡ code 2 1 → ((nonce2 server_id : List ℕ) → ¬ IsAnswer payload nonce2 server_id)
       → result ≡ Err Fields → Finishes desk begun came payload result

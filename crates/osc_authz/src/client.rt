@@ -71,9 +71,9 @@ impl Model for ClientContext {
     ghost use Rattle.std.specs.Prelude.{◌≡◌, []};
     ghost use Rattle.osc_model.specs.declared.context.Side.TheVariants.{Client};
     ghost use Rattle.osc_context.specs.Derivation.{sender_of, recipient_of};
-    ghost use Rattle.osc_authz.specs.Begun.{Made};
+    ghost use Rattle.osc_authz.specs.Begun.{ClientContextState};
 
-    ghost Value = { Made };
+    ghost Value = { ClientContextState };
 
     ghost view = { λ context. record { name = context.name; next = context.sender.next } };
 

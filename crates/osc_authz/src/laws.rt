@@ -12,7 +12,7 @@ ghost use Rattle.osc_scope.specs.Entries.{Entry, scope_of};
 ghost use Rattle.osc_token.specs.Minted.{HasLawfulParts};
 ghost use Rattle.osc_token.specs.declared.claims.Claims.{Claims as AnyClaims};
 ghost use Rattle.osc_authz.specs.Agreed.{IsAgreed};
-ghost use Rattle.osc_authz.specs.Begun.{Begun, Made};
+ghost use Rattle.osc_authz.specs.Begun.{Begun, ClientContextState};
 ghost use Rattle.osc_authz.specs.Client.{Finishes};
 ghost use Rattle.osc_authz.specs.Contexts.{OfToken, of_tokens, IsLive, AreKept, HasAdded, HasTaken};
 ghost use Rattle.osc_authz.specs.Desk.{DeskState};
@@ -142,7 +142,7 @@ pub fn welcome_posts<A: Aead>()
 /// and its IDs are lawful; where the claims are, its id context has at most 64 bytes.
 pub fn one_name<A: Aead>()
     ensures { (before after : DeskState) (now : AnyMoment) (draw : AnyDraw) (post : AnyPost) (answer : AnyAnswer)
-        (claims : AnyClaims) (entries : List Entry) (client : AnyClient) (begun : Begun) (finished : Result Made AnyFinishError)
+        (claims : AnyClaims) (entries : List Entry) (client : AnyClient) (begun : Begun) (finished : Result ClientContextState AnyFinishError)
         → length draw.0 ≡ 32 → length begun.nonce1 ≡ 8 → HoldsToken A.is_sealing before.key claims entries client
         → Posts A.is_sealing before now (spelling (post_item client.token begun.nonce1 (begun.recipient_id ∷ []))) draw post after
         → post.answer ≡ Ok answer
@@ -174,7 +174,7 @@ pub fn one_outcome<A: Aead>()
 
 /// An exchange finishes in one way at most by an answer of one code and payload.
 pub fn one_finish()
-    ensures { (desk : AnyClient) (begun : Begun) (came : AnyCode) (payload : List ℕ) (result other : Result Made AnyFinishError)
+    ensures { (desk : AnyClient) (begun : Begun) (came : AnyCode) (payload : List ℕ) (result other : Result ClientContextState AnyFinishError)
         → Finishes desk begun came payload result → Finishes desk begun came payload other → result ≡ other }
 {
     one_payload();

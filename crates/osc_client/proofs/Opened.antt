@@ -5,7 +5,7 @@ use Rattle.osc_model.specs.declared.step.Note.{Note}
 use Rattle.osc_coap.specs.Message.{Message}
 use Rattle.osc_options.specs.Split.{has_oscore}
 use Rattle.osc_protect.specs.Protection.{SealedResponse, IsResponse}
-use Rattle.osc_authz.specs.Begun.{Made as ClientContext}
+use Rattle.osc_authz.specs.Begun.{ClientContextState}
 use Rattle.osc_run.specs.ClientKinds.{response_note}
 use Rattle.osc_client.specs.Answering.{AskComes, IsSealedFor, answered, no_response, not_genuine}
 use Rattle.osc_client.specs.Opened.{ComesOf, a_reply, no_reply, nothing}
@@ -13,7 +13,7 @@ use Rattle.osc_client.specs.declared.answering.Outcome.{Outcome}
 use Rattle.osc_client.specs.declared.answering.Outcome.TheVariants.{Stays, Answers}
 use Rattle.osc_client.specs.declared.waiting.OpenAsk.{OpenAsk}
 
-module _ (is_sealing : List ℕ → List ℕ → List ℕ → List ℕ → List ℕ → Type 0) (context : ClientContext) (ask : OpenAsk) (message : Message) (response : SealedResponse) where
+module _ (is_sealing : List ℕ → List ℕ → List ℕ → List ℕ → List ℕ → Type 0) (context : ClientContextState) (ask : OpenAsk) (message : Message) (response : SealedResponse) where
   abbrev IsGenuine : Option Note → Type 0
   IsGenuine opened = IfSome opened (λ note. IsSealedFor is_sealing context ask response note.plaintext)
 

@@ -7,7 +7,7 @@ use Rattle.osc_model.specs.declared.step.ClientResult.{ClientResult}
 use Rattle.osc_model.specs.declared.step.ClientResult.TheVariants as result
 use Rattle.osc_model.specs.declared.step.Note.{Note}
 use Rattle.osc_coap.specs.Message.{Message}
-use Rattle.osc_authz.specs.Begun.{Begun, Made as ClientContext}
+use Rattle.osc_authz.specs.Begun.{Begun, ClientContextState}
 use Rattle.osc_authz.specs.Client.{Finishes}
 use Rattle.osc_authz.specs.declared.error.FinishError.{FinishError}
 use Rattle.osc_authz.specs.declared.error.FinishError.TheVariants.{Fields, EqualIds, Memory}
@@ -28,28 +28,28 @@ use Rattle.osc_client.specs.declared.waiting.Waiting.{Waiting}
 use Rattle.osc_client.proofs.Own.{same_grant}
 
 -- what holds of each outcome
-pub record OfEach (desk : ClientDesk) (context : Option ClientContext) (what : Awaited) (P : Outcome → Type 0) : Type 0 where
+pub record OfEach (desk : ClientDesk) (context : Option ClientContextState) (what : Awaited) (P : Outcome → Type 0) : Type 0 where
   pub stays : (opened : Option Note) → P (Stays opened)
   pub ends : (ending : ClientResult) → IsEnding ending → P (Ends ending)
-  pub makes : (begun : Begun) (came : Code) (payload : List ℕ) (made : ClientContext) → what ≡ Exchange begun → Finishes desk begun came payload (Ok made) → P (Makes made)
-  pub answers : (held : ClientContext) (ask : OpenAsk) (own : Option ℕ) (text : List ℕ) (reply : Reply) → context ≡ Some held → what ≡ Ask ask → IsReplyIn text reply
+  pub makes : (begun : Begun) (came : Code) (payload : List ℕ) (made : ClientContextState) → what ≡ Exchange begun → Finishes desk begun came payload (Ok made) → P (Makes made)
+  pub answers : (held : ClientContextState) (ask : OpenAsk) (own : Option ℕ) (text : List ℕ) (reply : Reply) → context ≡ Some held → what ≡ Ask ask → IsReplyIn text reply
       → P (Answers (response_note held.name ask.number own text) reply)
 
 -- what waits is something
-pub something : (k : Option ClientContext) (what : Awaited) → NeedsContext k what → outstanding_of k what ≡ Nothing → ⊥
+pub something : (k : Option ClientContextState) (what : Awaited) → NeedsContext k what → outstanding_of k what ≡ Nothing → ⊥
 something k (Exchange begun) has e = let wrong : OpenExchange begun ≡ Nothing = e in cc
 something (Some held) (Ask ask) has e = let wrong : AskOf (record { context = held.name; number = ask.number; plaintext = ask.plaintext }) ≡ Nothing = e in cc
 something None (Ask ask) has e = has refl
 
 module _ (is_sealing : List ℕ → List ℕ → List ℕ → List ℕ → List ℕ → Type 0) (desk : ClientDesk) (message : Message) where
-  finishing : (context : Option ClientContext) (begun : Begun) (P : Outcome → Type 0) → OfEach desk context (Exchange begun) P
-      → (came : Result ClientContext FinishError) (code : Code) (payload : List ℕ) → Finishes desk begun code payload came → P (ended_by came)
+  finishing : (context : Option ClientContextState) (begun : Begun) (P : Outcome → Type 0) → OfEach desk context (Exchange begun) P
+      → (came : Result ClientContextState FinishError) (code : Code) (payload : List ℕ) → Finishes desk begun code payload came → P (ended_by came)
   finishing context begun P each (Ok made) code payload finishes = each.makes begun code payload made refl finishes
   finishing context begun P each (Err Fields) code payload finishes = each.ends (result.Refused 30) tt
   finishing context begun P each (Err EqualIds) code payload finishes = each.ends (result.Refused 20) tt
   finishing context begun P each (Err (Memory back)) code payload finishes = each.stays None
 
-  of_exchange : (context : Option ClientContext) (begun : Begun) (outcome : Outcome) → ExchangeComes desk begun message outcome
+  of_exchange : (context : Option ClientContextState) (begun : Begun) (outcome : Outcome) → ExchangeComes desk begun message outcome
       → (P : Outcome → Type 0) → OfEach desk context (Exchange begun) P → P outcome
   of_exchange context begun outcome (comes.protected plain is) P each = subst P (sym is) (each.stays None)
   of_exchange context begun outcome (comes.ExchangeComes.other plain a b is) P each = subst P (sym is) (each.stays None)
@@ -57,7 +57,7 @@ module _ (is_sealing : List ℕ → List ℕ → List ℕ → List ℕ → List 
   of_exchange context begun outcome (comes.finished plain a b finish) P each =
       subst P (sym finish.is) (finishing context begun P each finish.came _ _ finish.finishes)
 
-  of_ask : (held : ClientContext) (ask : OpenAsk) (outcome : Outcome) → AskComes is_sealing held ask message outcome
+  of_ask : (held : ClientContextState) (ask : OpenAsk) (outcome : Outcome) → AskComes is_sealing held ask message outcome
       → (P : Outcome → Type 0) → OfEach desk (Some held) (Ask ask) P → P outcome
   of_ask held ask outcome (comes.AskComes.failed plain error is) P each = subst P (sym is) (each.ends (result.Unverified (code_of message)) tt)
   of_ask held ask outcome (comes.AskComes.other plain error is) P each = subst P (sym is) (each.stays None)
@@ -68,14 +68,14 @@ module _ (is_sealing : List ℕ → List ℕ → List ℕ → List ℕ → List 
   of_ask held ask outcome (comes.answered response text reply plain says sealed reads is) P each =
       subst P (sym is) (each.answers held ask response.own text reply refl refl reads)
 
-  pub of_each : (context : Option ClientContext) (what : Awaited) (outcome : Outcome) → Comes is_sealing desk context what message outcome
+  pub of_each : (context : Option ClientContextState) (what : Awaited) (outcome : Outcome) → Comes is_sealing desk context what message outcome
       → (P : Outcome → Type 0) → OfEach desk context what P → P outcome
   of_each context (Exchange begun) outcome came P each = of_exchange context begun outcome came P each
   of_each (Some held) (Ask ask) outcome came P each = of_ask held ask outcome came P each
   of_each None (Ask ask) outcome came P each = absurd came
 
   -- the context is of what was granted
-  pub grant_after : (context : Option ClientContext) (what : Awaited) (outcome : Outcome) → Comes is_sealing desk context what message outcome
+  pub grant_after : (context : Option ClientContextState) (what : Awaited) (outcome : Outcome) → Comes is_sealing desk context what message outcome
       → IsOfGrant desk context → IsOfGrant desk (context_after outcome context)
   grant_after context what outcome came grant =
       of_each context what outcome came (λ o. IsOfGrant desk (context_after o context)) (record {
@@ -86,9 +86,9 @@ module _ (is_sealing : List ℕ → List ℕ → List ℕ → List ℕ → List 
       })
 
   -- which kind of step it is
-  pub kind_after : (context : Option ClientContext) (waiting : Waiting) (outcome : Outcome) → Comes is_sealing desk context waiting.what message outcome
+  pub kind_after : (context : Option ClientContextState) (waiting : Waiting) (outcome : Outcome) → Comes is_sealing desk context waiting.what message outcome
       → NeedsContext context waiting.what
-      → ((begun : Begun) (came : Code) (payload : List ℕ) (made : ClientContext) (old : ClientState) → old.outstanding ≡ OpenExchange begun
+      → ((begun : Begun) (came : Code) (payload : List ℕ) (made : ClientContextState) (old : ClientState) → old.outstanding ≡ OpenExchange begun
       → Finishes old.desk begun came payload (Ok made)
       → IsMade old (record quiet { result = Some result.Made }) (record old { context = Some made; outstanding = Nothing }))
       → ClientStep false (record { desk = desk; context = context; outstanding = outstanding context (Some waiting) }) (notes_of outcome)

@@ -10,7 +10,7 @@ use Rattle.osc_message.specs.Confirmables.{Open, acknowledged, is_named, same_pe
 use Rattle.osc_message.specs.Endpoint.{acknowledged_by}
 use Rattle.osc_model.specs.declared.code.Code.{Code}
 use Rattle.osc_coap.specs.Message.{Message}
-use Rattle.osc_authz.specs.Begun.{Begun, Made as ClientContext}
+use Rattle.osc_authz.specs.Begun.{Begun, ClientContextState}
 use Rattle.osc_authz.specs.Client.{Finishes, made_name}
 use Rattle.osc_authz.specs.Client as finishing
 use Rattle.osc_authz.specs.declared.error.FinishError.TheVariants.{Fields, EqualIds}
@@ -94,18 +94,18 @@ counted_gone next_hop from message waiting sending counted own =
     (gone next_hop waiting.id (acknowledged_by from message.kind message.id sending) left)
 
 -- what waits then has its context
-pub has_after : (outcome : Outcome) (context : Option ClientContext) (waiting : Waiting) → HasContext context (Some waiting)
+pub has_after : (outcome : Outcome) (context : Option ClientContextState) (waiting : Waiting) → HasContext context (Some waiting)
     → HasContext (context_after outcome context) (waits_after outcome waiting)
 has_after (Stays opened) context waiting has = has
 has_after (Makes made) context waiting has = tt
 has_after (Answers note reply) context waiting has = tt
 has_after (Ends ending) context waiting has = tt
 
-pub same_grant : (desk : ClientDesk) (begun : Begun) (came : Code) (payload : List ℕ) (made : ClientContext) → Finishes desk begun came payload (Ok made)
+pub same_grant : (desk : ClientDesk) (begun : Begun) (came : Code) (payload : List ℕ) (made : ClientContextState) → Finishes desk begun came payload (Ok made)
     → made.name.id_context ≡ desk.id_context
 same_grant desk begun came payload made (finishing.another_code other is) = let wrong : Ok made ≡ Err Fields = is in absurd (cc)
 same_grant desk begun came payload made (finishing.no_answer right none is) = let wrong : Ok made ≡ Err Fields = is in absurd (cc)
 same_grant desk begun came payload made (finishing.equal_ids nonce2 right answer is) = let wrong : Ok made ≡ Err EqualIds = is in absurd (cc)
 same_grant desk begun came payload made (finishing.made nonce2 server_id right answer apart is) =
     let same : made ≡ record { name = made_name desk begun nonce2 server_id; next = 0 } = cc in
-    ap (λ (m : ClientContext). m.name.id_context) same
+    ap (λ (m : ClientContextState). m.name.id_context) same

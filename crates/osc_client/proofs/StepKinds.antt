@@ -11,7 +11,7 @@ use Rattle.osc_model.specs.declared.step.Datagram.{Datagram}
 use Rattle.osc_model.specs.declared.step.Step.{Step}
 use Rattle.osc_coap.specs.Message.{Message}
 use Rattle.osc_coap.specs.declared.kind.Kind.{Kind}
-use Rattle.osc_authz.specs.Begun.{Begun, Made as ClientContext}
+use Rattle.osc_authz.specs.Begun.{Begun, ClientContextState}
 use Rattle.osc_authz.specs.Client.{Finishes}
 use Rattle.osc_run.specs.ClientKinds.{ClientStep, ClientIdle, Ended, IsMade, Lied}
 use Rattle.osc_run.specs.States.{ClientState, Nothing, Exchange as OpenExchange}
@@ -51,7 +51,7 @@ settles true old now from kind id step new something settled =
 -- a step of the table
 pub kind_of : (is_sealing : List ℕ → List ℕ → List ℕ → List ℕ → List ℕ → Type 0) (old : State) (now : Moment) (from : Peer) (case : Case) (step : Step) (new : State)
     → HasContext old.context old.waiting
-    → ((begun : Begun) (came : Code) (payload : List ℕ) (made : ClientContext) (before : ClientState) → before.outstanding ≡ OpenExchange begun
+    → ((begun : Begun) (came : Code) (payload : List ℕ) (made : ClientContextState) (before : ClientState) → before.outstanding ≡ OpenExchange begun
     → Finishes before.desk begun came payload (Ok made)
     → IsMade before (record quiet { result = Some result.Made }) (record before { context = Some made; outstanding = Nothing }))
     → Answers is_sealing old now from case step new → ClientStep false (core old) step.notes (core new)
@@ -75,7 +75,7 @@ kind_of is_sealing old now from (Counted message) step new has makes answers =
     rw (before, answers.told, answers.kept) kind
 
 -- a lie, under the context that the client has
-pub lied : (is_sealing : List ℕ → List ℕ → List ℕ → List ℕ → List ℕ → Type 0) (tag : ℕ) (old : State) (to : Peer) (context : ClientContext) (number : ℕ) (text : List ℕ) (outside : Message) (step : Step)
+pub lied : (is_sealing : List ℕ → List ℕ → List ℕ → List ℕ → List ℕ → Type 0) (tag : ℕ) (old : State) (to : Peer) (context : ClientContextState) (number : ℕ) (text : List ℕ) (outside : Message) (step : Step)
     → old.context ≡ Some context → number ≤ greatest_number → LiesUnder is_sealing tag to context number text outside step → ClientStep true (core old) step.notes (core old)
 lied is_sealing tag old to context number text outside step held lawful (LiesUnder.too_long long told) = rw told (refusals true (core old) 14)
 lied is_sealing tag old to context number text outside step held lawful (lies protected fits sealed spelled told) =

@@ -22,7 +22,7 @@ use Rattle.osc_coap.specs.Message.{Message, Spells}
 use Rattle.osc_coap.specs.declared.kind.Kind.{Kind}
 use Rattle.osc_options.specs.Split.{has_oscore}
 use Rattle.osc_protect.specs.Protection.{IsRequestOf, plain_bytes}
-use Rattle.osc_authz.specs.Begun.{Begun, Made as ClientContext}
+use Rattle.osc_authz.specs.Begun.{Begun, ClientContextState}
 use Rattle.osc_authz.specs.declared.error.FinishError.{FinishError}
 use Rattle.osc_authz.specs.declared.error.FinishError.TheVariants.{Fields, EqualIds, Memory}
 use Rattle.osc_message.specs.Confirmables.{Open}
@@ -165,12 +165,12 @@ module _ (is_sealing : List ℕ → List ℕ → List ℕ → List ℕ → List 
   ask_told tag request draw step new (asks context protected free sealed spelled told kept) =
       as_sent None step _ told (told_seal old.next_hop (plain_bytes (plain_of old draw request)) context.name context.next (plain_of old draw request) protected sealed)
 
-  under_told : (tag : ℕ) (to : Peer) (context : ClientContext) (number : ℕ) (text : List ℕ) (outside : Message) (step : Step)
+  under_told : (tag : ℕ) (to : Peer) (context : ClientContextState) (number : ℕ) (text : List ℕ) (outside : Message) (step : Step)
       → LiesUnder is_sealing tag to context number text outside step → AreTold is_sealing old now None step
   under_told tag to context number text outside step (lying.LiesUnder.too_long long told) = told_refusal step 14 told
   under_told tag to context number text outside step (lies protected fits sealed spelled told) = as_sent None step _ told (told_seal to text context.name number outside protected sealed)
 
-  by_told : (tag : ℕ) (to : Peer) (context : Option ClientContext) (number : ℕ) (text : List ℕ) (outside : Message) (step : Step)
+  by_told : (tag : ℕ) (to : Peer) (context : Option ClientContextState) (number : ℕ) (text : List ℕ) (outside : Message) (step : Step)
       → LiesBy is_sealing tag to context number text outside step → AreTold is_sealing old now None step
   by_told tag to None number text outside step told = told_refusal step 22 told
   by_told tag to (Some context) number text outside step it = under_told tag to context number text outside step it
@@ -197,7 +197,7 @@ module _ (is_sealing : List ℕ → List ℕ → List ℕ → List ℕ → List 
       answers = λ reply e. absurd (subst IsEnding (same_Some ending (Answer reply) e) ends);
     }
 
-    finish_tells : (it : Result ClientContext FinishError) → Tells (ended_by it)
+    finish_tells : (it : Result ClientContextState FinishError) → Tells (ended_by it)
     finish_tells (Ok made) = record { seals = refl; opens = λ note e. absurd (cc); answers = λ reply e. absurd (cc) }
     finish_tells (Err Fields) = end_tells (result.Refused 30) tt
     finish_tells (Err EqualIds) = end_tells (result.Refused 20) tt
@@ -209,7 +209,7 @@ module _ (is_sealing : List ℕ → List ℕ → List ℕ → List ℕ → List 
     exchange_tells begun message o (comes.ExchangeComes.failed plain error is) = subst Tells (sym is) (end_tells (result.Unverified (code_of message)) tt)
     exchange_tells begun message o (comes.finished plain a b finish) = subst Tells (sym finish.is) (finish_tells finish.came)
 
-    ask_tells : (context : ClientContext) (ask : OpenAsk) (message : Message) (o : Outcome) → Spells came message → AskComes is_sealing context ask message o → Tells o
+    ask_tells : (context : ClientContextState) (ask : OpenAsk) (message : Message) (o : Outcome) → Spells came message → AskComes is_sealing context ask message o → Tells o
     ask_tells context ask message o spelled (comes.AskComes.failed plain error is) = subst Tells (sym is) (end_tells (result.Unverified (code_of message)) tt)
     ask_tells context ask message o spelled (comes.AskComes.other plain error is) = subst Tells (sym is) stay_tells
     ask_tells context ask message o spelled (comes.malformed plain none is) = subst Tells (sym is) stay_tells
@@ -231,7 +231,7 @@ module _ (is_sealing : List ℕ → List ℕ → List ℕ → List ℕ → List 
           answers = λ other e. (note, refl, let same : reply ≡ other = cc in subst (IsReplyIn text) same reads);
         })
 
-    comes_tells : (context : Option ClientContext) (what : Awaited) (message : Message) (o : Outcome) → Spells came message → Comes is_sealing old.desk context what message o → Tells o
+    comes_tells : (context : Option ClientContextState) (what : Awaited) (message : Message) (o : Outcome) → Spells came message → Comes is_sealing old.desk context what message o → Tells o
     comes_tells context (Exchange begun) message o spelled it = exchange_tells begun message o it
     comes_tells (Some context) (Ask ask) message o spelled it = ask_tells context ask message o spelled it
     comes_tells None (Ask ask) message o spelled it = absurd it

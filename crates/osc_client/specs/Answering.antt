@@ -14,7 +14,7 @@ use Rattle.osc_options.specs.Split.{has_oscore}
 use Rattle.osc_context.specs.Derivation.{key_of}
 use Rattle.osc_protect.specs.Aad.{aad_of}
 use Rattle.osc_protect.specs.Protection.{SealedResponse, IsResponse, response_nonce}
-use Rattle.osc_authz.specs.Begun.{Begun, Made as ClientContext}
+use Rattle.osc_authz.specs.Begun.{Begun, ClientContextState}
 use Rattle.osc_authz.specs.Client.{Finishes}
 use Rattle.osc_authz.specs.declared.error.FinishError.{FinishError}
 use Rattle.osc_authz.specs.declared.error.FinishError.TheVariants.{Fields, EqualIds, Memory}
@@ -40,7 +40,7 @@ code_of message = record { 0 = message.code }
 
 -- ---- the answer to an exchange
 
-abbrev pub ended_by : Result ClientContext FinishError → Outcome
+abbrev pub ended_by : Result ClientContextState FinishError → Outcome
 ended_by (Ok made) = Makes made
 ended_by (Err Fields) = Ends (result.Refused 30)
 ended_by (Err EqualIds) = Ends (result.Refused 20)
@@ -48,7 +48,7 @@ ended_by (Err (Memory begun)) = Stays None
 
 -- a success finishes it
 pub record IsFinish (desk : ClientDesk) (begun : Begun) (message : Message) (outcome : Outcome) : Type 0 where
-  pub came : Result ClientContext FinishError
+  pub came : Result ClientContextState FinishError
   pub finishes : Finishes desk begun (code_of message) (unwrap_or message.payload []) came
   pub is : outcome ≡ ended_by came
 
@@ -67,13 +67,13 @@ pub data ExchangeComes (desk : ClientDesk) (begun : Begun) (message : Message) (
 -- `is_sealing key nonce aad text sealed` is the cipher's relation
 module _ (is_sealing : List ℕ → List ℕ → List ℕ → List ℕ → List ℕ → Type 0) where
   -- this text is sealed in it, for the request
-  abbrev pub IsSealedFor : ClientContext → OpenAsk → SealedResponse → List ℕ → Type 0
+  abbrev pub IsSealedFor : ClientContextState → OpenAsk → SealedResponse → List ℕ → Type 0
   IsSealedFor context ask response text =
       is_sealing (key_of context.name Server) (response_nonce context.name ask.number response.own) (aad_of context.name ask.number) text response.sealed
 
   -- An error without protection ends it, and anything else without protection changes nothing. What isn't a protected response, or
   -- doesn't open, changes nothing; what opens and is no response is noted. A response answers it.
-  pub data AskComes (context : ClientContext) (ask : OpenAsk) (message : Message) (outcome : Outcome) : Type 0 where
+  pub data AskComes (context : ClientContextState) (ask : OpenAsk) (message : Message) (outcome : Outcome) : Type 0 where
     failed : has_oscore message.options ≡ false → is_error message.code ≡ true → outcome ≡ Ends (result.Unverified (code_of message))
         → AskComes context ask message outcome
     other : has_oscore message.options ≡ false → is_error message.code ≡ false → outcome ≡ Stays None → AskComes context ask message outcome
@@ -89,7 +89,7 @@ module _ (is_sealing : List ℕ → List ℕ → List ℕ → List ℕ → List 
         → outcome ≡ Answers (response_note context.name ask.number response.own text) reply → AskComes context ask message outcome
 
   -- what the answer comes to, by what waits
-  abbrev pub Comes : ClientDesk → Option ClientContext → Awaited → Message → Outcome → Type 0
+  abbrev pub Comes : ClientDesk → Option ClientContextState → Awaited → Message → Outcome → Type 0
   Comes desk context (Exchange begun) message outcome = ExchangeComes desk begun message outcome
   Comes desk (Some context) (Ask ask) message outcome = AskComes context ask message outcome
   Comes desk None (Ask ask) message outcome = ⊥
@@ -117,7 +117,7 @@ abbrev pub waits_after : Outcome → Waiting → Option Waiting
 waits_after (Stays opened) waiting = Some waiting
 waits_after outcome waiting = None
 
-abbrev pub context_after : Outcome → Option ClientContext → Option ClientContext
+abbrev pub context_after : Outcome → Option ClientContextState → Option ClientContextState
 context_after (Makes made) context = Some made
 context_after outcome context = context
 

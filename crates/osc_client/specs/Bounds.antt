@@ -2,7 +2,7 @@
 use Rattle.std.specs.Prelude.{◌≡◌, ◌≢◌, ◌≤◌, true, ℕ, List, [], length, Option, Some, None, IfSome}
 use Rattle.std.specs.List.{AllByRecursion}
 use Rattle.osc_model.specs.declared.node.Peer.{Peer}
-use Rattle.osc_authz.specs.Begun.{Made as ClientContext}
+use Rattle.osc_authz.specs.Begun.{ClientContextState}
 use Rattle.osc_authz.specs.declared.granted.ClientDesk.{ClientDesk}
 use Rattle.osc_coap.specs.Message.{Message}
 use Rattle.osc_message.specs.Confirmables.{Open, is_named}
@@ -25,7 +25,7 @@ KeepsOwn next_hop None sending = sending ≡ []
 KeepsOwn next_hop (Some waiting) sending = AllByRecursion (λ message. is_named next_hop waiting.id message ≡ true) sending
 
 -- a request waits under the context that the client has
-abbrev pub NeedsContext : Option ClientContext → Awaited → Type 0
+abbrev pub NeedsContext : Option ClientContextState → Awaited → Type 0
 NeedsContext context (Exchange begun) = Unit {0}
 NeedsContext context (Ask ask) = context ≢ None
 
@@ -34,12 +34,12 @@ abbrev pub IsLawful : Awaited → Type 0
 IsLawful (Exchange begun) = Unit {0}
 IsLawful (Ask ask) = ask.number ≤ greatest_number
 
-abbrev pub HasContext : Option ClientContext → Option Waiting → Type 0
+abbrev pub HasContext : Option ClientContextState → Option Waiting → Type 0
 HasContext context None = Unit {0}
 HasContext context (Some waiting) = NeedsContext context waiting.what × IsLawful waiting.what
 
 -- the context was made of what was granted
-abbrev pub IsOfGrant : ClientDesk → Option ClientContext → Type 0
+abbrev pub IsOfGrant : ClientDesk → Option ClientContextState → Type 0
 IsOfGrant desk context = IfSome context (λ made. made.name.id_context ≡ desk.id_context)
 
 -- the room that a request takes, protected at this number under the context of this name

@@ -9,7 +9,7 @@ use Rattle.osc_coap.specs.Building.{bare}
 use Rattle.osc_coap.specs.Message.{Message, Spells, spelling}
 use Rattle.osc_coap.specs.declared.kind.Kind.TheVariants.{Confirmable}
 use Rattle.osc_protect.specs.Protection.{IsRequestOf, length_of_request, longest_message}
-use Rattle.osc_authz.specs.Begun.{Made as ClientContext}
+use Rattle.osc_authz.specs.Begun.{ClientContextState}
 use Rattle.osc_run.specs.ClientKinds.{request_note}
 use Rattle.osc_message.specs.Sending.{datagram}
 use Rattle.osc_client.specs.Sending.{refusing}
@@ -24,7 +24,7 @@ outside_of origin draw = through origin (bare Confirmable 2 (message_id_drawn dr
 module _ (is_sealing : List ℕ → List ℕ → List ℕ → List ℕ → List ℕ → Type 0) (tag : ℕ) where
   -- 14 where it would be longer than a datagram may be, and else a protected request with this text and this number goes out, as bytes that
   -- are read again as it
-  pub data LiesUnder (to : Peer) (context : ClientContext) (number : ℕ) (text : List ℕ) (outside : Message) (step : Step) : Type 0 where
+  pub data LiesUnder (to : Peer) (context : ClientContextState) (number : ℕ) (text : List ℕ) (outside : Message) (step : Step) : Type 0 where
     too_long : longest_message < length_of_request (length text + tag) context.name number outside → step ≡ refusing 14
         → LiesUnder to context number text outside step
     lies : (protected : Message) → length_of_request (length text + tag) context.name number outside ≤ longest_message
@@ -38,7 +38,7 @@ module _ (is_sealing : List ℕ → List ℕ → List ℕ → List ℕ → List 
         → LiesUnder to context number text outside step
 
   -- 22 without a context, and else it is sealed under the one that the client has
-  abbrev pub LiesBy : Peer → Option ClientContext → ℕ → List ℕ → Message → Step → Type 0
+  abbrev pub LiesBy : Peer → Option ClientContextState → ℕ → List ℕ → Message → Step → Type 0
   LiesBy to None number text outside step = step ≡ refusing 22
   LiesBy to (Some context) number text outside step = LiesUnder to context number text outside step
 

@@ -20,7 +20,7 @@ use Rattle.osc_message.specs.Ticks.{acts, ticked, tick_sends}
 use Rattle.osc_message.specs.Timeout.{timeout_of}
 use Rattle.osc_context.specs.Nonce.{greatest_number}
 use Rattle.osc_protect.specs.Protection.{IsProtectedRequest, longest_message, plain_bytes, request_length}
-use Rattle.osc_authz.specs.Begun.{Begun, Made as ClientContext}
+use Rattle.osc_authz.specs.Begun.{Begun, ClientContextState}
 use Rattle.osc_authz.specs.Client.{offered_id}
 use Rattle.osc_authz.specs.Exchange.{post_item}
 use Rattle.osc_authz.specs.declared.granted.ClientDesk.{ClientDesk}
@@ -133,13 +133,13 @@ module _ (is_sealing : List ℕ → List ℕ → List ℕ → List ℕ → List 
   pub data IsHindered (old : State) (request : Request) (draw : Draw) (number : ℕ) : Type 0 where
     busy : number ≡ 17 → old.waiting ≢ None → IsHindered old request draw number
     no_context : number ≡ 22 → old.waiting ≡ None → old.context ≡ None → IsHindered old request draw number
-    exhausted : number ≡ 18 → (context : ClientContext) → old.waiting ≡ None → old.context ≡ Some context → greatest_number < context.next
+    exhausted : number ≡ 18 → (context : ClientContextState) → old.waiting ≡ None → old.context ≡ Some context → greatest_number < context.next
         → IsHindered old request draw number
-    too_long : number ≡ 14 → (context : ClientContext) → old.waiting ≡ None → old.context ≡ Some context → context.next ≤ greatest_number
+    too_long : number ≡ 14 → (context : ClientContextState) → old.waiting ≡ None → old.context ≡ Some context → context.next ≤ greatest_number
         → longest_message < request_length tag context.name context.next (plain_of old draw request) → IsHindered old request draw number
 
   -- nothing hinders it, under this context
-  pub record IsFree (old : State) (request : Request) (draw : Draw) (context : ClientContext) : Type 0 where
+  pub record IsFree (old : State) (request : Request) (draw : Draw) (context : ClientContextState) : Type 0 where
     pub idle : old.waiting ≡ None
     pub held : old.context ≡ Some context
     pub lawful : context.next ≤ greatest_number
@@ -148,7 +148,7 @@ module _ (is_sealing : List ℕ → List ℕ → List ℕ → List ℕ → List 
   -- It is refused; or the next number is taken, and the protected request goes out, as bytes that are read again as it.
   pub data Asks (old : State) (now : Moment) (request : Request) (draw : Draw) (step : Step) (new : State) : Type 0 where
     hindered : (number : ℕ) → IsHindered old request draw number → IsRefused number old step new → Asks old now request draw step new
-    asks : (context : ClientContext) (protected : Message) → IsFree old request draw context
+    asks : (context : ClientContextState) (protected : Message) → IsFree old request draw context
         → IsProtectedRequest is_sealing context.name context.next (plain_of old draw request) protected
         → Spells (spelling protected) protected
         → step

@@ -5,7 +5,7 @@ ghost use Rattle.osc_model.specs.StepNotes.{quiet};
 ghost use Rattle.osc_model.specs.declared.node.Moment.{Moment as AnyMoment};
 ghost use Rattle.osc_model.specs.declared.step.ClientResult.TheVariants as result_of;
 ghost use Rattle.osc_context.specs.Nonce.{greatest_number};
-ghost use Rattle.osc_authz.specs.Begun.{Made as AnyContext};
+ghost use Rattle.osc_authz.specs.Begun.{ClientContextState};
 ghost use Rattle.osc_message.specs.Endpoint.{fresh, settled};
 ghost use Rattle.osc_message.specs.Heard.{heard as heard_as, noted_reply as noted_reply_of};
 ghost use Rattle.osc_message.specs.Received.{Receives};
@@ -230,7 +230,7 @@ impl Client {
         ensures kind { IfOk result (λ step. ClientStep false (core self.old) step.notes (core self.new)) }
         ensures err { OnErr result (self.new ≡ self.old) }
         // What hinders a request is told without memory.
-        ensures needs_memory { OnErr result ((context : AnyContext) × IsFree A.is_sealing A.TAG self.old request.now draw.now context) }
+        ensures needs_memory { OnErr result ((context : ClientContextState) × IsFree A.is_sealing A.TAG self.old request.now draw.now context) }
     {
         let (plain, room) = match self.prepared::<A>(alloc, request, draw)? {
             Ok(prepared) => prepared,
@@ -282,11 +282,11 @@ impl Client {
         draw: &Draw,
     ) -> Result<Result<(MessageBuilder, AskRoom), u8>, AllocError>
         requires { 0 < request.now.code.0 }
-        ensures free { IfOk result (λ prepared. IfOk prepared (λ parts. (context : AnyContext)
+        ensures free { IfOk result (λ prepared. IfOk prepared (λ parts. (context : ClientContextState)
             × IsFree A.is_sealing A.TAG self.now request.now draw.now context
             × (parts.0 ≡ plain_of self.now draw.now request.now) × (parts.1 ≡ room_for A.TAG context.name context.next parts.0))) }
         ensures hindered { IfOk result (λ prepared. IfErr prepared (λ number. IsHindered A.is_sealing A.TAG self.now request.now draw.now number)) }
-        ensures needs_memory { IsErr result → (context : AnyContext) × IsFree A.is_sealing A.TAG self.now request.now draw.now context }
+        ensures needs_memory { IsErr result → (context : ClientContextState) × IsFree A.is_sealing A.TAG self.now request.now draw.now context }
     {
         if self.waiting.is_some() {
             return Ok(Err(BUSY));

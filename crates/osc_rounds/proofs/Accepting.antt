@@ -29,7 +29,7 @@ use Rattle.osc_context.specs.Nonce.{greatest_number}
 use Rattle.osc_protect.specs.Aad.{aad_of}
 use Rattle.osc_protect.specs.Protection.{IsProtectedResponse, IsResponse, SealedResponse, plain_bytes, response_nonce, response_value}
 use Rattle.osc_protect.specs.Value.{Compressed, SpellsValue}
-use Rattle.osc_authz.specs.Begun.{Made as ClientContext}
+use Rattle.osc_authz.specs.Begun.{ClientContextState}
 use Rattle.osc_run.specs.ClientKinds.{response_note}
 use Rattle.osc_run.specs.Texts.{IsReplyIn, IsWithinRanges, reply_text}
 use Rattle.osc_client.specs.Answering.{AskComes, Comes, IsSealedFor, context_after, notes_of, waits_after}
@@ -177,7 +177,7 @@ module _ (is_sealing : List ℕ → List ℕ → List ℕ → List ℕ → List 
     is_protected : has_oscore p.options ≡ true
     is_protected = ap (λ (q : Message). has_oscore q.options) made.whole ∙ protects m (response_value None) made.sealed inside
 
-    module _ (context : ClientContext) (ask : OpenAsk) (name_is : context.name ≡ name) (number_is : ask.number ≡ number) where
+    module _ (context : ClientContextState) (ask : OpenAsk) (name_is : context.name ≡ name) (number_is : ask.number ≡ number) where
       sealed_for : (response : SealedResponse) (text : List ℕ) → IsResponse p response → IsSealedFor is_sealing context ask response text
           → text ≡ reply_text reply
       sealed_for response text is sealed =
@@ -227,7 +227,7 @@ module _ (is_sealing : List ℕ → List ℕ → List ℕ → List ℕ → List 
   abbrev ask : OpenAsk
   ask = record { number = number; plaintext = awaits.plaintext }
 
-  abbrev context : ClientContext
+  abbrev context : ClientContextState
   context = record { name = name; next = awaits.next }
 
   abbrev due : Outcome
@@ -238,7 +238,7 @@ module _ (is_sealing : List ℕ → List ℕ → List ℕ → List ℕ → List 
       let waiting_is : it.waiting ≡ awaits.waiting = same_Some it.waiting awaits.waiting (sym it.waits ∙ awaits.waits) in
       let what_is : it.waiting.what ≡ Ask ask = ap (λ (w : Waiting). w.what) waiting_is ∙ awaits.asks in
       let comes_to : AskComes is_sealing context ask p it.outcome =
-      subst (λ (k : Option ClientContext). Comes is_sealing old.desk k (Ask ask) p it.outcome) awaits.held
+      subst (λ (k : Option ClientContextState). Comes is_sealing old.desk k (Ask ask) p it.outcome) awaits.held
       (subst (λ (w : Awaited). Comes is_sealing old.desk old.context w p it.outcome) what_is it.comes) in
       let outcome_is : it.outcome ≡ due = answers_so is_sealing laws name number m p made reply carries.within carries.least carries.most carries.plaintext carries.inside context ask refl refl it.outcome comes_to in
       record {

@@ -37,7 +37,7 @@ use Rattle.osc_protect.specs.Protection.{HasShortContext}
 use Rattle.osc_scope.specs.Entries.{Entry, scope_of}
 use Rattle.osc_token.specs.Minted.{HasLawfulParts}
 use Rattle.osc_token.specs.declared.claims.Claims.{Claims}
-use Rattle.osc_authz.specs.Begun.{Begun, Made as ClientContext}
+use Rattle.osc_authz.specs.Begun.{Begun, ClientContextState}
 use Rattle.osc_authz.specs.Client.{Finishes}
 use Rattle.osc_authz.specs.Desk.{DeskState}
 use Rattle.osc_authz.specs.Exchange.{answer_item, post_item}
@@ -168,7 +168,7 @@ counts_confirmable next_hop from waiting seen now id token answer peer unheard s
     ap (client_case next_hop from (Some waiting)) (heard_confirmable from seen now id token answer unheard)
     ∙ case_confirmable next_hop from waiting id token answer peer same_token
 
-abbrev pub made_of : Held → ClientContext
+abbrev pub made_of : Held → ClientContextState
 made_of held = record { name = held.name; next = 0 }
 
 both_ways : (b : Bool) → b ≡ true → b ≡ false → ⊥
@@ -192,7 +192,7 @@ module _ (is_sealing : List ℕ → List ℕ → List ℕ → List ℕ → List 
         → Posts is_sealing before now (item_spelling (post_item holder.token nonce1 (id ∷ []))) draw post after
         → (answer : PostAnswer) × (post.answer ≡ Ok answer) × (answer.nonce2 ≡ nonce_drawn draw)
     pub one_name : (before after : DeskState) (now : Moment) (draw : Draw) (post : Post) (answer : PostAnswer)
-        (claims : Claims) (entries : List Entry) (client : ClientDesk) (begun : Begun) (finished : Result ClientContext FinishError)
+        (claims : Claims) (entries : List Entry) (client : ClientDesk) (begun : Begun) (finished : Result ClientContextState FinishError)
         → length draw.0 ≡ 32 → length begun.nonce1 ≡ 8 → HoldsToken is_sealing before.key claims entries client
         → Posts is_sealing before now (item_spelling (post_item client.token begun.nonce1 (begun.recipient_id ∷ []))) draw post after
         → post.answer ≡ Ok answer
@@ -267,7 +267,7 @@ module _ (is_sealing : List ℕ → List ℕ → List ℕ → List ℕ → List 
     );
   }
 
-  finishes : (came : Result ClientContext FinishError) → Finishes holder its (code 2 1) (item_spelling (answer_item is.answer.nonce2 (is.answer.recipient_id ∷ []))) came
+  finishes : (came : Result ClientContextState FinishError) → Finishes holder its (code 2 1) (item_spelling (answer_item is.answer.nonce2 (is.answer.recipient_id ∷ []))) came
       → (held : Held) × IsHeld agreed now entries held × (came ≡ Ok (made_of held))
   finishes came finish =
       let one = laws.one_name server.desk agreed.desk now draw is.post is.answer claims entries holder its came size awaits.nonce awaits.welcome.holds is.posts is.agrees finish in (

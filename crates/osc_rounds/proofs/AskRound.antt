@@ -32,7 +32,7 @@ use Rattle.osc_message.specs.Endpoint.{EndpointState, own_id}
 use Rattle.osc_message.specs.Sending.{acknowledgement, empty_acknowledgement, is_confirmable, reply_start, sent_to}
 use Rattle.osc_context.specs.Nonce.{longest_id}
 use Rattle.osc_protect.specs.Protection.{HasShortContext, IsProtectedRequest, longest_message, plain_bytes, request_length, request_value}
-use Rattle.osc_authz.specs.Begun.{Made as ClientContext}
+use Rattle.osc_authz.specs.Begun.{ClientContextState}
 use Rattle.osc_authz.specs.Contexts.{IsLive}
 use Rattle.osc_authz.specs.Held.{Held}
 use Rattle.osc_authz.specs.Members.{In}
@@ -174,7 +174,7 @@ answered_unheard endpoint now later from draw message answer other kind isnt unh
 -- ---- what the client asks
 
 module _ (is_sealing : List ℕ → List ℕ → List ℕ → List ℕ → List ℕ → Type 0) (tag : ℕ) (laws : RoundLaws is_sealing tag)
-    (client : Client) (server : Server) (asked_at now : Moment) (draw : Draw) (request : Request) (at server_at : Peer) (context : ClientContext) (held : Held) (first : Step) (asked : Client)
+    (client : Client) (server : Server) (asked_at now : Moment) (draw : Draw) (request : Request) (at server_at : Peer) (context : ClientContextState) (held : Held) (first : Step) (asked : Client)
     (lawful : IsLawfulServer server) (lawful_client : IsLawfulClient asked) (way : IsStraight client server now draw at server_at) (ends : MayAsk client server now context held)
     (sent : IsSent is_sealing tag client asked asked_at draw request first context) where
   few : own_id draw client.endpoint.next_id < 2 ^ 16
@@ -234,7 +234,7 @@ module _ (is_sealing : List ℕ → List ℕ → List ℕ → List ℕ → List 
   number_taken : asked.context ≡ Some (record { name = held.name; next = context.next + 1 })
   number_taken =
       ap (λ (c : Client). c.context) sent.kept
-      ∙ ap (λ (n : ContextName). Some (let k : ClientContext = record { name = n; next = context.next + 1 } in k)) (sym ends.one_name)
+      ∙ ap (λ (n : ContextName). Some (let k : ClientContextState = record { name = n; next = context.next + 1 } in k)) (sym ends.one_name)
 
   awaits : AwaitsReply asked server_at held.name context.next sent.message
   awaits = record {

@@ -19,7 +19,7 @@ use Rattle.osc_message.specs.Endpoint.{EndpointState, own_id}
 use Rattle.osc_message.specs.Sending.{datagram, empty_acknowledgement}
 use Rattle.osc_context.specs.Nonce.{longest_id}
 use Rattle.osc_protect.specs.Protection.{HasShortContext, plain_bytes, request_value, response_value}
-use Rattle.osc_authz.specs.Begun.{Made as ClientContext}
+use Rattle.osc_authz.specs.Begun.{ClientContextState}
 use Rattle.osc_authz.specs.Held.{Held}
 use Rattle.osc_server.specs.Hearing.{Hears as ServerHears}
 use Rattle.osc_server.specs.State.{State as Server}
@@ -48,7 +48,7 @@ use Rattle.osc_rounds.proofs.Sent.{IsSent, its_id}
 -- ---- to a proxy
 
 module _ (is_sealing : List ℕ → List ℕ → List ℕ → List ℕ → List ℕ → Type 0) (tag : ℕ) (laws : RoundLaws is_sealing tag)
-    (client asked : Client) (asked_at : Moment) (draw : Draw) (request : Request) (origin : HostAndPort) (proxy_at : Peer) (context : ClientContext) (first : Step)
+    (client asked : Client) (asked_at : Moment) (draw : Draw) (request : Request) (origin : HostAndPort) (proxy_at : Peer) (context : ClientContextState) (first : Step)
     (may : SendsThrough client draw origin proxy_at context) (is : IsSent is_sealing tag client asked asked_at draw request first context) where
   abbrev bare_request : Message
   bare_request = plain_request (own_id draw client.endpoint.next_id) (token_drawn draw) request
@@ -285,7 +285,7 @@ module _ (is_sealing : List ℕ → List ℕ → List ℕ → List ℕ → List 
 -- ---- there and back
 
 module _ (is_sealing : List ℕ → List ℕ → List ℕ → List ℕ → List ℕ → Type 0) (tag : ℕ) (laws : ThroughLaws is_sealing tag)
-    (client asked : Client) (server : Server) (now : Moment) (draw : Draw) (request : Request) (origin : HostAndPort) (proxy_at : Peer) (context : ClientContext) (held : Held) (first : Step)
+    (client asked : Client) (server : Server) (now : Moment) (draw : Draw) (request : Request) (origin : HostAndPort) (proxy_at : Peer) (context : ClientContextState) (held : Held) (first : Step)
     (lawful : IsLawfulServer server) (ends : MayAsk client server now context held) (short : HasShortContext held.name)
     (is : IsAskedThrough is_sealing client draw request origin proxy_at held.name context.next first asked) where
   client_id_short : length held.name.client_id ≤ longest_id

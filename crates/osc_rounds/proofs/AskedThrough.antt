@@ -17,7 +17,7 @@ use Rattle.osc_message.specs.Endpoint.{EndpointState, own_id}
 use Rattle.osc_message.specs.Sending.{datagram, empty_acknowledgement}
 use Rattle.osc_context.specs.Nonce.{greatest_number}
 use Rattle.osc_protect.specs.Protection.{IsProtectedRequest, plain_bytes}
-use Rattle.osc_authz.specs.Begun.{Made as ClientContext}
+use Rattle.osc_authz.specs.Begun.{ClientContextState}
 use Rattle.osc_authz.specs.Held.{Held}
 use Rattle.osc_authz.specs.Table.{accepted}
 use Rattle.osc_run.specs.ClientKinds.{request_note}
@@ -40,7 +40,7 @@ use Rattle.osc_rounds.specs.ForProxy.{IsForProxy}
 
 -- The client sends to the proxy of this address, for a server that the proxy knows by this host and port, and its next number may be
 -- taken; the host can be a Uri-Host, and the token that it draws has 8 bytes.
-pub record SendsThrough (client : Client) (draw : Draw) (origin : HostAndPort) (proxy_at : Peer) (context : ClientContext) : Type 0 where
+pub record SendsThrough (client : Client) (draw : Draw) (origin : HostAndPort) (proxy_at : Peer) (context : ClientContextState) : Type 0 where
   pub through : client.origin ≡ Some origin
   pub next_hop : client.next_hop ≡ proxy_at
   pub number : context.next ≤ greatest_number

@@ -14,7 +14,7 @@ use Rattle.osc_message.specs.Endpoint.{own_id}
 use Rattle.osc_message.specs.Sending.{datagram}
 use Rattle.osc_context.specs.Nonce.{greatest_number}
 use Rattle.osc_protect.specs.Protection.{HasShortContext, IsProtectedRequest, plain_bytes}
-use Rattle.osc_authz.specs.Begun.{Made as ClientContext}
+use Rattle.osc_authz.specs.Begun.{ClientContextState}
 use Rattle.osc_run.specs.ClientKinds.{request_note}
 use Rattle.osc_client.specs.Lawful.{IsLawfulClient}
 use Rattle.osc_client.specs.Sending.{Asks, IsFree, IsHindered, IsRefused, asks, hindered, busy, exhausted, no_context, too_long, opened, plain_of, plain_request}
@@ -26,7 +26,7 @@ use Rattle.osc_client.specs.declared.waiting.Waiting.{Waiting}
 module _ (is_sealing : List ℕ → List ℕ → List ℕ → List ℕ → List ℕ → Type 0) (tag : ℕ)
     (client asked : Client) (asked_at : Moment) (draw : Draw) (request : Request) (first : Step) where
   -- what is known of one that went out under this context
-  pub record IsSent (context : ClientContext) : Type 0 where
+  pub record IsSent (context : ClientContextState) : Type 0 where
     pub message : Message
     pub free : IsFree is_sealing tag client request draw context
     pub made : IsProtectedRequest is_sealing context.name context.next (plain_of client draw request) message
@@ -40,24 +40,24 @@ module _ (is_sealing : List ℕ → List ℕ → List ℕ → List ℕ → List 
         ≡ opened (record client { context = Some (record context { next = context.next + 1 }) }) asked_at draw message
         (Ask (record { number = context.next; plaintext = plain_bytes (plain_of client draw request) }))
 
-  not_hindered : (context : ClientContext) (number : ℕ) → client.waiting ≡ None → client.context ≡ Some context → context.next ≤ greatest_number
+  not_hindered : (context : ClientContextState) (number : ℕ) → client.waiting ≡ None → client.context ≡ Some context → context.next ≤ greatest_number
       → first.notes.result ≢ Some (result.Refused 14) → IsRefused number client first asked → IsHindered is_sealing tag client request draw number → ⊥
   not_hindered context number idle has few fits refused (busy is other) = other idle
   not_hindered context number idle has few fits refused (no_context is also none) = let wrong : Some context ≡ None = sym has ∙ none in cc
   not_hindered context number idle has few fits refused (exhausted is other also found above) =
       let same : context ≡ other = same_Some context other (sym has ∙ found) in
-      omega (arith, above, few, ap (λ (k : ClientContext). k.next) same)
+      omega (arith, above, few, ap (λ (k : ClientContextState). k.next) same)
   not_hindered context number idle has few fits refused (too_long is other also found lawful unfit) =
       fits (ap (λ (s : Step). s.notes.result) refused.told ∙ ap (λ (n : ℕ). Some (result.Refused n)) is)
 
-  pub goes_out : (context : ClientContext) → client.waiting ≡ None → client.context ≡ Some context → context.next ≤ greatest_number
+  pub goes_out : (context : ClientContextState) → client.waiting ≡ None → client.context ≡ Some context → context.next ≤ greatest_number
       → first.notes.result ≢ Some (result.Refused 14) → Asks is_sealing tag client asked_at request draw first asked → IsSent context
   goes_out context idle has few fits (hindered number hinders refused) = absurd (not_hindered context number idle has few fits refused hinders)
   goes_out context idle has few fits (asks other message free made spelled told kept) =
       subst IsSent (same_Some other context (sym free.held ∙ has))
       (record { message = message; free = free; made = made; spelled = spelled; told = told; kept = kept })
 
-  module _ (context : ClientContext) (is : IsSent context) where
+  module _ (context : ClientContextState) (is : IsSent context) where
     -- whatever way it goes
     any_way : (origin : Option HostAndPort) → (through origin (plain_request (own_id draw client.endpoint.next_id) (token_drawn draw) request)).id ≡ own_id draw client.endpoint.next_id
     any_way None = refl
@@ -72,7 +72,7 @@ module _ (is_sealing : List ℕ → List ℕ → List ℕ → List ℕ → List 
     -- what is true of each client, of the one that has asked
     module _ (lawful : IsLawfulClient asked) where
       pub its_context : HasShortContext context.name
-      its_context = subst (λ (c : Option ClientContext). IfSome c (λ k. HasShortContext k.name)) (ap (λ (c : Client). c.context) is.kept) lawful.context
+      its_context = subst (λ (c : Option ClientContextState). IfSome c (λ k. HasShortContext k.name)) (ap (λ (c : Client). c.context) is.kept) lawful.context
 
       pub its_token : length (token_drawn draw) ≡ 8
       its_token = subst (λ (w : Option Waiting). IfSome w (λ k. length k.token ≡ 8)) (ap (λ (c : Client). c.waiting) is.kept) lawful.token

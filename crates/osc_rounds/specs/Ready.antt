@@ -11,7 +11,7 @@ use Rattle.osc_context.specs.Nonce.{greatest_number}
 use Rattle.osc_window.specs.Window.{IsFresh}
 use Rattle.osc_scope.specs.Entries.{Entry}
 use Rattle.osc_token.specs.declared.claims.Claims.{Claims}
-use Rattle.osc_authz.specs.Begun.{Made as ClientContext}
+use Rattle.osc_authz.specs.Begun.{ClientContextState}
 use Rattle.osc_authz.specs.Contexts.{IsLive}
 use Rattle.osc_authz.specs.Held.{Held}
 use Rattle.osc_authz.specs.Members.{In}
@@ -57,7 +57,7 @@ pub record IsThrough (client : Client) (proxy : Proxy) (server : Server) (now : 
 
 -- The client waits for nothing. Both have a context of one name, which is live at the server; and the client's next number is one that
 -- may be taken, and fresh at the server.
-pub record MayAsk (client : Client) (server : Server) (now : Moment) (context : ClientContext) (held : Held) : Type 0 where
+pub record MayAsk (client : Client) (server : Server) (now : Moment) (context : ClientContextState) (held : Held) : Type 0 where
   pub idle : client.waiting ≡ None
   pub has : client.context ≡ Some context
   pub here : In held (contexts server.desk.table)

@@ -24,7 +24,7 @@ ghost use Rattle.osc_message.specs.Endpoint.{own_id};
 ghost use Rattle.osc_protect.specs.Protection.{IsProtectedRequest, IsProtectedResponse, plain_bytes};
 ghost use Rattle.osc_token.specs.Token.{claims_item};
 ghost use Rattle.osc_token.specs.declared.claims.Claims.{Claims as AnyClaims};
-ghost use Rattle.osc_authz.specs.Begun.{Begun, Made as ClientContext};
+ghost use Rattle.osc_authz.specs.Begun.{Begun, ClientContextState};
 ghost use Rattle.osc_authz.specs.Held.{Held};
 ghost use Rattle.osc_authz.specs.declared.granted.ClientDesk.{ClientDesk as Holder};
 ghost use Rattle.osc_authz.specs.Members.{In};
@@ -114,7 +114,7 @@ pub fn a_reply_is_accepted<A: Aead>()
 /// to the client, the request is answered by the reply that was served.
 pub fn a_request_is_answered<A: Aead>()
     ensures { (client asked : Client) (server : Server) (asked_at now : AnyMoment) (draw : AnyDraw) (request : AnyRequest) (at server_at : AnyPeer)
-        (context : ClientContext) (held : Held) (first : AnyStep)
+        (context : ClientContextState) (held : Held) (first : AnyStep)
         → IsLawfulServer server → IsLawfulClient asked
         → IsStraight client server now draw at server_at → MayAsk client server now context held
         → first.notes.result ≢ Some (result_as.Refused 14)
@@ -265,7 +265,7 @@ pub fn an_exchange_is_made_through_a_proxy<A: Aead>()
 /// client takes it for the answer, with the reply that was served, and acknowledges it; and the proxy is at rest again.
 pub fn a_request_goes_through_a_proxy<A: Aead>()
     ensures { (client asked : Client) (proxy : Proxy) (server : Server) (asked_at now : AnyMoment) (draw proxy_draw : AnyDraw) (request : AnyRequest)
-        (at proxy_at server_at : AnyPeer) (context : ClientContext) (held : Held) (asks : AnyStep)
+        (at proxy_at server_at : AnyPeer) (context : ClientContextState) (held : Held) (asks : AnyStep)
         → IsLawfulServer server → IsLawfulProxy proxy → IsLawfulClient asked → length proxy_draw.0 ≡ 32
         → (way : IsThrough client proxy server now draw proxy_draw at proxy_at server_at) → MayAsk client server now context held
         → asks.notes.result ≢ Some (result_as.Refused 14)

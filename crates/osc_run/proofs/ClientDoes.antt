@@ -5,7 +5,7 @@ use Rattle.osc_model.specs.StepNotes.{quiet}
 use Rattle.osc_model.specs.declared.code.Code.{Code}
 use Rattle.osc_model.specs.declared.node.Draw.{Draw}
 use Rattle.osc_model.specs.declared.step.ClientResult.TheVariants as result
-use Rattle.osc_authz.specs.Begun.{Begun, Made as ClientContext}
+use Rattle.osc_authz.specs.Begun.{Begun, ClientContextState}
 use Rattle.osc_authz.specs.Client.{Finishes, offered_id}
 use Rattle.osc_authz.specs.declared.error.FinishError.{FinishError}
 use Rattle.osc_run.specs.States.{ClientState, Exchange, Nothing}
@@ -23,14 +23,14 @@ begins draw old size waits = record {
   is = refl;
 }
 
-abbrev ok_made : ClientContext → Result ClientContext FinishError
+abbrev ok_made : ClientContextState → Result ClientContextState FinishError
 ok_made made = Ok made
 
-one_made : (a b : ClientContext) → ok_made a ≡ ok_made b → a ≡ b
+one_made : (a b : ClientContextState) → ok_made a ≡ ok_made b → a ≡ b
 one_made a b e = cc
 
 -- an exchange that makes a context
-pub finishes : (begun : Begun) (came : Code) (payload : List ℕ) (made : ClientContext) (old : ClientState)
+pub finishes : (begun : Begun) (came : Code) (payload : List ℕ) (made : ClientContextState) (old : ClientState)
     → old.outstanding ≡ Exchange begun → Finishes old.desk begun came payload (Ok made)
     → IsMade old (record quiet { result = Some result.Made }) (record old { context = Some made; outstanding = Nothing })
 finishes begun came payload made old waits (Finishes.another_code other e) = absurd (cc)

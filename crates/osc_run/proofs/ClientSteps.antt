@@ -2,7 +2,7 @@
 use Rattle.std.proofs.Common.{◌≡◌, ◌⊎◌, ◌+◌, ◌≤◌, ℕ, List, ◌∷◌, length, Some, None, Bool, false, refl, sym, ap, ◌∙◌, inl, inr, ⊎_elim, subst, arith}
 use Rattle.osc_model.specs.StepNotes.{StepNotes}
 use Rattle.osc_model.specs.declared.step.Note.{Note}
-use Rattle.osc_authz.specs.Begun.{Begun, Made as ClientContext}
+use Rattle.osc_authz.specs.Begun.{Begun, ClientContextState}
 use Rattle.osc_authz.specs.Client.{made_name}
 use Rattle.osc_authz.specs.Members.{In}
 use Rattle.osc_run.specs.Notes.{Noted, ByClient}
@@ -148,7 +148,7 @@ raised_keeps notes by old new p k =
         size = y.size;
         unsealed = y.unsealed;
         other = λ z h i. let same : record { name = p.context.name; next = p.next } ≡ z = cc in
-            y.other p.context p.held (subst (λ (w : ClientContext). IsJoinedOf w.name.salt b.nonce1) (sym same) i);
+            y.other p.context p.held (subst (λ (w : ClientContextState). IsJoinedOf w.name.salt b.nonce1) (sym same) i);
       };
       context = λ y e. let same : record { name = p.context.name; next = p.next } ≡ y = cc in subst (OneContext old.desk.secret notes by) same here;
       ask = k.ask;

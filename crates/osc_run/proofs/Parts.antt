@@ -6,7 +6,7 @@ use Rattle.osc_model.specs.declared.step.Entry.{Entry}
 use Rattle.osc_context.specs.MasterSalt.{master_salt, server_nonce}
 use Rattle.osc_context.specs.Nonce.{longest_id, greatest_number}
 use Rattle.osc_window.specs.Window.{IsFresh}
-use Rattle.osc_authz.specs.Begun.{Begun, Made as ClientContext}
+use Rattle.osc_authz.specs.Begun.{Begun, ClientContextState}
 use Rattle.osc_authz.specs.Contexts.{OfToken}
 use Rattle.osc_authz.specs.Members.{In}
 use Rattle.osc_run.specs.Notes.{Noted, ByServer, ByClient, ByProxy}
@@ -69,9 +69,9 @@ pub record OneExchange (notes : List Noted) (by : ℕ) (c : ClientState) (nonce 
   pub drawn : IsDrawnBy notes by nonce
   pub size : length nonce < 2 ^ 64
   pub unsealed : (t : Note) → IsSealedBy notes by false t → IsJoinedOf t.context.salt nonce → ⊥
-  pub other : (x : ClientContext) → c.context ≡ Some x → IsJoinedOf x.name.salt nonce → ⊥
+  pub other : (x : ClientContextState) → c.context ≡ Some x → IsJoinedOf x.name.salt nonce → ⊥
 
-pub record OneContext (its_secret : List ℕ) (notes : List Noted) (by : ℕ) (x : ClientContext) : Type 0 where
+pub record OneContext (its_secret : List ℕ) (notes : List Noted) (by : ℕ) (x : ClientContextState) : Type 0 where
   pub nonce : List ℕ
   pub joined : IsJoinedOf x.name.salt nonce
   pub drawn : IsDrawnBy notes by nonce
@@ -81,7 +81,7 @@ pub record OneContext (its_secret : List ℕ) (notes : List Noted) (by : ℕ) (x
 
 pub record OneClient (notes : List Noted) (by : ℕ) (c : ClientState) : Type 0 where
   pub exchange : (b : Begun) → c.outstanding ≡ Exchange b → OneExchange notes by c b.nonce1
-  pub context : (x : ClientContext) → c.context ≡ Some x → OneContext c.desk.secret notes by x
+  pub context : (x : ClientContextState) → c.context ≡ Some x → OneContext c.desk.secret notes by x
   pub ask : (q : OpenAsk) → c.outstanding ≡ Ask q → IsSealedBy notes by false (request_note q.context q.number q.plaintext)
 
 -- ---- the seals

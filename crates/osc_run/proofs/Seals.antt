@@ -9,7 +9,7 @@ use Rattle.osc_context.specs.MasterSalt.{server_nonce}
 use Rattle.osc_context.specs.Nonce.{greatest_number}
 use Rattle.osc_window.specs.Window.{IsFresh}
 use Rattle.osc_protect.specs.Protection.{request_nonce}
-use Rattle.osc_authz.specs.Begun.{Made as ClientContext}
+use Rattle.osc_authz.specs.Begun.{ClientContextState}
 use Rattle.osc_authz.specs.Contexts.{OfToken}
 use Rattle.osc_authz.specs.Members.{In}
 use Rattle.osc_run.specs.Notes.{Noted, Actor, ByServer, ByClient, ByProxy}
@@ -161,7 +161,7 @@ one_drawer (s ∷ notes) n by other f d e =
     d.1
 
 -- a client's seal at its next number has a nonce that no seal under its key had
-own_request : Laws → (minted : List Minted) (its_secret : List ℕ) (notes : List Noted) (by : ℕ) (x : ClientContext) (plaintext : List ℕ) (m n : Note) → HasFreshDraws notes → OneContext its_secret notes by x → x.next ≤ greatest_number
+own_request : Laws → (minted : List Minted) (its_secret : List ℕ) (notes : List Noted) (by : ℕ) (x : ClientContextState) (plaintext : List ℕ) (m n : Note) → HasFreshDraws notes → OneContext its_secret notes by x → x.next ≤ greatest_number
     → m ≡ request_note x.name x.next plaintext → HasKeyAndNonceOf m n → Sealer minted notes n → ⊥
 own_request laws minted its_secret notes by x plaintext m n f k few is same (ServerDid b) =
     let e = b.entry in
@@ -182,7 +182,7 @@ own_request laws minted its_secret notes by x plaintext m n f k few is same (Cli
     omega (arith, below.1, parts.1)
 
 -- a seal in the context that a client has
-seal_of : (minted : List Minted) (notes : List Noted) (by : ℕ) (its_secret : List ℕ) (x : ClientContext) (number : ℕ) (plaintext : List ℕ)
+seal_of : (minted : List Minted) (notes : List Noted) (by : ℕ) (its_secret : List ℕ) (x : ClientContextState) (number : ℕ) (plaintext : List ℕ)
     → Holds minted by its_secret → OneContext its_secret notes by x → number ≤ greatest_number → ClientSeal minted notes by (request_note x.name number plaintext)
 seal_of minted notes by its_secret x number plaintext g y few = record {
   shape = refl;

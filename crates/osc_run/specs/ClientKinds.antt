@@ -10,7 +10,7 @@ use Rattle.osc_model.specs.declared.step.ClientResult.TheVariants as result
 use Rattle.osc_model.specs.declared.step.Note.{Note}
 use Rattle.osc_context.specs.Nonce.{longest_id, greatest_number}
 use Rattle.osc_protect.specs.Protection.{request_nonce, response_nonce, note_of}
-use Rattle.osc_authz.specs.Begun.{Begun, Made as ClientContext}
+use Rattle.osc_authz.specs.Begun.{Begun, ClientContextState}
 use Rattle.osc_authz.specs.Client.{offered_id, made_name}
 use Rattle.osc_run.specs.States.{ClientState, OpenAsk, Nothing, Exchange, Ask}
 use Rattle.osc_run.specs.Texts.{IsReplyIn}
@@ -72,7 +72,7 @@ pub record IsMade (old : ClientState) (notes : StepNotes) (new : ClientState) : 
 -- The next number is taken for one seal, and the one after it comes next (RFC 8613 sections 7.2 and 8.1). The request waits for
 -- its response.
 pub record IsAsked (old : ClientState) (notes : StepNotes) (new : ClientState) : Type 0 where
-  pub context : ClientContext
+  pub context : ClientContextState
   pub lawful : context.next ≤ greatest_number
   pub plaintext : List ℕ
   pub noted : notes ≡ record quiet { seals = Some (request_note context.name context.next plaintext) }
@@ -105,7 +105,7 @@ pub record IsEnded (old : ClientState) (notes : StepNotes) (new : ClientState) :
 
 -- The client's holder seals what it likes, at a lawful number of its choice, in the context that the client has.
 pub record IsLied (old : ClientState) (notes : StepNotes) (new : ClientState) : Type 0 where
-  pub context : ClientContext
+  pub context : ClientContextState
   pub number : ℕ
   pub lawful : number ≤ greatest_number
   pub plaintext : List ℕ
@@ -133,7 +133,7 @@ pub data ClientStep (lied : Bool) (old : ClientState) (notes : StepNotes) (new :
 
 -- the number that is taken next is raised
 pub record IsRaised (old new : ClientState) : Type 0 where
-  pub context : ClientContext
+  pub context : ClientContextState
   pub next : ℕ
   pub held : old.context ≡ Some context
   pub above : context.next ≤ next

@@ -4,7 +4,7 @@ use Rattle.std.specs.Prelude.{ℕ, List, map, Option}
 use Rattle.osc_model.specs.Grant.{Grant}
 use Rattle.osc_model.specs.Tree.{Tree}
 use Rattle.osc_model.specs.declared.context.ContextName.{ContextName}
-use Rattle.osc_authz.specs.Begun.{Begun, Made as ClientContext}
+use Rattle.osc_authz.specs.Begun.{Begun, ClientContextState}
 use Rattle.osc_authz.specs.Contexts.{OfToken}
 use Rattle.osc_authz.specs.declared.granted.ClientDesk.{ClientDesk}
 use Rattle.osc_run.specs.Notes.{Noted}
@@ -29,7 +29,7 @@ pub data Outstanding : Type 0 where
 -- what a client was granted, its context with the number that it takes next, and what it waits for
 pub record ClientState : Type 0 where
   pub desk : ClientDesk
-  pub context : Option ClientContext
+  pub context : Option ClientContextState
   pub outstanding : Outstanding
 
 -- a grant, and the text of the claims that were sealed into its token

@@ -26,7 +26,7 @@ ghost use Rattle.osc_scope.specs.Entries.{Entry, IsScope, scope_of};
 ghost use Rattle.osc_token.specs.Minted.{FitTheirTypes};
 ghost use Rattle.osc_token.specs.Token.{claims_item};
 ghost use Rattle.osc_token.specs.declared.claims.Claims.{Claims as AnyClaims};
-ghost use Rattle.osc_authz.specs.Begun.{Begun, Made};
+ghost use Rattle.osc_authz.specs.Begun.{Begun, ClientContextState};
 ghost use Rattle.osc_authz.specs.Client.{Finishes, offered_id};
 ghost use Rattle.osc_authz.specs.Contexts.{of_tokens};
 ghost use Rattle.osc_authz.specs.Desk.{DeskState};
@@ -106,7 +106,7 @@ pub fn exchanges_that_start()
 
 /// An exchange that is finished with a context is the kind of step that makes one.
 pub fn exchanges_that_make()
-    ensures { (begun : Begun) (came : AnyCode) (payload : List ℕ) (made : Made) (old : ClientState)
+    ensures { (begun : Begun) (came : AnyCode) (payload : List ℕ) (made : ClientContextState) (old : ClientState)
         → old.outstanding ≡ Exchange begun → Finishes old.desk begun came payload (Ok made)
         → IsMade old (record quiet { result = Some result_of.Made }) (record old { context = Some made; outstanding = Nothing }) }
 {}

@@ -16,7 +16,7 @@ use Rattle.osc_model.specs.declared.step.Step.{Step}
 use Rattle.osc_coap.specs.Message.{Message, spelling}
 use Rattle.osc_message.specs.Confirmables.{same_peer}
 use Rattle.osc_message.specs.Sending.{datagram, empty_acknowledgement}
-use Rattle.osc_authz.specs.Begun.{Made as ClientContext}
+use Rattle.osc_authz.specs.Begun.{ClientContextState}
 use Rattle.osc_authz.specs.Held.{Held}
 use Rattle.osc_authz.specs.Table.{taking}
 use Rattle.osc_run.specs.ClientKinds.{request_note}
@@ -126,7 +126,7 @@ module _ (is_sealing : List ℕ → List ℕ → List ℕ → List ℕ → List 
   -- a request that goes through a proxy is answered
   abbrev pub AnswersThrough : Type 0
   AnswersThrough = (client asked : Client) (proxy : Proxy) (server : Server) (asked_at now : Moment) (draw proxy_draw : Draw) (request : Request)
-      (at proxy_at server_at : Peer) (context : ClientContext) (held : Held) (asks : Step)
+      (at proxy_at server_at : Peer) (context : ClientContextState) (held : Held) (asks : Step)
       → IsLawfulServer server → IsLawfulProxy proxy → IsLawfulClient asked → length proxy_draw.0 ≡ 32
       → (way : IsThrough client proxy server now draw proxy_draw at proxy_at server_at) → MayAsk client server now context held
       → asks.notes.result ≢ Some (result.Refused 14)
@@ -137,7 +137,7 @@ module _ (is_sealing : List ℕ → List ℕ → List ℕ → List ℕ → List 
       client draw request asks
 
   module _ (itself : (a : Peer) → same_peer a a ≡ true) (law : AnswersThrough) (premises : KeepsByNotes) (takes_numbers : TakesNumbers)
-      (drawn : ℕ → Draw) (asked_at now : Moment) (draw : Draw) (number : ℕ) (request : Request) (placed : Placed) (context : ClientContext) (held : Held)
+      (drawn : ℕ → Draw) (asked_at now : Moment) (draw : Draw) (number : ℕ) (request : Request) (placed : Placed) (context : ClientContextState) (held : Held)
       (old w1 new : State) (left : ℕ) (is_quiet : Bool)
       (sizes : AreWhole drawn w1 new)
       (apart : StandApart w1.nodes)
@@ -384,7 +384,7 @@ module _ (is_sealing : List ℕ → List ℕ → List ℕ → List ℕ → List 
 
 module _ (is_sealing : List ℕ → List ℕ → List ℕ → List ℕ → List ℕ → Type 0) (tag : ℕ) (itself : (a : Peer) → same_peer a a ≡ true)
     (straight_law : AnswersStraight is_sealing tag) (premises : KeepsByNotes) (takes_numbers : TakesNumbers)
-    (drawn : ℕ → Draw) (asked_at now : Moment) (draw : Draw) (number : ℕ) (request : Request) (placed : Placed) (context : ClientContext) (held : Held)
+    (drawn : ℕ → Draw) (asked_at now : Moment) (draw : Draw) (number : ℕ) (request : Request) (placed : Placed) (context : ClientContextState) (held : Held)
     (old w1 new : State) (limit : ℕ) (is_quiet : Bool)
     (apart : StandApart w1.nodes)
     (lawful : IsLawfulServer w1.nodes.server)

@@ -17,7 +17,7 @@ use Rattle.osc_dedup.specs.Table.{looked}
 use Rattle.osc_message.specs.Confirmables.{same_peer}
 use Rattle.osc_message.specs.Endpoint.{own_id}
 use Rattle.osc_message.specs.Sending.{datagram}
-use Rattle.osc_authz.specs.Begun.{Made as ClientContext}
+use Rattle.osc_authz.specs.Begun.{ClientContextState}
 use Rattle.osc_authz.specs.Held.{Held}
 use Rattle.osc_authz.specs.Members.{In}
 use Rattle.osc_authz.specs.Table.{IsTable, contexts, taking}
@@ -63,7 +63,7 @@ KeepsByNotes = (minted : List Minted) (old all : List Noted) (table : List Holdi
 module _ (is_sealing : List ℕ → List ℕ → List ℕ → List ℕ → List ℕ → Type 0) (tag : ℕ) where
   -- a request that goes straight to the server is answered
   abbrev pub AnswersStraight : Type 0
-  AnswersStraight = (client asked : Client) (server : Server) (asked_at now : Moment) (draw : Draw) (request : Request) (at server_at : Peer) (context : ClientContext) (held : Held) (first : Step)
+  AnswersStraight = (client asked : Client) (server : Server) (asked_at now : Moment) (draw : Draw) (request : Request) (at server_at : Peer) (context : ClientContextState) (held : Held) (first : Step)
       → IsLawfulServer server → IsLawfulClient asked
       → IsStraight client server now draw at server_at → MayAsk client server now context held
       → first.notes.result ≢ Some (result.Refused 14)
@@ -71,7 +71,7 @@ module _ (is_sealing : List ℕ → List ℕ → List ℕ → List ℕ → List 
       → IsAskedAndAnswered is_sealing client server now draw request at server_at held context.next first asked
 
   module _ (itself : (a : Peer) → same_peer a a ≡ true) (law : AnswersStraight) (premises : KeepsByNotes) (takes_numbers : TakesNumbers)
-      (drawn : ℕ → Draw) (asked_at now : Moment) (draw : Draw) (number : ℕ) (request : Request) (placed : Placed) (context : ClientContext) (held : Held)
+      (drawn : ℕ → Draw) (asked_at now : Moment) (draw : Draw) (number : ℕ) (request : Request) (placed : Placed) (context : ClientContextState) (held : Held)
       (old w1 new : State) (left : ℕ) (is_quiet : Bool)
       (apart : StandApart w1.nodes)
       (lawful : IsLawfulServer w1.nodes.server)

@@ -9,7 +9,7 @@ use Rattle.osc_model.specs.declared.step.ClientResult.TheVariants as result
 use Rattle.osc_model.specs.declared.step.Step.{Step}
 use Rattle.osc_coap.specs.Message.{Message, spelling}
 use Rattle.osc_message.specs.Sending.{datagram}
-use Rattle.osc_authz.specs.Begun.{Made as ClientContext}
+use Rattle.osc_authz.specs.Begun.{ClientContextState}
 use Rattle.osc_context.specs.Nonce.{greatest_number}
 use Rattle.osc_run.specs.Notes.{Noted, by_client}
 use Rattle.osc_client.specs.Lawful.{IsLawfulClient}
@@ -92,7 +92,7 @@ module _ (is_sealing : List ℕ → List ℕ → List ℕ → List ℕ → List 
       lawful number after (ap (λ (n : NodeStates). slice_get n.clients number) nodes ∙ got_back old.nodes.clients number placed after here)
 
   -- a request that nothing hinders goes out in one datagram
-  pub one_goes_out : (old new : Client) (now : Moment) (request : Request) (draw : Draw) (step : Step) (context : ClientContext)
+  pub one_goes_out : (old new : Client) (now : Moment) (request : Request) (draw : Draw) (step : Step) (context : ClientContextState)
       → old.waiting ≡ None → old.context ≡ Some context → context.next ≤ greatest_number → step.notes.result ≢ Some (result.Refused 14)
       → Asks is_sealing tag old now request draw step new → (message : Message) × (step.out ≡ datagram old.next_hop message ∷ [])
   one_goes_out old new now request draw step context idle has few fits (asks made protected free is spells told kept) = (protected, ap (λ (s : Step). s.out) told)
@@ -104,6 +104,6 @@ module _ (is_sealing : List ℕ → List ℕ → List ℕ → List ℕ → List 
       wrong (sending.IsHindered.exhausted e made waits holds more) =
           let it : Some made ≡ Some context = sym holds ∙ has in
           let same : made ≡ context = cc in
-          let next : made.next ≡ context.next = ap (λ (c : ClientContext). c.next) same in
+          let next : made.next ≡ context.next = ap (λ (c : ClientContextState). c.next) same in
           omega (arith, more, few, next)
       wrong (sending.IsHindered.too_long e made waits holds least long) = fits (ap (λ (s : Step). s.notes.result) refused.told ∙ ap (λ (n : ℕ). Some (result.Refused n)) e)

@@ -11,7 +11,7 @@ use Rattle.osc_cbor.specs.Spelling.{spelling}
 use Rattle.osc_dedup.specs.Table.{looked}
 use Rattle.osc_message.specs.Endpoint.{own_id}
 use Rattle.osc_window.specs.Window.{IsFresh}
-use Rattle.osc_authz.specs.Begun.{Made as ClientContext}
+use Rattle.osc_authz.specs.Begun.{ClientContextState}
 use Rattle.osc_authz.specs.Held.{Held}
 use Rattle.osc_authz.specs.Members.{In}
 use Rattle.osc_authz.specs.Table.{contexts}
@@ -169,7 +169,7 @@ module _ (is_sealing : List ℕ → List ℕ → List ℕ → List ℕ → List 
   -- server, the number was fresh, and the request wasn't refused as too long (14); and what is assumed goes on.
   abbrev pub AnswersWhatWasAsked : (ℕ → Draw) → Moment → ℕ → State → Bool → State → Type 0
   AnswersWhatWasAsked drawn now limit asked is_quiet new =
-      (before : State) (asked_at : Moment) (draw : Draw) (client deliveries : ℕ) (request : Request) (placed : Placed) (context : ClientContext) (held : Held)
+      (before : State) (asked_at : Moment) (draw : Draw) (client deliveries : ℕ) (request : Request) (placed : Placed) (context : ClientContextState) (held : Held)
       → deliveries ≤ limit → IsReady before client placed now draw (drawn (length asked.records)) deliveries
       → MayAsk placed.client before.nodes.server now context held
       → (request.code.0 == 0) ≡ false

@@ -6,7 +6,7 @@ ghost use Rattle.osc_model.specs.declared.node.Moment.{Moment as AnyMoment};
 ghost use Rattle.osc_model.specs.declared.node.Peer.{Peer as AnyPeer};
 ghost use Rattle.osc_model.specs.declared.request.Request.{Request as AnyRequest};
 ghost use Rattle.osc_cbor.specs.Spelling.{spelling};
-ghost use Rattle.osc_authz.specs.Begun.{Made as ClientContext};
+ghost use Rattle.osc_authz.specs.Begun.{ClientContextState};
 ghost use Rattle.osc_authz.specs.Contexts.{IsLive};
 ghost use Rattle.osc_authz.specs.Held.{Held};
 ghost use Rattle.osc_context.specs.Nonce.{greatest_number};
@@ -127,7 +127,7 @@ pub fn an_exchanged_round<A: Aead>()
 /// server hears one message ID of the client's alone.
 pub fn an_asked_round<A: Aead>()
     ensures answered { (drawn : ℕ → AnyDraw) (asked_at now : AnyMoment) (draw : AnyDraw) (client deliveries : ℕ) (request : AnyRequest) (placed : AnyPlaced)
-        (context : ClientContext) (held : Held) (old asked new : State) (limit : ℕ) (quiet : Bool)
+        (context : ClientContextState) (held : Held) (old asked new : State) (limit : ℕ) (quiet : Bool)
         → AreWhole drawn asked new → StandApart asked.nodes → IsLawfulServer asked.nodes.server → AreLawfulProxies asked.nodes.proxies
         → AreLawfulClients asked.nodes.clients
         → deliveries ≤ limit → IsReady old client placed now draw (drawn (length asked.records)) deliveries
@@ -138,7 +138,7 @@ pub fn an_asked_round<A: Aead>()
         → IsRound deliveries asked quiet new × HasAnswered old client (asked_text placed.client draw request) now held context.next new
         × KeepsThePremise old new }
     ensures straight { (drawn : ℕ → AnyDraw) (asked_at now : AnyMoment) (draw : AnyDraw) (client : ℕ) (request : AnyRequest) (placed after : AnyPlaced)
-        (context : ClientContext) (held : Held) (old asked new : State) (limit : ℕ) (quiet : Bool)
+        (context : ClientContextState) (held : Held) (old asked new : State) (limit : ℕ) (quiet : Bool)
         → StandApart asked.nodes → IsLawfulServer asked.nodes.server → AreLawfulClients asked.nodes.clients
         → 2 ≤ limit → IsReady old client placed now draw (drawn (length asked.records)) 2
         → MayAsk placed.client old.nodes.server now context held

@@ -3,7 +3,7 @@ use Rattle.osc_coap.specs.Message.{Message}
 use Rattle.osc_message.specs.Sending.{datagram}
 use Rattle.osc_client.specs.declared.waiting.OpenAsk.{OpenAsk}
 use Rattle.osc_client.specs.declared.waiting.Awaited.TheVariants.{Ask}
-use Rattle.osc_authz.specs.Begun.{Made}
+use Rattle.osc_authz.specs.Begun.{ClientContextState}
 use Rattle.std.proofs.lemmas.Option.{same_Some}
 use Rattle.osc_client.specs.State.{State, core}
 use Rattle.osc_client.specs.Sending.{IsHindered, hindered, asks, opened, plain_of}
@@ -41,10 +41,10 @@ returns-clause-asked g c =
     let at_plain : IsProtectedRequest g.A.Aead.is_sealing c.unwrap-context.result.now.name c.unwrap-context.result.now.next asked message =
     subst (λ m. IsProtectedRequest g.A.Aead.is_sealing c.unwrap-context.result.now.name c.unwrap-context.result.now.next m message) plain c.protected-message.ensures.protected in
     let protected : IsProtectedRequest g.A.Aead.is_sealing free.0.name free.0.next asked message =
-    subst (λ (x : Made). IsProtectedRequest g.A.Aead.is_sealing x.name x.next asked message) (sym same) at_plain in
+    subst (λ (x : ClientContextState). IsProtectedRequest g.A.Aead.is_sealing x.name x.next asked message) (sym same) at_plain in
     let note : c.protected-message.result.note ≡ request_note free.0.name free.0.next (plain_bytes asked) =
     c.protected-message.ensures.note ∙ ap (λ m. request_note c.unwrap-context.result.now.name c.unwrap-context.result.now.next (plain_bytes m)) plain
-    ∙ ap (λ (x : Made). request_note x.name x.next (plain_bytes asked)) (sym same) in
+    ∙ ap (λ (x : ClientContextState). request_note x.name x.next (plain_bytes asked)) (sym same) in
     let out : c.open-out.result ≡ datagram c.args.self.now.next_hop message ∷ [] =
     c.open-out.ensures.sent ∙ ap (λ s. datagram s.next_hop message ∷ []) c.self.view_is in
     let notes : c.with_seal.result ≡ record quiet { seals = Some (request_note free.0.name free.0.next (plain_bytes asked)) } =
@@ -54,14 +54,14 @@ returns-clause-asked g c =
       notes = record quiet { seals = Some (request_note free.0.name free.0.next (plain_bytes asked)) };
     } = ap₂ (λ (o : List Datagram) (n : StepNotes). record { out = o; notes = n }) out notes in
     let taken : c.protected-message.new.context ≡ record free.0 { next = free.0.next + 1 } =
-    c.protected-message.ensures.next ∙ ap (λ (x : Made). record x { next = x.next + 1 }) (sym same) in
+    c.protected-message.ensures.next ∙ ap (λ (x : ClientContextState). record x { next = x.next + 1 }) (sym same) in
     let ask : c.protected-message.result.ask ≡ record { number = free.0.next; plaintext = plain_bytes asked } =
-    c.protected-message.ensures.ask ∙ ap₂ (λ (x : Made) (m : Message). record { number = x.next; plaintext = plain_bytes m }) (sym same) plain in
+    c.protected-message.ensures.ask ∙ ap₂ (λ (x : ClientContextState) (m : Message). record { number = x.next; plaintext = plain_bytes m }) (sym same) plain in
     let kept : c.open-out.new.self ≡ opened (record c.args.self.now { context = Some (record free.0 { next = free.0.next + 1 }) }) c.args.now c.args.draw.now message
     (Ask (record { number = free.0.next; plaintext = plain_bytes asked })) =
     c.open-out.ensures.opened
     ∙ ap (λ (s : State). opened (record s { context = Some c.protected-message.new.context }) c.args.now c.args.draw.now message (Ask c.protected-message.result.ask)) c.self.view_is
-    ∙ ap₂ (λ (k : Made) (a : OpenAsk). opened (record c.args.self.now { context = Some k }) c.args.now c.args.draw.now message (Ask a)) taken ask in
+    ∙ ap₂ (λ (k : ClientContextState) (a : OpenAsk). opened (record c.args.self.now { context = Some k }) c.args.now c.args.draw.now message (Ask a)) taken ask in
     let asked_so = asks free.0 message free.1 protected c.open-out.ensures.spelled told kept in
     record {
       asks = asked_so;
