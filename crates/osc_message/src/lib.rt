@@ -5,6 +5,7 @@
 //! which it is sent, taken before the node's first change.
 #![tactic(auto)]
 
+mod arrival;
 mod confirmable;
 mod deadline;
 mod due;
@@ -20,6 +21,7 @@ mod received;
 mod sending;
 mod tick;
 
+pub use arrival::Arrival;
 pub use confirmable::initial_timeout;
 pub use due::Due;
 pub use endpoint::{Endpoint, QueueFull};

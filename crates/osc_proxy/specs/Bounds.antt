@@ -14,9 +14,9 @@ use Rattle.osc_proxy.specs.declared.case.Case.TheVariants.{Ended, Refused, Forwa
 use Rattle.osc_proxy.specs.declared.exchanges.Exchange.{Exchange}
 
 -- a message that was heard is as long as a datagram may be at most
-abbrev pub IsShort : Heard → Type 0
-IsShort (Message message) = length (spelling message) ≤ datagram_limit
-IsShort heard = Unit {0}
+abbrev pub HeardFits : Heard → Type 0
+HeardFits (Message message) = length (spelling message) ≤ datagram_limit
+HeardFits heard = Unit {0}
 
 -- acknowledgements and Resets name a message by their message ID
 abbrev pub names_one : Kind → Bool

@@ -1,18 +1,26 @@
 -- Messages that a proxy makes, by their bytes: the way from the code to the definitions. No public contract rests on this.
-use Rattle.std.specs.Prelude.{◌≡◌, ℕ, Bool, true, List, [], if◌then◌else◌, Some}
+use Rattle.std.specs.Prelude.{◌≡◌, ℕ, ◌<◌, Bool, true, List, [], if◌then◌else◌, Some, option_map}
 use Rattle.osc_model.specs.declared.node.Draw.{Draw}
 use Rattle.osc_model.specs.declared.node.Moment.{Moment}
 use Rattle.osc_model.specs.declared.node.Peer.{Peer}
 use Rattle.osc_model.specs.declared.step.Datagram.{Datagram}
 use Rattle.osc_coap.specs.Message.{HasSpelling, Message, spelling}
 use Rattle.osc_message.specs.Endpoint.{EndpointState}
-use Rattle.osc_message.specs.Sending.{FitsDatagram}
+use Rattle.osc_message.specs.Sending.{FitsDatagram, IsSendableReply, acknowledgement, sent_to}
 use Rattle.osc_proxy.specs.Exchanges.{get}
 use Rattle.osc_proxy.specs.Own.{goes_now, has_room, sends_own, with_own}
 use Rattle.osc_proxy.specs.State.{State}
 use Rattle.osc_proxy.specs.Table.{answer_to, next_own}
 use Rattle.osc_proxy.specs.declared.exchanges.Exchange.{Exchange}
+use Rattle.osc_proxy.specs.declared.sending.Acknowledged.{Acknowledged}
 use Rattle.osc_proxy.specs.declared.sending.Own.{Own}
+
+-- the acknowledgement of a message of this peer, where it is confirmable, with a place for one datagram more
+pub record Acknowledges (from : Peer) (message : Message) (made : Acknowledged) : Type 0 where
+  pub sent : made.out.sent ≡ sent_to from (acknowledgement message)
+  pub place : 0 < made.out.places
+  pub noted : made.reply ≡ option_map spelling (acknowledgement message)
+  pub short : IsSendableReply made.reply
 
 -- these bytes for this peer; a copy of them is kept where the message is confirmable
 pub record IsOwn (to : Peer) (confirmable : Bool) (bytes : List ℕ) (own : Own) : Type 0 where

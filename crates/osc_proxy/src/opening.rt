@@ -5,31 +5,20 @@ ghost use Rattle.osc_proxy.specs.Table.{exchange_of, sent_when};
 use crate::exchanges::{Exchange, FailureRoom};
 use crate::forwarding::forwarded_token;
 use crate::token::Token;
-use osc_coap::MessageRef;
-use osc_message::is_confirmable;
-use osc_model::{Draw, Moment, Peer};
+use osc_message::{Arrival, is_confirmable};
+use osc_model::{Moment, Peer};
 
-/// The exchange of this key, whose forwarded message waits for its turn.
-pub(crate) fn waiting(
-    key: u8,
-    id: u16,
-    now: Moment,
-    from: Peer,
-    draw: &Draw,
-    message: &MessageRef<'_>,
-    to: Peer,
-    room: FailureRoom,
-) -> Exchange
-    ensures { result ≡ exchange_of key id now from draw.now message.now to false }
+/// The exchange of this key for the request that came, whose forwarded message has this ID and waits for its turn.
+pub(crate) fn waiting(key: u8, id: u16, came: &Arrival<'_>, to: Peer, room: FailureRoom) -> Exchange
+    ensures { result ≡ exchange_of key id came.now.at came.now.from came.now.draw.now came.now.message to false }
 {
-    let _ = now;
     Exchange {
-        client: from,
-        client_token: Token::new(message.token()),
-        confirmable: is_confirmable(message.kind()),
+        client: came.from,
+        client_token: Token::new(came.message.token()),
+        confirmable: is_confirmable(came.message.kind()),
         target: to,
         id,
-        token: forwarded_token(key, draw),
+        token: forwarded_token(key, came.draw),
         sent: None,
         room,
     }

@@ -6,14 +6,14 @@ ghost use Rattle.osc_model.specs.declared.node.Moment.{Moment as AnyMoment};
 ghost use Rattle.osc_message.specs.Bounds.{is_reached};
 ghost use Rattle.osc_message.specs.Endpoint.{fresh, settled};
 ghost use Rattle.osc_message.specs.Heard.{noted_reply as noted_reply_of};
-ghost use Rattle.osc_message.specs.Sending.{AreSendable, IsSendableReply, acknowledgement as acknowledgement_of, is_confirmable as is_confirmable_of, again, sent_to};
+ghost use Rattle.osc_message.specs.Sending.{AreSendable, is_confirmable as is_confirmable_of, again};
 ghost use Rattle.osc_message.specs.declared.handling.Handling.TheVariants as handling;
 ghost use Rattle.osc_message.specs.declared.heard.Heard.TheVariants as heard;
 ghost use Rattle.osc_proxy.specs.Bounds.{AsksFor, CanCount, IsOpen, names_one};
 ghost use Rattle.osc_proxy.specs.Case.{IsAnswered};
 ghost use Rattle.osc_proxy.specs.Ends.{EachHasAnEnd};
 ghost use Rattle.osc_proxy.specs.Exchanges.{HasOwnTokens, all_left, count, left_by, none_open};
-ghost use Rattle.osc_proxy.specs.Going.{CanClose, IsOwn};
+ghost use Rattle.osc_proxy.specs.Going.{Acknowledges, CanClose, IsOwn};
 ghost use Rattle.osc_proxy.specs.Hearing.{Hears, MayBeAnswered};
 ghost use Rattle.osc_proxy.specs.State.{restarted};
 ghost use Rattle.osc_proxy.specs.Table.{Answers, Counts, Ends, ForwardsBy, IsForwarded, IsRefused, forwarded_by, key_for as key_for_of};
@@ -26,13 +26,15 @@ use crate::deadline::{first_of, messages_deadline};
 use crate::exchanges::{Exchanges, FailureRoom};
 use crate::forwarding::{forwarded_message, forwarded_token};
 use crate::opening::{gone_out, waiting};
-use crate::sending::{Own, acknowledged, has_room, send_back, send_own};
+use crate::sending::{Acknowledged, Own, has_room, send_back, send_own};
 use crate::targets::Targets;
 use crate::ticking::{finish, rest, room_for};
 use osc_coap::{Kind, MessageBuilder, MessageRef};
 use osc_message::laws::{ticks_send_few, what_nodes_send};
-use osc_message::{Handling, Heard, Outbox, is_confirmable, noted, reset, sending_message};
-use osc_model::{Bytes, Code, Datagrams, Draw, Moment, Peer, RefusedRequest, Step};
+use osc_message::{
+    Arrival, Handling, Heard, MessageName, Outbox, is_confirmable, noted, reset, sending_message,
+};
+use osc_model::{Code, Datagrams, Draw, Moment, Peer, RefusedRequest, Step};
 use std::alloc::{AllocError, Global};
 use std::marker::Model;
 
@@ -139,15 +141,21 @@ impl Proxy {
         ensures err { OnErr result (self.new ≡ self.old) }
         ensures needs_memory { OnErr result (IsAnswered self.old.endpoint now from case.entry) }
     {
+        let came = |message| Arrival {
+            at: now,
+            from,
+            draw,
+            message,
+        };
         match case {
             Case::Ignored => Ok(Step::sending(Datagrams::new(alloc))),
             Case::Reset(id) => sending_message(alloc, from, &reset(id)),
             Case::Repeated(id) => self.endpoint.repeat(alloc, now, from, id),
             Case::Empty(kind, id) => Ok(self.settle_empty(alloc, now, from, kind, id)),
-            Case::Ended(id, key) => self.end(alloc, now, from, draw, id, key),
-            Case::Refused(message, why) => self.refuse(alloc, now, from, draw, message, why),
-            Case::Forwarded(message, to) => self.forward(alloc, now, from, draw, message, to),
-            Case::Counted(message, key) => self.count(alloc, now, from, draw, message, key),
+            Case::Ended(id, key) => self.end(alloc, now, draw, MessageName { peer: from, id }, key),
+            Case::Refused(message, why) => self.refuse(alloc, came(message), why),
+            Case::Forwarded(message, to) => self.forward(alloc, came(message), to),
+            Case::Counted(message, key) => self.count(alloc, came(message), key),
             Case::Rejected(message) => sending_message(alloc, from, &reset(message.id())),
             Case::Dropped(message) => Ok(self.ignore(alloc, now, from, message)),
         }
@@ -176,26 +184,24 @@ impl Proxy {
     }
 
     /// Answers a request that isn't forwarded by this code, and notes it for a repeat.
-    fn refuse(
-        &mut self,
-        alloc: Global,
-        now: Moment,
-        from: Peer,
-        draw: &Draw,
-        message: MessageRef<'_>,
-        why: Code,
-    ) -> Result<Step, AllocError>
+    fn refuse(&mut self, alloc: Global, came: Arrival<'_>, why: Code) -> Result<Step, AllocError>
         requires why { 0 < why.0 }
-        requires kind { names_one message.kind ≡ false }
-        ensures refused { IfOk result (λ step. IsRefused why self.old now from draw.now message.entry step self.new) }
+        requires kind { names_one came.message.kind ≡ false }
+        ensures refused { IfOk result (λ step. IsRefused why self.old came.entry.at came.entry.from came.entry.draw.now came.entry.message step self.new) }
         ensures fits { IfOk result (λ step. AreSendable step.out) }
         ensures err { OnErr result (self.new ≡ self.old) }
     {
+        let Arrival {
+            at,
+            from,
+            draw,
+            message,
+        } = came;
         let reply = self.endpoint.reply_start(draw, &message, why.0);
         let (out, bytes) = noted(alloc, from, &reply)?;
         self.endpoint.take_reply_id(draw, &message);
         self.endpoint.settle(
-            now,
+            at,
             from,
             &Heard::Message(message),
             Handling::Answered(Some(bytes)),
@@ -221,39 +227,20 @@ impl Proxy {
     }
 
     /// Forwards a request to this peer, or refuses it.
-    fn forward(
-        &mut self,
-        alloc: Global,
-        now: Moment,
-        from: Peer,
-        draw: &Draw,
-        message: MessageRef<'_>,
-        to: Peer,
-    ) -> Result<Step, AllocError>
-        requires code { 0 < message.code }
-        requires kind { names_one message.kind ≡ false }
-        ensures forwarded { IfOk result (λ step. ForwardsBy (key_for_of self.old message.entry to) self.old now from draw.now message.entry to step self.new) }
+    fn forward(&mut self, alloc: Global, came: Arrival<'_>, to: Peer) -> Result<Step, AllocError>
+        requires code { 0 < came.message.code }
+        requires kind { names_one came.message.kind ≡ false }
+        ensures forwarded { IfOk result (λ step. ForwardsBy (key_for_of self.old came.entry.message to) self.old came.entry.at came.entry.from came.entry.draw.now came.entry.message to step self.new) }
         ensures fits { IfOk result (λ step. AreSendable step.out) }
         ensures err { OnErr result (self.new ≡ self.old) }
     {
-        let Some(key) = self.key_for(&message, to) else {
-            return self.refuse(alloc, now, from, draw, message, Code::SERVICE_UNAVAILABLE);
+        let Some(key) = self.key_for(&came.message, to) else {
+            return self.refuse(alloc, came, Code::SERVICE_UNAVAILABLE);
         };
-        let id = self.endpoint.own_id(draw);
-        match forwarded_message(&message, id, &forwarded_token(key, draw)) {
-            Ok(forwarded) => {
-                self.forward_as(alloc, now, from, draw, message, to, key, &forwarded)
-            }
-            Err(_) => {
-                self.refuse(
-                    alloc,
-                    now,
-                    from,
-                    draw,
-                    message,
-                    Code::REQUEST_ENTITY_TOO_LARGE,
-                )
-            }
+        let id = self.endpoint.own_id(came.draw);
+        match forwarded_message(&came.message, id, &forwarded_token(key, came.draw)) {
+            Ok(forwarded) => self.forward_as(alloc, came, to, key, &forwarded),
+            Err(_) => self.refuse(alloc, came, Code::REQUEST_ENTITY_TOO_LARGE),
         }
     }
 
@@ -261,144 +248,132 @@ impl Proxy {
     fn forward_as(
         &mut self,
         alloc: Global,
-        now: Moment,
-        from: Peer,
-        draw: &Draw,
-        message: MessageRef<'_>,
+        came: Arrival<'_>,
         to: Peer,
         key: u8,
         forwarded: &MessageBuilder,
     ) -> Result<Step, AllocError>
-        requires key { key_for_of self.old message to ≡ Some key }
-        requires kind { names_one message.kind ≡ false }
-        requires forwarded { forwarded.now ≡ forwarded_by self.old draw.now key message }
-        ensures forwarded { IfOk result (λ step. IsForwarded key self.old now from draw.now message.entry to step self.new) }
+        requires key { key_for_of self.old came.message to ≡ Some key }
+        requires kind { names_one came.message.kind ≡ false }
+        requires forwarded { forwarded.now ≡ forwarded_by self.old came.draw.now key came.message }
+        ensures forwarded { IfOk result (λ step. IsForwarded key self.old came.entry.at came.entry.from came.entry.draw.now came.entry.message to step self.new) }
         ensures fits { IfOk result (λ step. AreSendable step.out) }
         ensures err { OnErr result (self.new ≡ self.old) }
     {
         let room = FailureRoom::new(alloc)?;
-        let own = Own::new(alloc, to, is_confirmable(message.kind()), forwarded)?;
-        let (out, reply) = acknowledged(alloc, from, &message)?;
-        Ok(self.open(now, from, draw, message, key, own, out, reply, room))
+        let own = Own::new(alloc, to, is_confirmable(came.message.kind()), forwarded)?;
+        let acknowledged = Acknowledged::new(alloc, came.from, &came.message)?;
+        Ok(self.open(came, key, own, acknowledged, room))
     }
 
     /// Opens the exchange of this key, and sends the message that is forwarded; takes no memory.
     fn open(
         &mut self,
-        now: Moment,
-        from: Peer,
-        draw: &Draw,
-        message: MessageRef<'_>,
+        came: Arrival<'_>,
         key: u8,
         own: Own,
-        out: Outbox,
-        reply: Option<Bytes>,
+        acknowledged: Acknowledged,
         room: FailureRoom,
     ) -> Step
-        requires key { key_for_of self.old message own.to ≡ Some key }
-        requires kind { names_one message.kind ≡ false }
-        requires own { IsOwn own.to (is_confirmable_of message.kind) (spelling (forwarded_by self.old draw.now key message)) own }
-        requires sent { out.sent ≡ sent_to from (acknowledgement_of message) }
-        requires place { 0 < out.places }
-        requires reply { reply ≡ option_map spelling (acknowledgement_of message) }
-        requires short { IsSendableReply reply }
-        requires lawful { HasSpelling (forwarded_by self.old draw.now key message) }
-        ensures forwarded { IsForwarded key self.old now from draw.now message.entry own.to result self.new }
+        requires key { key_for_of self.old came.message own.to ≡ Some key }
+        requires kind { names_one came.message.kind ≡ false }
+        requires own { IsOwn own.to (is_confirmable_of came.message.kind) (spelling (forwarded_by self.old came.draw.now key came.message)) own }
+        requires acknowledged { Acknowledges came.from came.message acknowledged }
+        requires lawful { HasSpelling (forwarded_by self.old came.draw.now key came.message) }
+        ensures forwarded { IsForwarded key self.old came.entry.at came.entry.from came.entry.draw.now came.entry.message own.to result self.new }
         ensures fits { AreSendable result.out }
     {
         what_nodes_send();
-        let mut out = out;
-        let id = self.endpoint.own_id(draw);
-        let exchange = waiting(key, id, now, from, draw, &message, own.to, room);
+        let id = self.endpoint.own_id(came.draw);
+        let exchange = waiting(key, id, &came, own.to, room);
+        let Arrival {
+            at,
+            from,
+            draw,
+            message,
+        } = came;
+        let Acknowledged { mut out, reply } = acknowledged;
         self.endpoint.settle(
-            now,
+            at,
             from,
             &Heard::Message(message),
             Handling::Answered(reply),
         );
-        let goes = send_own(&mut self.endpoint, &mut out, now, draw, own);
-        self.exchanges.open(gone_out(exchange, goes, now));
+        let goes = send_own(&mut self.endpoint, &mut out, at, draw, own);
+        self.exchanges.open(gone_out(exchange, goes, at));
         Step::sending(out.into_datagrams())
     }
 
     /// Sends a response that counts back to the client, and closes its exchange.
-    fn count(
-        &mut self,
-        alloc: Global,
-        now: Moment,
-        from: Peer,
-        draw: &Draw,
-        message: MessageRef<'_>,
-        key: usize,
-    ) -> Result<Step, AllocError>
-        requires { CanCount self.old.exchanges from message key }
-        ensures counted { IfOk result (λ step. Counts key self.old now from draw.now message.entry step self.new) }
+    fn count(&mut self, alloc: Global, came: Arrival<'_>, key: usize) -> Result<Step, AllocError>
+        requires { CanCount self.old.exchanges came.from came.message key }
+        ensures counted { IfOk result (λ step. Counts key self.old came.entry.at came.entry.from came.entry.draw.now came.entry.message step self.new) }
         ensures fits { IfOk result (λ step. AreSendable step.out) }
         ensures err { OnErr result (self.new ≡ self.old) }
     {
         let exchange = self.exchanges.get(key).unwrap();
-        let answer = answer_back(from, &message, exchange, self.endpoint.own_id(draw));
+        let id = self.endpoint.own_id(came.draw);
+        let answer = answer_back(came.from, &came.message, exchange, id);
         let own = Own::new(alloc, exchange.client, exchange.confirmable, &answer)?;
         let named = exchange.id;
-        let (out, reply) = acknowledged(alloc, from, &message)?;
-        Ok(self.close(now, from, draw, message, key, named, own, out, reply))
+        let acknowledged = Acknowledged::new(alloc, came.from, &came.message)?;
+        Ok(self.close(came, key, named, own, acknowledged))
     }
 
     /// Closes the exchange that a response counts for, and sends the answer back; takes no memory.
     fn close(
         &mut self,
-        now: Moment,
-        from: Peer,
-        draw: &Draw,
-        message: MessageRef<'_>,
+        came: Arrival<'_>,
         key: usize,
         named: u16,
         own: Own,
-        out: Outbox,
-        reply: Option<Bytes>,
+        acknowledged: Acknowledged,
     ) -> Step
-        requires exchange { CanClose self.old draw.now message key named own }
-        requires sent { out.sent ≡ sent_to from (acknowledgement_of message) }
-        requires place { 0 < out.places }
-        requires reply { reply ≡ option_map spelling (acknowledgement_of message) }
-        requires short { IsSendableReply reply }
-        ensures counted { Counts key self.old now from draw.now message.entry result self.new }
+        requires exchange { CanClose self.old came.draw.now came.message key named own }
+        requires acknowledged { Acknowledges came.from came.message acknowledged }
+        ensures counted { Counts key self.old came.entry.at came.entry.from came.entry.draw.now came.entry.message result self.new }
         ensures fits { AreSendable result.out }
     {
         what_nodes_send();
-        let mut out = out;
+        let Arrival {
+            at,
+            from,
+            draw,
+            message,
+        } = came;
+        let Acknowledged { mut out, reply } = acknowledged;
         let kind = message.kind();
         let id = message.id();
         self.endpoint.settle(
-            now,
+            at,
             from,
             &Heard::Message(message),
             Handling::Counted(named, reply),
         );
         let _closed = self.exchanges.close(key).unwrap();
-        self.exchanges.leave_by(now, from, kind, id);
-        self.exchanges.leave(now, from, named);
-        send_back(&mut self.endpoint, &mut out, now, draw, own);
+        self.exchanges.leave_by(at, from, kind, id);
+        self.exchanges.leave(at, from, named);
+        send_back(&mut self.endpoint, &mut out, at, draw, own);
         Step::sending(out.into_datagrams())
     }
 
-    /// Ends an exchange whose forwarded message was rejected by a Reset.
+    /// Ends an exchange whose forwarded message was rejected by a Reset, which names it.
     fn end(
         &mut self,
         alloc: Global,
         now: Moment,
-        from: Peer,
         draw: &Draw,
-        id: u16,
+        rejected: MessageName,
         key: usize,
     ) -> Result<Step, AllocError>
         requires { IsOpen self.old.exchanges key }
-        ensures ended { IfOk result (λ step. Ends key id self.old now from draw.now step self.new) }
+        ensures ended { IfOk result (λ step. Ends key rejected.id self.old now rejected.peer draw.now step self.new) }
         ensures fits { IfOk result (λ step. AreSendable step.out) }
         ensures err { OnErr result (self.new ≡ self.old) }
     {
+        let MessageName { peer: from, id } = rejected;
         let mut out = Outbox::new(alloc, 1)?;
-        self.endpoint.settle(now, from, &Heard::Empty(Kind::Reset, id), Handling::Dropped);
+        self.endpoint.settle_empty(now, from, Kind::Reset, id);
         let exchange = self.exchanges.close(key).unwrap();
         self.exchanges.leave(now, from, id);
         let own = failing(exchange, self.endpoint.own_id(draw), Code::BAD_GATEWAY);

@@ -1,9 +1,9 @@
 //! What a proxy sends.
-ghost use Rattle.std.specs.Prelude.{◌≡◌, ◌<◌, ◌≤◌, ◌+◌, ◌++◌, true, IfOk, option_map};
+ghost use Rattle.std.specs.Prelude.{◌≡◌, ◌<◌, ◌≤◌, ◌+◌, ◌++◌, true, IfOk};
 ghost use Rattle.osc_coap.specs.Message.{HasSpelling, spelling};
-ghost use Rattle.osc_message.specs.Sending.{FitsDatagram, IsSendableReply, acknowledgement as acknowledgement_of, sent_to};
+ghost use Rattle.osc_message.specs.Sending.{FitsDatagram};
 ghost use Rattle.osc_proxy.specs.Own.{goes_now, has_room, sends_own, with_own};
-ghost use Rattle.osc_proxy.specs.Going.{IsOwn, back_kept_by, back_sends_by};
+ghost use Rattle.osc_proxy.specs.Going.{Acknowledges, IsOwn, back_kept_by, back_sends_by};
 
 use crate::Endpoint;
 use osc_coap::{MessageBuilder, MessageRef};
@@ -11,25 +11,32 @@ use osc_message::{Outbox, acknowledgement};
 use osc_model::{Bytes, Draw, Moment, Peer};
 use std::alloc::{AllocError, Global};
 
-/// Room for two datagrams, the acknowledgement of a confirmable message in the first of them, and its bytes to be noted.
-pub(crate) fn acknowledged(
-    alloc: Global,
-    to: Peer,
-    message: &MessageRef<'_>,
-) -> Result<(Outbox, Option<Bytes>), AllocError>
-    ensures sent { IfOk result (λ made. made.0.sent ≡ sent_to to (acknowledgement_of message.now)) }
-    ensures place { IfOk result (λ made. 0 < made.0.places) }
-    ensures noted { IfOk result (λ made. made.1 ≡ option_map spelling (acknowledgement_of message.now)) }
-    ensures short { IfOk result (λ made. IsSendableReply made.1) }
-{
-    let mut out = Outbox::new(alloc, 2)?;
-    match acknowledgement(message) {
-        Some(answer) => {
-            let bytes = Bytes::from_slice(alloc, answer.bytes())?;
-            out.send(to, Bytes::from_slice(alloc, answer.bytes())?);
-            Ok((out, Some(bytes)))
-        }
-        None => Ok((out, None)),
+/// The acknowledgement of a message, where it is confirmable: the first datagram in room for two, and its bytes to be noted.
+#[derive(Drop)]
+pub(crate) struct Acknowledged {
+    pub out: Outbox,
+    pub reply: Option<Bytes>,
+}
+
+impl Acknowledged {
+    /// That of this message, which came from this peer.
+    pub fn new(
+        alloc: Global,
+        from: Peer,
+        message: &MessageRef<'_>,
+    ) -> Result<Acknowledged, AllocError>
+        ensures { IfOk result (λ made. Acknowledges from message.now made) }
+    {
+        let mut out = Outbox::new(alloc, 2)?;
+        let reply = match acknowledgement(message) {
+            Some(answer) => {
+                let bytes = Bytes::from_slice(alloc, answer.bytes())?;
+                out.send(from, Bytes::from_slice(alloc, answer.bytes())?);
+                Some(bytes)
+            }
+            None => None,
+        };
+        Ok(Acknowledged { out, reply })
     }
 }
 

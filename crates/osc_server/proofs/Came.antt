@@ -17,9 +17,9 @@ use Rattle.osc_message.specs.declared.received.Received.{Received}
 use Rattle.osc_message.specs.declared.received.Received.TheVariants as received
 use Rattle.osc_options.specs.Recognised.{unrecognised_critical}
 use Rattle.osc_options.specs.Requests.{request_of}
-use Rattle.osc_server.specs.Case.{case_of, has_option, is_authz_info, is_open_get, message_case, refused_option, request_case, unprotected_case}
+use Rattle.osc_server.specs.Case.{case_of, has_option, is_authz_info, is_open_get, message_case, request_case, unprotected_case}
 use Rattle.osc_server.specs.declared.case.Case.{Case}
-use Rattle.osc_server.specs.declared.case.Case.TheVariants.{Ignored, Reset, Repeated, Empty, BadOption, ProxyAsked, Protected, Posted, NotPosted, OpenGet, Unauthorised}
+use Rattle.osc_server.specs.declared.case.Case.TheVariants.{Ignored, Reset, BadOption, ProxyAsked, Protected, Posted, NotPosted, OpenGet, Unauthorised}
 
 -- where something may be opened, these bytes are the message
 abbrev pub SpelledBy : List ℕ → Case → Type 0

@@ -33,13 +33,13 @@ use Rattle.osc_authz.specs.declared.error.PostError.{PostError}
 use Rattle.osc_authz.specs.declared.error.PostError.TheVariants.{Fields, Token, Full}
 use Rattle.osc_token.specs.declared.error.TokenError.TheVariants as token
 use Rattle.osc_authz.specs.declared.post.PostAnswer.{PostAnswer}
-use Rattle.osc_server.specs.Parts.{IsReplyOf, IsShort, read_length, request_reply_length}
+use Rattle.osc_server.specs.Parts.{IsReplyOf, FitsAResource, read_length, request_reply_length}
 use Rattle.osc_server.specs.Table.{post_reply, reply_to}
 use Rattle.osc_server.proofs.Gets.{bare_reply, content_reply}
 
 -- ---- short replies
 
-pub is_short : (most : ℕ) (reply : Reply) → most ≤ 512 → IsReplyOf most reply → IsShort reply
+pub is_short : (most : ℕ) (reply : Reply) → most ≤ 512 → IsReplyOf most reply → FitsAResource reply
 is_short most reply few it = record { code = it.code; etag = it.etag; payload = omega (arith, few, it.payload) }
 
 -- ---- the payloads of the machine's replies
@@ -104,7 +104,7 @@ limited tree request limits = by (request.code.0 == 1) request.path
     by true (Some path) = limits.short path
     by false path = omega arith
 
-pub read_reply_short : (tree : Tree) (scope : Scope) (request : Request) → IsWithinLimits tree → IsShort (apply tree scope request).reply
+pub read_reply_short : (tree : Tree) (scope : Scope) (request : Request) → IsWithinLimits tree → FitsAResource (apply tree scope request).reply
 read_reply_short tree scope request limits = is_short (request_reply_length tree request) _ (limited tree request limits) (machine_reply tree scope request)
 
 -- ---- the answer to a post

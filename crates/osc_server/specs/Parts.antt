@@ -1,5 +1,5 @@
 -- What private functions owe one another; no public contract rests on it.
-use Rattle.std.specs.Prelude.{◌≡◌, ℕ, ◌<◌, ◌≤◌, ◌==◌, if◌then◌else◌, List, [], length, Option, Some, None, Result, Ok, Err}
+use Rattle.std.specs.Prelude.{◌≡◌, ℕ, ◌+◌, ◌<◌, ◌≤◌, ◌==◌, if◌then◌else◌, List, [], length, Option, Some, None, Result, Ok, Err, IfErr}
 use Rattle.std.specs.FinMap as map
 use Rattle.std.specs.List.{All}
 use Rattle.std.specs.Option.{ForSome}
@@ -26,6 +26,7 @@ use Rattle.osc_server.specs.Table.{IsOpened, notes_of_request, reply_to}
 use Rattle.osc_server.specs.declared.case.Case.{Case}
 use Rattle.osc_server.specs.declared.case.Case.TheVariants.{OpenGet}
 use Rattle.osc_server.specs.declared.serving.Served.{Served}
+use Rattle.osc_server.specs.declared.serving.Taken.{Taken}
 
 -- a reply with a payload of at most so many bytes
 pub record IsReplyOf (most : ℕ) (reply : Reply) : Type 0 where
@@ -33,9 +34,9 @@ pub record IsReplyOf (most : ℕ) (reply : Reply) : Type 0 where
   pub etag : ForSome reply.etag (λ tag. length tag ≤ 8)
   pub payload : length reply.payload ≤ most
 
--- a reply that fits a datagram, whatever the token
-abbrev pub IsShort : Reply → Type 0
-IsShort reply = IsReplyOf 512 reply
+-- a reply with no more payload than a resource may have: it fits a datagram, whatever the token
+abbrev pub FitsAResource : Reply → Type 0
+FitsAResource reply = IsReplyOf 512 reply
 
 -- the most bytes of payload that the reply to a request has: those of the resource, where it is a GET
 abbrev pub read_length : Tree → Option (List ℕ) → ℕ
@@ -48,6 +49,17 @@ request_reply_length tree request = if request.code.0 == 1 then read_length tree
 abbrev pub reply_length : Tree → Result Request Code → ℕ
 reply_length tree (Err code) = 0
 reply_length tree (Ok request) = request_reply_length tree request
+
+-- What was taken once a request had opened, beside the note of its opening: what it asks, what its entry says, and, with tags of so many
+-- bytes, room for the longest reply that it may get of this tree.
+pub record IsTakenFor (tag : ℕ) (tree : Tree) (taken : Taken) : Type 0 where
+  pub read : taken.read ≡ read_request taken.note.plaintext
+  pub error : IfErr taken.read (λ code. 0 < code.0)
+  pub context : taken.context ≡ taken.note.context
+  pub plaintext : taken.plaintext ≡ taken.note.plaintext
+  pub room : taken.room ≡ record { name = taken.note.context; most = 14 + reply_length tree taken.read }
+  pub reply : taken.reply ≡ 28 + reply_length tree taken.read + tag
+  pub limit : reply_length tree taken.read ≤ 512
 
 -- these bytes are a message
 abbrev pub IsMessage : Bytes → Type 0

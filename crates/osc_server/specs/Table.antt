@@ -66,8 +66,8 @@ abbrev pub reply_to : EndpointState → Draw → Message → Reply → Message
 reply_to endpoint draw request reply = with_reply (reply_start draw endpoint.next_id request reply.code.0) reply
 
 -- a reply without protection, and nothing else
-abbrev pub Replies : State → Moment → Peer → Draw → Message → Reply → Step → State → Type 0
-Replies old now from draw request reply step new =
+abbrev pub AnswersWith : State → Moment → Peer → Draw → Message → Reply → Step → State → Type 0
+AnswersWith old now from draw request reply step new =
     Sends old now from draw request (reply_to old.endpoint draw request reply) quiet old.tree old.desk step new
 
 -- what is noted of a request that isn't served: the code that it is answered, and the number of the reason, where the code alone doesn't
@@ -84,7 +84,7 @@ Refuses old now from draw request why step new =
 pub record AnswersGet (old : State) (now : Moment) (from : Peer) (draw : Draw) (message : Message) (request : Request) (step : Step) (new : State) : Type 0 where
   pub reply : Reply
   pub may : MayReply (apply old.tree old.open_scope request) reply
-  pub replies : Replies old now from draw message reply step new
+  pub replies : AnswersWith old now from draw message reply step new
 
 -- ---- posts to authz-info
 

@@ -1,45 +1,37 @@
 //! The messages that answer.
 ghost use Rattle.std.specs.Prelude.{◌≡◌};
-ghost use Rattle.osc_server.specs.Parts.{IsShort};
+ghost use Rattle.osc_server.specs.Parts.{FitsAResource};
 ghost use Rattle.osc_server.specs.Table.{reply_to as reply_to_of, refusal_to as refusal_to_of};
 
 use crate::Endpoint;
 use crate::refusal::Refusal;
+use osc_coap::MessageBuilder;
 use osc_coap::laws::length_of_spelling;
-use osc_coap::{MessageBuilder, MessageRef};
-use osc_message::reply_kind;
-use osc_model::{Draw, Reply};
+use osc_message::{Arrival, reply_kind};
+use osc_model::Reply;
 use osc_options::{error_message, reply_message};
 
 /// The message that carries the reply: the acknowledgement of a confirmable request (RFC 7252 section 5.2.1), and a message
 /// of the server's own for another (section 5.2.3).
-pub fn reply_to(
-    endpoint: &Endpoint,
-    draw: &Draw,
-    request: &MessageRef<'_>,
-    reply: &Reply,
-) -> MessageBuilder
-    requires { IsShort reply.now }
-    ensures { result ≡ reply_to_of endpoint.now draw.now request.now reply.now }
+pub fn reply_to(endpoint: &Endpoint, came: &Arrival<'_>, reply: &Reply) -> MessageBuilder
+    requires { FitsAResource reply.now }
+    ensures { result ≡ reply_to_of endpoint.now came.now.draw.now came.now.message reply.now }
 {
     length_of_spelling();
+    let request = &came.message;
     let kind = reply_kind(request.kind());
-    let id = endpoint.reply_id(draw, request);
+    let id = endpoint.reply_id(came.draw, request);
     reply_message(kind, id, request.token(), reply).unwrap()
 }
 
 /// The message that says why a protected request isn't served.
-pub fn refusal_to(
-    endpoint: &Endpoint,
-    draw: &Draw,
-    request: &MessageRef<'_>,
-    refusal: Refusal,
-) -> MessageBuilder
-    ensures { result ≡ refusal_to_of endpoint.now draw.now request.now refusal }
+pub fn refusal_to(endpoint: &Endpoint, came: &Arrival<'_>, refusal: Refusal) -> MessageBuilder
+    ensures { result ≡ refusal_to_of endpoint.now came.now.draw.now came.now.message refusal }
 {
     length_of_spelling();
+    let request = &came.message;
     let kind = reply_kind(request.kind());
-    let id = endpoint.reply_id(draw, request);
+    let id = endpoint.reply_id(came.draw, request);
     error_message(
         kind,
         id,

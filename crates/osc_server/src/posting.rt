@@ -7,10 +7,10 @@ ghost use Rattle.osc_server.specs.Table.{nonce_of_post, post_reply as post_reply
 use crate::Endpoint;
 use crate::answer::reply_to;
 use osc_authz::{PostAnswer, PostError};
+use osc_coap::MessageBuilder;
 use osc_coap::laws::length_of_spelling;
-use osc_coap::{MessageBuilder, MessageRef};
-use osc_message::Buffer;
-use osc_model::{Code, Draw, Note, RefusedRequest, Reply, StepNotes};
+use osc_message::{Arrival, Buffer};
+use osc_model::{Code, Note, RefusedRequest, Reply, StepNotes};
 use std::alloc::Global;
 
 /// The bytes of the payload that answers a post which made a context.
@@ -44,19 +44,18 @@ pub fn post_answer(
     alloc: Global,
     payload: Buffer,
     endpoint: &Endpoint,
-    draw: &Draw,
-    request: &MessageRef<'_>,
+    came: &Arrival<'_>,
     answer: Result<PostAnswer, PostError>,
 ) -> MessageBuilder
     requires { payload ≡ 16 }
-    ensures answer { result ≡ reply_to_of endpoint.now draw.now request.now (post_reply_of answer) }
+    ensures answer { result ≡ reply_to_of endpoint.now came.now.draw.now came.now.message (post_reply_of answer) }
     ensures short { length (spelling result) ≤ 31 }
 {
     length_of_spelling();
     // For the proof alone: the call tells how long the token is.
-    let _token = request.token();
+    let _token = came.message.token();
     let reply = post_reply(alloc, payload, answer);
-    reply_to(endpoint, draw, request, &reply)
+    reply_to(endpoint, came, &reply)
 }
 
 /// What is noted of a post: its token's opening, and the nonce that it drew, or why it was refused.

@@ -18,21 +18,21 @@ ghost use Rattle.osc_message.specs.Sending.{again, datagram};
 ghost use Rattle.osc_server.specs.Case.{IsAnswered, case_of as case_in};
 ghost use Rattle.osc_message.specs.Ticks.{acts};
 ghost use Rattle.osc_server.specs.Hearing.{Hears, Ticks};
-ghost use Rattle.osc_server.specs.Parts.{AsksGet, IsShort, SendsTo};
+ghost use Rattle.osc_server.specs.Parts.{AsksGet, FitsAResource, SendsTo};
 ghost use Rattle.osc_server.specs.State.{core};
-ghost use Rattle.osc_server.specs.Table.{Answers, AnswersGet, AnswersPost, AnswersProtected, Refuses, Replies, Sends, answered, refusal_code, refusal_number, refusal_to as refusal_to_of, refused_for as refused_for_of};
+ghost use Rattle.osc_server.specs.Table.{Answers, AnswersGet, AnswersPost, AnswersProtected, AnswersWith, Refuses, Sends, answered, refusal_code, refusal_number, refusal_to as refusal_to_of, refused_for as refused_for_of};
 
 use crate::Endpoint;
 use crate::answer::{refusal_to, reply_to};
 use crate::case::{Case, case_of};
 use crate::posting::{POST_ANSWER, POST_PAYLOAD, notes_of, post_answer};
 use crate::refusal::{Refusal, refused_for};
-use crate::serving::{Served, serve};
+use crate::serving::{ProtectedRequest, Served, serve};
 use osc_authz::{Post, ServerDesk};
 use osc_ccm::Aead;
-use osc_coap::{MessageBuilder, MessageRef};
+use osc_coap::MessageBuilder;
 use osc_message::laws::what_is_heard;
-use osc_message::{Buffer, Handling, Heard, ReplyRoom, reset, sending_message};
+use osc_message::{Arrival, Buffer, Handling, Heard, ReplyRoom, reset, sending_message};
 use osc_model::{Code, Datagrams, Draw, Moment, Peer, Reply, Request, Step, StepNotes};
 use osc_protect::read_request;
 use osc_run::kinds;
@@ -171,6 +171,12 @@ impl Server {
         ensures err { OnErr result (self.new ≡ self.old) }
         ensures needs_memory { OnErr result (IsAnswered self.old.endpoint.seen now from case.entry) }
     {
+        let came = |message| Arrival {
+            at: now,
+            from,
+            draw,
+            message,
+        };
         match case {
             Case::Ignored => Ok(Step::sending(Datagrams::new(alloc))),
             Case::Reset(id) => sending_message(alloc, from, &reset(id)),
@@ -179,28 +185,17 @@ impl Server {
                 self.endpoint.settle_empty(now, from, kind, id);
                 Ok(Step::sending(Datagrams::new(alloc)))
             }
-            Case::BadOption(request) => {
-                self.refuse(alloc, now, from, draw, request, Code::BAD_OPTION)
+            Case::BadOption(message) => self.refuse(alloc, came(message), Code::BAD_OPTION),
+            Case::ProxyAsked(message) => {
+                self.refuse(alloc, came(message), Code::PROXYING_NOT_SUPPORTED)
             }
-            Case::ProxyAsked(request) => self.refuse(
-                alloc,
-                now,
-                from,
-                draw,
-                request,
-                Code::PROXYING_NOT_SUPPORTED,
-            ),
-            Case::Protected(request) => self.protected::<A>(alloc, now, from, draw, request),
-            Case::Posted(request) => self.posted::<A>(alloc, now, from, draw, request),
-            Case::NotPosted(request) => {
-                self.refuse(alloc, now, from, draw, request, Code::METHOD_NOT_ALLOWED)
+            Case::Protected(message) => self.protected::<A>(alloc, came(message)),
+            Case::Posted(message) => self.posted::<A>(alloc, came(message)),
+            Case::NotPosted(message) => {
+                self.refuse(alloc, came(message), Code::METHOD_NOT_ALLOWED)
             }
-            Case::OpenGet(message, request) => {
-                self.get(alloc, now, from, draw, message, &request)
-            }
-            Case::Unauthorised(request) => {
-                self.refuse(alloc, now, from, draw, request, Code::UNAUTHORIZED)
-            }
+            Case::OpenGet(message, request) => self.get(alloc, came(message), &request),
+            Case::Unauthorised(message) => self.refuse(alloc, came(message), Code::UNAUTHORIZED),
         }
     }
 
@@ -209,27 +204,24 @@ impl Server {
     fn get(
         &mut self,
         alloc: Global,
-        now: Moment,
-        from: Peer,
-        draw: &Draw,
-        message: MessageRef<'_>,
+        came: Arrival<'_>,
         request: &Request,
     ) -> Result<Step, AllocError>
         requires { request.now.code.0 ≡ 1 }
-        ensures answered { IfOk result (λ step. AnswersGet self.old now from draw.now message.entry request.now step self.new) }
-        ensures sent { IfOk result (λ step. SendsTo from step.out) }
+        ensures answered { IfOk result (λ step. AnswersGet self.old came.entry.at came.entry.from came.entry.draw.now came.entry.message request.now step self.new) }
+        ensures sent { IfOk result (λ step. SendsTo came.entry.from step.out) }
         ensures same { self.new.open_scope ≡ self.old.open_scope }
         ensures err { OnErr result (self.new ≡ self.old) }
     {
         let reply = self.read(alloc, request);
-        self.reply(alloc, now, from, draw, message, &reply)
+        self.reply(alloc, came, &reply)
     }
 
     /// The reply to a GET on an open path; the server stays as it is.
     fn read(&mut self, alloc: Global, request: &Request) -> Reply
         requires { request.now.code.0 ≡ 1 }
         ensures reply { MayReply (apply self.old.tree self.old.open_scope request.now) result }
-        ensures short { IsShort result }
+        ensures short { FitsAResource result }
         ensures same { self.new ≡ self.old }
     {
         open_reply(alloc, &mut self.tree, &self.open_scope, request)
@@ -246,94 +238,70 @@ impl Server {
 
     /// Answers the request, which isn't served, with a reply of this code alone.
     #[inline(never)]
-    fn refuse(
-        &mut self,
-        alloc: Global,
-        now: Moment,
-        from: Peer,
-        draw: &Draw,
-        request: MessageRef<'_>,
-        code: Code,
-    ) -> Result<Step, AllocError>
+    fn refuse(&mut self, alloc: Global, came: Arrival<'_>, code: Code) -> Result<Step, AllocError>
         requires { 0 < code.0 }
-        ensures refused { IfOk result (λ step. Refuses self.old now from draw.now request.entry code step self.new) }
-        ensures sent { IfOk result (λ step. SendsTo from step.out) }
+        ensures refused { IfOk result (λ step. Refuses self.old came.entry.at came.entry.from came.entry.draw.now came.entry.message code step self.new) }
+        ensures sent { IfOk result (λ step. SendsTo came.entry.from step.out) }
         ensures err { OnErr result (self.new ≡ self.old) }
     {
-        let answer = reply_to(&self.endpoint, draw, &request, &Reply::bare(alloc, code));
-        self.send_noting(
-            alloc,
-            now,
-            from,
-            draw,
-            request,
-            &answer,
-            refused_for(code, None),
-        )
+        let answer = reply_to(&self.endpoint, &came, &Reply::bare(alloc, code));
+        self.send_noting(alloc, came, &answer, refused_for(code, None))
     }
 
     /// Answers the request with an unprotected reply.
-    fn reply(
-        &mut self,
-        alloc: Global,
-        now: Moment,
-        from: Peer,
-        draw: &Draw,
-        request: MessageRef<'_>,
-        reply: &Reply,
-    ) -> Result<Step, AllocError>
-        requires { IsShort reply.now }
-        ensures replied { IfOk result (λ step. Replies self.old now from draw.now request.entry reply.now step self.new) }
-        ensures sent { IfOk result (λ step. SendsTo from step.out) }
+    fn reply(&mut self, alloc: Global, came: Arrival<'_>, reply: &Reply) -> Result<Step, AllocError>
+        requires { FitsAResource reply.now }
+        ensures replied { IfOk result (λ step. AnswersWith self.old came.entry.at came.entry.from came.entry.draw.now came.entry.message reply.now step self.new) }
+        ensures sent { IfOk result (λ step. SendsTo came.entry.from step.out) }
         ensures err { OnErr result (self.new ≡ self.old) }
     {
-        let answer = reply_to(&self.endpoint, draw, &request, reply);
-        self.send_noting(alloc, now, from, draw, request, &answer, StepNotes::quiet())
+        let answer = reply_to(&self.endpoint, &came, reply);
+        self.send_noting(alloc, came, &answer, StepNotes::quiet())
     }
 
     /// Answers the request with this message; of resources and desk nothing changes.
     fn send_noting(
         &mut self,
         alloc: Global,
-        now: Moment,
-        from: Peer,
-        draw: &Draw,
-        request: MessageRef<'_>,
+        came: Arrival<'_>,
         answer: &MessageBuilder,
         notes: StepNotes,
     ) -> Result<Step, AllocError>
         ensures sends { IfOk result (λ step.
-            Sends self.old now from draw.now request.entry answer.now notes self.old.tree self.old.desk step self.new) }
-        ensures sent { IfOk result (λ step. SendsTo from step.out) }
+            Sends self.old came.entry.at came.entry.from came.entry.draw.now came.entry.message answer.now notes self.old.tree self.old.desk step self.new) }
+        ensures sent { IfOk result (λ step. SendsTo came.entry.from step.out) }
         ensures err { OnErr result (self.new ≡ self.old) }
     {
         let room = ReplyRoom::new(alloc, answer.bytes().len())?;
-        Ok(self.send(room, now, from, draw, request, answer, notes))
+        Ok(self.send(room, came, answer, notes))
     }
 
     /// Answers the request with this message, for which there is room, and notes it for a repeat; takes no memory.
     fn send(
         &mut self,
         room: ReplyRoom,
-        now: Moment,
-        from: Peer,
-        draw: &Draw,
-        request: MessageRef<'_>,
+        came: Arrival<'_>,
         answer: &MessageBuilder,
         notes: StepNotes,
     ) -> Step
         requires { length (spelling answer.now) ≤ room }
-        ensures step { result ≡ record { out = datagram from answer.now ∷ []; notes = notes } }
-        ensures kept { self.new ≡ record self.old { endpoint = answered self.old.endpoint now from draw.now request.entry answer.now } }
+        ensures step { result ≡ record { out = datagram came.entry.from answer.now ∷ []; notes = notes } }
+        ensures kept { self.new ≡ record self.old { endpoint = answered self.old.endpoint came.entry.at came.entry.from came.entry.draw.now came.entry.message answer.now } }
         ensures spelled { Spells (spelling answer.now) answer.now }
-        ensures sent { SendsTo from result.out }
+        ensures sent { SendsTo came.entry.from result.out }
     {
-        let (out, noted) = room.fill(from, answer.bytes());
-        self.endpoint.take_reply_id(draw, &request);
-        self.endpoint.settle(
-            now,
+        let Arrival {
+            at,
             from,
-            &Heard::Message(request),
+            draw,
+            message,
+        } = came;
+        let (out, noted) = room.fill(from, answer.bytes());
+        self.endpoint.take_reply_id(draw, &message);
+        self.endpoint.settle(
+            at,
+            from,
+            &Heard::Message(message),
             Handling::Answered(Some(noted)),
         );
         Step { out, notes }
@@ -341,61 +309,37 @@ impl Server {
 
     /// Judges a post to authz-info, and answers it. All memory is taken before the desk changes.
     #[inline(never)]
-    fn posted<A: Aead>(
-        &mut self,
-        alloc: Global,
-        now: Moment,
-        from: Peer,
-        draw: &Draw,
-        request: MessageRef<'_>,
-    ) -> Result<Step, AllocError>
-        ensures answered { IfOk result (λ step. AnswersPost A.is_sealing self.old now from draw.now request.entry step self.new) }
-        ensures sent { IfOk result (λ step. SendsTo from step.out) }
+    fn posted<A: Aead>(&mut self, alloc: Global, came: Arrival<'_>) -> Result<Step, AllocError>
+        ensures answered { IfOk result (λ step. AnswersPost A.is_sealing self.old came.entry.at came.entry.from came.entry.draw.now came.entry.message step self.new) }
+        ensures sent { IfOk result (λ step. SendsTo came.entry.from step.out) }
         ensures same { self.new.open_scope ≡ self.old.open_scope }
         ensures err { OnErr result (self.new ≡ self.old) }
     {
         let payload = Buffer::new(alloc, POST_PAYLOAD)?;
         let room = ReplyRoom::new(alloc, POST_ANSWER)?;
-        let body = request.payload().unwrap_or(&[]);
-        let Post { opened, answer } = self.desk.post::<A>(alloc, now, body, draw)?;
-        let message = post_answer(alloc, payload, &self.endpoint, draw, &request, answer);
-        Ok(self.send(
-            room,
-            now,
-            from,
-            draw,
-            request,
-            &message,
-            notes_of(opened, answer),
-        ))
+        let body = came.message.payload().unwrap_or(&[]);
+        let Post { opened, answer } = self.desk.post::<A>(alloc, came.at, body, came.draw)?;
+        let message = post_answer(alloc, payload, &self.endpoint, &came, answer);
+        Ok(self.send(room, came, &message, notes_of(opened, answer)))
     }
 
     /// Answers a protected request. Its number is accepted once nothing can fail.
     #[inline(never)]
-    fn protected<A: Aead>(
-        &mut self,
-        alloc: Global,
-        now: Moment,
-        from: Peer,
-        draw: &Draw,
-        message: MessageRef<'_>,
-    ) -> Result<Step, AllocError>
-        ensures answered { IfOk result (λ step. AnswersProtected A.is_sealing self.old now from draw.now message.entry step self.new) }
-        ensures sent { IfOk result (λ step. SendsTo from step.out) }
+    fn protected<A: Aead>(&mut self, alloc: Global, came: Arrival<'_>) -> Result<Step, AllocError>
+        ensures answered { IfOk result (λ step. AnswersProtected A.is_sealing self.old came.entry.at came.entry.from came.entry.draw.now came.entry.message step self.new) }
+        ensures sent { IfOk result (λ step. SendsTo came.entry.from step.out) }
         ensures same { self.new.open_scope ≡ self.old.open_scope }
         ensures err { OnErr result (self.new ≡ self.old) }
     {
-        let Ok(request) = read_request(&message) else {
-            return self.complain(alloc, now, from, draw, message, Refusal::Malformed);
+        let Ok(says) = read_request(&came.message) else {
+            return self.complain(alloc, came, Refusal::Malformed);
         };
+        let request = ProtectedRequest { came: &came, says };
         match serve::<A>(
             alloc,
-            now,
             &mut self.desk,
             &mut self.tree,
             &self.endpoint,
-            draw,
-            &message,
             &request,
         )? {
             Ok(
@@ -404,8 +348,8 @@ impl Server {
                     notes,
                     room,
                 },
-            ) => Ok(self.send(room, now, from, draw, message, &answer, notes)),
-            Err(refusal) => self.complain(alloc, now, from, draw, message, refusal),
+            ) => Ok(self.send(room, came, &answer, notes)),
+            Err(refusal) => self.complain(alloc, came, refusal),
         }
     }
 
@@ -414,21 +358,18 @@ impl Server {
     fn complain(
         &mut self,
         alloc: Global,
-        now: Moment,
-        from: Peer,
-        draw: &Draw,
-        message: MessageRef<'_>,
+        came: Arrival<'_>,
         refusal: Refusal,
     ) -> Result<Step, AllocError>
-        ensures sends { IfOk result (λ step. Sends self.old now from draw.now message.entry
-            (refusal_to_of self.old.endpoint draw.now message.entry refusal)
+        ensures sends { IfOk result (λ step. Sends self.old came.entry.at came.entry.from came.entry.draw.now came.entry.message
+            (refusal_to_of self.old.endpoint came.entry.draw.now came.entry.message refusal)
             (refused_for_of (refusal_code refusal) (Some (refusal_number refusal))) self.old.tree self.old.desk step self.new) }
-        ensures sent { IfOk result (λ step. SendsTo from step.out) }
+        ensures sent { IfOk result (λ step. SendsTo came.entry.from step.out) }
         ensures err { OnErr result (self.new ≡ self.old) }
     {
-        let answer = refusal_to(&self.endpoint, draw, &message, refusal);
+        let answer = refusal_to(&self.endpoint, &came, refusal);
         let notes = refused_for(refusal.code(), Some(refusal.number()));
-        self.send_noting(alloc, now, from, draw, message, &answer, notes)
+        self.send_noting(alloc, came, &answer, notes)
     }
 
     /// Lets the notes of what was heard go whose lifetime has ended. Nothing that a server sends waits for an acknowledgement, so
@@ -475,7 +416,7 @@ fn drawn(draw: &Draw)
 fn open_reply(alloc: Global, tree: &mut Tree, open_scope: &Scope, request: &Request) -> Reply
     requires { request.now.code.0 ≡ 1 }
     ensures reply { MayReply (apply tree.old open_scope.now request.now) result }
-    ensures short { IsShort result }
+    ensures short { FitsAResource result }
     ensures same { tree.new ≡ tree.old }
 {
     // For the proof alone: the call tells that what the tree has fits a datagram.

@@ -10,8 +10,9 @@ ghost use Rattle.osc_model.specs.Apply.{apply_read};
 ghost use Rattle.osc_protect.specs.Protection.{IsFor, IsRequest, IsProtectedResponse};
 ghost use Rattle.osc_run.specs.ServerKinds.{opening_note, reply_note, Replies as AppliesTo};
 ghost use Rattle.osc_run.specs.Texts.{read_request, IsWithinRanges};
-ghost use Rattle.osc_server.specs.Parts.{IsReplied, IsReplyOf, IsServedAs, IsShort, reply_length, read_length as read_length_of};
-ghost use Rattle.osc_server.specs.Table.{IsMeant, IsOpened, IsRefused, IsSealed, reply_to as reply_to_of};
+ghost use Rattle.osc_model.specs.Tree.{Tree as AnyTree};
+ghost use Rattle.osc_server.specs.Parts.{FitsAResource, IsReplyOf, IsServedAs, IsTakenFor, reply_length, read_length as read_length_of};
+ghost use Rattle.osc_server.specs.Table.{IsMeant, IsOpened, IsRefused, IsSealed, notes_of_request, reply_to as reply_to_of};
 ghost use Rattle.osc_window.specs.Window.{IsFresh};
 
 use crate::Endpoint;
@@ -21,13 +22,11 @@ use crate::refusal::Refusal;
 use osc_authz::laws::meant_contexts;
 use osc_authz::{ServerContext, ServerDesk};
 use osc_ccm::Aead;
+use osc_coap::MessageBuilder;
 use osc_coap::laws::{length_of_plaintext, length_of_spelling};
-use osc_coap::{MessageBuilder, MessageRef};
 use osc_context::AcceptedNumber;
-use osc_message::ReplyRoom;
-use osc_model::{
-    Bytes, Code, Draw, Entry, Moment, Note, Path, Reply, Request, SharedName, StepNotes,
-};
+use osc_message::{Arrival, ReplyRoom};
+use osc_model::{Bytes, Code, Entry, Note, Path, Reply, Request, SharedName, StepNotes};
 use osc_protect::{ProtectedResponse, Room, SealedRequestRef, open_request, protect_reply};
 use osc_run::{kinds, request_in};
 use osc_scope::Scope;
@@ -51,36 +50,42 @@ const PLAINTEXT_BESIDE_PAYLOAD: usize = 14;
 /// The most bytes of a protected reply beside what is sealed in it: header, token, an empty OSCORE option, and the payload marker.
 const MESSAGE_BESIDE_SEALED: usize = 14;
 
+/// A protected request: what came, and what it says before it is opened.
+#[derive(Drop)]
+pub struct ProtectedRequest<'a> {
+    /// What came.
+    pub came: &'a Arrival<'a>,
+    /// What its message says.
+    pub says: SealedRequestRef<'a>,
+}
+
 /// The live context that the request means; takes no memory.
 fn meant_context<'a>(
     desk: &'a ServerDesk,
-    now: Moment,
-    message: &MessageRef<'_>,
-    request: &SealedRequestRef<'_>,
+    request: &ProtectedRequest<'_>,
 ) -> Option<&'a ServerContext>
-    requires { IsRequest message.now request.now }
-    ensures some { IfSome result (λ context. IsMeant desk.now now message.now request.now context.now) }
-    ensures none { IfNone result (meant now request.now.kid request.now.kid_context desk.now.table ≡ None) }
+    requires { IsRequest request.now.came.now.message request.now.says }
+    ensures some { IfSome result (λ context. IsMeant desk.now request.now.came.now.at request.now.came.now.message request.now.says context.now) }
+    ensures none { IfNone result (meant request.now.came.now.at request.now.says.kid request.now.says.kid_context desk.now.table ≡ None) }
 {
-    desk.find(now, request.kid(), request.kid_context())
+    let says = &request.says;
+    desk.find(request.came.at, says.kid(), says.kid_context())
 }
 
 /// The same, where the request's number is fresh.
 fn fresh_context<'a, A: Aead>(
     desk: &'a ServerDesk,
-    now: Moment,
-    message: &MessageRef<'_>,
-    request: &SealedRequestRef<'_>,
+    request: &ProtectedRequest<'_>,
 ) -> Result<&'a ServerContext, Refusal>
-    requires { IsRequest message.now request.now }
-    ensures meant { IfOk result (λ context. IsMeant desk.now now message.now request.now context.now) }
-    ensures fresh { IfOk result (λ context. IsFresh context.now.window request.now.number) }
-    ensures refused { IfErr result (λ refusal. IsRefused A.is_sealing desk.now now message.now refusal) }
+    requires { IsRequest request.now.came.now.message request.now.says }
+    ensures meant { IfOk result (λ context. IsMeant desk.now request.now.came.now.at request.now.came.now.message request.now.says context.now) }
+    ensures fresh { IfOk result (λ context. IsFresh context.now.window request.now.says.number) }
+    ensures refused { IfErr result (λ refusal. IsRefused A.is_sealing desk.now request.now.came.now.at request.now.came.now.message refusal) }
 {
-    let Some(context) = meant_context(desk, now, message, request) else {
+    let Some(context) = meant_context(desk, request) else {
         return Err(Refusal::NoContext);
     };
-    if !context.recipient().is_fresh(request.number()) {
+    if !context.recipient().is_fresh(request.says.number()) {
         return Err(Refusal::Replayed);
     }
     Ok(context)
@@ -143,50 +148,22 @@ struct Taken {
     reply: ReplyRoom,
 }
 
-/// Reads what was opened, and takes the memory of all that follows.
-#[inline(never)]
-fn take<A: Aead>(alloc: Global, tree: &Tree, note: Note) -> Result<Taken, AllocError>
-    ensures note { IfOk result (λ taken. taken.note ≡ note) }
-    ensures read { IfOk result (λ taken. taken.read ≡ read_request note.plaintext) }
-    ensures error { IfOk result (λ taken. IfErr taken.read (λ code. 0 < code.0)) }
-    ensures context { IfOk result (λ taken. taken.context ≡ note.context) }
-    ensures plaintext { IfOk result (λ taken. taken.plaintext ≡ note.plaintext) }
-    ensures room { IfOk result (λ taken. taken.room ≡ record { name = note.context; most = 14 + reply_length tree.now taken.read }) }
-    ensures reply { IfOk result (λ taken. taken.reply ≡ 28 + reply_length tree.now taken.read + A.TAG) }
-    ensures limit { IfOk result (λ taken. reply_length tree.now taken.read ≤ 512) }
-{
-    let read = request_in(alloc, note.plaintext.as_slice())?;
-    let most = PLAINTEXT_BESIDE_PAYLOAD + most_payload(tree, &read);
-    let context = note.context.clone()?;
-    let plaintext = note.plaintext.clone()?;
-    let room = Room::new(alloc, &note.context, most)?;
-    Ok(Taken {
-        note,
-        read,
-        context,
-        plaintext,
-        room,
-        reply: ReplyRoom::new(alloc, MESSAGE_BESIDE_SEALED + most + A::TAG)?,
-    })
-}
-
 /// The reply to a request that was opened, protected under its nonce: it fits, since no reply has more than 512 bytes. Takes no
 /// memory.
 fn protected<A: Aead>(
-    number: AcceptedNumber,
     room: Room,
+    number: AcceptedNumber,
     context: &ServerContext,
     endpoint: &Endpoint,
-    draw: &Draw,
-    message: &MessageRef<'_>,
+    came: &Arrival<'_>,
     reply: &Reply,
 ) -> ProtectedResponse
     requires number { number ≡ accepted_of context.now.name Server number.number }
     requires name { room.name ≡ context.now.name }
-    requires short { IsShort reply.now }
+    requires short { FitsAResource reply.now }
     requires room { 14 + length reply.now.payload ≤ room.most }
     ensures protected { IsProtectedResponse A.is_sealing context.now.name number.number None
-        (reply_to_of endpoint.now draw.now message.now reply.now) result.message }
+        (reply_to_of endpoint.now came.now.draw.now came.now.message reply.now) result.message }
     ensures noted { result.note ≡ reply_note context.now.name number.number reply.now }
     ensures short { length (spelling result.message) ≤ 28 + length reply.now.payload + A.TAG }
 {
@@ -194,59 +171,75 @@ fn protected<A: Aead>(
     length_of_spelling();
     length_of_plaintext();
     // For the proof alone: the call tells how long the token is.
-    let _token = message.token();
-    let plain = reply_to(endpoint, draw, message, reply);
+    let _token = came.message.token();
+    let plain = reply_to(endpoint, came, reply);
     protect_reply::<A>(room, number, context.sender(), &plain.message()).unwrap()
 }
 
-/// Applies the request, and protects the reply under the request's nonce; takes no memory but the tree's.
-fn reply<A: Aead>(
-    alloc: Global,
-    now: Moment,
-    tree: &mut Tree,
-    context: &ServerContext,
-    endpoint: &Endpoint,
-    draw: &Draw,
-    message: &MessageRef<'_>,
-    number: AcceptedNumber,
-    taken: Taken,
-) -> Served
-    requires number { number ≡ accepted_of context.now.name Server number.number }
-    requires noted { taken.note ≡ opening_note context.now.name number.number taken.note.plaintext }
-    requires read { taken.read ≡ read_request taken.note.plaintext }
-    requires error { IfErr taken.read (λ code. 0 < code.0) }
-    requires name { taken.context ≡ context.now.name }
-    requires plaintext { taken.plaintext ≡ taken.note.plaintext }
-    requires room { taken.room ≡ record { name = context.now.name; most = 14 + reply_length tree.old taken.read } }
-    requires reply { taken.reply ≡ 28 + reply_length tree.old taken.read + A.TAG }
-    requires limit { reply_length tree.old taken.read ≤ 512 }
-    ensures { IsReplied A.is_sealing tree.old endpoint.now now draw.now message.now context.now number.number taken.note.plaintext result tree.new }
-{
-    let reply = applied(alloc, tree, context.scope(), &taken.read);
-    let Taken {
-        note,
-        read: _,
-        context: name,
-        plaintext,
-        room,
-        reply: reply_room,
-    } = taken;
-    let accepted = number.get();
-    let sealed = protected::<A>(number, room, context, endpoint, draw, message, &reply);
-    let entry = Entry {
-        context: name,
-        number: accepted,
-        plaintext,
-        moment: now,
-        reply,
-    };
-    Served {
-        answer: sealed.message,
-        notes: StepNotes::quiet()
-            .with_seal(sealed.note)
-            .with_open(note)
-            .with_entry(entry),
-        room: reply_room,
+impl Taken {
+    /// Reads what was opened, and takes the memory of all that follows.
+    #[inline(never)]
+    fn new<A: Aead>(alloc: Global, tree: &Tree, note: Note) -> Result<Taken, AllocError>
+        ensures note { IfOk result (λ taken. taken.note ≡ note) }
+        ensures taken { IfOk result (λ taken. IsTakenFor A.TAG tree.now taken) }
+    {
+        let read = request_in(alloc, note.plaintext.as_slice())?;
+        let most = PLAINTEXT_BESIDE_PAYLOAD + most_payload(tree, &read);
+        let context = note.context.clone()?;
+        let plaintext = note.plaintext.clone()?;
+        let room = Room::new(alloc, &note.context, most)?;
+        Ok(Taken {
+            note,
+            read,
+            context,
+            plaintext,
+            room,
+            reply: ReplyRoom::new(alloc, MESSAGE_BESIDE_SEALED + most + A::TAG)?,
+        })
+    }
+
+    /// What the request comes to with this reply, which is protected under the number that the context accepted; takes no memory.
+    fn answered<A: Aead>(
+        self,
+        context: &ServerContext,
+        number: AcceptedNumber,
+        endpoint: &Endpoint,
+        came: &Arrival<'_>,
+        reply: Reply,
+    ) -> Served
+        requires number { number ≡ accepted_of context.now.name Server number.number }
+        requires noted { self.note ≡ opening_note context.now.name number.number self.note.plaintext }
+        requires taken { (tree : AnyTree) × IsTakenFor A.TAG tree self × IsReplyOf (reply_length tree self.read) reply }
+        ensures protected { IsProtectedResponse A.is_sealing context.now.name number.number None
+            (reply_to_of endpoint.now came.now.draw.now came.now.message reply) result.answer }
+        ensures noted { result.notes ≡ notes_of_request came.now.at context.now number.number self.note.plaintext reply }
+        ensures room { length (spelling result.answer) ≤ result.room }
+    {
+        let Taken {
+            note,
+            read: _,
+            context: name,
+            plaintext,
+            room,
+            reply: reply_room,
+        } = self;
+        let accepted = number.get();
+        let sealed = protected::<A>(room, number, context, endpoint, came, &reply);
+        let entry = Entry {
+            context: name,
+            number: accepted,
+            plaintext,
+            moment: came.at,
+            reply,
+        };
+        Served {
+            answer: sealed.message,
+            notes: StepNotes::quiet()
+                .with_seal(sealed.note)
+                .with_open(note)
+                .with_entry(entry),
+            room: reply_room,
+        }
     }
 }
 
@@ -254,32 +247,23 @@ fn reply<A: Aead>(
 #[inline(never)]
 fn serve_opened<A: Aead>(
     alloc: Global,
-    now: Moment,
     desk: &mut ServerDesk,
     tree: &mut Tree,
     endpoint: &Endpoint,
-    draw: &Draw,
-    message: &MessageRef<'_>,
-    request: &SealedRequestRef<'_>,
+    request: &ProtectedRequest<'_>,
     taken: Taken,
 ) -> Served
-    requires opened { (held : Held) × IsOpened A.is_sealing desk.old now message.now request.now held taken.note.plaintext
-        × (taken.note ≡ opening_note held.name request.now.number taken.note.plaintext) }
-    requires read { taken.read ≡ read_request taken.note.plaintext }
-    requires error { IfErr taken.read (λ code. 0 < code.0) }
-    requires name { taken.context ≡ taken.note.context }
-    requires plaintext { taken.plaintext ≡ taken.note.plaintext }
-    requires room { taken.room ≡ record { name = taken.note.context; most = 14 + reply_length tree.old taken.read } }
-    requires reply { taken.reply ≡ 28 + reply_length tree.old taken.read + A.TAG }
-    requires limit { reply_length tree.old taken.read ≤ 512 }
-    ensures served { IsServedAs A.is_sealing tree.old desk.old endpoint.now now draw.now message.now request.now result tree.new }
-    ensures accepted { desk.new ≡ record desk.old { table = accepted request.now.kid request.now.number desk.old.table } }
+    requires opened { (held : Held) × IsOpened A.is_sealing desk.old request.now.came.now.at request.now.came.now.message request.now.says held taken.note.plaintext
+        × (taken.note ≡ opening_note held.name request.now.says.number taken.note.plaintext) }
+    requires taken { IsTakenFor A.TAG tree.old taken }
+    ensures served { IsServedAs A.is_sealing tree.old desk.old endpoint.now request.now.came.now.at request.now.came.now.draw.now request.now.came.now.message request.now.says result tree.new }
+    ensures accepted { desk.new ≡ record desk.old { table = accepted request.now.says.kid request.now.says.number desk.old.table } }
 {
-    let number = desk.accept(request.kid(), request.number());
-    let context = desk.get(request.kid()).unwrap();
-    reply::<A>(
-        alloc, now, tree, context, endpoint, draw, message, number, taken,
-    )
+    let says = &request.says;
+    let number = desk.accept(says.kid(), says.number());
+    let context = desk.get(says.kid()).unwrap();
+    let reply = applied(alloc, tree, context.scope(), &taken.read);
+    taken.answered::<A>(context, number, endpoint, request.came, reply)
 }
 
 /// Opens a protected request, if it is genuine.
@@ -301,23 +285,21 @@ fn open<A: Aead>(
 #[inline(never)]
 fn opened<A: Aead>(
     alloc: Global,
-    now: Moment,
     desk: &ServerDesk,
-    message: &MessageRef<'_>,
-    request: &SealedRequestRef<'_>,
+    request: &ProtectedRequest<'_>,
 ) -> Result<Result<Note, Refusal>, AllocError>
-    requires { IsRequest message.now request.now }
+    requires { IsRequest request.now.came.now.message request.now.says }
     ensures opened { IfOk result (λ outcome. IfOk outcome (λ note. (held : Held)
-        × IsOpened A.is_sealing desk.now now message.now request.now held note.plaintext
-        × (note ≡ opening_note held.name request.now.number note.plaintext))) }
-    ensures refused { IfOk result (λ outcome. IfErr outcome (λ refusal. IsRefused A.is_sealing desk.now now message.now refusal)) }
+        × IsOpened A.is_sealing desk.now request.now.came.now.at request.now.came.now.message request.now.says held note.plaintext
+        × (note ≡ opening_note held.name request.now.says.number note.plaintext))) }
+    ensures refused { IfOk result (λ outcome. IfErr outcome (λ refusal. IsRefused A.is_sealing desk.now request.now.came.now.at request.now.came.now.message refusal)) }
 {
     meant_contexts();
-    let context = match fresh_context::<A>(desk, now, message, request) {
+    let context = match fresh_context::<A>(desk, request) {
         Ok(context) => context,
         Err(refusal) => return Ok(Err(refusal)),
     };
-    match open::<A>(alloc, context, request)? {
+    match open::<A>(alloc, context, &request.says)? {
         Some(note) => Ok(Ok(note)),
         None => Ok(Err(Refusal::NotGenuine)),
     }
@@ -327,29 +309,24 @@ fn opened<A: Aead>(
 /// is as before, as it is where the request isn't served.
 pub fn serve<A: Aead>(
     alloc: Global,
-    now: Moment,
     desk: &mut ServerDesk,
     tree: &mut Tree,
     endpoint: &Endpoint,
-    draw: &Draw,
-    message: &MessageRef<'_>,
-    request: &SealedRequestRef<'_>,
+    request: &ProtectedRequest<'_>,
 ) -> Result<Result<Served, Refusal>, AllocError>
-    requires { IsRequest message.now request.now }
+    requires { IsRequest request.now.came.now.message request.now.says }
     ensures served { IfOk result (λ outcome. IfOk outcome (λ served.
-        IsServedAs A.is_sealing tree.old desk.old endpoint.now now draw.now message.now request.now served tree.new)) }
+        IsServedAs A.is_sealing tree.old desk.old endpoint.now request.now.came.now.at request.now.came.now.draw.now request.now.came.now.message request.now.says served tree.new)) }
     ensures accepted { IfOk result (λ outcome. OnOk outcome
-        (desk.new ≡ record desk.old { table = accepted request.now.kid request.now.number desk.old.table })) }
-    ensures refused { IfOk result (λ outcome. IfErr outcome (λ refusal. IsRefused A.is_sealing desk.old now message.now refusal)) }
+        (desk.new ≡ record desk.old { table = accepted request.now.says.kid request.now.says.number desk.old.table })) }
+    ensures refused { IfOk result (λ outcome. IfErr outcome (λ refusal. IsRefused A.is_sealing desk.old request.now.came.now.at request.now.came.now.message refusal)) }
     ensures same { IfOk result (λ outcome. OnErr outcome ((desk.new ≡ desk.old) × (tree.new ≡ tree.old))) }
     ensures err { OnErr result ((desk.new ≡ desk.old) × (tree.new ≡ tree.old)) }
 {
-    match opened::<A>(alloc, now, desk, message, request)? {
+    match opened::<A>(alloc, desk, request)? {
         Ok(note) => {
-            let taken = take::<A>(alloc, tree, note)?;
-            Ok(Ok(serve_opened::<A>(
-                alloc, now, desk, tree, endpoint, draw, message, request, taken,
-            )))
+            let taken = Taken::new::<A>(alloc, tree, note)?;
+            Ok(Ok(serve_opened::<A>(alloc, desk, tree, endpoint, request, taken)))
         }
         Err(refusal) => Ok(Err(refusal)),
     }

@@ -1,5 +1,5 @@
 use Rattle.std.proofs.Common.{arith, subst, sym, ◌≤◌, length}
-use Rattle.osc_server.specs.Parts.{IsShort}
+use Rattle.osc_server.specs.Parts.{FitsAResource}
 use Rattle.osc_server.specs.Table.{post_reply}
 use Rattle.osc_server.proofs.Replies.{is_short, posted_reply, post_message_short}
 use Rattle.osc_server.proofs.posting.post_answer.Goals as goal
@@ -7,10 +7,10 @@ use Rattle.osc_server.proofs.posting.post_answer.Goals as goal
 pub reply_to-requires : goal.reply_to-requires
 reply_to-requires c =
     let short : length (post_reply c.args.answer).payload ≤ 16 = subst (λ reply. length reply.payload ≤ 16) c.post_reply-reply.ensures.reply c.post_reply-reply.ensures.short in
-    subst IsShort (sym c.post_reply-reply.ensures.reply) (is_short 16 _ (omega arith) (posted_reply c.args.answer short))
+    subst FitsAResource (sym c.post_reply-reply.ensures.reply) (is_short 16 _ (omega arith) (posted_reply c.args.answer short))
 
 pub returns-clause-short : goal.returns-clause-short
 returns-clause-short c =
     let short : length (post_reply c.args.answer).payload ≤ 16 = subst (λ reply. length reply.payload ≤ 16) c.post_reply-reply.ensures.reply c.post_reply-reply.ensures.short in
     rw (c.reply_to.ensures, c.post_reply-reply.ensures.reply, c.length_of_spelling.ensures.exact)
-    (post_message_short c.args.endpoint.now c.args.draw.now c.args.request.now c.args.answer c.token-token.ensures.lawful.token short)
+    (post_message_short c.args.endpoint.now c.args.came.now.draw.now c.args.came.now.message c.args.answer c.token-token.ensures.lawful.token short)

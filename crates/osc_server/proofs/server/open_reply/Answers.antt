@@ -1,12 +1,12 @@
 use Rattle.std.proofs.Common.{subst, sym, ◌∙◌}
-use Rattle.osc_server.specs.Parts.{IsShort}
+use Rattle.osc_server.specs.Parts.{FitsAResource}
 use Rattle.osc_server.proofs.Gets.{get_reads}
 use Rattle.osc_server.proofs.Replies.{read_reply_short}
 use Rattle.osc_server.proofs.server.open_reply.Goals as goal
 
 pub returns-in-Ok-clause-short : goal.returns-in-Ok-clause-short
 returns-in-Ok-clause-short c =
-    subst IsShort (sym c.in-Ok.ensures.reply) (read_reply_short c.args.tree.now c.args.open_scope.now c.args.request.now c.len-count.ensures.limits)
+    subst FitsAResource (sym c.in-Ok.ensures.reply) (read_reply_short c.args.tree.now c.args.open_scope.now c.args.request.now c.len-count.ensures.limits)
 
 pub returns-in-Ok-clause-same : goal.returns-in-Ok-clause-same
 returns-in-Ok-clause-same c =

@@ -13,4 +13,4 @@ returns-in-Some-clause-opened g c = (
 
 pub returns-in-None-clause-refused : goal.returns-in-None-clause-refused
 returns-in-None-clause-refused g c =
-    (c.args.request.now, c.in-Ok.context.now, c.in-Ok.ensures.meant, c.in-Ok.ensures.fresh, rw c.in-None.is at c.in_ok-note.ensures.none)
+    (c.args.request.now.says, c.in-Ok.context.now, c.in-Ok.ensures.meant, c.in-Ok.ensures.fresh, rw c.in-None.is at c.in_ok-note.ensures.none)

@@ -10,12 +10,12 @@ use Rattle.osc_server.proofs.serving.protected.Goals as goal
 
 pub unwrap-requires : goal.unwrap-requires
 unwrap-requires g c =
-    let text : length (plain_bytes (reply_to c.args.endpoint.now c.args.draw.now c.args.message.now c.args.reply.now)) ≤ 526 =
+    let text : length (plain_bytes (reply_to c.args.endpoint.now c.args.came.now.draw.now c.args.came.now.message c.args.reply.now)) ≤ 526 =
     rw (c.what_is_sealed.ensures _ c.args.reply.now) (text_short c.length_of_plaintext.ensures 512 c.args.reply.now c.requires.short)
     in
     c.protect_reply.ensures.fits.1
     (rw (c.message.ensures, c.reply_to-plain.ensures)
-    (reply_fits c.length_of_spelling.ensures.exact c.args.endpoint.now c.args.draw.now c.args.message.now c.args.reply.now g.A.Aead.TAG c.token-token.ensures.lawful.token g.met.A.Aead.short_tag text))
+    (reply_fits c.length_of_spelling.ensures.exact c.args.endpoint.now c.args.came.now.draw.now c.args.came.now.message c.args.reply.now g.A.Aead.TAG c.token-token.ensures.lawful.token g.met.A.Aead.short_tag text))
 
 pub returns-clause-noted : goal.returns-clause-noted
 returns-clause-noted g c =
@@ -34,7 +34,7 @@ returns-clause-short g c =
     (record { code = c.requires.short.code; etag = c.requires.short.etag; payload = omega arith }))
     in
     let size = g.met.A.Aead.sealed_length _ _ _ _ _ made.is_sealed in
-    let all = sealed_reply_short c.length_of_spelling.ensures.exact c.args.endpoint.now c.args.draw.now c.args.message.now c.args.reply.now made.sealed c.unwrap.result.message
+    let all = sealed_reply_short c.length_of_spelling.ensures.exact c.args.endpoint.now c.args.came.now.draw.now c.args.came.now.message c.args.reply.now made.sealed c.unwrap.result.message
     c.token-token.ensures.lawful.token
     (made.whole ∙ ap (λ m. response_with None m made.sealed) (c.message.ensures ∙ c.reply_to-plain.ensures))
     in

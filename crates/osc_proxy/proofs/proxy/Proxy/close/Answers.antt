@@ -18,10 +18,10 @@ pub returns-clause-counted : goal.returns-clause-counted
 returns-clause-counted c =
     let inside = c.self.inside in
     let old = c.args.self.now in
-    let now = c.args.now in
-    let from = c.args.from in
-    let draw = c.args.draw.now in
-    let message = c.args.message in
+    let now = c.args.came.at in
+    let from = c.args.came.from in
+    let draw = c.args.came.draw.now in
+    let message = c.args.came.message in
     let key = c.args.key in
     let own = c.args.own in
     let asked = c.requires.exchange in
@@ -30,8 +30,8 @@ returns-clause-counted c =
     let view = c.self.view_is in
     let heard_by : c.settle.new.self ≡ counted old now from message exchange =
     c.settle.ensures
-    ∙ ap (λ i. settled inside.endpoint now from (heard.Message message) (handling.Counted i c.args.reply)) asked.named
-    ∙ ap (λ r. settled inside.endpoint now from (heard.Message message) (handling.Counted exchange.id r)) c.requires.reply
+    ∙ ap (λ i. settled inside.endpoint now from (heard.Message message) (handling.Counted i c.args.acknowledged.reply)) asked.named
+    ∙ ap (λ r. settled inside.endpoint now from (heard.Message message) (handling.Counted exchange.id r)) c.requires.acknowledged.noted
     ∙ ap (λ (s : State). counted s now from message exchange) view in
     let here : get inside.exchanges key ≡ Some exchange = ap (λ (s : State). get s.exchanges key) view ∙ asked.is in
     let fewer : count c.close.new.self + 1 ≡ count inside.exchanges =
@@ -54,7 +54,7 @@ returns-clause-counted c =
           ∙ ap sends
           (c.into_datagrams.ensures
           ∙ c.send_back.ensures.sent
-          ∙ ap (λ xs. xs ++ back_sends_by own.confirmable c.settle.new.self own.to own.sent) c.requires.sent
+          ∙ ap (λ xs. xs ++ back_sends_by own.confirmable c.settle.new.self own.to own.sent) c.requires.acknowledged.sent
           ∙ ap (λ xs. sent_to from (acknowledgement message) ++ xs)
           (back_sends_is exchange answer own c.settle.new.self asked.answer ∙ ap (λ (e : EndpointState). back_sends e exchange answer) heard_by));
       targets = ap (λ (s : State). s.targets) view;
@@ -65,9 +65,9 @@ returns-clause-counted c =
 pub invariant_of-self : goal.invariant_of-self
 invariant_of-self c =
     let inside = c.self.inside in
-    let now = c.args.now in
-    let from = c.args.from in
-    let message = c.args.message in
+    let now = c.args.came.at in
+    let from = c.args.came.from in
+    let message = c.args.came.message in
     let named = c.args.named in
     let own = c.args.own in
     let table = c.close.new.self in
@@ -79,7 +79,7 @@ invariant_of-self c =
     let marked : c.leave.new.self ≡ left =
     c.leave.ensures ∙ ap (all_left now from named) (c.leave_by.ensures ∙ ap₂ (λ kind id. left_by now from kind id table) c.kind-kind.ensures c.id-id.ensures) in
     each_at c.leave.new.self left c.send_back.new.endpoint _ marked c.send_back.ensures.made
-    (each_more left c.settle.new.self.sending _ (grows_back own.confirmable c.settle.new.self now c.args.draw.now own.to own.kept)
+    (each_more left c.settle.new.self.sending _ (grows_back own.confirmable c.settle.new.self now c.args.came.draw.now own.to own.kept)
     (subst (λ (e : EndpointState). Each left e.sending) (sym c.settle.ensures) each))
 
 pub returns-clause-fits : goal.returns-clause-fits
@@ -87,7 +87,7 @@ returns-clause-fits c =
     let own = c.args.own in
     let is = c.requires.exchange.answer in
     let back = back_sends_by own.confirmable c.settle.new.self own.to own.sent in
-    sendable_step c.sending.result (c.args.out.sent ++ back) (c.sending.ensures ∙ ap sends (c.into_datagrams.ensures ∙ c.send_back.ensures.sent))
-    (sendable_both c.args.out.sent back
-    (subst AreSendable (sym c.requires.sent) (sendable_acknowledgement (λ id. (c.what_nodes_send.ensures.short id).1) c.args.from c.args.message))
+    sendable_step c.sending.result (c.args.acknowledged.out.sent ++ back) (c.sending.ensures ∙ ap sends (c.into_datagrams.ensures ∙ c.send_back.ensures.sent))
+    (sendable_both c.args.acknowledged.out.sent back
+    (subst AreSendable (sym c.requires.acknowledged.sent) (sendable_acknowledgement (λ id. (c.what_nodes_send.ensures.short id).1) c.args.came.from c.args.came.message))
     (sendable_back own.confirmable c.settle.new.self own.to own.sent (subst FitsDatagram (sym is.sent) is.short)))

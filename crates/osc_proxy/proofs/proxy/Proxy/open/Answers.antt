@@ -23,10 +23,10 @@ pub returns-clause-forwarded : goal.returns-clause-forwarded
 returns-clause-forwarded c =
     let inside = c.self.inside in
     let old = c.args.self.now in
-    let now = c.args.now in
-    let from = c.args.from in
-    let draw = c.args.draw.now in
-    let message = c.args.message in
+    let now = c.args.came.at in
+    let from = c.args.came.from in
+    let draw = c.args.came.draw.now in
+    let message = c.args.came.message in
     let key = c.args.key in
     let own = c.args.own in
     let to = own.to in
@@ -36,7 +36,7 @@ returns-clause-forwarded c =
     let view = c.self.view_is in
     let taken : c.settle.new.self ≡ taken_up old now from message =
     c.settle.ensures
-    ∙ ap (λ r. settled inside.endpoint now from (heard.Message message) (handling.Answered r)) c.requires.reply
+    ∙ ap (λ r. settled inside.endpoint now from (heard.Message message) (handling.Answered r)) c.requires.acknowledged.noted
     ∙ ap (λ (s : State). taken_up s now from message) view in
     let goes : went ≡ goes_now kind to c.settle.new.self =
     c.send_own-goes.ensures.goes ∙ ap (λ b. goes_now b to c.settle.new.self) c.requires.own.kind in
@@ -54,7 +54,7 @@ returns-clause-forwarded c =
           ∙ ap sends
           (c.into_datagrams.ensures
           ∙ c.send_own-goes.ensures.sent
-          ∙ ap (λ xs. xs ++ sends_own (goes_now own.confirmable to c.settle.new.self) to own.sent) c.requires.sent
+          ∙ ap (λ xs. xs ++ sends_own (goes_now own.confirmable to c.settle.new.self) to own.sent) c.requires.acknowledged.sent
           ∙ ap (λ xs. sent_to from (acknowledgement message) ++ xs)
           (sent_is to kind bytes own c.settle.new.self c.requires.own ∙ ap (λ b. sends_own b to bytes) (sym goes)));
       targets = ap (λ (s : State). s.targets) view;
@@ -70,10 +70,10 @@ returns-clause-forwarded c =
 pub invariant_of-self : goal.invariant_of-self
 invariant_of-self c =
     let inside = c.self.inside in
-    let now = c.args.now in
-    let from = c.args.from in
-    let draw = c.args.draw.now in
-    let message = c.args.message in
+    let now = c.args.came.at in
+    let from = c.args.came.from in
+    let draw = c.args.came.draw.now in
+    let message = c.args.came.message in
     let own = c.args.own in
     let to = own.to in
     let went = c.send_own-goes.result in
@@ -101,10 +101,10 @@ invariant_of-self c =
 -- its token begins with its key
 pub open-requires-clause-own_token : goal.open-requires-clause-own_token
 open-requires-clause-own_token c =
-    let draw = c.args.draw.now in
+    let draw = c.args.came.draw.now in
     let rest = drop 1 (token_drawn draw) in
     let next : c.self.inside.exchanges.next ≡ c.args.key =
-    ap (λ (s : State). s.exchanges.next) c.self.view_is ∙ next_is c.args.self.now c.args.message c.args.own.to c.args.key c.requires.key in
+    ap (λ (s : State). s.exchanges.next) c.self.view_is ∙ next_is c.args.self.now c.args.came.message c.args.own.to c.args.key c.requires.key in
     let token : c.gone_out.result.token ≡ c.args.key ∷ rest =
     ap (λ (e : Exchange). e.token) c.gone_out.ensures ∙ ap (λ (e : Exchange). e.token) c.waiting-exchange.ensures in
     (rest, token ∙ ap (λ k. k ∷ rest) (sym next))
@@ -113,8 +113,8 @@ pub returns-clause-fits : goal.returns-clause-fits
 returns-clause-fits c =
     let own = c.args.own in
     let goes = goes_now own.confirmable own.to c.settle.new.self in
-    sendable_step c.sending.result (c.args.out.sent ++ sends_own goes own.to own.sent)
+    sendable_step c.sending.result (c.args.acknowledged.out.sent ++ sends_own goes own.to own.sent)
     (c.sending.ensures ∙ ap sends (c.into_datagrams.ensures ∙ c.send_own-goes.ensures.sent))
-    (sendable_both c.args.out.sent (sends_own goes own.to own.sent)
-    (subst AreSendable (sym c.requires.sent) (sendable_acknowledgement (λ id. (c.what_nodes_send.ensures.short id).1) c.args.from c.args.message))
+    (sendable_both c.args.acknowledged.out.sent (sends_own goes own.to own.sent)
+    (subst AreSendable (sym c.requires.acknowledged.sent) (sendable_acknowledgement (λ id. (c.what_nodes_send.ensures.short id).1) c.args.came.from c.args.came.message))
     (sendable_own goes own.to own.sent (subst FitsDatagram (sym c.requires.own.sent) c.requires.own.short)))

@@ -5,9 +5,8 @@ use Rattle.osc_message.specs.Sending.{AreSendable, again}
 use Rattle.osc_model.specs.Step.{sends}
 use Rattle.osc_model.specs.declared.bytes.Bytes.{Bytes}
 use Rattle.osc_model.specs.declared.node.Peer.{Peer}
-use Rattle.osc_model.specs.declared.step.Datagram.{Datagram}
 use Rattle.osc_model.specs.declared.step.Step.{Step}
-use Rattle.std.specs.Prelude.{List, Option}
+use Rattle.std.specs.Prelude.{Option}
 use Rattle.std.specs.Option.{ForSome}
 use Rattle.osc_server.specs.Parts.{IsMessage, SendsTo}
 use Rattle.osc_server.proofs.Notes.{noted_message, repeat_sends}
