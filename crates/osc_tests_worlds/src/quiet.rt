@@ -1,9 +1,10 @@
 //! Quiet rounds: what waits is delivered, in order of sending, and what was dropped isn't; and numbers that are skipped.
 ghost use Rattle.std.specs.Prelude.{◌%◌, replicate};
 
-use crate::common::{POST, accepted, asks, counts, exchanges, happens, has, world};
+use crate::common::{accepted, asks, counts, exchanges, has, takes_place, world};
 use osc_ccm::Ccm;
-use osc_model::{Draw, Moment};
+use osc_fixtures::{POST, at, drawn};
+use osc_model::Draw;
 use osc_run::Actor;
 use osc_world::{Draws, Event, What, World};
 use std::alloc::Global;
@@ -25,13 +26,8 @@ impl Draws for Numbered {
 
 /// A quiet round at this moment; none where there was no memory for it.
 pub(crate) fn is_quiet(alloc: Global, world: &mut World, ms: u64, limit: usize) -> Option<bool> {
-    let now = if ms < 1_000_000 {
-        Moment { ms }
-    } else {
-        Moment::START
-    };
     world
-        .quiet::<Ccm<8>, Numbered>(alloc, now, &Numbered, limit)
+        .quiet::<Ccm<8>, Numbered>(alloc, at(ms), &Numbered, limit)
         .ok()
 }
 
@@ -45,7 +41,7 @@ fn waits(alloc: Global, world: &World, numbers: &[usize]) -> bool {
 
 /// A context, by a quiet round: the post and its answer.
 pub(crate) fn exchanged(rt: &impl Abort, alloc: Global, world: &mut World) {
-    assert!(rt; exchanges(alloc, world, 200));
+    assert!(rt; exchanges(alloc, world, 200, 0));
     assert!(rt; is_quiet(alloc, world, 0, 2) == Some(true));
 }
 
@@ -54,7 +50,7 @@ fn limits(rt: &impl Abort, alloc: Global, world: &mut World) {
     assert!(rt; is_quiet(alloc, world, 0, 0) == Some(true));
     assert!(rt; is_quiet(alloc, world, 0, 9) == Some(true));
     assert!(rt; world.records().len() == 0);
-    assert!(rt; exchanges(alloc, world, 200));
+    assert!(rt; exchanges(alloc, world, 200, 0));
     assert!(rt; is_quiet(alloc, world, 0, 0) == Some(false));
     assert!(rt; world.records().len() == 1);
     assert!(rt; waits(alloc, world, &[0]));
@@ -82,21 +78,14 @@ fn a_round_has_a_limit(rt: HostRuntime) -> Result<(), Fail> {
 
 /// The client's tick at this moment.
 fn ticks(alloc: Global, world: &mut World, ms: u64) -> bool {
-    let now = if ms < 1_000_000 {
-        Moment { ms }
-    } else {
-        Moment::START
-    };
     let event = Event {
-        moment: now,
-        draw: Draw([202; 32]),
+        moment: at(ms),
+        draw: drawn(202),
         what: What::Tick {
             node: Actor::Client(0),
         },
     };
-    let done = world.step::<Ccm<8>>(alloc, &event).is_ok();
-    drop(event);
-    done
+    takes_place(alloc, world, event)
 }
 
 /// A request that is dropped is delivered by no round, and comes again once it is due: 2 to 3 seconds later (RFC 7252 section 4.2).
