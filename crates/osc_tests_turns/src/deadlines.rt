@@ -15,7 +15,7 @@ const DUE: [(Row<'static>, Option<u64>); 11] = [
         (
             0,
             Comes(CLIENT, ASKED),
-            &[(CLIENT, b"\x60\x00\x00\x01"), (SERVER, FORWARDED)],
+            &[(CLIENT, b"\x60\0\0\x01"), (SERVER, FORWARDED)],
         ),
         Some(2_000),
     ),
@@ -25,30 +25,24 @@ const DUE: [(Row<'static>, Option<u64>); 11] = [
     (
         (
             3_000,
-            Comes(
-                CLIENT,
-                b"\x42\x01\x00\x02\xcc\xdd\x31\x73\x81\x65\xd4\x0f\x63\x6f\x61\x70",
-            ),
-            &[(CLIENT, b"\x60\x00\x00\x02")],
+            Comes(CLIENT, b"\x42\x01\0\x02\xcc\xdd\x31s\x81e\xd4\x0fcoap"),
+            &[(CLIENT, b"\x60\0\0\x02")],
         ),
         Some(6_000),
     ),
-    ((3_000, Comes(SERVER, b"\x60\x00\x01\x00"), &[]), Some(0)),
+    ((3_000, Comes(SERVER, b"\x60\0\x01\0"), &[]), Some(0)),
     (
         (
             3_000,
             Tick,
-            &[(
-                SERVER,
-                b"\x48\x01\x01\x01\x01\x00\x00\x00\x00\x00\x00\x00\x31\x73\x81\x65",
-            )],
+            &[(SERVER, b"\x48\x01\x01\x01\x01\0\0\0\0\0\0\0\x31s\x81e")],
         ),
         Some(5_000),
     ),
     // What was acknowledged is awaited for 247 seconds since it went out; nothing is due then until the answer to the client comes
     // again.
     (
-        (3_000, Comes(SERVER, b"\x60\x00\x01\x01"), &[]),
+        (3_000, Comes(SERVER, b"\x60\0\x01\x01"), &[]),
         Some(247_000),
     ),
     ((246_999, Tick, &[]), Some(247_000)),
@@ -57,14 +51,14 @@ const DUE: [(Row<'static>, Option<u64>); 11] = [
         Some(249_000),
     ),
     (
-        (247_000, Comes(CLIENT, b"\x60\x00\x01\x02"), &[]),
+        (247_000, Comes(CLIENT, b"\x60\0\x01\x02"), &[]),
         Some(250_000),
     ),
     (
         (250_000, Tick, &[(CLIENT, b"\x42\xa4\x01\x03\xcc\xdd")]),
         Some(252_000),
     ),
-    ((250_000, Comes(CLIENT, b"\x60\x00\x01\x03"), &[]), None),
+    ((250_000, Comes(CLIENT, b"\x60\0\x01\x03"), &[]), None),
 ];
 
 fn are_due(rt: &impl Abort, alloc: Global, proxy: &mut Proxy) {

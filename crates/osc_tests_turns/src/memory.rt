@@ -14,36 +14,30 @@ const REFUSED: [Row<'static>; 4] = [
     (0, Comes(STRANGER, b"\x01"), &[]),
     (
         0,
-        Comes(STRANGER, b"\x44\x01\x00\x09\x00"),
-        &[(STRANGER, b"\x70\x00\x00\x09")],
+        Comes(STRANGER, b"\x44\x01\0\x09\0"),
+        &[(STRANGER, b"\x70\0\0\x09")],
     ),
     (
         0,
-        Comes(CLIENT, b"\x40\x01\x00\x11\xb1\x65"),
-        &[(CLIENT, b"\x60\x84\x00\x11")],
+        Comes(CLIENT, b"\x40\x01\0\x11\xb1e"),
+        &[(CLIENT, b"\x60\x84\0\x11")],
     ),
     (
         0,
-        Comes(CLIENT, b"\x40\x01\x00\x11\xb1\x65"),
-        &[(CLIENT, b"\x60\x84\x00\x11")],
+        Comes(CLIENT, b"\x40\x01\0\x11\xb1e"),
+        &[(CLIENT, b"\x60\x84\0\x11")],
     ),
 ];
 
 /// A request that is forwarded was before these: it is repeated. One that is noted with nothing is repeated by nothing.
 const REPEATED: [Row<'static>; 5] = [
-    (0, Comes(CLIENT, ASKED), &[(CLIENT, b"\x60\x00\x00\x01")]),
+    (0, Comes(CLIENT, ASKED), &[(CLIENT, b"\x60\0\0\x01")]),
     (
         0,
-        Comes(
-            CLIENT,
-            b"\x52\x01\x00\x03\xcc\xdd\x31\x73\x81\x65\xd4\x0f\x63\x6f\x61\x70",
-        ),
-        &[(
-            SERVER,
-            b"\x58\x01\x01\x01\x01\x00\x00\x00\x00\x00\x00\x00\x31\x73\x81\x65",
-        )],
+        Comes(CLIENT, b"\x52\x01\0\x03\xcc\xdd\x31s\x81e\xd4\x0fcoap"),
+        &[(SERVER, b"\x58\x01\x01\x01\x01\0\0\0\0\0\0\0\x31s\x81e")],
     ),
-    (0, Comes(CLIENT, b"\x42\x01\x00\x03\xcc\xdd"), &[]),
+    (0, Comes(CLIENT, b"\x42\x01\0\x03\xcc\xdd"), &[]),
     (1_999, Tick, &[]),
     (2_000, Tick, &[(SERVER, FORWARDED)]),
 ];
@@ -52,48 +46,36 @@ const REPEATED: [Row<'static>; 5] = [
 const ANSWERED: [Row<'static>; 3] = [
     (
         2_000,
-        Comes(
-            STRANGER,
-            b"\x58\x45\x00\x08\x00\x00\x00\x00\x00\x00\x00\x00\xff\x31",
-        ),
+        Comes(STRANGER, b"\x58\x45\0\x08\0\0\0\0\0\0\0\0\xff1"),
         &[],
     ),
     (
         2_000,
-        Comes(
-            SERVER,
-            b"\x48\x45\x00\x42\x00\x00\x00\x00\x00\x00\x00\x00\xff\x31",
-        ),
+        Comes(SERVER, b"\x48\x45\0\x42\0\0\0\0\0\0\0\0\xff1"),
         &[
-            (SERVER, b"\x60\x00\x00\x42"),
-            (CLIENT, b"\x42\x45\x01\x02\xaa\xbb\xff\x31"),
+            (SERVER, b"\x60\0\0\x42"),
+            (CLIENT, b"\x42\x45\x01\x02\xaa\xbb\xff1"),
         ],
     ),
-    (2_000, Comes(CLIENT, b"\x60\x00\x01\x02"), &[]),
+    (2_000, Comes(CLIENT, b"\x60\0\x01\x02"), &[]),
 ];
 
 /// A forwarded request that is rejected, and one that nobody answers.
 const ENDED: [Row<'static>; 6] = [
     (
         2_000,
-        Comes(
-            CLIENT,
-            b"\x42\x01\x00\x04\xaa\xbb\x31\x73\x81\x65\xd4\x0f\x63\x6f\x61\x70",
-        ),
+        Comes(CLIENT, b"\x42\x01\0\x04\xaa\xbb\x31s\x81e\xd4\x0fcoap"),
         &[
-            (CLIENT, b"\x60\x00\x00\x04"),
-            (
-                SERVER,
-                b"\x48\x01\x01\x03\x00\x00\x00\x00\x00\x00\x00\x00\x31\x73\x81\x65",
-            ),
+            (CLIENT, b"\x60\0\0\x04"),
+            (SERVER, b"\x48\x01\x01\x03\0\0\0\0\0\0\0\0\x31s\x81e"),
         ],
     ),
     (
         2_000,
-        Comes(SERVER, b"\x70\x00\x01\x03"),
+        Comes(SERVER, b"\x70\0\x01\x03"),
         &[(CLIENT, b"\x42\xa2\x01\x04\xaa\xbb")],
     ),
-    (2_000, Comes(CLIENT, b"\x60\x00\x01\x04"), &[]),
+    (2_000, Comes(CLIENT, b"\x60\0\x01\x04"), &[]),
     (246_999, Tick, &[]),
     (247_000, Tick, &[(CLIENT, b"\x52\xa4\x01\x05\xcc\xdd")]),
     (247_000, Tick, &[]),

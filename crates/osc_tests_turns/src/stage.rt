@@ -24,17 +24,16 @@ pub(crate) enum Event<'a> {
 pub(crate) type Row<'a> = (u64, Event<'a>, &'a [(Peer, &'a [u8])]);
 
 /// A confirmable request for `s`.
-pub(crate) const ASKED: &[u8] = b"\x42\x01\x00\x01\xaa\xbb\x31\x73\x81\x65\xd4\x0f\x63\x6f\x61\x70";
+pub(crate) const ASKED: &[u8] = b"\x42\x01\0\x01\xaa\xbb\x31s\x81e\xd4\x0fcoap";
 
 /// What a proxy forwards of it.
-pub(crate) const FORWARDED: &[u8] =
-    b"\x48\x01\x01\x00\x00\x00\x00\x00\x00\x00\x00\x00\x31\x73\x81\x65";
+pub(crate) const FORWARDED: &[u8] = b"\x48\x01\x01\0\0\0\0\0\0\0\0\0\x31s\x81e";
 
 /// It is acknowledged and forwarded.
 pub(crate) const FORWARDS: [Row<'static>; 1] = [(
     0,
     Event::Comes(CLIENT, ASKED),
-    &[(CLIENT, b"\x60\x00\x00\x01"), (SERVER, FORWARDED)],
+    &[(CLIENT, b"\x60\0\0\x01"), (SERVER, FORWARDED)],
 )];
 
 /// The request of this kind and message ID for `s`.

@@ -22,62 +22,41 @@ const IN_ACKNOWLEDGEMENTS: [Row<'static>; 8] = [
     // From another peer, with another token, with another message ID: none counts.
     (
         0,
-        Comes(
-            STRANGER,
-            b"\x68\x45\x01\x00\x00\x00\x00\x00\x00\x00\x00\x00\xff\x31",
-        ),
+        Comes(STRANGER, b"\x68\x45\x01\0\0\0\0\0\0\0\0\0\xff1"),
         &[],
     ),
     (
         0,
-        Comes(
-            STRANGER,
-            b"\x48\x45\x00\x07\x00\x00\x00\x00\x00\x00\x00\x00\xff\x31",
-        ),
-        &[(STRANGER, b"\x70\x00\x00\x07")],
+        Comes(STRANGER, b"\x48\x45\0\x07\0\0\0\0\0\0\0\0\xff1"),
+        &[(STRANGER, b"\x70\0\0\x07")],
     ),
     (
         0,
-        Comes(
-            SERVER,
-            b"\x58\x45\x00\x08\x01\x00\x00\x00\x00\x00\x00\x00\xff\x31",
-        ),
+        Comes(SERVER, b"\x58\x45\0\x08\x01\0\0\0\0\0\0\0\xff1"),
         &[],
     ),
     (
         0,
-        Comes(
-            SERVER,
-            b"\x48\x45\x00\x09\x01\x00\x00\x00\x00\x00\x00\x00\xff\x31",
-        ),
-        &[(SERVER, b"\x70\x00\x00\x09")],
+        Comes(SERVER, b"\x48\x45\0\x09\x01\0\0\0\0\0\0\0\xff1"),
+        &[(SERVER, b"\x70\0\0\x09")],
     ),
     (
         0,
-        Comes(
-            SERVER,
-            b"\x68\x45\x01\x01\x00\x00\x00\x00\x00\x00\x00\x00\xff\x31",
-        ),
+        Comes(SERVER, b"\x68\x45\x01\x01\0\0\0\0\0\0\0\0\xff1"),
         &[],
     ),
     // With the client's token, and a message ID of the proxy's own; once.
     (
         0,
-        Comes(
-            SERVER,
-            b"\x68\x45\x01\x00\x00\x00\x00\x00\x00\x00\x00\x00\xff\x31",
-        ),
-        &[(CLIENT, b"\x42\x45\x01\x01\xaa\xbb\xff\x31")],
+        Comes(SERVER, b"\x68\x45\x01\0\0\0\0\0\0\0\0\0\xff1"),
+        &[(CLIENT, b"\x42\x45\x01\x01\xaa\xbb\xff1")],
     ),
     (
         0,
-        Comes(
-            SERVER,
-            b"\x68\x45\x01\x00\x00\x00\x00\x00\x00\x00\x00\x00\xff\x31",
-        ),
+        Comes(SERVER, b"\x68\x45\x01\0\0\0\0\0\0\0\0\0\xff1"),
         &[],
     ),
-    (0, Comes(CLIENT, b"\x60\x00\x01\x01"), &[]),
+    (0, Comes(CLIENT, b"\x60\0\x01\x01"), &[]),
 ];
 
 #[test]
@@ -87,25 +66,19 @@ fn responses_in_acknowledgements(rt: HostRuntime) -> Result<(), Fail> {
 
 /// A response in a message of its own, which is acknowledged each time and goes back once.
 const APART: [Row<'static>; 3] = [
-    (0, Comes(SERVER, b"\x60\x00\x01\x00"), &[]),
+    (0, Comes(SERVER, b"\x60\0\x01\0"), &[]),
     (
         0,
-        Comes(
-            SERVER,
-            b"\x48\x45\x00\x42\x00\x00\x00\x00\x00\x00\x00\x00\xff\x31",
-        ),
+        Comes(SERVER, b"\x48\x45\0\x42\0\0\0\0\0\0\0\0\xff1"),
         &[
-            (SERVER, b"\x60\x00\x00\x42"),
-            (CLIENT, b"\x42\x45\x01\x01\xaa\xbb\xff\x31"),
+            (SERVER, b"\x60\0\0\x42"),
+            (CLIENT, b"\x42\x45\x01\x01\xaa\xbb\xff1"),
         ],
     ),
     (
         0,
-        Comes(
-            SERVER,
-            b"\x48\x45\x00\x42\x00\x00\x00\x00\x00\x00\x00\x00\xff\x31",
-        ),
-        &[(SERVER, b"\x60\x00\x00\x42")],
+        Comes(SERVER, b"\x48\x45\0\x42\0\0\0\0\0\0\0\0\xff1"),
+        &[(SERVER, b"\x60\0\0\x42")],
     ),
 ];
 
@@ -116,13 +89,13 @@ fn responses_in_messages_of_their_own(rt: HostRuntime) -> Result<(), Fail> {
 
 /// A Reset, of which a stranger's counts for nothing: 5.02, once.
 const REJECTED: [Row<'static>; 3] = [
-    (0, Comes(STRANGER, b"\x70\x00\x01\x00"), &[]),
+    (0, Comes(STRANGER, b"\x70\0\x01\0"), &[]),
     (
         0,
-        Comes(SERVER, b"\x70\x00\x01\x00"),
+        Comes(SERVER, b"\x70\0\x01\0"),
         &[(CLIENT, b"\x42\xa2\x01\x01\xaa\xbb")],
     ),
-    (0, Comes(SERVER, b"\x70\x00\x01\x00"), &[]),
+    (0, Comes(SERVER, b"\x70\0\x01\0"), &[]),
 ];
 
 #[test]
@@ -132,10 +105,10 @@ fn resets(rt: HostRuntime) -> Result<(), Fail> {
 
 /// Also a Reset of what was acknowledged before: 5.02.
 const REJECTED_LATE: [Row<'static>; 2] = [
-    (0, Comes(SERVER, b"\x60\x00\x01\x00"), &[]),
+    (0, Comes(SERVER, b"\x60\0\x01\0"), &[]),
     (
         0,
-        Comes(SERVER, b"\x70\x00\x01\x00"),
+        Comes(SERVER, b"\x70\0\x01\0"),
         &[(CLIENT, b"\x42\xa2\x01\x01\xaa\xbb")],
     ),
 ];
@@ -148,10 +121,7 @@ fn resets_behind_acknowledgements(rt: HostRuntime) -> Result<(), Fail> {
 /// A response with an option that nobody here knows and that is unsafe to forward: 5.02.
 const UNSAFE: [Row<'static>; 1] = [(
     0,
-    Comes(
-        SERVER,
-        b"\x68\x45\x01\x00\x00\x00\x00\x00\x00\x00\x00\x00\x20",
-    ),
+    Comes(SERVER, b"\x68\x45\x01\0\0\0\0\0\0\0\0\0\x20"),
     &[(CLIENT, b"\x42\xa2\x01\x01\xaa\xbb")],
 )];
 
@@ -178,7 +148,7 @@ fn requests_that_nobody_acknowledges(rt: HostRuntime) -> Result<(), Fail> {
 
 /// Once a request was acknowledged its answer is awaited for 247 seconds.
 const UNANSWERED: [Row<'static>; 4] = [
-    (0, Comes(SERVER, b"\x60\x00\x01\x00"), &[]),
+    (0, Comes(SERVER, b"\x60\0\x01\0"), &[]),
     (2_000, Tick, &[]),
     (246_999, Tick, &[]),
     (247_000, Tick, &[(CLIENT, b"\x42\xa4\x01\x01\xaa\xbb")]),
@@ -193,37 +163,22 @@ fn requests_that_nobody_answers(rt: HostRuntime) -> Result<(), Fail> {
 const NON_CONFIRMABLE: [Row<'static>; 7] = [
     (
         0,
-        Comes(
-            CLIENT,
-            b"\x52\x01\x00\x01\xaa\xbb\x31\x73\x81\x65\xd4\x0f\x63\x6f\x61\x70",
-        ),
-        &[(
-            SERVER,
-            b"\x58\x01\x01\x00\x00\x00\x00\x00\x00\x00\x00\x00\x31\x73\x81\x65",
-        )],
+        Comes(CLIENT, b"\x52\x01\0\x01\xaa\xbb\x31s\x81e\xd4\x0fcoap"),
+        &[(SERVER, b"\x58\x01\x01\0\0\0\0\0\0\0\0\0\x31s\x81e")],
     ),
-    (0, Comes(SERVER, b"\x70\x00\x01\x00"), &[]),
+    (0, Comes(SERVER, b"\x70\0\x01\0"), &[]),
     (246_999, Tick, &[]),
     (247_000, Tick, &[(CLIENT, b"\x52\xa4\x01\x01\xaa\xbb")]),
     (494_000, Tick, &[]),
     (
         494_000,
-        Comes(
-            CLIENT,
-            b"\x52\x01\x00\x02\xaa\xbb\x31\x73\x81\x65\xd4\x0f\x63\x6f\x61\x70",
-        ),
-        &[(
-            SERVER,
-            b"\x58\x01\x01\x02\x00\x00\x00\x00\x00\x00\x00\x00\x31\x73\x81\x65",
-        )],
+        Comes(CLIENT, b"\x52\x01\0\x02\xaa\xbb\x31s\x81e\xd4\x0fcoap"),
+        &[(SERVER, b"\x58\x01\x01\x02\0\0\0\0\0\0\0\0\x31s\x81e")],
     ),
     (
         494_000,
-        Comes(
-            SERVER,
-            b"\x58\x45\x00\x43\x00\x00\x00\x00\x00\x00\x00\x00\xff\x31",
-        ),
-        &[(CLIENT, b"\x52\x45\x01\x03\xaa\xbb\xff\x31")],
+        Comes(SERVER, b"\x58\x45\0\x43\0\0\0\0\0\0\0\0\xff1"),
+        &[(CLIENT, b"\x52\x45\x01\x03\xaa\xbb\xff1")],
     ),
 ];
 
@@ -236,24 +191,18 @@ fn requests_that_are_not_confirmable(rt: HostRuntime) -> Result<(), Fail> {
 const IN_TURN: [Row<'static>; 8] = [
     (
         0,
-        Comes(
-            CLIENT,
-            b"\x42\x01\x00\x02\xcc\xdd\x31\x73\x81\x65\xd4\x0f\x63\x6f\x61\x70",
-        ),
-        &[(CLIENT, b"\x60\x00\x00\x02")],
+        Comes(CLIENT, b"\x42\x01\0\x02\xcc\xdd\x31s\x81e\xd4\x0fcoap"),
+        &[(CLIENT, b"\x60\0\0\x02")],
     ),
-    (0, Comes(SERVER, b"\x60\x00\x01\x00"), &[]),
+    (0, Comes(SERVER, b"\x60\0\x01\0"), &[]),
     (
         1_000,
         Tick,
-        &[(
-            SERVER,
-            b"\x48\x01\x01\x01\x01\x00\x00\x00\x00\x00\x00\x00\x31\x73\x81\x65",
-        )],
+        &[(SERVER, b"\x48\x01\x01\x01\x01\0\0\0\0\0\0\0\x31s\x81e")],
     ),
-    (1_000, Comes(SERVER, b"\x60\x00\x01\x01"), &[]),
+    (1_000, Comes(SERVER, b"\x60\0\x01\x01"), &[]),
     (247_000, Tick, &[(CLIENT, b"\x42\xa4\x01\x02\xaa\xbb")]),
-    (247_000, Comes(CLIENT, b"\x60\x00\x01\x02"), &[]),
+    (247_000, Comes(CLIENT, b"\x60\0\x01\x02"), &[]),
     (247_999, Tick, &[]),
     (248_000, Tick, &[(CLIENT, b"\x42\xa4\x01\x03\xcc\xdd")]),
 ];
