@@ -10,7 +10,7 @@ mod requests;
 mod resources;
 
 pub use grants::{GET_AND_POST, KEY, Right, claims, desk, iv_of, own, token};
-pub use names::{pair, shared_name};
+pub use names::shared_name;
 pub use nodes::{
     client, empty_server, proxy, sent, sent_in, server, straight, target, targets, through,
 };

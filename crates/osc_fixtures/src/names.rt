@@ -5,7 +5,7 @@ use osc_model::{Bytes, ContextName, SharedName};
 use std::alloc::{AllocError, Global};
 
 /// Copies of both.
-pub fn pair(alloc: Global, one: &[u8], other: &[u8]) -> Result<(Bytes, Bytes), AllocError> {
+fn pair(alloc: Global, one: &[u8], other: &[u8]) -> Result<(Bytes, Bytes), AllocError> {
     let one = Bytes::from_slice(alloc, one)?;
     Ok((one, Bytes::from_slice(alloc, other)?))
 }
