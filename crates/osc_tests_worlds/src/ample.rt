@@ -5,7 +5,7 @@ use crate::common::{
     Asked, SCOPE, asks_for, begun, counts, delivers, exchanges, has_proxy, injects, is_enrolled,
     lies, restarts, start, ticks,
 };
-use crate::quiet::is_quiet;
+use crate::quiet::settles;
 use osc_client::Way;
 use osc_fixtures::{
     GET, NOWHERE, PROXY, PUT, Right, SERVER, own, place, straight, targets, through,
@@ -102,11 +102,11 @@ fn is_served(rt: &impl Abort, alloc: Global, world: &mut World, client: u8) {
     assert!(rt; asks(alloc, world, client, 0, GET));
     assert!(rt; exchanges(alloc, world, number(client, 1), owner));
     assert!(rt; exchanges(alloc, world, number(client, 2), owner));
-    assert!(rt; is_quiet(alloc, world, 0, 9) == Some(true));
+    assert!(rt; settles(alloc, world));
     assert!(rt; asks(alloc, world, client, 3, PUT));
     assert!(rt; asks(alloc, world, client, 4, GET));
     assert!(rt; ticks(alloc, world, number(client, 5), Actor::Client(owner)));
-    assert!(rt; is_quiet(alloc, world, 0, 9) == Some(true));
+    assert!(rt; settles(alloc, world));
 }
 
 #[test]

@@ -18,6 +18,9 @@ use std::test::*;
 /// GET, POST and PUT on `/log`.
 pub(crate) const SCOPE: &[u8] = b"\x81\x82\x64/log\x07";
 
+/// The greatest number that a request may have (RFC 8613 section 7.2.1).
+pub(crate) const GREATEST: u64 = 1_099_511_627_775;
+
 // ---- where a world begins
 
 /// A world with these resources before its first event, for this audience.

@@ -1,7 +1,7 @@
 //! Conditions of requests: asked in a world, and read from plaintexts.
 
 use crate::common::{happens, world};
-use crate::quiet::{exchanged, is_quiet};
+use crate::quiet::{exchanged, settles};
 use osc_fixtures::{EVERY_METHOD, PUT, request, scope_of};
 use osc_model::{Code, Reply, Request};
 use osc_options::request_of;
@@ -23,8 +23,7 @@ fn put_where_none(alloc: Global, payload: &[u8]) -> Result<Request, AllocError> 
 fn puts_where_none(alloc: Global, world: &mut World, number: u8, payload: &[u8]) -> bool {
     match put_where_none(alloc, payload) {
         Ok(request) => {
-            happens(alloc, world, number, What::Ask { client: 0, request })
-                && is_quiet(alloc, world, 0, 9) == Some(true)
+            happens(alloc, world, number, What::Ask { client: 0, request }) && settles(alloc, world)
         }
         Err(_) => false,
     }

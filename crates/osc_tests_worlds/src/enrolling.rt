@@ -1,7 +1,7 @@
 //! Clients that can't be enrolled, and one that can.
 
 use crate::common::{SCOPE, counts, exchanges, start};
-use crate::quiet::is_quiet;
+use crate::quiet::settles;
 use osc_authz::GrantError;
 use osc_ccm::Ccm;
 use osc_fixtures::{CLIENT, PROXY, SERVER, straight};
@@ -91,7 +91,7 @@ fn begins(rt: &impl Abort, alloc: Global, start: Start) {
     let mut world = start.begin(alloc).expect(rt, "memory");
     assert!(rt; world.minted().len() == 1);
     assert!(rt; exchanges(alloc, &mut world, 200, 0));
-    assert!(rt; is_quiet(alloc, &mut world, 0, 9) == Some(true));
+    assert!(rt; settles(alloc, &mut world));
     assert!(rt; world.sent().len() == 2);
     assert!(rt; counts(alloc, &world) == (0, 0, 0));
     drop(world);

@@ -1,7 +1,7 @@
 //! What each owner is answered, whatever the others do.
 
 use crate::common::{Asked, asks_for, exchanges, world_of};
-use crate::quiet::is_quiet;
+use crate::quiet::settles;
 use crate::trees::{crowded, full};
 use osc_fixtures::{DELETE, GET, POST, Right, own};
 use osc_model::{Code, Reply};
@@ -89,10 +89,6 @@ fn is_undisturbed(alloc: Global, world: &World, client: usize, secret: u8) -> bo
         }
         _ => false,
     }
-}
-
-fn settles(alloc: Global, world: &mut World) -> bool {
-    is_quiet(alloc, world, 0, 9) == Some(true)
 }
 
 /// The exchange of this client, in the event of this number, by a quiet round.

@@ -1,7 +1,7 @@
 //! Quiet rounds: what waits is delivered, in order of sending, and what was dropped isn't; and numbers that are skipped.
 ghost use Rattle.std.specs.Prelude.{◌%◌, replicate};
 
-use crate::common::{accepted, asks, counts, exchanges, has, takes_place, world};
+use crate::common::{GREATEST, accepted, asks, counts, exchanges, has, takes_place, world};
 use osc_ccm::Ccm;
 use osc_fixtures::{POST, at, drawn};
 use osc_model::Draw;
@@ -31,6 +31,11 @@ pub(crate) fn is_quiet(alloc: Global, world: &mut World, ms: u64, limit: usize) 
         .ok()
 }
 
+/// Whether a quiet round at the start leaves nothing; nine deliveries are more than any of these takes.
+pub(crate) fn settles(alloc: Global, world: &mut World) -> bool {
+    is_quiet(alloc, world, 0, 9) == Some(true)
+}
+
 /// The numbers of what waits.
 fn waits(alloc: Global, world: &World, numbers: &[usize]) -> bool {
     match world.waiting(alloc) {
@@ -48,7 +53,7 @@ pub(crate) fn exchanged(rt: &impl Abort, alloc: Global, world: &mut World) {
 /// A limit of none delivers nothing and tells whether anything waits; each limit delivers so many at most.
 fn limits(rt: &impl Abort, alloc: Global, world: &mut World) {
     assert!(rt; is_quiet(alloc, world, 0, 0) == Some(true));
-    assert!(rt; is_quiet(alloc, world, 0, 9) == Some(true));
+    assert!(rt; settles(alloc, world));
     assert!(rt; world.records().len() == 0);
     assert!(rt; exchanges(alloc, world, 200, 0));
     assert!(rt; is_quiet(alloc, world, 0, 0) == Some(false));
@@ -98,7 +103,7 @@ fn loses_one(rt: &impl Abort, alloc: Global, world: &mut World) {
     world.drop_datagram(100);
     assert!(rt; waits(alloc, world, &[]));
     assert!(rt; world.next_waiting() == None);
-    assert!(rt; is_quiet(alloc, world, 0, 9) == Some(true));
+    assert!(rt; settles(alloc, world));
     assert!(rt; counts(alloc, world) == (0, 1, 0));
     assert!(rt; ticks(alloc, world, 1999));
     assert!(rt; waits(alloc, world, &[]));
@@ -127,14 +132,11 @@ fn last_number(alloc: Global, world: &World) -> Option<u64> {
 
 /// Asks, by a quiet round; the number of the answered request.
 fn number_asked(alloc: Global, world: &mut World) -> Option<u64> {
-    if !asks(alloc, world, 203, POST, b"a") || is_quiet(alloc, world, 0, 9) != Some(true) {
+    if !asks(alloc, world, 203, POST, b"a") || !settles(alloc, world) {
         return None;
     }
     last_number(alloc, world)
 }
-
-/// The greatest number that a request may have (RFC 8613 section 7.2.1).
-const LAST: u64 = 1099511627775;
 
 /// Numbers are raised and never lowered; behind the last one nothing is asked.
 fn skips(rt: &impl Abort, alloc: Global, world: &mut World) {
@@ -146,13 +148,13 @@ fn skips(rt: &impl Abort, alloc: Global, world: &mut World) {
         (0, 3, 8),
         (1, 20, 9),
         (0, 9, 10),
-        (0, LAST, LAST),
+        (0, GREATEST, GREATEST),
     ] {
         world.skip(client, number);
         assert!(rt; number_asked(alloc, world) == Some(next), "at {number}");
     }
     assert!(rt; accepted(alloc, world) == 6);
-    assert!(rt; number_asked(alloc, world) == Some(LAST));
+    assert!(rt; number_asked(alloc, world) == Some(GREATEST));
     assert!(rt; accepted(alloc, world) == 6);
 }
 

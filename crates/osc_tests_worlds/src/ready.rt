@@ -1,7 +1,7 @@
 //! Rounds that end well. What is assumed of a world before an exchange, or a request, that goes straight to the server is decided by what
 //! the world tells; then two deliveries are the whole round, and what is promised has come about.
 
-use crate::common::{SCOPE, accepted, counts, has, history, takes_place, world_of};
+use crate::common::{GREATEST, SCOPE, accepted, counts, has, history, takes_place, world_of};
 use crate::quiet::is_quiet;
 use osc_authz::ServerContext;
 use osc_client::Client;
@@ -14,9 +14,6 @@ use osc_world::{Event, Sent, What, World};
 use std::alloc::Global;
 use std::process::Abort;
 use std::test::*;
-
-/// The greatest number that a request may have (RFC 8613 section 7.2.1).
-const GREATEST: u64 = 1099511627775;
 
 /// The longest id context.
 const LONGEST_ID_CONTEXT: usize = 64;
