@@ -10,7 +10,10 @@ pub const EVERY_METHOD: &[u8] = b"\x83\x82\x62/e\x0f\x82\x62/f\x0f\x82\x62/n\x0f
 
 /// Puts a resource of these bytes, without a format, where the path is one, they aren't too many, and there is room for it.
 pub fn put(alloc: Global, tree: &mut Tree, path: &[u8], bytes: &[u8]) -> Result<(), AllocError> {
-    if tree.is_full() || bytes.len() > LONGEST_PAYLOAD {
+    if tree.is_full() {
+        return Ok(());
+    }
+    if bytes.len() > LONGEST_PAYLOAD {
         return Ok(());
     }
     match Path::from_text(alloc, path)? {
