@@ -1,9 +1,10 @@
 //! A client and a proxy by themselves, for what they keep.
 
 use osc_authz::ClientDesk;
-use osc_client::{Client, Way};
-use osc_model::{Bytes, Draw, Moment, Peer};
-use osc_proxy::{Proxy, Target, Targets};
+use osc_client::Client;
+use osc_fixtures::{drawn, place, proxy, straight};
+use osc_model::{Bytes, Moment};
+use osc_proxy::Proxy;
 use std::alloc::{AllocError, Global};
 
 /// Makes a client with a token of 73 bytes, which posts it unless `posts` is 0. Answers how many messages are open then; 0 for want of memory.
@@ -22,7 +23,7 @@ pub extern "C" fn osc_bench_client(alloc: Global, posts: u8) -> u64 {
 /// Forwards so many non-confirmable GETs, each from a peer of its own. Answers how many exchanges are open then; 0 for want of memory.
 #[unsafe(no_mangle)]
 pub extern "C" fn osc_bench_forward(alloc: Global, requests: u8) -> u64 {
-    match proxy_of(alloc) {
+    match proxy(alloc) {
         Ok(mut proxy) => {
             let open = forward_all(alloc, &mut proxy, requests);
             drop(proxy);
@@ -32,22 +33,11 @@ pub extern "C" fn osc_bench_forward(alloc: Global, requests: u8) -> u64 {
     }
 }
 
-const LOCALHOST: [u8; 4] = [127, 0, 0, 1];
-
-const SERVER: Peer = Peer {
-    address: LOCALHOST,
-    port: 5683,
-};
-
 // ---- the client
 
 fn client_of(alloc: Global) -> Result<Client, AllocError> {
     let desk = desk_of(alloc)?;
-    let way = Way {
-        next_hop: SERVER,
-        origin: None,
-    };
-    Client::new(alloc, desk, way)
+    Client::new(alloc, desk, straight())
 }
 
 fn desk_of(alloc: Global) -> Result<ClientDesk, AllocError> {
@@ -68,7 +58,7 @@ fn open_at(alloc: Global, client: &mut Client, posts: bool) -> Result<u64, Alloc
 }
 
 fn post(alloc: Global, client: &mut Client) -> Result<(), AllocError> {
-    let step = client.exchange(alloc, Moment::START, &Draw([1; 32]))?;
+    let step = client.exchange(alloc, Moment::START, &drawn(1))?;
     drop(step);
     Ok(())
 }
@@ -77,18 +67,6 @@ fn post(alloc: Global, client: &mut Client) -> Result<(), AllocError> {
 
 // A GET of `/e` at the host `s`, whose message ID ends with a byte of its own.
 const GET: [u8; 14] = *b"\x50\x01\x00\x00\x31s\x81e\xd4\x0fcoap";
-
-// A proxy that forwards to the host `s`.
-fn proxy_of(alloc: Global) -> Result<Proxy, AllocError> {
-    let mut targets = Targets::new(alloc);
-    let host = Bytes::from_slice(alloc, b"s")?;
-    targets.push(Target {
-        host,
-        port: 5683,
-        peer: SERVER,
-    })?;
-    Proxy::new(alloc, targets)
-}
 
 // How many exchanges are open once these came.
 fn forward_all(alloc: Global, proxy: &mut Proxy, requests: u8) -> Result<u64, AllocError> {
@@ -101,12 +79,8 @@ fn forward_all(alloc: Global, proxy: &mut Proxy, requests: u8) -> Result<u64, Al
 fn forward(alloc: Global, proxy: &mut Proxy, number: u8) -> Result<(), AllocError> {
     let mut datagram = GET;
     datagram[3] = number;
-    let from = Peer {
-        address: LOCALHOST,
-        port: 7001 + number as u16,
-    };
-    let draw = Draw([number; 32]);
-    let step = proxy.on_datagram(alloc, Moment::START, from, &datagram, &draw)?;
+    let from = place(number);
+    let step = proxy.on_datagram(alloc, Moment::START, from, &datagram, &drawn(number))?;
     drop(step);
     Ok(())
 }

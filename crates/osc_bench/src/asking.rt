@@ -3,11 +3,11 @@
 ghost use Rattle.std.specs.Prelude.{◌<◌, IfOk};
 
 use crate::messages::answer;
-use crate::protected::empty_server;
-use crate::tokens::desk_of;
+use crate::tokens::right_of;
 use osc_ccm::Ccm;
-use osc_client::{Client, Way};
-use osc_model::{Bytes, Datagram, Draw, ETags, Method, Moment, Path, Peer, Request, Step};
+use osc_client::Client;
+use osc_fixtures::{POST, SERVER, empty_server, request, sent, straight};
+use osc_model::{Bytes, Draw, Moment, Request, Step};
 use std::alloc::{AllocError, Global};
 
 /// A client makes a context by an exchange with a server, and then asks so many times: a POST of 64 bytes on `/log`, confirmable and
@@ -28,21 +28,11 @@ pub extern "C" fn osc_bench_ask(alloc: Global, rounds: u64) -> u64 {
 // How many bytes a request carries.
 const PAYLOAD: usize = 64;
 
-const SERVER: Peer = Peer {
-    address: [127, 0, 0, 1],
-    port: 5683,
-};
-
 const DRAW: Draw = Draw([1; 32]);
 
 // A client that was granted a token.
 fn client_of(alloc: Global) -> Result<Client, AllocError> {
-    let desk = desk_of(alloc, 1)?;
-    let way = Way {
-        next_hop: SERVER,
-        origin: None,
-    };
-    Client::new(alloc, desk, way)
+    osc_fixtures::client(alloc, right_of(1), straight())
 }
 
 // Makes a context, and asks so many times. How many bytes the requests have.
@@ -57,7 +47,7 @@ fn ask_often(alloc: Global, client: &mut Client, rounds: u64) -> Result<u64, All
 // An exchange with a server of its own.
 fn make_context(alloc: Global, client: &mut Client) -> Result<(), AllocError> {
     let post = client.exchange(alloc, Moment::START, &DRAW)?;
-    let answered = answered(alloc, post.out.as_slice());
+    let answered = served(alloc, sent(&post));
     drop(post);
     let answered = answered?;
     let heard = hear(alloc, client, answered.as_slice());
@@ -66,13 +56,6 @@ fn make_context(alloc: Global, client: &mut Client) -> Result<(), AllocError> {
 }
 
 // What a new server answers.
-fn answered(alloc: Global, datagrams: &[Datagram]) -> Result<Bytes, AllocError> {
-    match datagrams {
-        [post] => served(alloc, post.bytes.as_slice()),
-        _ => Ok(Bytes::new(alloc)),
-    }
-}
-
 fn served(alloc: Global, datagram: &[u8]) -> Result<Bytes, AllocError> {
     let mut server = empty_server(alloc)?;
     let step = answer(alloc, &mut server, Moment::START, [2; 32], datagram);
@@ -82,10 +65,7 @@ fn served(alloc: Global, datagram: &[u8]) -> Result<Bytes, AllocError> {
 
 // What the step sends, where that is one datagram.
 fn copied(alloc: Global, step: Step) -> Result<Bytes, AllocError> {
-    let bytes = match step.out.as_slice() {
-        [sent] => Bytes::from_slice(alloc, sent.bytes.as_slice()),
-        _ => Ok(Bytes::new(alloc)),
-    };
+    let bytes = Bytes::from_slice(alloc, sent(&step));
     drop(step);
     bytes
 }
@@ -100,15 +80,7 @@ fn hear(alloc: Global, client: &mut Client, datagram: &[u8]) -> Result<(), Alloc
 fn request_of(alloc: Global) -> Result<Request, AllocError>
     ensures { IfOk result (λ request. 0 < request.code.0) }
 {
-    Ok(Request {
-        code: Method::Post.code(),
-        path: Path::from_text(alloc, b"/log")?,
-        format: None,
-        accept: None,
-        if_match: ETags::new(alloc),
-        if_none_match: false,
-        payload: Bytes::from_slice(alloc, &[b'p'; PAYLOAD])?,
-    })
+    request(alloc, b"/log", POST, &[b'p'; PAYLOAD])
 }
 
 // Asks so many times. How many bytes the requests have.
@@ -139,16 +111,10 @@ fn ask_once(alloc: Global, client: &mut Client, request: &Request) -> Result<u64
 
 // How many bytes the step sends, and what resets the message; where it sends nothing, none and the Reset of the message 0.
 fn sent_by(step: Step) -> (u64, [u8; 4]) {
-    let sent = sent_in(step.out.as_slice());
+    let bytes = sent(&step);
+    let told = (bytes.len() as u64, reset_of(bytes));
     drop(step);
-    sent
-}
-
-fn sent_in(datagrams: &[Datagram]) -> (u64, [u8; 4]) {
-    match datagrams {
-        [sent] => (sent.bytes.len() as u64, reset_of(sent.bytes.as_slice())),
-        _ => (0, [0x70, 0, 0, 0]),
-    }
+    told
 }
 
 // What resets this message.

@@ -3,13 +3,12 @@
 ghost use Rattle.std.specs.Prelude.{◌≡◌, ◌≤◌, ◌<◌, length, IsTrue};
 ghost use Rattle.osc_coap.specs.Message.{Message, Spells};
 
-use osc_authz::ServerDesk;
 use osc_ccm::Ccm;
 use osc_coap::MessageRef;
-use osc_model::{Bytes, Datagram, Draw, Method, Moment, Path, Peer, Resource, Step};
+use osc_fixtures::{STRANGER, put, server};
+use osc_model::{Datagram, Draw, Method, Moment, Path, Step};
 use osc_scope::Scope;
 use osc_server::Server;
-use osc_token::Audience;
 use osc_tree::Tree;
 use std::alloc::{AllocError, Global};
 
@@ -94,8 +93,7 @@ fn server_of(alloc: Global, resources: u16) -> Result<Server, AllocError> {
     let mut tree = Tree::new(alloc);
     let mut open_scope = Scope::new(alloc);
     fill(alloc, &mut tree, &mut open_scope, resources)?;
-    let desk = ServerDesk::new(alloc, [0; 16], Audience::new(alloc, "s")?);
-    Server::new(alloc, tree, desk, open_scope)
+    server(alloc, tree, open_scope)
 }
 
 // Puts and opens so many resources, as many as there is room for.
@@ -107,28 +105,12 @@ fn fill(
 ) -> Result<(), AllocError> {
     for number in 0..resources {
         let text = format!(in alloc; "/r{number:03}")?;
+        put(alloc, tree, text.as_bytes(), b"21.5")?;
         if let Some(path) = Path::from_text(alloc, text.as_bytes())? {
-            open_scope.allow(alloc, path.clone()?, Method::Get)?;
-            put(alloc, tree, path)?;
+            open_scope.allow(alloc, path, Method::Get)?;
         }
     }
     Ok(())
-}
-
-// Puts a resource of four bytes at the path, where the tree has room for it.
-fn put(alloc: Global, tree: &mut Tree, path: Path) -> Result<(), AllocError> {
-    if tree.is_full() {
-        return Ok(());
-    }
-    let payload = Bytes::from_slice(alloc, b"21.5")?;
-    tree.put(
-        alloc,
-        path,
-        Resource {
-            format: None,
-            payload,
-        },
-    )
 }
 
 // Serves so many datagrams, which are this one but for their message IDs: those that come behind its own.
@@ -197,11 +179,7 @@ pub(crate) fn answer(
     drawn: [u8; 32],
     datagram: &[u8],
 ) -> Result<Step, AllocError> {
-    let from = Peer {
-        address: [127, 0, 0, 1],
-        port: 9000,
-    };
-    server.on_datagram::<Ccm<8>>(alloc, now, from, datagram, &Draw(drawn))
+    server.on_datagram::<Ccm<8>>(alloc, now, STRANGER, datagram, &Draw(drawn))
 }
 
 // How many bytes the step sends.

@@ -5,15 +5,13 @@ ghost use Rattle.osc_model.specs.declared.context.Side.TheVariants.{Client};
 ghost use Rattle.osc_context.specs.Derivation.{sender_of};
 
 use crate::messages::answer;
-use crate::protection::{pair, protect_next};
-use crate::tokens::{KEY, post_of};
-use osc_authz::ServerDesk;
+use crate::protection::protect_next;
+use crate::tokens::post_of;
 use osc_coap::MessageRef;
 use osc_context::{SenderContext, derive, joined_salt};
-use osc_model::{Bytes, ContextName, Datagram, Method, Moment, Path, SharedName, Side, Step};
-use osc_scope::Scope;
+use osc_fixtures::{empty_server, sent, shared_name};
+use osc_model::{Bytes, Method, Moment, Path, SharedName, Side, Step};
 use osc_server::Server;
-use osc_token::Audience;
 use osc_tree::Tree;
 use std::alloc::{AllocError, Global};
 
@@ -69,12 +67,6 @@ fn bytes_served(alloc: Global, contexts: u8, asked: Method, rounds: u16) -> u64 
     }
 }
 
-// A server without resources and contexts, where nothing is open.
-pub(crate) fn empty_server(alloc: Global) -> Result<Server, AllocError> {
-    let desk = ServerDesk::new(alloc, KEY, Audience::new(alloc, "s")?);
-    Server::new(alloc, Tree::new(alloc), desk, Scope::new(alloc))
-}
-
 // Posts so many tokens, protects the requests under the context of the last one, and serves so many of them.
 fn serve_under_last(
     alloc: Global,
@@ -114,22 +106,8 @@ fn post_datagram(alloc: Global, id: u8) -> Result<Vec<u8>, AllocError> {
 fn name_of(alloc: Global, id: u8) -> Result<SharedName, AllocError>
     ensures { IfOk result (λ name. name.id_context ≡ None) }
 {
-    let (client_id, server_id) = pair(alloc, &[id], &[0])?;
-    let (secret, salt) = keying(alloc, id)?;
-    let name = ContextName {
-        secret,
-        salt,
-        id_context: None,
-        client_id,
-        server_id,
-    };
-    SharedName::new(alloc, name)
-}
-
-// The master secret and the master salt.
-fn keying(alloc: Global, id: u8) -> Result<(Bytes, Bytes), AllocError> {
-    let secret = Bytes::from_slice(alloc, &[id; 16])?;
-    Ok((secret, joined_salt(alloc, &[], &[id; 8], &[id; 8])?))
+    let salt = joined_salt(alloc, &[], &[id; 8], &[id; 8])?;
+    shared_name(alloc, &[id; 16], salt.as_slice(), &[id], &[0])
 }
 
 // The requests, protected under the context of this token id.
@@ -337,16 +315,10 @@ fn refuse_places(
 
 // How many bytes the step sends, where that is a refusal of what isn't genuine.
 fn length_of_refusal(step: Step) -> u64 {
-    let length = length_in_refusal(step.out.as_slice());
+    let bytes = sent(&step);
+    let length = if is_refusal(bytes) { bytes.len() } else { 0 };
     drop(step);
-    length
-}
-
-fn length_in_refusal(datagrams: &[Datagram]) -> u64 {
-    match datagrams {
-        [sent] if is_refusal(sent.bytes.as_slice()) => sent.bytes.len() as u64,
-        _ => 0,
-    }
+    length as u64
 }
 
 // Whether this is an acknowledgement of 4.00 with the requests' token and, unprotected, a payload.
@@ -356,16 +328,10 @@ fn is_refusal(datagram: &[u8]) -> bool {
 
 // How many bytes the step sends, where that is a protected reply.
 fn length_of_reply(step: Step) -> u64 {
-    let length = length_in(step.out.as_slice());
+    let bytes = sent(&step);
+    let length = if is_protected(bytes) { bytes.len() } else { 0 };
     drop(step);
-    length
-}
-
-fn length_in(datagrams: &[Datagram]) -> u64 {
-    match datagrams {
-        [sent] if is_protected(sent.bytes.as_slice()) => sent.bytes.len() as u64,
-        _ => 0,
-    }
+    length as u64
 }
 
 // Whether this is an acknowledgement of 2.04 with the requests' token, an empty option OSCORE, and a payload.

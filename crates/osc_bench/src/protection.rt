@@ -8,7 +8,8 @@ ghost use Rattle.osc_protect.specs.Protection.{IsFor};
 use osc_ccm::Ccm;
 use osc_coap::{DATAGRAM_LIMIT, MessageRef};
 use osc_context::{NUMBER_LIMIT, RecipientContext, SenderContext, derive};
-use osc_model::{Bytes, ContextName, SharedName, Side};
+use osc_fixtures::shared_name;
+use osc_model::{SharedName, Side};
 use osc_protect::{
     MessageTooLong, ProtectedRequest, Room, SealedRequestRef, open_request, protect_request,
     read_request,
@@ -39,22 +40,7 @@ pub extern "C" fn osc_bench_unprotect(alloc: Global, request: &[u8], rounds: u64
 fn name_of(alloc: Global) -> Result<SharedName, AllocError>
     ensures { IfOk result (λ name. name.id_context ≡ None) }
 {
-    let (secret, salt) = pair(alloc, &[1; 16], &[2; 8])?;
-    let (client_id, server_id) = pair(alloc, &[0], &[1])?;
-    let name = ContextName {
-        secret,
-        salt,
-        id_context: None,
-        client_id,
-        server_id,
-    };
-    SharedName::new(alloc, name)
-}
-
-// Copies of both.
-pub(crate) fn pair(alloc: Global, one: &[u8], other: &[u8]) -> Result<(Bytes, Bytes), AllocError> {
-    let one = Bytes::from_slice(alloc, one)?;
-    Ok((one, Bytes::from_slice(alloc, other)?))
+    shared_name(alloc, &[1; 16], &[2; 8], &[0], &[1])
 }
 
 // The request under the next number, if there is one and it fits.

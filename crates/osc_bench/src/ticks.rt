@@ -1,5 +1,6 @@
 //! Ticks beside open messages.
 
+use osc_fixtures::SERVER;
 use osc_message::{Endpoint, MOST_OPEN};
 use osc_model::{Bytes, Draw, Moment, Peer};
 use std::alloc::{AllocError, Global};
@@ -70,8 +71,8 @@ fn fill(alloc: Global, endpoint: &mut Endpoint<MOST_OPEN>, open: u16) -> Result<
 fn send(alloc: Global, endpoint: &mut Endpoint<MOST_OPEN>, number: u16) -> Result<(), AllocError> {
     let bytes = Bytes::from_slice(alloc, &[b'p'; 64])?;
     let to = Peer {
-        address: [127, 0, 0, 1],
         port: 7001 + number / EACH,
+        ..SERVER
     };
     let id = endpoint.take_id(&DRAW);
     let _ = endpoint.send(Moment::START, to, id, &DRAW, bytes);

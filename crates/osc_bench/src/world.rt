@@ -1,9 +1,9 @@
 //! A world of four clients, which ask in turn.
 
-use crate::tokens::{KEY, claims_of};
+use crate::tokens::right_of;
 use osc_ccm::Ccm;
-use osc_client::Way;
-use osc_model::{Bytes, Draw, ETags, Method, Moment, Path, Peer, Request};
+use osc_fixtures::{GET, KEY, POST, SERVER, claims, drawn, iv_of, place, request, straight};
+use osc_model::{Draw, Moment, Request};
 use osc_scope::Scope;
 use osc_token::Audience;
 use osc_tree::Tree;
@@ -33,32 +33,11 @@ const PAYLOAD: usize = 64;
 // The most deliveries of a quiet round: each has two.
 const QUIET_LIMIT: usize = 4;
 
-const LOCALHOST: [u8; 4] = [127, 0, 0, 1];
-
-const SERVER: Peer = Peer {
-    address: LOCALHOST,
-    port: 5683,
-};
-
-// Where the client of this number stands.
-fn place_of(client: u8) -> Peer {
-    Peer {
-        address: LOCALHOST,
-        port: 7001 + client as u16,
-    }
-}
-
 // A world without resources, before its first event.
 fn world_of_four(alloc: Global) -> Result<World, AllocError> {
     let audience = Audience::new(alloc, "s")?;
-    let mut start = Start::new(
-        alloc,
-        Tree::new(alloc),
-        Scope::new(alloc),
-        KEY,
-        audience,
-        SERVER,
-    );
+    let (first, open_scope) = (Tree::new(alloc), Scope::new(alloc));
+    let mut start = Start::new(alloc, first, open_scope, KEY, audience, SERVER);
     enroll_all(alloc, &mut start)?;
     start.begin(alloc)
 }
@@ -80,14 +59,12 @@ fn enroll(alloc: Global, start: &mut Start, client: u8) -> Result<(), AllocError
 
 // The client's token has its number as its id.
 fn holder_of(alloc: Global, client: u8) -> Result<Holder, AllocError> {
+    let right = right_of(client);
     Ok(Holder {
-        at: place_of(client),
-        way: Way {
-            next_hop: SERVER,
-            origin: None,
-        },
-        claims: claims_of(alloc, client)?,
-        iv: [client; 13],
+        at: place(client),
+        way: straight(),
+        claims: claims(alloc, right)?,
+        iv: iv_of(right),
     })
 }
 
@@ -117,8 +94,8 @@ fn exchange(alloc: Global, world: &mut World, client: u8) -> Result<(), AllocErr
     let what = What::Exchange {
         client: client as usize,
     };
-    happens(alloc, world, Draw([client; 32]), what)?;
-    quiet(alloc, world, Draw([0x80 | client; 32]))
+    happens(alloc, world, drawn(client), what)?;
+    quiet(alloc, world, drawn(0x80 | client))
 }
 
 // The request of this number, from 0, by the client whose turn it is.
@@ -128,30 +105,17 @@ fn ask(alloc: Global, world: &mut World, number: u64) -> Result<(), AllocError> 
         client: (number % CLIENTS as u64) as usize,
         request,
     };
-    let draw = Draw([0x40; 32]);
+    let draw = drawn(0x40);
     happens(alloc, world, draw, what)?;
     quiet(alloc, world, draw)
 }
 
 fn request_of(alloc: Global, number: u64) -> Result<Request, AllocError> {
     if number == 0 {
-        request(alloc, Method::Post, &[b'p'; PAYLOAD])
+        request(alloc, b"/log", POST, &[b'p'; PAYLOAD])
     } else {
-        request(alloc, Method::Get, &[])
+        request(alloc, b"/log", GET, b"")
     }
-}
-
-// A request on `/log`.
-fn request(alloc: Global, method: Method, payload: &[u8]) -> Result<Request, AllocError> {
-    Ok(Request {
-        code: method.code(),
-        path: Path::from_text(alloc, b"/log")?,
-        format: None,
-        accept: None,
-        if_match: ETags::new(alloc),
-        if_none_match: false,
-        payload: Bytes::from_slice(alloc, payload)?,
-    })
 }
 
 // One event.

@@ -1,165 +1,68 @@
 //! A client and a server, each by the datagrams of the other.
-ghost use Rattle.std.specs.Prelude.{◌≡◌, ◌<◌, IfOk};
+ghost use Rattle.std.specs.Prelude.{◌<◌};
 
-use osc_authz::{ClientDesk, ServerDesk};
 use osc_ccm::{Aead, Ccm};
-use osc_client::{Client, Way};
+use osc_client::Client;
 use osc_context::{derive, nonce_for};
-use osc_model::{
-    Bytes, ClientResult, Code, ContextName, Draw, ETags, Moment, Path, Peer, Request, Side, Step,
+use osc_fixtures::{
+    CLIENT, GET, GET_AND_POST, POST, PUT, SERVER, at, drawn, empty_server, own, request, sent,
+    sent_in, shared_name, straight,
 };
-use osc_scope::Scope;
+use osc_model::{ClientResult, Code, Moment, Request, SharedName, Side, Step};
 use osc_server::Server;
-use osc_token::{Audience, Claims, InputMaterial, MintError, mint};
-use osc_tree::Tree;
 use std::alloc::{AllocError, Global};
 use std::process::Abort;
 use std::test::*;
 
-const SERVER: Peer = Peer {
-    address: [127, 0, 0, 1],
-    port: 5683,
-};
-
-const CLIENT: Peer = Peer {
-    address: [127, 0, 0, 1],
-    port: 7001,
-};
-
-/// The key that the server shares with the issuer of tokens.
-const KEY: [u8; 16] = *b"@ABCDEFGHIJKLMNO";
-
-const SECRET: [u8; 16] = [1; 16];
-
-fn material(alloc: Global) -> Result<InputMaterial, AllocError> {
-    Ok(InputMaterial {
-        id: Bytes::from_slice(alloc, &[1])?,
-        secret: Bytes::from_slice(alloc, &SECRET)?,
-        salt: Bytes::new(alloc),
-        id_context: None,
-    })
-}
-
-/// GET and POST on `/log`.
-fn claims(alloc: Global) -> Result<Claims, AllocError> {
-    let audience = Audience::new(alloc, "s")?;
-    let material = material(alloc)?;
-    Ok(Claims {
-        audience,
-        not_before: None,
-        expires: None,
-        material,
-        scope: Bytes::from_slice(alloc, b"\x81\x82\x64/log\x03")?,
-    })
-}
-
-fn token(alloc: Global) -> Result<Bytes, AllocError> {
-    let claims = claims(alloc)?;
-    let mut token = Vec::new(alloc);
-    let minted = mint::<Ccm<8>>(alloc, &claims, &KEY, &[1; 13], &mut token);
-    drop(claims);
-    match minted {
-        Err(MintError::Memory) => Err(AllocError),
-        _ => Ok(Bytes::from_vec(token)),
-    }
-}
-
-/// A client that was granted the token.
-fn client(alloc: Global) -> Result<Client, Fail> {
-    let secret = Bytes::from_slice(alloc, &SECRET)?;
-    let desk = ClientDesk::new(token(alloc)?, secret, Bytes::new(alloc), None)
-        .ok()
-        .ok_or("not granted")?;
-    let way = Way {
-        next_hop: SERVER,
-        origin: None,
-    };
-    Ok(Client::new(alloc, desk, way)?)
-}
-
-/// A server without resources and contexts.
-fn server(alloc: Global) -> Result<Server, AllocError> {
-    let desk = ServerDesk::new(alloc, KEY, Audience::new(alloc, "s")?);
-    Server::new(alloc, Tree::new(alloc), desk, Scope::new(alloc))
-}
-
-/// A request of this code on `/log`.
-fn request(alloc: Global, code: u8, payload: &[u8]) -> Result<Request, AllocError>
-    ensures { IfOk result (λ request. request.code.0 ≡ code) }
-{
-    Ok(Request {
-        code: Code(code),
-        path: Path::from_text(alloc, b"/log")?,
-        format: None,
-        accept: None,
-        if_match: ETags::new(alloc),
-        if_none_match: false,
-        payload: Bytes::from_slice(alloc, payload)?,
-    })
-}
-
-/// A draw of this byte alone.
-fn drawn(byte: u8) -> Draw {
-    Draw([byte; 32])
-}
-
-/// The bytes of the one datagram that is sent, or no bytes.
-fn sent(alloc: Global, step: Step) -> Vec<u8> {
-    let bytes = match step.out.as_slice() {
-        [sent] => Vec::from_slice(alloc, sent.bytes.as_slice()).unwrap_or(Vec::new(alloc)),
-        _ => Vec::new(alloc),
-    };
-    drop(step);
-    bytes
+/// A client that was granted GET and POST on `/log`. Each byte of its secret is 1.
+fn client(alloc: Global) -> Result<Client, AllocError> {
+    osc_fixtures::client(alloc, own(1, GET_AND_POST), straight())
 }
 
 /// What the server sends for the client's datagram.
 fn served(alloc: Global, server: &mut Server, datagram: &[u8]) -> Vec<u8> {
-    match server.on_datagram::<Ccm<8>>(alloc, Moment::START, CLIENT, datagram, &drawn(9)) {
-        Ok(step) => sent(alloc, step),
-        Err(_) => Vec::new(alloc),
-    }
+    let step = server.on_datagram::<Ccm<8>>(alloc, Moment::START, CLIENT, datagram, &drawn(9));
+    sent_in(alloc, step)
 }
 
 /// What the client sends to begin an exchange.
 fn begun(alloc: Global, client: &mut Client, byte: u8) -> Vec<u8> {
-    match client.exchange(alloc, Moment::START, &drawn(byte)) {
-        Ok(step) => sent(alloc, step),
-        Err(_) => Vec::new(alloc),
-    }
+    sent_in(alloc, client.exchange(alloc, Moment::START, &drawn(byte)))
 }
 
 /// What the client sends to ask.
 fn asked(alloc: Global, client: &mut Client, request: &Request, byte: u8) -> Vec<u8>
     requires { 0 < request.now.code.0 }
 {
-    match client.ask::<Ccm<8>>(alloc, Moment::START, request, &drawn(byte)) {
-        Ok(step) => sent(alloc, step),
-        Err(_) => Vec::new(alloc),
-    }
+    let step = client.ask::<Ccm<8>>(alloc, Moment::START, request, &drawn(byte));
+    sent_in(alloc, step)
 }
 
 /// What the client sends where its holder seals this text at this number.
 fn lied(alloc: Global, client: &Client, number: u64, text: &[u8], byte: u8) -> Vec<u8>
     requires { number < 1_099_511_627_776 }
 {
-    match client.lie::<Ccm<8>>(alloc, number, text, &drawn(byte)) {
-        Ok(step) => sent(alloc, step),
-        Err(_) => Vec::new(alloc),
-    }
+    sent_in(
+        alloc,
+        client.lie::<Ccm<8>>(alloc, number, text, &drawn(byte)),
+    )
 }
 
 /// How a lie goes on that isn't sent.
 fn refused_lie(alloc: Global, client: &Client, text: &[u8]) -> u8 {
-    match client.lie::<Ccm<8>>(alloc, 0, text, &drawn(7)) {
-        Ok(step) => result_in(step),
+    result_in(client.lie::<Ccm<8>>(alloc, 0, text, &drawn(7)))
+}
+
+/// How a step at the client went on, in one byte: 0 for nothing, 1 for a context, 2 and more by the class of an answer that opened
+/// or didn't, 200 for silence, the number of a refusal behind 100, and 255 for want of memory.
+fn result_in(step: Result<Step, AllocError>) -> u8 {
+    match step {
+        Ok(step) => told_in(step),
         Err(_) => 255,
     }
 }
 
-/// How a step at the client went on, in one byte: 0 for nothing, 1 for a context, 2 and more by the class of an answer that opened
-/// or didn't, 200 for silence, and the number of a refusal behind 100.
-fn result_in(step: Step) -> u8 {
+fn told_in(step: Step) -> u8 {
     let told = match step.notes.result() {
         None => 0,
         Some(ClientResult::Made) => 1,
@@ -172,30 +75,26 @@ fn result_in(step: Step) -> u8 {
     told
 }
 
+/// What comes of the server's datagram at the client.
+fn hears(alloc: Global, client: &mut Client, datagram: &[u8]) -> Result<Step, AllocError> {
+    client.on_datagram::<Ccm<8>>(alloc, Moment::START, SERVER, datagram)
+}
+
 /// How the server's datagram goes on at the client.
 fn heard(alloc: Global, client: &mut Client, datagram: &[u8]) -> u8 {
-    match client.on_datagram::<Ccm<8>>(alloc, Moment::START, SERVER, datagram) {
-        Ok(step) => result_in(step),
-        Err(_) => 255,
-    }
+    result_in(hears(alloc, client, datagram))
 }
 
 /// How a tick at this moment in ms goes on.
 fn ticked(alloc: Global, client: &mut Client, ms: u64) -> u8 {
-    match client.on_tick(alloc, Moment::new(ms).unwrap_or(Moment::START)) {
-        Ok(step) => result_in(step),
-        Err(_) => 255,
-    }
+    result_in(client.on_tick(alloc, at(ms)))
 }
 
 /// How an ask that isn't sent goes on.
 fn hindered(alloc: Global, client: &mut Client, request: &Request) -> u8
     requires { 0 < request.now.code.0 }
 {
-    match client.ask::<Ccm<8>>(alloc, Moment::START, request, &drawn(7)) {
-        Ok(step) => result_in(step),
-        Err(_) => 255,
-    }
+    result_in(client.ask::<Ccm<8>>(alloc, Moment::START, request, &drawn(7)))
 }
 
 /// The client gets a context.
@@ -231,9 +130,9 @@ fn serves_a_client(
     client: &mut Client,
     server: &mut Server,
 ) -> Result<(), Fail> {
-    let post = request(alloc, 2, b"a")?;
-    let get = request(alloc, 1, b"")?;
-    let put = request(alloc, 3, b"b")?;
+    let post = request(alloc, b"/log", POST, b"a")?;
+    let get = request(alloc, b"/log", GET, b"")?;
+    let put = request(alloc, b"/log", PUT, b"b")?;
     assert!(rt; hindered(alloc, client, &post) == 122);
     exchanges(rt, alloc, client, server);
     asks(rt, alloc, client, server, &post, 2, Code::CREATED);
@@ -249,7 +148,7 @@ fn serves_a_client(
 #[test]
 fn an_exchange_and_three_requests(rt: HostRuntime) -> Result<(), Fail> {
     let mut client = client(rt.alloc())?;
-    let mut server = server(rt.alloc())?;
+    let mut server = empty_server(rt.alloc())?;
     let served = serves_a_client(&rt, rt.alloc(), &mut client, &mut server);
     drop(server);
     drop(client);
@@ -269,19 +168,9 @@ const AGREED: &[u8] =
     b"\xc1\x13\xff\xa2\x18\x2a\x48\x02\x02\x02\x02\x02\x02\x02\x02\x18\x2c\x41\x01";
 
 /// The name of the context that this answer makes of a post with a nonce of ones (RFC 9203 section 4.3).
-fn agreed_name(alloc: Global) -> Result<ContextName, AllocError> {
+fn agreed_name(alloc: Global) -> Result<SharedName, AllocError> {
     let salt = b"\x40\x48\x01\x01\x01\x01\x01\x01\x01\x01\x48\x02\x02\x02\x02\x02\x02\x02\x02";
-    let secret = Bytes::from_slice(alloc, &SECRET)?;
-    let salt = Bytes::from_slice(alloc, salt)?;
-    let client_id = Bytes::from_slice(alloc, b"\x01")?;
-    let server_id = Bytes::from_slice(alloc, b"\x00")?;
-    Ok(ContextName {
-        secret,
-        salt,
-        id_context: None,
-        client_id,
-        server_id,
-    })
+    shared_name(alloc, &[1; 16], salt, b"\x01", b"\x00")
 }
 
 /// The associated data of the request of number 0 under it, and of its response (RFC 8613 section 5.4).
@@ -310,7 +199,7 @@ const RESPONSES: [(&[u8], u8); 3] = [
 ];
 
 fn takes_answers(rt: &impl Abort, alloc: Global, client: &mut Client) -> Result<(), Fail> {
-    let get = request(alloc, 1, b"")?;
+    let get = request(alloc, b"/log", GET, b"")?;
     let post = begun(alloc, client, 1);
     let agreed = answering(alloc, 0x41, &post, AGREED)?;
     assert!(rt; heard(alloc, client, &agreed) == 1);
@@ -339,7 +228,7 @@ fn lies_and_skips(
     client: &mut Client,
     server: &mut Server,
 ) -> Result<(), Fail> {
-    let post = request(alloc, 2, b"a")?;
+    let post = request(alloc, b"/log", POST, b"a")?;
     assert!(rt; refused_lie(alloc, client, b"\x02") == 122);
     exchanges(rt, alloc, client, server);
     assert!(rt; refused_lie(alloc, client, [0; 1152].as_slice()) == 114);
@@ -362,7 +251,7 @@ fn lies_and_skips(
 #[test]
 fn a_lie_and_the_last_number(rt: HostRuntime) -> Result<(), Fail> {
     let mut client = client(rt.alloc())?;
-    let mut server = server(rt.alloc())?;
+    let mut server = empty_server(rt.alloc())?;
     let served = lies_and_skips(&rt, rt.alloc(), &mut client, &mut server);
     drop(server);
     drop(client);
@@ -387,8 +276,7 @@ fn waits_in_vain(rt: &impl Abort, alloc: Global, client: &mut Client) {
     assert!(rt; client.next_deadline() == Some(247_000));
     assert!(rt; heard(alloc, client, b"\x70\0\0\x01") == 0);
     assert!(rt; begun(alloc, client, 0).is_empty());
-    let step = client.on_datagram::<Ccm<8>>(alloc, Moment::START, SERVER, b"\x70\0\0\0");
-    assert!(rt; matches_reset(step));
+    assert!(rt; matches_reset(hears(alloc, client, b"\x70\0\0\0")));
     assert!(rt; begun(alloc, client, 0).starts_with(b"\x48\x02\0\x01"));
 }
 
@@ -414,10 +302,16 @@ fn an_exchange_that_nobody_answers(rt: HostRuntime) -> Result<(), Fail> {
 
 /// Whether the client sends anything for the datagram.
 fn is_answered(alloc: Global, client: &mut Client, datagram: &[u8]) -> bool {
-    match client.on_datagram::<Ccm<8>>(alloc, Moment::START, SERVER, datagram) {
-        Ok(step) => !sent(alloc, step).is_empty(),
+    match hears(alloc, client, datagram) {
+        Ok(step) => sends(step),
         Err(_) => true,
     }
+}
+
+fn sends(step: Step) -> bool {
+    let sends = !sent(&step).is_empty();
+    drop(step);
+    sends
 }
 
 /// An answer that isn't confirmable is acknowledged by nothing, nor is a confirmable message of the same ID then, as its repeat.

@@ -5,29 +5,18 @@ ghost use Rattle.osc_context.specs.Derivation.{taken_of};
 ghost use Rattle.osc_context.specs.Nonce.{greatest_number};
 ghost use Rattle.osc_protect.specs.Protection.{HasShortContext};
 
-use osc_authz::ServerDesk;
 use osc_ccm::Ccm;
 use osc_coap::{Kind, MessageBuilder, MessageRef};
 use osc_context::{SendNumber, derive};
-use osc_model::{Bytes, ContextName, Draw, Moment, Peer, SharedName, Side, Step};
+use osc_fixtures::{CLIENT, empty_server, sent_in, shared_name};
+use osc_model::{Draw, Moment, SharedName, Side, Step};
 use osc_protect::{
     MessageTooLong, ProtectedRequest, Room, open_response, protect_request, read_response,
 };
-use osc_scope::Scope;
 use osc_server::Server;
-use osc_token::Audience;
-use osc_tree::Tree;
 use std::alloc::{AllocError, Global};
 use std::process::Abort;
 use std::test::*;
-
-const CLIENT: Peer = Peer {
-    address: [192, 0, 2, 1],
-    port: 5683,
-};
-
-/// The key that the server shares with the issuer of tokens.
-const KEY: [u8; 16] = *b"@ABCDEFGHIJKLMNO";
 
 /// A post to authz-info, with a nonce that ends in 1 and the ID 00. Its token, of the secret that ends in 1, gives GET and POST
 /// on `/log`; another implementation made it.
@@ -53,35 +42,10 @@ const FIRST: Exchanged = Exchanged { nonce: 2, id: 1 };
 fn name(alloc: Global, exchanged: Exchanged) -> Result<SharedName, AllocError>
     ensures { IfOk result (λ name. HasShortContext name) }
 {
-    let (secret, salt) = material(alloc, exchanged.nonce)?;
-    let (client_id, server_id) = ids(alloc, exchanged.id)?;
-    let name = ContextName {
-        secret,
-        salt,
-        id_context: None,
-        client_id,
-        server_id,
-    };
-    SharedName::new(alloc, name)
-}
-
-/// The master secret, and the master salt where the server's nonce ends in this byte.
-fn material(alloc: Global, nonce: u8) -> Result<(Bytes, Bytes), AllocError> {
     let mut salt = *b"\x40\x48\0\0\0\0\0\0\0\x01\x48\0\0\0\0\0\0\0\0";
-    salt[18] = nonce;
+    salt[18] = exchanged.nonce;
     let secret = b"\0\0\0\0\0\0\0\0\0\0\0\0\0\0\0\x01";
-    Ok((
-        Bytes::from_slice(alloc, secret)?,
-        Bytes::from_slice(alloc, &salt)?,
-    ))
-}
-
-/// The client's sender ID, which is this byte, and the server's.
-fn ids(alloc: Global, id: u8) -> Result<(Bytes, Bytes), AllocError> {
-    Ok((
-        Bytes::from_slice(alloc, &[id])?,
-        Bytes::from_slice(alloc, b"\x00")?,
-    ))
+    shared_name(alloc, secret, &salt, &[exchanged.id], b"\x00")
 }
 
 /// The number that the client takes, where it has skipped to this one.
@@ -182,12 +146,6 @@ fn opened(alloc: Global, exchanged: Exchanged, number: u64, reply: &[u8]) -> Res
     }
 }
 
-/// A server without resources and contexts.
-fn server(alloc: Global) -> Result<Server, AllocError> {
-    let desk = ServerDesk::new(alloc, KEY, Audience::new(alloc, "s")?);
-    Server::new(alloc, Tree::new(alloc), desk, Scope::new(alloc))
-}
-
 /// What the server sends for the datagram; its nonce would end in 2.
 fn answer(alloc: Global, server: &mut Server, datagram: &[u8]) -> Vec<u8> {
     answer_drawn(alloc, server, datagram, 2)
@@ -195,20 +153,19 @@ fn answer(alloc: Global, server: &mut Server, datagram: &[u8]) -> Vec<u8> {
 
 /// The same where its nonce would end in this byte.
 fn answer_drawn(alloc: Global, server: &mut Server, datagram: &[u8], nonce: u8) -> Vec<u8> {
-    let mut drawn = [0; 32];
-    drawn[7] = nonce;
-    match server.on_datagram::<Ccm<8>>(alloc, Moment::START, CLIENT, datagram, &Draw(drawn)) {
-        Ok(step) => sent(alloc, &step),
-        Err(_) => Vec::new(alloc),
-    }
+    sent_in(alloc, hears(alloc, server, datagram, nonce))
 }
 
-/// The bytes of the one datagram that is sent, or no bytes.
-fn sent(alloc: Global, step: &Step) -> Vec<u8> {
-    match step.out.as_slice() {
-        [sent] => Vec::from_slice(alloc, sent.bytes.as_slice()).unwrap_or(Vec::new(alloc)),
-        _ => Vec::new(alloc),
-    }
+/// What comes of the datagram at the server, whose nonce would end in this byte.
+fn hears(
+    alloc: Global,
+    server: &mut Server,
+    datagram: &[u8],
+    nonce: u8,
+) -> Result<Step, AllocError> {
+    let mut drawn = [0; 32];
+    drawn[7] = nonce;
+    server.on_datagram::<Ccm<8>>(alloc, Moment::START, CLIENT, datagram, &Draw(drawn))
 }
 
 /// The server answers the datagram so.
@@ -271,7 +228,7 @@ fn serves_once(rt: &impl Abort, alloc: Global, server: &mut Server) -> Result<()
 
 #[test]
 fn served_once(rt: HostRuntime) -> Result<(), Fail> {
-    let mut server = server(rt.alloc())?;
+    let mut server = empty_server(rt.alloc())?;
     serves_once(&rt, rt.alloc(), &mut server)
 }
 
@@ -345,7 +302,7 @@ fn tells_changes(rt: &impl Abort, alloc: Global, server: &mut Server) -> Result<
 
 #[test]
 fn changed_bits(rt: HostRuntime) -> Result<(), Fail> {
-    let mut server = server(rt.alloc())?;
+    let mut server = empty_server(rt.alloc())?;
     tells_changes(&rt, rt.alloc(), &mut server)
 }
 
@@ -368,7 +325,7 @@ fn serves_changed(
 }
 
 fn served_alone(rt: &impl Abort, alloc: Global, bit: u8) -> Result<(), Fail> {
-    let mut server = server(alloc)?;
+    let mut server = empty_server(alloc)?;
     serves_changed(rt, alloc, &mut server, bit)
 }
 
@@ -413,7 +370,7 @@ fn starts_again(rt: &impl Abort, alloc: Global, server: &mut Server) -> Result<(
 
 #[test]
 fn started_again(rt: HostRuntime) -> Result<(), Fail> {
-    let mut server = server(rt.alloc())?;
+    let mut server = empty_server(rt.alloc())?;
     starts_again(&rt, rt.alloc(), &mut server)
 }
 
@@ -432,7 +389,7 @@ fn serves_long_payloads(rt: &impl Abort, alloc: Global, server: &mut Server) -> 
 
 #[test]
 fn long_payloads(rt: HostRuntime) -> Result<(), Fail> {
-    let mut server = server(rt.alloc())?;
+    let mut server = empty_server(rt.alloc())?;
     serves_long_payloads(&rt, rt.alloc(), &mut server)
 }
 
@@ -451,7 +408,7 @@ fn refuses_beginnings(rt: &impl Abort, alloc: Global, server: &mut Server) -> Re
 
 #[test]
 fn beginnings(rt: HostRuntime) -> Result<(), Fail> {
-    let mut server = server(rt.alloc())?;
+    let mut server = empty_server(rt.alloc())?;
     refuses_beginnings(&rt, rt.alloc(), &mut server)
 }
 
@@ -502,15 +459,13 @@ fn keeps_the_confirmed(rt: &impl Abort, alloc: Global, server: &mut Server) -> R
 
 #[test]
 fn a_token_posted_again(rt: HostRuntime) -> Result<(), Fail> {
-    let mut server = server(rt.alloc())?;
+    let mut server = empty_server(rt.alloc())?;
     keeps_the_confirmed(&rt, rt.alloc(), &mut server)
 }
 
 /// Whether the step that answers the datagram is refused memory.
 fn is_refused(alloc: Global, server: &mut Server, datagram: &[u8]) -> bool {
-    let mut drawn = [0; 32];
-    drawn[7] = 2;
-    match server.on_datagram::<Ccm<8>>(alloc, Moment::START, CLIENT, datagram, &Draw(drawn)) {
+    match hears(alloc, server, datagram, 2) {
         Ok(step) => {
             drop(step);
             false
@@ -527,7 +482,7 @@ fn posts_or_stays(rt: &impl Abort, alloc: Global, server: &mut Server) {
 
 #[test]
 fn a_refused_allocation_of_a_post(rt: HostRuntime) -> Result<(), Fail> {
-    let mut server = server(rt.alloc())?;
+    let mut server = empty_server(rt.alloc())?;
     posts_or_stays(&rt, rt.alloc(), &mut server);
     Ok(())
 }
@@ -552,6 +507,6 @@ fn serves_or_stays(rt: &impl Abort, alloc: Global, server: &mut Server) -> Resul
 
 #[test]
 fn a_refused_allocation_of_a_request(rt: HostRuntime) -> Result<(), Fail> {
-    let mut server = server(rt.alloc())?;
+    let mut server = empty_server(rt.alloc())?;
     serves_or_stays(&rt, rt.alloc(), &mut server)
 }

@@ -1,71 +1,27 @@
 //! Datagrams to a small server, and what it sends for each.
-use osc_authz::ServerDesk;
 use osc_ccm::Ccm;
-use osc_model::{Bytes, Draw, ETags, Method, Moment, Path, Peer, Request, Step};
-use osc_scope::Scope;
+use osc_fixtures::{CLIENT, at, put, scope_of, sent};
+use osc_model::{Draw, Moment, Peer};
 use osc_server::Server;
-use osc_token::Audience;
 use osc_tree::Tree;
 use std::alloc::{AllocError, Global};
 use std::process::Abort;
 use std::test::Fail;
 
-/// The key that the server shares with the issuer of tokens.
-const KEY: [u8; 16] = *b"@ABCDEFGHIJKLMNO";
-
-const PEER: Peer = Peer {
-    address: [192, 0, 2, 1],
-    port: 5683,
-};
-
 const OTHER_PORT: Peer = Peer {
-    address: [192, 0, 2, 1],
     port: 5684,
+    ..CLIENT
 };
 
 /// GET on `/e` and `/t`.
 const GETS: &[u8] = b"\x82\x82\x62/e\x01\x82\x62/t\x01";
-
-/// PUT on `/e` and `/t`.
-const PUTS: &[u8] = b"\x82\x82\x62/e\x04\x82\x62/t\x04";
-
-/// The scope of these entries.
-fn scope_of(alloc: Global, entries: &[u8]) -> Result<Scope, AllocError> {
-    match Scope::from_cbor(alloc, entries) {
-        Ok(scope) => Ok(scope),
-        Err(_) => Err(AllocError),
-    }
-}
-
-fn put(alloc: Global, tree: &mut Tree, text: &[u8], payload: &[u8]) -> Result<(), AllocError> {
-    let request = Request {
-        code: Method::Put.code(),
-        path: Path::from_text(alloc, text)?,
-        format: None,
-        accept: None,
-        if_match: ETags::new(alloc),
-        if_none_match: false,
-        payload: Bytes::from_slice(alloc, payload)?,
-    };
-    tree.apply(alloc, &scope_of(alloc, PUTS)?, &request)?;
-    Ok(())
-}
 
 /// `/e` has no bytes and `/t` has 31 zeros, both without a format; GETs of both are open.
 fn server(alloc: Global) -> Result<Server, AllocError> {
     let mut tree = Tree::new(alloc);
     put(alloc, &mut tree, b"/e", b"")?;
     put(alloc, &mut tree, b"/t", &[0; 31])?;
-    let desk = ServerDesk::new(alloc, KEY, Audience::new(alloc, "s")?);
-    Server::new(alloc, tree, desk, scope_of(alloc, GETS)?)
-}
-
-/// The bytes of the one datagram that is sent, or no bytes.
-fn sent(step: &Step) -> &[u8] {
-    match step.out.as_slice() {
-        [datagram] => datagram.bytes.as_slice(),
-        _ => b"",
-    }
+    osc_fixtures::server(alloc, tree, scope_of(alloc, GETS)?)
 }
 
 /// A draw whose bytes 18 and 19 are these, the others zeros.
@@ -86,11 +42,7 @@ fn answer(
     draw: &Draw,
 ) -> Result<Vec<u8>, AllocError> {
     let step = server.on_datagram::<Ccm<8>>(alloc, now, from, datagram, draw)?;
-    copied(alloc, &step)
-}
-
-fn copied(alloc: Global, step: &Step) -> Result<Vec<u8>, AllocError> {
-    Vec::from_slice(alloc, sent(step))
+    Vec::from_slice(alloc, sent(&step))
 }
 
 /// What a server that heard nothing before sends for the datagram.
@@ -100,7 +52,7 @@ fn first_answer(alloc: Global, datagram: &[u8]) -> Result<Vec<u8>, AllocError> {
         alloc,
         &mut server,
         Moment::START,
-        PEER,
+        CLIENT,
         datagram,
         &draw_of(1, 0),
     )
@@ -124,8 +76,14 @@ fn answer_in_turn(
     row: &Row<'_>,
 ) -> Result<Vec<u8>, AllocError> {
     let (ms, from, datagram, (high, low), _) = row;
-    let now = Moment::new(*ms as u64).unwrap_or(Moment::START);
-    answer(alloc, server, now, *from, datagram, &draw_of(*high, *low))
+    answer(
+        alloc,
+        server,
+        at(*ms as u64),
+        *from,
+        datagram,
+        &draw_of(*high, *low),
+    )
 }
 
 /// One server answers the datagrams so, one after another.
@@ -238,22 +196,22 @@ fn requests_that_are_not_confirmable(rt: HostRuntime) -> Result<(), Fail> {
         &[
             (
                 0,
-                PEER,
+                CLIENT,
                 b"\x50\x01\x00\x20\xb1e",
                 (1, 0),
                 b"\x50\x45\x01\x00\x48\x6e\x34\x0b\x9c\xff\xb3\x7a\x98",
             ),
-            (0, PEER, b"\x50\x01\x00\x20\xb1e", (1, 0), b""),
+            (0, CLIENT, b"\x50\x01\x00\x20\xb1e", (1, 0), b""),
             (
                 0,
-                PEER,
+                CLIENT,
                 b"\x50\x01\x00\x21\xb1e",
                 (2, 0),
                 b"\x50\x45\x01\x01\x48\x6e\x34\x0b\x9c\xff\xb3\x7a\x98",
             ),
             (
                 145_000,
-                PEER,
+                CLIENT,
                 b"\x50\x01\x00\x20\xb1e",
                 (3, 0),
                 b"\x50\x45\x01\x02\x48\x6e\x34\x0b\x9c\xff\xb3\x7a\x98",
@@ -261,7 +219,7 @@ fn requests_that_are_not_confirmable(rt: HostRuntime) -> Result<(), Fail> {
             // A confirmable one of a message ID that was noted is its repeat.
             (
                 145_000,
-                PEER,
+                CLIENT,
                 b"\x40\x01\x00\x20\xb1u",
                 (4, 0),
                 b"\x50\x45\x01\x02\x48\x6e\x34\x0b\x9c\xff\xb3\x7a\x98",
@@ -279,14 +237,14 @@ fn message_ids_wrap(rt: HostRuntime) -> Result<(), Fail> {
         &[
             (
                 0,
-                PEER,
+                CLIENT,
                 b"\x50\x01\x00\x20\xb1u",
                 (255, 255),
                 b"\x50\x81\xff\xff",
             ),
             (
                 0,
-                PEER,
+                CLIENT,
                 b"\x50\x01\x00\x21\xb1u",
                 (255, 255),
                 b"\x50\x81\x00\x00",
@@ -305,10 +263,10 @@ fn repeats(rt: HostRuntime) -> Result<(), Fail> {
         rt.alloc(),
         &mut server(rt.alloc())?,
         &[
-            (0, PEER, get, draw, reply),
-            (0, PEER, get, draw, reply),
+            (0, CLIENT, get, draw, reply),
+            (0, CLIENT, get, draw, reply),
             // Of the same message ID, but another request.
-            (0, PEER, b"\x40\x01\x00\x02\xb1u", draw, reply),
+            (0, CLIENT, b"\x40\x01\x00\x02\xb1u", draw, reply),
             (
                 0,
                 OTHER_PORT,
@@ -317,14 +275,26 @@ fn repeats(rt: HostRuntime) -> Result<(), Fail> {
                 b"\x60\x81\x00\x02",
             ),
             // It isn't confirmable.
-            (0, PEER, b"\x50\x01\x00\x02\xb1e", draw, b""),
+            (0, CLIENT, b"\x50\x01\x00\x02\xb1e", draw, b""),
             // It is rejected each time.
-            (0, PEER, b"\x40\x01\x00\x08\xff", draw, b"\x70\x00\x00\x08"),
-            (0, PEER, b"\x40\x01\x00\x08\xff", draw, b"\x70\x00\x00\x08"),
-            (246_999, PEER, b"\x40\x01\x00\x02\xb1u", draw, reply),
+            (
+                0,
+                CLIENT,
+                b"\x40\x01\x00\x08\xff",
+                draw,
+                b"\x70\x00\x00\x08",
+            ),
+            (
+                0,
+                CLIENT,
+                b"\x40\x01\x00\x08\xff",
+                draw,
+                b"\x70\x00\x00\x08",
+            ),
+            (246_999, CLIENT, b"\x40\x01\x00\x02\xb1u", draw, reply),
             (
                 247_000,
-                PEER,
+                CLIENT,
                 b"\x40\x01\x00\x02\xb1u",
                 draw,
                 b"\x60\x81\x00\x02",
@@ -337,8 +307,8 @@ fn repeats(rt: HostRuntime) -> Result<(), Fail> {
 fn gets_or_stays(rt: &impl Abort, alloc: Global, server: &mut Server) -> Result<(), Fail> {
     let get = b"\x40\x01\x00\x03\xb1t";
     let draw = draw_of(1, 0);
-    let refused = answer(alloc, server, Moment::START, PEER, get, &draw).is_err();
-    let answered = answer(alloc, server, Moment::START, PEER, get, &draw)?;
+    let refused = answer(alloc, server, Moment::START, CLIENT, get, &draw).is_err();
+    let answered = answer(alloc, server, Moment::START, CLIENT, get, &draw)?;
     let has_content = answered.starts_with(b"\x60\x45\x00\x03\x48");
     assert!(rt; has_content || !refused && answered.as_slice() == b"\x60\xa0\x00\x03".as_slice());
     Ok(())

@@ -2,19 +2,12 @@
 ghost use Rattle.std.specs.Prelude.{◌≤◌, IfOk, length};
 ghost use Rattle.osc_model.specs.Tree.{longest_payload};
 
-use osc_model::{Bytes, Code, ETags, Path, Request, Resource};
+use osc_fixtures::{DELETE, EVERY_METHOD, GET, POST, PUT, scope_of};
+use osc_model::{Bytes, Code, ETags, Method, Path, Request, Resource};
 use osc_scope::Scope;
 use osc_tree::{MOST_RESOURCES, Tree, etag};
 use std::alloc::{AllocError, Global};
 use std::test::Fail;
-
-const GET: u8 = 1;
-
-const POST: u8 = 2;
-
-const PUT: u8 = 3;
-
-const DELETE: u8 = 4;
 
 // The ETag of the empty resource without a format.
 const TAG: [u8; 8] = [0x6e, 0x34, 0x0b, 0x9c, 0xff, 0xb3, 0x7a, 0x98];
@@ -72,13 +65,6 @@ fn answer(
     Ok((reply.code, reply.payload.len(), reply.format))
 }
 
-// Every method on `/e`, `/f` and `/n`.
-fn open_scope(alloc: Global) -> Result<Scope, AllocError> {
-    Scope::from_cbor(alloc, b"\x83\x82\x62/e\x0f\x82\x62/f\x0f\x82\x62/n\x0f").map_err(
-        |_| AllocError,
-    )
-}
-
 // `/e` is empty without a format, and `/f` is empty with format 42.
 fn small_tree(alloc: Global, scope: &Scope) -> Result<Tree, AllocError> {
     let mut tree = Tree::new(alloc);
@@ -114,7 +100,7 @@ const CONDITIONS: [(Asked, Code); 10] = [
 
 #[test]
 fn conditions_are_heeded(rt: HostRuntime) -> Result<(), Fail> {
-    let scope = open_scope(rt.alloc())?;
+    let scope = scope_of(rt.alloc(), EVERY_METHOD)?;
     for (asked, code) in CONDITIONS {
         let (answered, _, _) = first_answer(rt.alloc(), &scope, asked)?;
         assert!(rt; answered == code);
@@ -162,13 +148,16 @@ const IN_A_ROW: [(Asked, Answer); 18] = [
 #[test]
 fn requests_change_the_tree(rt: HostRuntime) -> Result<(), Fail> {
     let alloc = rt.alloc();
-    let scope = open_scope(alloc)?;
+    let scope = scope_of(alloc, EVERY_METHOD)?;
     let mut tree = small_tree(alloc, &scope)?;
     for (asked, want) in IN_A_ROW {
         assert_eq!(rt; answer(alloc, &mut tree, &scope, asked)?, want);
     }
     Ok(())
 }
+
+// GET on `/e`.
+const GET_ON_E: &[u8] = b"\x81\x82\x62/e\x01";
 
 // Requests, each on a small tree, under a scope of GET on `/e` and of nothing else.
 const UNDER_A_SCOPE: [(Asked, Code); 6] = [
@@ -183,7 +172,7 @@ const UNDER_A_SCOPE: [(Asked, Code); 6] = [
 #[test]
 fn the_scope_comes_first(rt: HostRuntime) -> Result<(), Fail> {
     let alloc = rt.alloc();
-    let scope = get_scope(alloc)?;
+    let scope = scope_of(alloc, GET_ON_E)?;
     let mut tree = Tree::new(alloc);
     for (asked, code) in UNDER_A_SCOPE {
         let (answered, _, _) = answer(alloc, &mut tree, &scope, asked)?;
@@ -192,16 +181,8 @@ fn the_scope_comes_first(rt: HostRuntime) -> Result<(), Fail> {
     Ok(())
 }
 
-/// GET on `/e`.
-fn get_scope(alloc: Global) -> Result<Scope, AllocError> {
-    match Scope::from_cbor(alloc, b"\x81\x82\x62/e\x01") {
-        Ok(scope) => Ok(scope),
-        Err(_) => Err(AllocError),
-    }
-}
-
 fn tag_answered(alloc: Global) -> Result<Option<[u8; 8]>, AllocError> {
-    let scope = open_scope(alloc)?;
+    let scope = scope_of(alloc, EVERY_METHOD)?;
     let mut tree = small_tree(alloc, &scope)?;
     let get = request(alloc, (GET, b'e', 0, With::Nothing))?;
     Ok(tree.apply(alloc, &scope, &get)?.etag)
@@ -234,7 +215,7 @@ fn numbered(alloc: Global, number: u16) -> Result<Option<Path>, AllocError> {
 fn put_numbered(alloc: Global, tree: &mut Tree, number: u16) -> Result<Code, AllocError> {
     let mut scope = Scope::new(alloc);
     if let Some(path) = numbered(alloc, number)? {
-        scope.allow(alloc, path, osc_model::Method::Put)?;
+        scope.allow(alloc, path, Method::Put)?;
     }
     let mut put = request(alloc, (PUT, b'e', 1, With::Nothing))?;
     put.path = numbered(alloc, number)?;

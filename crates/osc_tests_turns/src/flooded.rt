@@ -1,9 +1,9 @@
 //! A port that never runs dry: what is due goes out, and what is over ends, all the same.
 ghost use Rattle.std.specs.Prelude.{None};
 
-use crate::nodes::{at, drawn};
-use crate::stage::{CLIENT, STRANGER, TARGET, hears, proxy, to};
+use crate::stage::{FORWARDS, goes};
 use osc_ccm::Ccm;
+use osc_fixtures::{CLIENT, SERVER, STRANGER, at, drawn, proxy};
 use osc_model::Peer;
 use osc_proxy::Proxy;
 use osc_turn::{Pace, Port, PortFault, paced_turn};
@@ -13,7 +13,7 @@ use std::test::*;
 /// Each receive gives a stranger's byte that is no message; what is sent is counted.
 #[derive(Drop)]
 struct Flood {
-    to_target: usize,
+    to_server: usize,
     to_client: usize,
 }
 
@@ -30,8 +30,8 @@ impl Port for Flood {
     }
 
     fn send(&mut self, to: Peer, _bytes: &[u8]) -> Result<(), PortFault> {
-        if to == TARGET {
-            self.to_target = self.to_target.saturating_add(1);
+        if to == SERVER {
+            self.to_server = self.to_server.saturating_add(1);
         }
         if to == CLIENT {
             self.to_client = self.to_client.saturating_add(1);
@@ -61,24 +61,12 @@ fn repeats_and_ends_though_datagrams_never_pause(rt: HostRuntime) -> Result<(), 
     let alloc = rt.alloc();
     let mut proxy = proxy(alloc)?;
     let mut flood = Flood {
-        to_target: 0,
+        to_server: 0,
         to_client: 0,
     };
-    assert!(rt;
-        hears(
-            alloc,
-            &mut proxy,
-            0,
-            CLIENT,
-            b"\x40\x01\x00\x01\xb1\x65\xd9\x0b\x63\x6f\x61\x70\x3a\x2f\x2f\x73\x2f",
-            &[
-                to(CLIENT, b"\x60\x00\x00\x01"),
-                to(TARGET, b"\x48\x01\x01\x00\x00\x00\x00\x00\x00\x00\x00\x00")
-            ]
-        )
-    );
+    goes(&rt, alloc, &mut proxy, &FORWARDS);
     assert!(rt; takes_turns(alloc, &mut flood, &mut proxy, 14_000));
-    assert_eq!(rt; flood.to_target, 4);
+    assert_eq!(rt; flood.to_server, 4);
     assert!(rt; flood.to_client > 0);
     Ok(())
 }

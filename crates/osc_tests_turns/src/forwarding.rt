@@ -1,247 +1,139 @@
 //! What is forwarded, and what isn't.
 
-use crate::stage::{CLIENT, TARGET, first_code, hears, proxy, to};
+use crate::stage::Event::Comes;
+use crate::stage::{Row, first_code, goes_from_new, request};
+use osc_fixtures::{CLIENT, SERVER, proxy};
 use osc_proxy::Proxy;
 use std::alloc::{AllocError, Global};
 use std::process::Abort;
 use std::test::*;
 
-/// By Proxy-Uri; by Proxy-Scheme; with the port; with options that nobody here knows and that are safe to forward; with a payload; to a host in
-/// capital letters.
-fn forwarded(rt: &impl Abort, alloc: Global, proxy: &mut Proxy) {
-    assert!(rt;
-        hears(
-            alloc,
-            proxy,
-            0,
+/// Requests, one after another at one proxy.
+const ASKED: [Row<'static>; 19] = [
+    // Forwarded: by Proxy-Uri; by Proxy-Scheme; and with the port.
+    (
+        0,
+        Comes(CLIENT, b"\x40\x01\0\x01\xb1e\xd9\x0bcoap://s/"),
+        &[
+            (CLIENT, b"\x60\0\0\x01"),
+            (SERVER, b"\x48\x01\x01\0\0\0\0\0\0\0\0\0"),
+        ],
+    ),
+    (
+        0,
+        Comes(CLIENT, b"\x50\x01\0\x02\x31s\x81e\xd4\x0fcoap"),
+        &[(SERVER, b"\x58\x01\x01\x01\x01\0\0\0\0\0\0\0\x31s\x81e")],
+    ),
+    (
+        0,
+        Comes(CLIENT, b"\x50\x01\0\x03\x31s\x42\x16\x33\x41e\xd4\x0fcoap"),
+        &[(SERVER, b"\x58\x01\x01\x02\x02\0\0\0\0\0\0\0\x31s\x81e")],
+    ),
+    // With options that nobody here knows and that are safe to forward; and with a payload.
+    (
+        0,
+        Comes(
             CLIENT,
-            b"\x40\x01\x00\x01\xb1\x65\xd9\x0b\x63\x6f\x61\x70\x3a\x2f\x2f\x73\x2f",
-            &[
-                to(CLIENT, b"\x60\x00\x00\x01"),
-                to(TARGET, b"\x48\x01\x01\x00\x00\x00\x00\x00\x00\x00\x00\x00")
-            ]
-        )
-    );
-    assert!(rt;
-        hears(
-            alloc,
-            proxy,
-            0,
+            b"\x50\x01\0\x04\x31s\x81e\xd1\0\xaa\x11\xbb\xd4\x01coap",
+        ),
+        &[(
+            SERVER,
+            b"\x58\x01\x01\x03\x03\0\0\0\0\0\0\0\x31s\x81e\xd1\0\xaa\x11\xbb",
+        )],
+    ),
+    (
+        0,
+        Comes(
             CLIENT,
-            b"\x50\x01\x00\x02\x31\x73\x81\x65\xd4\x0f\x63\x6f\x61\x70",
-            &[to(
-                TARGET,
-                b"\x58\x01\x01\x01\x01\x00\x00\x00\x00\x00\x00\x00\x31\x73\x81\x65"
-            )]
-        )
-    );
-    assert!(rt;
-        hears(
-            alloc,
-            proxy,
-            0,
-            CLIENT,
-            b"\x50\x01\x00\x03\x31\x73\x42\x16\x33\x41\x65\xd4\x0f\x63\x6f\x61\x70",
-            &[to(
-                TARGET,
-                b"\x58\x01\x01\x02\x02\x00\x00\x00\x00\x00\x00\x00\x31\x73\x81\x65"
-            )]
-        )
-    );
-    assert!(rt;
-        hears(
-            alloc,
-            proxy,
-            0,
-            CLIENT,
-            b"\x50\x01\x00\x04\x31\x73\x81\x65\xd1\x00\xaa\x11\xbb\xd4\x01\x63\x6f\x61\x70",
-            &[to(
-                TARGET,
-                b"\x58\x01\x01\x03\x03\x00\x00\x00\x00\x00\x00\x00\x31\x73\x81\x65\xd1\x00\xaa\x11\xbb"
-            )]
-        )
-    );
-    assert!(rt;
-        hears(
-            alloc,
-            proxy,
-            0,
-            CLIENT,
-            b"\x52\x03\x00\x05\xaa\xbb\x31\x73\x81\x65\xd4\x0f\x63\x6f\x61\x70\xff\x01\x02",
-            &[to(
-                TARGET,
-                b"\x58\x03\x01\x04\x04\x00\x00\x00\x00\x00\x00\x00\x31\x73\x81\x65\xff\x01\x02"
-            )]
-        )
-    );
-    assert!(rt;
-        hears(
-            alloc,
-            proxy,
-            0,
-            CLIENT,
-            b"\x50\x01\x00\x06\x31\x53\x81\x65\xd4\x0f\x63\x6f\x61\x70",
-            &[to(
-                TARGET,
-                b"\x58\x01\x01\x05\x05\x00\x00\x00\x00\x00\x00\x00\x31\x53\x81\x65"
-            )]
-        )
-    );
-}
-
-/// An option that nobody here knows and that is unsafe to forward; no proxy is named; another scheme, host and port; no host; a port of no bytes.
-fn refused(rt: &impl Abort, alloc: Global, proxy: &mut Proxy) {
-    assert!(rt;
-        hears(
-            alloc,
-            proxy,
-            0,
-            CLIENT,
-            b"\x40\x01\x00\x10\x20\x11\x73\x81\x65\xd4\x0f\x63\x6f\x61\x70",
-            &[to(CLIENT, b"\x60\x82\x00\x10")]
-        )
-    );
-    assert!(rt;
-        hears(
-            alloc,
-            proxy,
-            0,
-            CLIENT,
-            b"\x40\x01\x00\x11\xb1\x65",
-            &[to(CLIENT, b"\x60\x84\x00\x11")]
-        )
-    );
-    assert!(rt;
-        hears(
-            alloc,
-            proxy,
-            0,
-            CLIENT,
-            b"\x40\x01\x00\x12\x31\x73\xd5\x17\x63\x6f\x61\x70\x73",
-            &[to(CLIENT, b"\x60\xa5\x00\x12")]
-        )
-    );
-    assert!(rt;
-        hears(
-            alloc,
-            proxy,
-            0,
-            CLIENT,
-            b"\x40\x01\x00\x13\x31\x74\x81\x65\xd4\x0f\x63\x6f\x61\x70",
-            &[to(CLIENT, b"\x60\xa5\x00\x13")]
-        )
-    );
-    assert!(rt;
-        hears(
-            alloc,
-            proxy,
-            0,
-            CLIENT,
-            b"\x40\x01\x00\x14\x31\x73\x42\x16\x34\x41\x65\xd4\x0f\x63\x6f\x61\x70",
-            &[to(CLIENT, b"\x60\xa5\x00\x14")]
-        )
-    );
-    assert!(rt;
-        hears(
-            alloc,
-            proxy,
-            0,
-            CLIENT,
-            b"\x40\x01\x00\x15\xd4\x1a\x63\x6f\x61\x70",
-            &[to(CLIENT, b"\x60\xa5\x00\x15")]
-        )
-    );
-    assert!(rt;
-        hears(
-            alloc,
-            proxy,
-            0,
-            CLIENT,
-            b"\x40\x01\x00\x16\x31\x73\x40\x41\x65\xd4\x0f\x63\x6f\x61\x70",
-            &[to(CLIENT, b"\x60\xa5\x00\x16")]
-        )
-    );
-    assert!(rt;
-        hears(
-            alloc,
-            proxy,
-            0,
-            CLIENT,
-            b"\x40\x01\x00\x17\xda\x16\x63\x6f\x61\x70\x3a\x2f\x2f\x73\x2f\x65",
-            &[to(CLIENT, b"\x60\xa5\x00\x17")]
-        )
-    );
-    assert!(rt;
-        hears(
-            alloc,
-            proxy,
-            0,
-            CLIENT,
-            b"\x42\x01\x00\x18\xaa\xbb\xb1\x65",
-            &[to(CLIENT, b"\x62\x84\x00\x18\xaa\xbb")]
-        )
-    );
-    assert!(rt;
-        hears(
-            alloc,
-            proxy,
-            0,
-            CLIENT,
-            b"\x50\x01\x00\x19\xb1\x65",
-            &[to(CLIENT, b"\x50\x84\x01\x06")]
-        )
-    );
-}
-
-/// A confirmable request that comes again is answered by the same bytes, and isn't forwarded again; others are ignored.
-fn repeated(rt: &impl Abort, alloc: Global, proxy: &mut Proxy) {
-    assert!(rt;
-        hears(
-            alloc,
-            proxy,
-            0,
-            CLIENT,
-            b"\x40\x01\x00\x01\xb1\x65\xd9\x0b\x63\x6f\x61\x70\x3a\x2f\x2f\x73\x2f",
-            &[to(CLIENT, b"\x60\x00\x00\x01")]
-        )
-    );
-    assert!(rt;
-        hears(
-            alloc,
-            proxy,
-            0,
-            CLIENT,
-            b"\x50\x01\x00\x02\x31\x73\x81\x65\xd4\x0f\x63\x6f\x61\x70",
-            &[]
-        )
-    );
-    assert!(rt;
-        hears(
-            alloc,
-            proxy,
-            0,
-            CLIENT,
-            b"\x40\x01\x00\x11\xb1\x65",
-            &[to(CLIENT, b"\x60\x84\x00\x11")]
-        )
-    );
-}
+            b"\x52\x03\0\x05\xaa\xbb\x31s\x81e\xd4\x0fcoap\xff\x01\x02",
+        ),
+        &[(
+            SERVER,
+            b"\x58\x03\x01\x04\x04\0\0\0\0\0\0\0\x31s\x81e\xff\x01\x02",
+        )],
+    ),
+    // To a host in capital letters.
+    (
+        0,
+        Comes(CLIENT, b"\x50\x01\0\x06\x31S\x81e\xd4\x0fcoap"),
+        &[(SERVER, b"\x58\x01\x01\x05\x05\0\0\0\0\0\0\0\x31S\x81e")],
+    ),
+    // Refused: an option that nobody here knows and that is unsafe to forward.
+    (
+        0,
+        Comes(CLIENT, b"\x40\x01\0\x10\x20\x11\x73\x81e\xd4\x0fcoap"),
+        &[(CLIENT, b"\x60\x82\0\x10")],
+    ),
+    // No proxy is named.
+    (
+        0,
+        Comes(CLIENT, b"\x40\x01\0\x11\xb1e"),
+        &[(CLIENT, b"\x60\x84\0\x11")],
+    ),
+    // Another scheme, another host, and another port.
+    (
+        0,
+        Comes(CLIENT, b"\x40\x01\0\x12\x31s\xd5\x17coaps"),
+        &[(CLIENT, b"\x60\xa5\0\x12")],
+    ),
+    (
+        0,
+        Comes(CLIENT, b"\x40\x01\0\x13\x31t\x81e\xd4\x0fcoap"),
+        &[(CLIENT, b"\x60\xa5\0\x13")],
+    ),
+    (
+        0,
+        Comes(CLIENT, b"\x40\x01\0\x14\x31s\x42\x16\x34\x41e\xd4\x0fcoap"),
+        &[(CLIENT, b"\x60\xa5\0\x14")],
+    ),
+    // No host; a port of no bytes; and a Proxy-Uri with a path.
+    (
+        0,
+        Comes(CLIENT, b"\x40\x01\0\x15\xd4\x1acoap"),
+        &[(CLIENT, b"\x60\xa5\0\x15")],
+    ),
+    (
+        0,
+        Comes(CLIENT, b"\x40\x01\0\x16\x31s\x40\x41e\xd4\x0fcoap"),
+        &[(CLIENT, b"\x60\xa5\0\x16")],
+    ),
+    (
+        0,
+        Comes(CLIENT, b"\x40\x01\0\x17\xda\x16coap://s/e"),
+        &[(CLIENT, b"\x60\xa5\0\x17")],
+    ),
+    // No proxy is named, with a token, and in a message that isn't confirmable.
+    (
+        0,
+        Comes(CLIENT, b"\x42\x01\0\x18\xaa\xbb\xb1e"),
+        &[(CLIENT, b"\x62\x84\0\x18\xaa\xbb")],
+    ),
+    (
+        0,
+        Comes(CLIENT, b"\x50\x01\0\x19\xb1e"),
+        &[(CLIENT, b"\x50\x84\x01\x06")],
+    ),
+    // Repeated: a confirmable request is answered by the same bytes, and isn't forwarded again; others are ignored.
+    (
+        0,
+        Comes(CLIENT, b"\x40\x01\0\x01\xb1e\xd9\x0bcoap://s/"),
+        &[(CLIENT, b"\x60\0\0\x01")],
+    ),
+    (
+        0,
+        Comes(CLIENT, b"\x50\x01\0\x02\x31s\x81e\xd4\x0fcoap"),
+        &[],
+    ),
+    (
+        0,
+        Comes(CLIENT, b"\x40\x01\0\x11\xb1e"),
+        &[(CLIENT, b"\x60\x84\0\x11")],
+    ),
+];
 
 #[test]
 fn requests(rt: HostRuntime) -> Result<(), Fail> {
-    let mut proxy = proxy(rt.alloc())?;
-    forwarded(&rt, rt.alloc(), &mut proxy);
-    refused(&rt, rt.alloc(), &mut proxy);
-    repeated(&rt, rt.alloc(), &mut proxy);
-    drop(proxy);
-    Ok(())
-}
-
-/// The request of this kind and message ID for `s`.
-fn request(first: u8, id: u8) -> [u8; 12] {
-    [
-        first, 1, 2, id, 0x31, b's', 0xd4, 0x17, b'c', b'o', b'a', b'p',
-    ]
+    Ok(goes_from_new(&rt, rt.alloc(), &ASKED)?)
 }
 
 /// Whether none of so many requests, each of its own message ID, is answered by 5.03.

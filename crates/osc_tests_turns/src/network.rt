@@ -1,11 +1,11 @@
 //! The ports of a client, a proxy and a server, and what brings each one's datagrams to the others.
 ghost use Rattle.std.specs.Prelude.{◌<◌};
 
-use crate::nodes::{CLIENT, PROXY, SERVER, at, drawn};
 use crate::queues::Queues;
 use crate::telling::{sends, takes};
 use osc_ccm::Ccm;
 use osc_client::Client;
+use osc_fixtures::{CLIENT, PROXY, SERVER, at, drawn};
 use osc_model::{Datagram, Peer, Request};
 use osc_proxy::Proxy;
 use osc_server::Server;

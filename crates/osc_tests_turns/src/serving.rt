@@ -1,8 +1,9 @@
 //! A server at a port.
 
-use crate::nodes::{CLIENT, at, drawn, server};
+use crate::nodes::server;
 use crate::queues::Queues;
 use osc_ccm::Ccm;
+use osc_fixtures::{CLIENT, at, drawn};
 use osc_model::Bytes;
 use osc_server::Server;
 use osc_turn::{TurnError, Turned, turn};

@@ -1,46 +1,46 @@
-//! A proxy with one target, and what it sends.
+//! A proxy with one target, row by row of what happens at it and what it sends then.
 
-use osc_model::{Bytes, Draw, Moment, Peer, Step};
-use osc_proxy::{Proxy, Target, Targets};
+use osc_fixtures::{CLIENT, SERVER, at, proxy};
+use osc_model::{Draw, Moment, Peer, Step};
+use osc_proxy::Proxy;
 use std::alloc::{AllocError, Global};
-
-/// The target, by the name `s` and port 5683.
-pub(crate) const TARGET: Peer = Peer {
-    address: [127, 0, 0, 1],
-    port: 5683,
-};
-
-/// A client.
-pub(crate) const CLIENT: Peer = Peer {
-    address: [127, 0, 0, 1],
-    port: 9000,
-};
-
-/// Another peer.
-pub(crate) const STRANGER: Peer = Peer {
-    address: [127, 0, 0, 1],
-    port: 9001,
-};
+use std::process::Abort;
+use std::test::*;
 
 /// Draws of zeros but for the ID of the first message, which is 0100: the tokens are a key and seven zeros, and the timeout is 2 seconds.
 const DRAW: Draw = Draw([
     0, 0, 0, 0, 0, 0, 0, 0, 0, 0, 0, 0, 0, 0, 0, 0, 0, 0, 1, 0, 0, 0, 0, 0, 0, 0, 0, 0, 0, 0, 0, 0,
 ]);
 
-pub(crate) fn proxy(alloc: Global) -> Result<Proxy, AllocError> {
-    let mut targets = Targets::new(alloc);
-    let host = Bytes::from_slice(alloc, b"s")?;
-    targets.push(Target {
-        host,
-        port: 5683,
-        peer: TARGET,
-    })?;
-    Proxy::new(alloc, targets)
+/// What happens at a proxy.
+#[derive(Clone, Copy, Debug)]
+pub(crate) enum Event<'a> {
+    /// These bytes come from there.
+    Comes(Peer, &'a [u8]),
+    Tick,
 }
 
-/// These bytes to that peer.
-pub(crate) fn to(peer: Peer, bytes: &[u8]) -> (Peer, &[u8]) {
-    (peer, bytes)
+/// At how many ms something happens, and what; to whom the proxy sends which bytes then, in this order.
+pub(crate) type Row<'a> = (u64, Event<'a>, &'a [(Peer, &'a [u8])]);
+
+/// A confirmable request for `s`.
+pub(crate) const ASKED: &[u8] = b"\x42\x01\0\x01\xaa\xbb\x31s\x81e\xd4\x0fcoap";
+
+/// What a proxy forwards of it.
+pub(crate) const FORWARDED: &[u8] = b"\x48\x01\x01\0\0\0\0\0\0\0\0\0\x31s\x81e";
+
+/// It is acknowledged and forwarded.
+pub(crate) const FORWARDS: [Row<'static>; 1] = [(
+    0,
+    Event::Comes(CLIENT, ASKED),
+    &[(CLIENT, b"\x60\0\0\x01"), (SERVER, FORWARDED)],
+)];
+
+/// The request of this kind and message ID for `s`.
+pub(crate) fn request(first: u8, id: u8) -> [u8; 12] {
+    [
+        first, 1, 2, id, 0x31, b's', 0xd4, 0x17, b'c', b'o', b'a', b'p',
+    ]
 }
 
 /// Whether the step sends these, in this order.
@@ -54,72 +54,60 @@ fn sends(step: Step, expected: &[(Peer, &[u8])]) -> bool {
     same
 }
 
-/// Whether the proxy sends these for bytes that come from there, at so many ms.
-pub(crate) fn hears(
+fn happens(
     alloc: Global,
     proxy: &mut Proxy,
-    now: u64,
-    from: Peer,
-    bytes: &[u8],
-    expected: &[(Peer, &[u8])],
-) -> bool {
-    let Some(now) = Moment::new(now) else {
-        return false;
-    };
-    match proxy.on_datagram(alloc, now, from, bytes, &DRAW) {
+    ms: u64,
+    event: Event<'_>,
+) -> Result<Step, AllocError> {
+    match event {
+        Event::Comes(from, bytes) => proxy.on_datagram(alloc, at(ms), from, bytes, &DRAW),
+        Event::Tick => proxy.on_tick(alloc, at(ms), &DRAW),
+    }
+}
+
+/// Whether the row is so.
+fn is_so(alloc: Global, proxy: &mut Proxy, row: &Row<'_>) -> bool {
+    let (ms, event, expected) = row;
+    match happens(alloc, proxy, *ms, *event) {
         Ok(step) => sends(step, expected),
         Err(_) => false,
     }
 }
 
-/// The same; where the bytes are refused memory they come again.
-pub(crate) fn hears_at_last(
-    alloc: Global,
-    proxy: &mut Proxy,
-    now: u64,
-    from: Peer,
-    bytes: &[u8],
-    expected: &[(Peer, &[u8])],
-) -> bool {
-    let Some(moment) = Moment::new(now) else {
-        return false;
-    };
-    match proxy.on_datagram(alloc, moment, from, bytes, &DRAW) {
+/// The same; what is refused memory happens again. What sends nothing is never refused any.
+fn is_so_at_last(alloc: Global, proxy: &mut Proxy, row: &Row<'_>) -> bool {
+    let (ms, event, expected) = row;
+    match happens(alloc, proxy, *ms, *event) {
         Ok(step) => sends(step, expected),
-        Err(_) => hears(alloc, proxy, now, from, bytes, expected),
+        Err(_) => !expected.is_empty() && is_so(alloc, proxy, row),
     }
 }
 
-/// Whether it sends these once so many ms have gone.
-pub(crate) fn ticks(
-    alloc: Global,
-    proxy: &mut Proxy,
-    now: u64,
-    expected: &[(Peer, &[u8])],
-) -> bool {
-    let Some(now) = Moment::new(now) else {
-        return false;
-    };
-    match proxy.on_tick(alloc, now, &DRAW) {
-        Ok(step) => sends(step, expected),
-        Err(_) => false,
+/// The rows are so, one after another.
+pub(crate) fn goes(rt: &impl Abort, alloc: Global, proxy: &mut Proxy, rows: &[Row<'_>]) {
+    for row in rows {
+        assert!(rt; is_so(alloc, proxy, row), "at {row:?}");
     }
 }
 
-/// The same; where the tick is refused memory it is made again.
-pub(crate) fn ticks_at_last(
-    alloc: Global,
-    proxy: &mut Proxy,
-    now: u64,
-    expected: &[(Peer, &[u8])],
-) -> bool {
-    let Some(moment) = Moment::new(now) else {
-        return false;
-    };
-    match proxy.on_tick(alloc, moment, &DRAW) {
-        Ok(step) => sends(step, expected),
-        Err(_) => ticks(alloc, proxy, now, expected),
+/// The same; what is refused memory happens again.
+pub(crate) fn goes_at_last(rt: &impl Abort, alloc: Global, proxy: &mut Proxy, rows: &[Row<'_>]) {
+    for row in rows {
+        assert!(rt; is_so_at_last(alloc, proxy, row), "at {row:?}");
     }
+}
+
+/// The rows are so at a new proxy.
+pub(crate) fn goes_from_new(
+    rt: &impl Abort,
+    alloc: Global,
+    rows: &[Row<'_>],
+) -> Result<(), AllocError> {
+    let mut proxy = proxy(alloc)?;
+    goes(rt, alloc, &mut proxy, rows);
+    drop(proxy);
+    Ok(())
 }
 
 /// The code of the first datagram that the proxy sends for bytes that come from there; 0 where it sends none.

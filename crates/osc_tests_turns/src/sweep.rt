@@ -2,9 +2,10 @@
 ghost use Rattle.std.specs.Prelude.{◌<◌};
 
 use crate::network::Network;
-use crate::nodes::{client, post, proxy, server};
+use crate::nodes::{client, server};
 use crate::telling::UNVERIFIED;
 use osc_client::Client;
+use osc_fixtures::{POST, proxy, request};
 use osc_model::{Code, Request};
 use osc_proxy::Proxy;
 use osc_server::Server;
@@ -154,7 +155,7 @@ fn sweeps<R: Abort + Drop>(
 
 #[test]
 fn each_call_fails_in_turn(rt: HostRuntime) -> Result<(), Fail> {
-    let request = post(rt.alloc(), b"a")?;
+    let request = request(rt.alloc(), b"/log", POST, b"a")?;
     let swept = sweeps(&rt, rt.alloc(), &request, false);
     drop(request);
     swept
@@ -162,7 +163,7 @@ fn each_call_fails_in_turn(rt: HostRuntime) -> Result<(), Fail> {
 
 #[test]
 fn each_call_fails_in_turn_around_a_restart(rt: HostRuntime) -> Result<(), Fail> {
-    let request = post(rt.alloc(), b"a")?;
+    let request = request(rt.alloc(), b"/log", POST, b"a")?;
     let swept = sweeps(&rt, rt.alloc(), &request, true);
     drop(request);
     swept

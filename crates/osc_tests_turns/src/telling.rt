@@ -1,8 +1,8 @@
 //! One turn, and whether it tells what the queues know of it.
 
-use crate::nodes::{at, drawn};
 use crate::queues::Queues;
 use osc_ccm::Ccm;
+use osc_fixtures::{at, drawn};
 use osc_model::{ClientResult, Step};
 use osc_turn::{Node, PortFault, TurnError, Turned, send_all, turn};
 use std::alloc::{AllocError, Global};

@@ -1,35 +1,22 @@
 //! Each kind of event at each node, where there is memory: none is answered by want of memory. The owners' grants have salts and id
 //! contexts, from none to the longest, and each of them reaches the server once straight and once through a proxy.
 
-use crate::common::{GET, KEY, PUT, SERVER, counts, happens};
-use crate::owners::{Asked, Right, asks_for, claims, own, place};
-use crate::quiet::is_quiet;
-use osc_ccm::Ccm;
-use osc_client::{Origin, Way};
-use osc_model::{Bytes, Peer};
-use osc_proxy::{Target, Targets};
+use crate::common::{
+    Asked, SCOPE, asks_for, begun, counts, delivers, exchanges, has_proxy, injects, is_enrolled,
+    lies, restarts, start, ticks,
+};
+use crate::quiet::settles;
+use osc_client::Way;
+use osc_fixtures::{
+    GET, NOWHERE, PROXY, PUT, Right, SERVER, own, place, straight, targets, through,
+};
+use osc_model::Peer;
 use osc_run::Actor;
-use osc_scope::Scope;
-use osc_token::Audience;
 use osc_tree::Tree;
-use osc_world::{Holder, Start, What, World};
+use osc_world::{Start, World};
 use std::alloc::{AllocError, Global};
 use std::process::Abort;
 use std::test::*;
-
-const PROXY: Peer = Peer {
-    address: [127, 0, 0, 1],
-    port: 6001,
-};
-
-/// Where nobody stands.
-const NOWHERE: Peer = Peer {
-    address: [127, 0, 0, 1],
-    port: 9,
-};
-
-/// GET, POST and PUT on `/log`.
-const SCOPE: &[u8] = b"\x81\x82\x64/log\x07";
 
 /// What comes from nowhere: nothing, no message, a confirmable message that is empty, requests and a response without protection, posts to
 /// authz-info, requests with the OSCORE option, an acknowledgement and a Reset.
@@ -75,119 +62,25 @@ fn right(client: u8) -> Right {
 /// Straight to the server, or through the proxy, to which the server is `s`.
 fn way(alloc: Global, client: u8) -> Result<Way, AllocError> {
     if client % 2 == 0 {
-        return Ok(Way {
-            next_hop: SERVER,
-            origin: None,
-        });
-    }
-    let host = Bytes::from_slice(alloc, b"s")?;
-    Ok(Way {
-        next_hop: PROXY,
-        origin: Origin::new(host, 5683),
-    })
-}
-
-fn holder(alloc: Global, client: u8) -> Result<Holder, AllocError> {
-    let way = way(alloc, client)?;
-    Ok(Holder {
-        at: place(client),
-        way,
-        claims: claims(alloc, right(client))?,
-        iv: [client; 13],
-    })
-}
-
-fn is_enrolled(alloc: Global, start: &mut Start, client: u8) -> bool {
-    match holder(alloc, client) {
-        Ok(holder) => start.enroll::<Ccm<8>>(alloc, holder).is_ok(),
-        Err(_) => false,
-    }
-}
-
-fn targets(alloc: Global) -> Result<Targets, AllocError> {
-    let mut targets = Targets::new(alloc);
-    let host = Bytes::from_slice(alloc, b"s")?;
-    let pushed = targets.push(Target {
-        host,
-        port: 5683,
-        peer: SERVER,
-    });
-    match pushed {
-        Ok(()) => Ok(targets),
-        Err(error) => Err(error),
-    }
-}
-
-fn has_proxy(alloc: Global, start: &mut Start) -> bool {
-    match targets(alloc) {
-        Ok(targets) => start.add_proxy(alloc, PROXY, targets).is_ok(),
-        Err(_) => false,
+        Ok(straight())
+    } else {
+        through(alloc, b"s", 5683)
     }
 }
 
 /// Whether the proxy and eight clients are there.
 fn is_whole(alloc: Global, start: &mut Start) -> bool {
-    let mut whole = has_proxy(alloc, start);
+    let mut whole = has_proxy(alloc, start, targets(alloc));
     for client in 0..8 {
-        whole = whole && is_enrolled(alloc, start, client);
+        whole = whole && is_enrolled(alloc, start, right(client), way(alloc, client));
     }
     whole
 }
 
 fn world(alloc: Global) -> Result<World, Fail> {
-    let audience = Audience::new(alloc, "s")?;
-    let mut start = Start::new(
-        alloc,
-        Tree::new(alloc),
-        Scope::new(alloc),
-        KEY,
-        audience,
-        SERVER,
-    );
+    let mut start = start(alloc, Tree::new(alloc), "s")?;
     let whole = is_whole(alloc, &mut start);
-    let world = start.begin(alloc);
-    whole.then_some(()).ok_or("not whole")?;
-    Ok(world?)
-}
-
-fn injects(alloc: Global, world: &mut World, number: u8, to: Peer, bytes: &[u8]) -> bool {
-    match Bytes::from_slice(alloc, bytes) {
-        Ok(bytes) => happens(
-            alloc,
-            world,
-            number,
-            What::Inject {
-                from: NOWHERE,
-                to,
-                bytes,
-            },
-        ),
-        Err(_) => false,
-    }
-}
-
-fn ticks(alloc: Global, world: &mut World, number: u8, node: Actor) -> bool {
-    happens(alloc, world, number, What::Tick { node })
-}
-
-fn restarts(alloc: Global, world: &mut World, number: u8, node: Actor) -> bool {
-    happens(alloc, world, number, What::Restart { node })
-}
-
-fn lies(alloc: Global, world: &mut World, event: u8, client: usize, number: u64) -> bool {
-    match Bytes::from_slice(alloc, b"\x01\xb3log") {
-        Ok(text) => happens(
-            alloc,
-            world,
-            event,
-            What::Lie {
-                client,
-                number,
-                text,
-            },
-        ),
-        Err(_) => false,
-    }
+    begun(alloc, start, whole)
 }
 
 /// A number of its own for each of ten events of each of the clients.
@@ -198,13 +91,6 @@ fn number(client: u8, event: u8) -> u8 {
         .wrapping_add(event)
 }
 
-fn exchanges(alloc: Global, world: &mut World, client: u8, event: u8) -> bool {
-    let begun = What::Exchange {
-        client: client as usize,
-    };
-    happens(alloc, world, number(client, event), begun)
-}
-
 fn asks(alloc: Global, world: &mut World, client: u8, event: u8, code: u8) -> bool {
     let asked: Asked = (client as usize, b"/log", code, b"a");
     asks_for(alloc, world, number(client, event), asked)
@@ -212,21 +98,15 @@ fn asks(alloc: Global, world: &mut World, client: u8, event: u8, code: u8) -> bo
 
 /// The client exchanges and asks, each twice, so that the second is refused, and all of it is answered.
 fn is_served(rt: &impl Abort, alloc: Global, world: &mut World, client: u8) {
+    let owner = client as usize;
     assert!(rt; asks(alloc, world, client, 0, GET));
-    assert!(rt; exchanges(alloc, world, client, 1));
-    assert!(rt; exchanges(alloc, world, client, 2));
-    assert!(rt; is_quiet(alloc, world, 0, 9) == Some(true));
+    assert!(rt; exchanges(alloc, world, number(client, 1), owner));
+    assert!(rt; exchanges(alloc, world, number(client, 2), owner));
+    assert!(rt; settles(alloc, world));
     assert!(rt; asks(alloc, world, client, 3, PUT));
     assert!(rt; asks(alloc, world, client, 4, GET));
-    assert!(rt;
-        ticks(
-            alloc,
-            world,
-            number(client, 5),
-            Actor::Client(client as usize)
-        )
-    );
-    assert!(rt; is_quiet(alloc, world, 0, 9) == Some(true));
+    assert!(rt; ticks(alloc, world, number(client, 5), Actor::Client(owner)));
+    assert!(rt; settles(alloc, world));
 }
 
 #[test]
@@ -248,8 +128,8 @@ fn all_owners_are_served(rt: HostRuntime) -> Result<(), Fail> {
 fn all_come(alloc: Global, world: &mut World, number: u8, to: Peer) -> bool {
     let mut whole = true;
     for bytes in DATAGRAMS {
-        whole = whole && injects(alloc, world, number, to, bytes);
-        whole = whole && injects(alloc, world, number, to, bytes);
+        whole = whole && injects(alloc, world, number, NOWHERE, to, bytes);
+        whole = whole && injects(alloc, world, number, NOWHERE, to, bytes);
     }
     whole
 }
@@ -273,18 +153,21 @@ fn whatever_comes_to_a_node(rt: HostRuntime) -> Result<(), Fail> {
 fn all_come_again(alloc: Global, world: &mut World, number: u8) -> bool {
     let mut whole = true;
     for datagram in 0..world.sent().len() + 1 {
-        whole = whole && happens(alloc, world, number, What::Deliver { datagram });
+        whole = whole && delivers(alloc, world, number, datagram);
     }
     whole
 }
+
+/// A GET on `/log`.
+const LIE: &[u8] = b"\x01\xb3log";
 
 /// A lie, ticks, restarts and repeats at each node while a client's request is open.
 fn goes_on(rt: &impl Abort, alloc: Global, world: &mut World, owner: u8) {
     is_served(rt, alloc, world, owner);
     let client = owner as usize;
-    assert!(rt; lies(alloc, world, 1, client, 0));
-    assert!(rt; lies(alloc, world, 2, client, 7));
-    assert!(rt; lies(alloc, world, 3, client, 1 << 40));
+    assert!(rt; lies(alloc, world, 1, client, 0, LIE));
+    assert!(rt; lies(alloc, world, 2, client, 7, LIE));
+    assert!(rt; lies(alloc, world, 3, client, 1 << 40, LIE));
     assert!(rt; asks_for(alloc, world, 4, (client, b"/log", GET, b"")));
     assert!(rt; all_come_again(alloc, world, 5));
     assert!(rt; ticks(alloc, world, 6, Actor::Server));

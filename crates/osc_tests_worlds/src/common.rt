@@ -1,142 +1,197 @@
-//! A world of one client, and what happens in it.
+//! Worlds, and what happens in them.
 
 use osc_ccm::Ccm;
 use osc_client::Way;
-use osc_model::{Bytes, Code, Draw, ETags, Moment, Path, Peer, Request};
+use osc_fixtures::{
+    KEY, PROXY, Right, SERVER, claims, drawn, iv_of, own, place, request, straight,
+};
+use osc_model::{Bytes, Moment, Path, Peer};
+use osc_proxy::Targets;
+use osc_run::Actor;
 use osc_scope::Scope;
-use osc_token::{Audience, Claims, InputMaterial};
+use osc_token::Audience;
 use osc_tree::Tree;
 use osc_world::{Event, Holder, Start, What, World};
 use std::alloc::{AllocError, Global};
 use std::test::*;
 
-pub(crate) const SERVER: Peer = Peer {
-    address: [127, 0, 0, 1],
-    port: 5683,
-};
-
-pub(crate) const CLIENT: Peer = Peer {
-    address: [127, 0, 0, 1],
-    port: 7001,
-};
-
-/// The key that the server shares with the issuer of tokens.
-pub(crate) const KEY: [u8; 16] = *b"@ABCDEFGHIJKLMNO";
-
-pub(crate) const GET: u8 = 1;
-
-pub(crate) const POST: u8 = 2;
-
-pub(crate) const PUT: u8 = 3;
-
-pub(crate) const DELETE: u8 = 4;
-
-pub(crate) fn material(alloc: Global) -> Result<InputMaterial, AllocError> {
-    Ok(InputMaterial {
-        id: Bytes::from_slice(alloc, &[1])?,
-        secret: Bytes::from_slice(alloc, &[1; 16])?,
-        salt: Bytes::new(alloc),
-        id_context: None,
-    })
-}
-
 /// GET, POST and PUT on `/log`.
-pub(crate) fn claims(alloc: Global) -> Result<Claims, AllocError> {
-    let audience = Audience::new(alloc, "s")?;
-    let material = material(alloc)?;
-    Ok(Claims {
-        audience,
-        not_before: None,
-        expires: None,
-        material,
-        scope: Bytes::from_slice(alloc, b"\x81\x82\x64/log\x07")?,
+pub(crate) const SCOPE: &[u8] = b"\x81\x82\x64/log\x07";
+
+/// The greatest number that a request may have (RFC 8613 section 7.2.1).
+pub(crate) const GREATEST: u64 = 1_099_511_627_775;
+
+// ---- where a world begins
+
+/// A world with these resources before its first event, for this audience.
+pub(crate) fn start(alloc: Global, first: Tree, audience: &str) -> Result<Start, AllocError> {
+    let audience = Audience::new(alloc, audience)?;
+    Ok(Start::new(alloc, first, Scope::new(alloc), KEY, audience, SERVER))
+}
+
+fn holder(alloc: Global, right: Right, way: Result<Way, AllocError>) -> Result<Holder, AllocError> {
+    let way = way?;
+    Ok(Holder {
+        at: place(right.client),
+        way,
+        claims: claims(alloc, right)?,
+        iv: iv_of(right),
     })
 }
 
-pub(crate) fn holder(alloc: Global) -> Result<Holder, AllocError> {
-    Ok(Holder {
-        at: CLIENT,
-        way: Way {
-            next_hop: SERVER,
-            origin: None,
-        },
-        claims: claims(alloc)?,
-        iv: [1; 13],
-    })
+/// Whether the client of this right was enrolled, with this way to the server.
+pub(crate) fn is_enrolled(
+    alloc: Global,
+    start: &mut Start,
+    right: Right,
+    way: Result<Way, AllocError>,
+) -> bool {
+    match holder(alloc, right, way) {
+        Ok(holder) => start.enroll::<Ccm<8>>(alloc, holder).is_ok(),
+        Err(_) => false,
+    }
+}
+
+/// Whether a client of each of these rights was enrolled, in order, with a way straight to the server.
+fn are_enrolled(alloc: Global, start: &mut Start, rights: &[Right]) -> bool {
+    for right in rights {
+        if !is_enrolled(alloc, start, *right, Ok(straight())) {
+            return false;
+        }
+    }
+    true
+}
+
+/// Whether the proxy was added, with these targets.
+pub(crate) fn has_proxy(
+    alloc: Global,
+    start: &mut Start,
+    targets: Result<Targets, AllocError>,
+) -> bool {
+    match targets {
+        Ok(targets) => start.add_proxy(alloc, PROXY, targets).is_ok(),
+        Err(_) => false,
+    }
+}
+
+/// The world that begins so, if all are there that it should have.
+pub(crate) fn begun(alloc: Global, start: Start, whole: bool) -> Result<World, Fail> {
+    let world = start.begin(alloc);
+    whole.then_some(()).ok_or("not whole")?;
+    Ok(world?)
+}
+
+/// A world with these resources, and a client for each of these rights, which sends straight to the server.
+pub(crate) fn world_of(alloc: Global, first: Tree, rights: &[Right]) -> Result<World, Fail> {
+    let mut start = start(alloc, first, "s")?;
+    let whole = are_enrolled(alloc, &mut start, rights);
+    begun(alloc, start, whole)
 }
 
 /// A world without resources, with one client.
 pub(crate) fn world(alloc: Global) -> Result<World, Fail> {
-    let audience = Audience::new(alloc, "s")?;
-    let mut start = Start::new(
-        alloc,
-        Tree::new(alloc),
-        Scope::new(alloc),
-        KEY,
-        audience,
-        SERVER,
-    );
-    let holder = holder(alloc)?;
-    let enrolled = start.enroll::<Ccm<8>>(alloc, holder);
-    let world = start.begin(alloc);
-    enrolled.ok().ok_or("not enrolled")?;
-    Ok(world?)
+    world_of(alloc, Tree::new(alloc), &[own(0, SCOPE)])
 }
 
-/// A request of this code on `/log`.
-pub(crate) fn request(alloc: Global, code: u8, payload: &[u8]) -> Result<Request, AllocError> {
-    request_on(alloc, b"/log", code, payload)
-}
-
-/// A request of this code on this path.
-pub(crate) fn request_on(
-    alloc: Global,
-    path: &[u8],
-    code: u8,
-    payload: &[u8],
-) -> Result<Request, AllocError> {
-    Ok(Request {
-        code: Code(code),
-        path: Path::from_text(alloc, path)?,
-        format: None,
-        accept: None,
-        if_match: ETags::new(alloc),
-        if_none_match: false,
-        payload: Bytes::from_slice(alloc, payload)?,
-    })
-}
+// ---- what happens in it
 
 /// The event of this number, which gives its draw.
 pub(crate) fn event(number: u8, what: What) -> Event {
     Event {
         moment: Moment::START,
-        draw: Draw([number; 32]),
+        draw: drawn(number),
         what,
     }
 }
 
-/// Whether there was memory for what happens.
-pub(crate) fn happens(alloc: Global, world: &mut World, number: u8, what: What) -> bool {
-    let event = event(number, what);
+/// Whether there was memory for the event.
+pub(crate) fn takes_place(alloc: Global, world: &mut World, event: Event) -> bool {
     let done = world.step::<Ccm<8>>(alloc, &event).is_ok();
     drop(event);
     done
 }
 
-pub(crate) fn exchanges(alloc: Global, world: &mut World, number: u8) -> bool {
-    happens(alloc, world, number, What::Exchange { client: 0 })
+/// Whether there was memory for what happens.
+pub(crate) fn happens(alloc: Global, world: &mut World, number: u8, what: What) -> bool {
+    takes_place(alloc, world, event(number, what))
 }
 
-pub(crate) fn asks(alloc: Global, world: &mut World, number: u8, code: u8, payload: &[u8]) -> bool {
-    match request(alloc, code, payload) {
-        Ok(request) => happens(alloc, world, number, What::Ask { client: 0, request }),
+pub(crate) fn exchanges(alloc: Global, world: &mut World, number: u8, client: usize) -> bool {
+    happens(alloc, world, number, What::Exchange { client })
+}
+
+/// A client's request: its number, the path, the code and the payload.
+pub(crate) type Asked = (usize, &'static [u8], u8, &'static [u8]);
+
+/// Whether there was memory for the request.
+pub(crate) fn asks_for(alloc: Global, world: &mut World, number: u8, asked: Asked) -> bool {
+    let (client, path, code, payload) = asked;
+    match request(alloc, path, code, payload) {
+        Ok(request) => happens(alloc, world, number, What::Ask { client, request }),
         Err(_) => false,
     }
+}
+
+/// The first client's request on `/log`.
+pub(crate) fn asks(
+    alloc: Global,
+    world: &mut World,
+    number: u8,
+    code: u8,
+    payload: &'static [u8],
+) -> bool {
+    asks_for(alloc, world, number, (0, b"/log", code, payload))
 }
 
 pub(crate) fn delivers(alloc: Global, world: &mut World, number: u8, datagram: usize) -> bool {
     happens(alloc, world, number, What::Deliver { datagram })
 }
+
+pub(crate) fn injects(
+    alloc: Global,
+    world: &mut World,
+    number: u8,
+    from: Peer,
+    to: Peer,
+    bytes: &[u8],
+) -> bool {
+    match Bytes::from_slice(alloc, bytes) {
+        Ok(bytes) => happens(alloc, world, number, What::Inject { from, to, bytes }),
+        Err(_) => false,
+    }
+}
+
+/// The client's holder seals this text at this number, in the event of that number.
+pub(crate) fn lies(
+    alloc: Global,
+    world: &mut World,
+    event: u8,
+    client: usize,
+    number: u64,
+    text: &[u8],
+) -> bool {
+    match Bytes::from_slice(alloc, text) {
+        Ok(text) => {
+            let lie = What::Lie {
+                client,
+                number,
+                text,
+            };
+            happens(alloc, world, event, lie)
+        }
+        Err(_) => false,
+    }
+}
+
+pub(crate) fn ticks(alloc: Global, world: &mut World, number: u8, node: Actor) -> bool {
+    happens(alloc, world, number, What::Tick { node })
+}
+
+pub(crate) fn restarts(alloc: Global, world: &mut World, number: u8, node: Actor) -> bool {
+    happens(alloc, world, number, What::Restart { node })
+}
+
+// ---- what came of it
 
 /// How many requests were served, asked and answered.
 pub(crate) fn counts(alloc: Global, world: &World) -> (usize, usize, usize) {

@@ -1,8 +1,9 @@
 //! Conditions of requests: asked in a world, and read from plaintexts.
 
 use crate::common::{happens, world};
-use crate::quiet::{exchanged, is_quiet};
-use osc_model::{Bytes, Code, ETags, Path, Reply, Request};
+use crate::quiet::{exchanged, settles};
+use osc_fixtures::{EVERY_METHOD, PUT, request, scope_of};
+use osc_model::{Code, Reply, Request};
 use osc_options::request_of;
 use osc_scope::Scope;
 use osc_tree::Tree;
@@ -13,23 +14,16 @@ use std::test::*;
 
 /// A PUT of this on `/log`, where nothing is there (RFC 7252 section 5.10.8.2).
 fn put_where_none(alloc: Global, payload: &[u8]) -> Result<Request, AllocError> {
-    Ok(Request {
-        code: Code(3),
-        path: Path::from_text(alloc, b"/log")?,
-        format: None,
-        accept: None,
-        if_match: ETags::new(alloc),
-        if_none_match: true,
-        payload: Bytes::from_slice(alloc, payload)?,
-    })
+    let mut request = request(alloc, b"/log", PUT, payload)?;
+    request.if_none_match = true;
+    Ok(request)
 }
 
 /// Asks for that, by a quiet round.
 fn puts_where_none(alloc: Global, world: &mut World, number: u8, payload: &[u8]) -> bool {
     match put_where_none(alloc, payload) {
         Ok(request) => {
-            happens(alloc, world, number, What::Ask { client: 0, request })
-                && is_quiet(alloc, world, 0, 9) == Some(true)
+            happens(alloc, world, number, What::Ask { client: 0, request }) && settles(alloc, world)
         }
         Err(_) => false,
     }
@@ -64,11 +58,6 @@ fn a_put_where_nothing_is_there(rt: HostRuntime) -> Result<(), Fail> {
     puts_twice(&rt, rt.alloc(), &mut world);
     drop(world);
     Ok(())
-}
-
-/// Every method on `/e`, `/f` and `/n`.
-fn scope(alloc: Global) -> Option<Scope> {
-    Scope::from_cbor(alloc, b"\x83\x82\x62/e\x0f\x82\x62/f\x0f\x82\x62/n\x0f").ok()
 }
 
 /// What the request of this plaintext is answered, where its options are heeded; else 4.02.
@@ -124,7 +113,7 @@ fn is_answered(alloc: Global, scope: &Scope, plaintext: &[u8], code: Code, paylo
 
 #[test]
 fn conditions_in_plaintexts(rt: HostRuntime) {
-    let scope = scope(rt.alloc()).expect(&rt, "a scope");
+    let scope = scope_of(rt.alloc(), EVERY_METHOD).expect(&rt, "a scope");
     for (plaintext, code, payload) in CASES {
         assert!(rt;
             is_answered(rt.alloc(), &scope, plaintext, code, payload),

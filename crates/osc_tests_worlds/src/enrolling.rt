@@ -1,13 +1,12 @@
 //! Clients that can't be enrolled, and one that can.
 
-use crate::common::{CLIENT, KEY, SERVER, counts, exchanges};
-use crate::quiet::is_quiet;
+use crate::common::{SCOPE, counts, exchanges, start};
+use crate::quiet::settles;
 use osc_authz::GrantError;
 use osc_ccm::Ccm;
-use osc_client::Way;
+use osc_fixtures::{CLIENT, PROXY, SERVER, straight};
 use osc_model::{Bytes, Peer};
 use osc_proxy::Targets;
-use osc_scope::Scope;
 use osc_token::{Audience, Claims, InputMaterial};
 use osc_tree::Tree;
 use osc_world::{EnrollError, Holder, PlaceError, Start};
@@ -17,9 +16,6 @@ use std::test::*;
 
 /// A scope, and how long the audience, the secret, the salt and the id context are; each of their bytes is an `a`.
 type Row = (&'static [u8], usize, usize, usize, usize);
-
-/// GET, POST and PUT on `/log`.
-const SCOPE: &[u8] = b"\x81\x82\x64/log\x07";
 
 /// One that has no method.
 const NO_SCOPE: &[u8] = b"\x81\x82\x64/log\0";
@@ -74,28 +70,13 @@ fn claims(alloc: Global, row: Row) -> Result<Claims, AllocError> {
     })
 }
 
-fn start(alloc: Global) -> Result<Start, AllocError> {
-    let audience = Audience::new(alloc, "a")?;
-    Ok(Start::new(
-        alloc,
-        Tree::new(alloc),
-        Scope::new(alloc),
-        KEY,
-        audience,
-        SERVER,
-    ))
-}
-
 /// Why the client of this row isn't enrolled there, if it isn't.
 fn refusal(alloc: Global, start: &mut Start, at: Peer, row: Row) -> Option<EnrollError> {
     match claims(alloc, row) {
         Ok(claims) => {
             let holder = Holder {
                 at,
-                way: Way {
-                    next_hop: SERVER,
-                    origin: None,
-                },
+                way: straight(),
                 claims,
                 iv: [1; 13],
             };
@@ -109,8 +90,8 @@ fn refusal(alloc: Global, start: &mut Start, at: Peer, row: Row) -> Option<Enrol
 fn begins(rt: &impl Abort, alloc: Global, start: Start) {
     let mut world = start.begin(alloc).expect(rt, "memory");
     assert!(rt; world.minted().len() == 1);
-    assert!(rt; exchanges(alloc, &mut world, 200));
-    assert!(rt; is_quiet(alloc, &mut world, 0, 9) == Some(true));
+    assert!(rt; exchanges(alloc, &mut world, 200, 0));
+    assert!(rt; settles(alloc, &mut world));
     assert!(rt; world.sent().len() == 2);
     assert!(rt; counts(alloc, &world) == (0, 0, 0));
     drop(world);
@@ -118,7 +99,7 @@ fn begins(rt: &impl Abort, alloc: Global, start: Start) {
 
 #[test]
 fn who_is_refused(rt: HostRuntime) {
-    let mut start = start(rt.alloc()).expect(&rt, "memory");
+    let mut start = start(rt.alloc(), Tree::new(rt.alloc()), "a").expect(&rt, "memory");
     for (row, error) in REFUSED {
         assert!(rt;
             refusal(rt.alloc(), &mut start, CLIENT, row) == Some(error),
@@ -128,11 +109,6 @@ fn who_is_refused(rt: HostRuntime) {
     assert!(rt; refusal(rt.alloc(), &mut start, CLIENT, GOOD) == None);
     begins(&rt, rt.alloc(), start);
 }
-
-const PROXY: Peer = Peer {
-    address: [127, 0, 0, 1],
-    port: 6001,
-};
 
 /// A proxy with no target is added there.
 fn placed(alloc: Global, start: &mut Start, at: Peer) -> Result<(), PlaceError> {
@@ -157,7 +133,7 @@ fn takes_no_second(rt: &impl Abort, alloc: Global, start: &mut Start) {
 
 #[test]
 fn addresses_of_their_own(rt: HostRuntime) {
-    let mut start = start(rt.alloc()).expect(&rt, "memory");
+    let mut start = start(rt.alloc(), Tree::new(rt.alloc()), "a").expect(&rt, "memory");
     takes_no_second(&rt, rt.alloc(), &mut start);
     begins(&rt, rt.alloc(), start);
 }

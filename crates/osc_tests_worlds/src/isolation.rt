@@ -1,11 +1,12 @@
 //! What each owner is answered, whatever the others do.
 
-use crate::common::{DELETE, GET, POST, happens};
-use crate::owners::{Asked, Right, asks_for, crowded, full, own, world_of};
-use crate::quiet::is_quiet;
+use crate::common::{Asked, asks_for, exchanges, world_of};
+use crate::quiet::settles;
+use crate::trees::{crowded, full};
+use osc_fixtures::{DELETE, GET, POST, Right, own};
 use osc_model::{Code, Reply};
 use osc_tree::Tree;
-use osc_world::{What, World};
+use osc_world::World;
 use std::alloc::{AllocError, Global};
 use std::process::Abort;
 use std::test::*;
@@ -90,13 +91,9 @@ fn is_undisturbed(alloc: Global, world: &World, client: usize, secret: u8) -> bo
     }
 }
 
-fn settles(alloc: Global, world: &mut World) -> bool {
-    is_quiet(alloc, world, 0, 9) == Some(true)
-}
-
 /// The exchange of this client, in the event of this number, by a quiet round.
 fn joins(alloc: Global, world: &mut World, number: u8, client: usize) -> bool {
-    happens(alloc, world, number, What::Exchange { client }) && settles(alloc, world)
+    exchanges(alloc, world, number, client) && settles(alloc, world)
 }
 
 /// A request, by a quiet round.
@@ -109,9 +106,9 @@ const FIRST: [Answer; 2] = [(0, Code::CREATED, b""), (1, Code::CONTENT, b"a")];
 
 /// The first owner posts a byte and gets it; the second one, if it does anything, posts a byte at the same time.
 fn posts_and_gets(rt: &impl Abort, alloc: Global, world: &mut World, with_second: bool) {
-    assert!(rt; happens(alloc, world, 200, What::Exchange { client: 0 }));
+    assert!(rt; exchanges(alloc, world, 200, 0));
     if with_second {
-        assert!(rt; happens(alloc, world, 201, What::Exchange { client: 1 }));
+        assert!(rt; exchanges(alloc, world, 201, 1));
     }
     assert!(rt; settles(alloc, world));
     assert!(rt; asks_for(alloc, world, 202, (0, b"/a", POST, b"a")));

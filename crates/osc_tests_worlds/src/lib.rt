@@ -12,8 +12,6 @@ mod enrolling;
 #[cfg(test)]
 mod isolation;
 #[cfg(test)]
-mod owners;
-#[cfg(test)]
 mod proxies;
 #[cfg(test)]
 mod quiet;
@@ -21,5 +19,7 @@ mod quiet;
 mod ready;
 #[cfg(test)]
 mod through;
+#[cfg(test)]
+mod trees;
 #[cfg(test)]
 mod world;

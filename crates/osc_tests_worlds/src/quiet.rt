@@ -1,9 +1,10 @@
 //! Quiet rounds: what waits is delivered, in order of sending, and what was dropped isn't; and numbers that are skipped.
 ghost use Rattle.std.specs.Prelude.{◌%◌, replicate};
 
-use crate::common::{POST, accepted, asks, counts, exchanges, happens, has, world};
+use crate::common::{GREATEST, accepted, asks, counts, exchanges, has, takes_place, world};
 use osc_ccm::Ccm;
-use osc_model::{Draw, Moment};
+use osc_fixtures::{POST, at, drawn};
+use osc_model::Draw;
 use osc_run::Actor;
 use osc_world::{Draws, Event, What, World};
 use std::alloc::Global;
@@ -25,14 +26,14 @@ impl Draws for Numbered {
 
 /// A quiet round at this moment; none where there was no memory for it.
 pub(crate) fn is_quiet(alloc: Global, world: &mut World, ms: u64, limit: usize) -> Option<bool> {
-    let now = if ms < 1_000_000 {
-        Moment { ms }
-    } else {
-        Moment::START
-    };
     world
-        .quiet::<Ccm<8>, Numbered>(alloc, now, &Numbered, limit)
+        .quiet::<Ccm<8>, Numbered>(alloc, at(ms), &Numbered, limit)
         .ok()
+}
+
+/// Whether a quiet round at the start leaves nothing; nine deliveries are more than any of these takes.
+pub(crate) fn settles(alloc: Global, world: &mut World) -> bool {
+    is_quiet(alloc, world, 0, 9) == Some(true)
 }
 
 /// The numbers of what waits.
@@ -45,16 +46,16 @@ fn waits(alloc: Global, world: &World, numbers: &[usize]) -> bool {
 
 /// A context, by a quiet round: the post and its answer.
 pub(crate) fn exchanged(rt: &impl Abort, alloc: Global, world: &mut World) {
-    assert!(rt; exchanges(alloc, world, 200));
+    assert!(rt; exchanges(alloc, world, 200, 0));
     assert!(rt; is_quiet(alloc, world, 0, 2) == Some(true));
 }
 
 /// A limit of none delivers nothing and tells whether anything waits; each limit delivers so many at most.
 fn limits(rt: &impl Abort, alloc: Global, world: &mut World) {
     assert!(rt; is_quiet(alloc, world, 0, 0) == Some(true));
-    assert!(rt; is_quiet(alloc, world, 0, 9) == Some(true));
+    assert!(rt; settles(alloc, world));
     assert!(rt; world.records().len() == 0);
-    assert!(rt; exchanges(alloc, world, 200));
+    assert!(rt; exchanges(alloc, world, 200, 0));
     assert!(rt; is_quiet(alloc, world, 0, 0) == Some(false));
     assert!(rt; world.records().len() == 1);
     assert!(rt; waits(alloc, world, &[0]));
@@ -82,21 +83,14 @@ fn a_round_has_a_limit(rt: HostRuntime) -> Result<(), Fail> {
 
 /// The client's tick at this moment.
 fn ticks(alloc: Global, world: &mut World, ms: u64) -> bool {
-    let now = if ms < 1_000_000 {
-        Moment { ms }
-    } else {
-        Moment::START
-    };
     let event = Event {
-        moment: now,
-        draw: Draw([202; 32]),
+        moment: at(ms),
+        draw: drawn(202),
         what: What::Tick {
             node: Actor::Client(0),
         },
     };
-    let done = world.step::<Ccm<8>>(alloc, &event).is_ok();
-    drop(event);
-    done
+    takes_place(alloc, world, event)
 }
 
 /// A request that is dropped is delivered by no round, and comes again once it is due: 2 to 3 seconds later (RFC 7252 section 4.2).
@@ -109,7 +103,7 @@ fn loses_one(rt: &impl Abort, alloc: Global, world: &mut World) {
     world.drop_datagram(100);
     assert!(rt; waits(alloc, world, &[]));
     assert!(rt; world.next_waiting() == None);
-    assert!(rt; is_quiet(alloc, world, 0, 9) == Some(true));
+    assert!(rt; settles(alloc, world));
     assert!(rt; counts(alloc, world) == (0, 1, 0));
     assert!(rt; ticks(alloc, world, 1999));
     assert!(rt; waits(alloc, world, &[]));
@@ -138,14 +132,11 @@ fn last_number(alloc: Global, world: &World) -> Option<u64> {
 
 /// Asks, by a quiet round; the number of the answered request.
 fn number_asked(alloc: Global, world: &mut World) -> Option<u64> {
-    if !asks(alloc, world, 203, POST, b"a") || is_quiet(alloc, world, 0, 9) != Some(true) {
+    if !asks(alloc, world, 203, POST, b"a") || !settles(alloc, world) {
         return None;
     }
     last_number(alloc, world)
 }
-
-/// The greatest number that a request may have (RFC 8613 section 7.2.1).
-const LAST: u64 = 1099511627775;
 
 /// Numbers are raised and never lowered; behind the last one nothing is asked.
 fn skips(rt: &impl Abort, alloc: Global, world: &mut World) {
@@ -157,13 +148,13 @@ fn skips(rt: &impl Abort, alloc: Global, world: &mut World) {
         (0, 3, 8),
         (1, 20, 9),
         (0, 9, 10),
-        (0, LAST, LAST),
+        (0, GREATEST, GREATEST),
     ] {
         world.skip(client, number);
         assert!(rt; number_asked(alloc, world) == Some(next), "at {number}");
     }
     assert!(rt; accepted(alloc, world) == 6);
-    assert!(rt; number_asked(alloc, world) == Some(LAST));
+    assert!(rt; number_asked(alloc, world) == Some(GREATEST));
     assert!(rt; accepted(alloc, world) == 6);
 }
 

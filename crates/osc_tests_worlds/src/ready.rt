@@ -1,28 +1,19 @@
 //! Rounds that end well. What is assumed of a world before an exchange, or a request, that goes straight to the server is decided by what
 //! the world tells; then two deliveries are the whole round, and what is promised has come about.
 
-use crate::common::{DELETE, GET, POST, PUT, SERVER, accepted, counts, has, history, request_on};
-use crate::owners::{Right, own, place, world_of};
+use crate::common::{GREATEST, SCOPE, accepted, counts, has, history, takes_place, world_of};
 use crate::quiet::is_quiet;
 use osc_authz::ServerContext;
-use osc_ccm::Ccm;
 use osc_client::Client;
-use osc_model::{
-    ClientResult, Code, ContextName, Draw, Moment, Path, Peer, Reply, Request, SharedName,
-};
+use osc_fixtures::{DELETE, GET, POST, PUT, Right, SERVER, drawn, own, place, request};
+use osc_model::{ClientResult, Code, ContextName, Draw, Moment, Path, Peer, Reply, SharedName};
 use osc_run::Actor;
 use osc_scope::{Scope, Verdict};
 use osc_tree::Tree;
-use osc_world::{Event, What, World};
+use osc_world::{Event, Sent, What, World};
 use std::alloc::Global;
 use std::process::Abort;
 use std::test::*;
-
-/// GET, POST and PUT on `/log`.
-const SCOPE: &[u8] = b"\x81\x82\x64/log\x07";
-
-/// The greatest number that a request may have (RFC 8613 section 7.2.1).
-const GREATEST: u64 = 1099511627775;
 
 /// The longest id context.
 const LONGEST_ID_CONTEXT: usize = 64;
@@ -43,12 +34,12 @@ pub(crate) struct Next {
 pub(crate) fn at(client: usize, ms: u64, number: u8) -> Next {
     Next {
         client,
-        now: Moment::new(ms).unwrap_or(Moment::START),
-        draw: Draw([number; 32]),
+        now: osc_fixtures::at(ms),
+        draw: drawn(number),
     }
 }
 
-pub(crate) fn client_of(world: &World, number: usize) -> Option<&Client> {
+fn client_of(world: &World, number: usize) -> Option<&Client> {
     match world.client(number) {
         Some(placed) => Some(&placed.client),
         None => None,
@@ -62,58 +53,70 @@ pub(crate) fn place_of(world: &World, number: usize) -> Option<Peer> {
     }
 }
 
-/// No datagram waits, and there is a client of this number.
-fn is_at_rest(world: &World, client: usize) -> bool {
-    world.next_waiting().is_none() && world.client(client).is_some()
+/// No datagram waits, and there is a client of this number, which waits for nothing and sends there.
+pub(crate) fn is_idle(world: &World, client: usize, next_hop: Peer) -> bool {
+    match client_of(world, client) {
+        Some(client) => world.next_waiting().is_none()
+            && client.next_hop() == next_hop
+            && !client.is_waiting(),
+        None => false,
+    }
 }
 
-/// The client waits for nothing, and sends straight to the server, as each client of these worlds does.
-fn is_idle(client: &Client) -> bool {
-    client.next_hop() == SERVER && !client.is_waiting()
+/// The kind of a message is confirmable or non-confirmable, so that its message ID is its sender's own (RFC 7252 section 3).
+fn is_own(datagram: &[u8]) -> bool {
+    match datagram {
+        [first, ..] => first & 0x30 < 0x20,
+        [] => false,
+    }
 }
 
-/// The message ID of a datagram (RFC 7252 section 3).
 fn id_of(datagram: &[u8]) -> Option<u16> {
     match datagram {
-        [_, _, high, low, ..] => Some(256 * *high as u16 + *low as u16),
+        [_, _, high, low, ..] if is_own(datagram) => Some(256 * *high as u16 + *low as u16),
         _ => None,
     }
 }
 
+/// The message ID of this datagram, if it was sent from there.
+fn id_from(sent: &Sent, at: Peer) -> Option<u16> {
+    if sent.from != at {
+        return None;
+    }
+    id_of(sent.bytes.as_slice())
+}
+
 /// The message ID that whoever stands there takes next: the one that is drawn, and each later one the next.
-fn next_id(world: &World, at: Peer, draw: Draw) -> u16 {
+pub(crate) fn next_id(world: &World, at: Peer, draw: Draw) -> u16 {
     let mut next = draw.message_id();
     for sent in world.sent() {
-        if sent.from == at {
-            next = match id_of(sent.bytes.as_slice()) {
-                Some(id) => id.wrapping_add(1),
-                None => next,
-            };
-        }
+        next = match id_from(sent, at) {
+            Some(id) => id.wrapping_add(1),
+            None => next,
+        };
     }
     next
 }
 
-/// Nothing with this message ID was sent from there to the server.
-fn is_unheard(world: &World, at: Peer, id: u16) -> bool {
-    world.sent().iter().all(|sent| {
-        sent.from != at || sent.to != SERVER || id_of(sent.bytes.as_slice()) != Some(id)
-    })
+/// Nothing with this message ID was sent from one to the other.
+pub(crate) fn is_new(world: &World, from: Peer, to: Peer, id: u16) -> bool {
+    world
+        .sent()
+        .iter()
+        .all(|sent| sent.to != to || id_from(sent, from) != Some(id))
 }
 
 /// The message ID that the client takes wasn't heard at the server.
 fn has_a_new_id(world: &World, next: Next) -> bool {
     match place_of(world, next.client) {
-        Some(at) => is_unheard(world, at, next_id(world, at, next.draw)),
+        Some(at) => is_new(world, at, SERVER, next_id(world, at, next.draw)),
         None => false,
     }
 }
 
-/// What is assumed of both.
+/// What is assumed of both: the client sends straight to the server.
 fn may_begin(world: &World, next: Next) -> bool {
-    is_at_rest(world, next.client)
-        && client_of(world, next.client).is_some_and(is_idle)
-        && has_a_new_id(world, next)
+    is_idle(world, next.client, SERVER) && has_a_new_id(world, next)
 }
 
 /// The live context at the server of this name.
@@ -187,7 +190,7 @@ fn is_short(name: &ContextName) -> bool {
     }
 }
 
-pub(crate) fn next_number(world: &World, client: usize) -> Option<u64> {
+fn next_number(world: &World, client: usize) -> Option<u64> {
     match client_of(world, client)?.context() {
         Some(context) => Some(context.sender().next_number()),
         None => None,
@@ -201,22 +204,20 @@ fn may_ask(world: &World, next: Next) -> bool {
 
 // ---- what comes of it
 
-pub(crate) fn happens(alloc: Global, world: &mut World, next: Next, what: What) -> bool {
+fn happens(alloc: Global, world: &mut World, next: Next, what: What) -> bool {
     let event = Event {
         moment: next.now,
         draw: next.draw,
         what,
     };
-    let done = world.step::<Ccm<8>>(alloc, &event).is_ok();
-    drop(event);
-    done
+    takes_place(alloc, world, event)
 }
 
-/// A quiet round of at most two deliveries leaves nothing.
-fn takes_two(alloc: Global, world: &mut World, next: Next) -> bool {
+/// A quiet round of at most so many deliveries takes them all and leaves nothing.
+fn takes(alloc: Global, world: &mut World, next: Next, deliveries: usize) -> bool {
     let before = world.records().len();
-    is_quiet(alloc, world, next.now.ms, 2) == Some(true)
-        && world.records().len() == before.wrapping_add(2)
+    is_quiet(alloc, world, next.now.ms, deliveries) == Some(true)
+        && world.records().len() == before.wrapping_add(deliveries)
         && world.next_waiting().is_none()
 }
 
@@ -233,7 +234,7 @@ fn learnt(world: &World) -> Option<&ClientResult> {
 }
 
 /// What was begun wasn't too long for a datagram.
-pub(crate) fn was_sent(world: &World) -> bool {
+fn was_sent(world: &World) -> bool {
     learnt(world) != Some(&ClientResult::Refused(14))
 }
 
@@ -253,7 +254,7 @@ fn is_scope(alloc: Global, scope: &Scope) -> bool {
 }
 
 /// Both have a context of one name, the server's with the token's scope, in which no number was taken yet.
-pub(crate) fn has_made(alloc: Global, world: &World, next: Next) -> bool {
+fn has_made(alloc: Global, world: &World, next: Next) -> bool {
     learnt(world) == Some(&ClientResult::Made)
         && next_number(world, next.client) == Some(0)
         && shared(world, next.now, next.client).is_some_and(|context| {
@@ -261,22 +262,27 @@ pub(crate) fn has_made(alloc: Global, world: &World, next: Next) -> bool {
         })
 }
 
-/// An exchange as it is promised.
+/// An exchange as it is promised, by so many deliveries.
+pub(crate) fn makes(
+    rt: &impl Abort,
+    alloc: Global,
+    world: &mut World,
+    next: Next,
+    deliveries: usize,
+) {
+    let exchange = What::Exchange {
+        client: next.client,
+    };
+    assert!(rt; happens(alloc, world, next, exchange));
+    assert!(rt; was_sent(world));
+    assert!(rt; takes(alloc, world, next, deliveries));
+    assert!(rt; has_made(alloc, world, next));
+}
+
+/// The same, straight to the server.
 fn makes_one(rt: &impl Abort, alloc: Global, world: &mut World, next: Next) {
     assert!(rt; may_exchange(world, next));
-    assert!(rt;
-        happens(
-            alloc,
-            world,
-            next,
-            What::Exchange {
-                client: next.client
-            }
-        )
-    );
-    assert!(rt; was_sent(world));
-    assert!(rt; takes_two(alloc, world, next));
-    assert!(rt; has_made(alloc, world, next));
+    makes(rt, alloc, world, next, 2);
 }
 
 /// A request's code, its payload, and the code and the payload of what it is answered.
@@ -287,7 +293,7 @@ fn is_reply(reply: &Reply, row: Row) -> bool {
 }
 
 /// The client learnt an answer, which is this one.
-pub(crate) fn is_answered(world: &World, row: Row) -> bool {
+fn is_answered(world: &World, row: Row) -> bool {
     match learnt(world) {
         Some(ClientResult::Answer(reply)) => is_reply(reply, row),
         _ => false,
@@ -295,7 +301,7 @@ pub(crate) fn is_answered(world: &World, row: Row) -> bool {
 }
 
 /// The last entry is of this number, and was answered so.
-pub(crate) fn is_served(alloc: Global, world: &World, number: Option<u64>, row: Row) -> bool {
+fn is_served(alloc: Global, world: &World, number: Option<u64>, row: Row) -> bool {
     match world.history(alloc) {
         Ok(all) => match all.last() {
             Some(entry) => Some(entry.number) == number && is_reply(&entry.reply, row),
@@ -305,37 +311,43 @@ pub(crate) fn is_served(alloc: Global, world: &World, number: Option<u64>, row: 
     }
 }
 
-pub(crate) fn asks(alloc: Global, world: &mut World, next: Next, row: Row) -> bool {
-    match request_on(alloc, b"/log", row.0, row.1) {
-        Ok(request) => asks_for(alloc, world, next, request),
+fn asks(alloc: Global, world: &mut World, next: Next, row: Row) -> bool {
+    let client = next.client;
+    match request(alloc, b"/log", row.0, row.1) {
+        Ok(request) => happens(alloc, world, next, What::Ask { client, request }),
         Err(_) => false,
     }
 }
 
-fn asks_for(alloc: Global, world: &mut World, next: Next, request: Request) -> bool {
-    happens(
-        alloc,
-        world,
-        next,
-        What::Ask {
-            client: next.client,
-            request,
-        },
-    )
-}
-
-/// A request as it is promised: one entry more, and its reply is the answer.
-fn is_served_and_answered(rt: &impl Abort, alloc: Global, world: &mut World, next: Next, row: Row) {
-    assert!(rt; may_ask(world, next));
+/// A request as it is promised, by so many deliveries: one entry more, and its reply is the answer.
+pub(crate) fn serves(
+    rt: &impl Abort,
+    alloc: Global,
+    world: &mut World,
+    next: Next,
+    row: Row,
+    deliveries: usize,
+) {
     let number = next_number(world, next.client);
     let before = history(alloc, world);
     assert!(rt; asks(alloc, world, next, row));
     assert!(rt; was_sent(world));
-    assert!(rt; takes_two(alloc, world, next));
+    assert!(rt; takes(alloc, world, next, deliveries));
     assert!(rt; history(alloc, world) == before.wrapping_add(1));
     assert!(rt; is_served(alloc, world, number, row));
     assert!(rt; is_answered(world, row));
 }
+
+/// The same, straight to the server.
+fn is_served_and_answered(rt: &impl Abort, alloc: Global, world: &mut World, next: Next, row: Row) {
+    assert!(rt; may_ask(world, next));
+    serves(rt, alloc, world, next, row, 2);
+}
+
+/// A POST that makes the resource, and a GET of it.
+pub(crate) const POSTED: Row = (POST, b"a", Code::CREATED, b"");
+
+pub(crate) const GOT: Row = (GET, b"", Code::CONTENT, b"a");
 
 // ---- worlds
 
@@ -347,20 +359,8 @@ fn one_client(alloc: Global, right: Right) -> Result<World, Fail> {
 fn exchanges_twice(rt: &impl Abort, alloc: Global, world: &mut World) {
     assert!(rt; !may_ask(world, at(0, 0, 200)));
     makes_one(rt, alloc, world, at(0, 0, 200));
-    is_served_and_answered(
-        rt,
-        alloc,
-        world,
-        at(0, 0, 201),
-        (POST, b"a", Code::CREATED, b""),
-    );
-    is_served_and_answered(
-        rt,
-        alloc,
-        world,
-        at(0, 0, 202),
-        (GET, b"", Code::CONTENT, b"a"),
-    );
+    is_served_and_answered(rt, alloc, world, at(0, 0, 201), POSTED);
+    is_served_and_answered(rt, alloc, world, at(0, 0, 202), GOT);
     makes_one(rt, alloc, world, at(0, 0, 203));
     is_served_and_answered(
         rt,
@@ -384,13 +384,7 @@ fn a_first_exchange_and_a_second(rt: HostRuntime) -> Result<(), Fail> {
 /// An exchange and a request, at this moment.
 fn exchanges_and_asks(rt: &impl Abort, alloc: Global, world: &mut World, ms: u64) {
     makes_one(rt, alloc, world, at(0, ms, 200));
-    is_served_and_answered(
-        rt,
-        alloc,
-        world,
-        at(0, ms, 201),
-        (POST, b"a", Code::CREATED, b""),
-    );
+    is_served_and_answered(rt, alloc, world, at(0, ms, 201), POSTED);
 }
 
 #[test]
@@ -438,13 +432,7 @@ fn crowds(rt: &impl Abort, alloc: Global, world: &mut World) {
     for client in 0..64u8 {
         makes_one(rt, alloc, world, at(client as usize, 0, 191 + client));
     }
-    is_served_and_answered(
-        rt,
-        alloc,
-        world,
-        at(63, 0, 255),
-        (POST, b"a", Code::CREATED, b""),
-    );
+    is_served_and_answered(rt, alloc, world, at(63, 0, 255), POSTED);
     assert!(rt; !may_exchange(world, at(64, 0, 255)));
     makes_one(rt, alloc, world, at(63, 0, 255));
 }

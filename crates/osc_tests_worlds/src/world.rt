@@ -1,52 +1,15 @@
 //! A client and a server in a world, and the history that explains what they did.
 
 use crate::common::{
-    GET, POST, SERVER, asks, counts, delivers, event, exchanges, happens, has, request, world,
+    asks, counts, delivers, event, exchanges, has, injects, lies, restarts, world,
 };
 use osc_ccm::Ccm;
-use osc_model::{Bytes, Peer};
+use osc_fixtures::{GET, POST, SERVER, STRANGER, request};
 use osc_run::Actor;
 use osc_world::{Event, What, World};
 use std::alloc::{AllocError, Global};
 use std::process::Abort;
 use std::test::*;
-
-const STRANGER: Peer = Peer {
-    address: [127, 0, 0, 1],
-    port: 9000,
-};
-
-fn lies(alloc: Global, world: &mut World, event: u8, number: u64, text: &[u8]) -> bool {
-    match Bytes::from_slice(alloc, text) {
-        Ok(text) => happens(
-            alloc,
-            world,
-            event,
-            What::Lie {
-                client: 0,
-                number,
-                text,
-            },
-        ),
-        Err(_) => false,
-    }
-}
-
-fn injects(alloc: Global, world: &mut World, number: u8, from: Peer, bytes: &[u8]) -> bool {
-    match Bytes::from_slice(alloc, bytes) {
-        Ok(bytes) => happens(
-            alloc,
-            world,
-            number,
-            What::Inject {
-                from,
-                to: SERVER,
-                bytes,
-            },
-        ),
-        Err(_) => false,
-    }
-}
 
 /// An exchange, a POST and a GET, with their deliveries.
 fn events(alloc: Global) -> Result<Vec<Event>, AllocError> {
@@ -54,7 +17,7 @@ fn events(alloc: Global) -> Result<Vec<Event>, AllocError> {
     events.push(event(1, What::Exchange { client: 0 }))?;
     events.push(event(2, What::Deliver { datagram: 0 }))?;
     events.push(event(3, What::Deliver { datagram: 1 }))?;
-    let request = request(alloc, POST, b"a")?;
+    let request = request(alloc, b"/log", POST, b"a")?;
     events.push(event(4, What::Ask { client: 0, request }))?;
     events.push(event(5, What::Deliver { datagram: 2 }))?;
     events.push(event(6, What::Deliver { datagram: 3 }))?;
@@ -89,7 +52,7 @@ fn an_exchange_and_two_requests(rt: HostRuntime) -> Result<(), Fail> {
 
 /// The first four datagrams: a context, and a request that isn't delivered yet.
 fn begins(rt: &impl Abort, alloc: Global, world: &mut World) {
-    assert!(rt; exchanges(alloc, world, 1));
+    assert!(rt; exchanges(alloc, world, 1, 0));
     assert!(rt; delivers(alloc, world, 2, 0));
     assert!(rt; delivers(alloc, world, 3, 1));
     assert!(rt; asks(alloc, world, 4, POST, b"a"));
@@ -104,7 +67,7 @@ fn repeats(rt: &impl Abort, alloc: Global, world: &mut World) {
     assert!(rt; delivers(alloc, world, 7, 3));
     assert!(rt; delivers(alloc, world, 8, 3));
     assert!(rt; delivers(alloc, world, 9, 100));
-    assert!(rt; injects(alloc, world, 10, STRANGER, b"\x40\x01\0\x01\xb3log"));
+    assert!(rt; injects(alloc, world, 10, STRANGER, SERVER, b"\x40\x01\0\x01\xb3log"));
     assert!(rt; world.records().len() == 10);
     assert!(rt; counts(alloc, world) == (1, 1, 1));
     assert!(rt; has(alloc, world, b"a"));
@@ -123,21 +86,12 @@ fn datagrams_that_come_again(rt: HostRuntime) -> Result<(), Fail> {
 /// it comes first, and the client's own request is then a replay.
 fn lies_first(rt: &impl Abort, alloc: Global, world: &mut World) {
     begins(rt, alloc, world);
-    assert!(rt; lies(alloc, world, 5, 0, b"\x02\xb3log\xffb"));
+    assert!(rt; lies(alloc, world, 5, 0, 0, b"\x02\xb3log\xffb"));
     assert!(rt; delivers(alloc, world, 6, 3));
     assert!(rt; delivers(alloc, world, 7, 2));
     assert!(rt; counts(alloc, world) == (1, 2, 0));
     assert!(rt; has(alloc, world, b"b"));
-    assert!(rt;
-        happens(
-            alloc,
-            world,
-            8,
-            What::Restart {
-                node: Actor::Server
-            }
-        )
-    );
+    assert!(rt; restarts(alloc, world, 8, Actor::Server));
     world.skip(0, 7);
     assert!(rt; delivers(alloc, world, 9, 5));
     assert!(rt; asks(alloc, world, 10, POST, b"c"));
@@ -156,7 +110,7 @@ fn a_lie_and_a_restart(rt: HostRuntime) -> Result<(), Fail> {
 }
 
 fn draws_twice(rt: &impl Abort, alloc: Global, world: &mut World) {
-    assert!(rt; exchanges(alloc, world, 1));
+    assert!(rt; exchanges(alloc, world, 1, 0));
     assert!(rt; world.premise_holds());
     assert!(rt; delivers(alloc, world, 1, 0));
     assert!(rt; world.sent().len() == 2);

@@ -1,0 +1,19 @@
+//! What tests and benches are made of: who stands where, grants and their tokens, requests and resources, and nodes. Its calls answer
+//! `AllocError` for want of memory, and for what isn't lawful, since nobody here asks for that.
+#![tactic(auto)]
+
+mod grants;
+mod names;
+mod nodes;
+mod peers;
+mod requests;
+mod resources;
+
+pub use grants::{GET_AND_POST, KEY, Right, claims, desk, iv_of, own, token};
+pub use names::shared_name;
+pub use nodes::{
+    client, empty_server, proxy, sent, sent_in, server, straight, target, targets, through,
+};
+pub use peers::{CLIENT, NOWHERE, PROXY, SERVER, STRANGER, at, drawn, place};
+pub use requests::{DELETE, GET, POST, PUT, request};
+pub use resources::{EVERY_METHOD, put, scope_of};

@@ -1,0 +1,51 @@
+//! Who stands where, when something happens, and with which random bytes.
+
+use osc_model::{Draw, Moment, Peer};
+
+/// The server.
+pub const SERVER: Peer = Peer {
+    address: [127, 0, 0, 1],
+    port: 5683,
+};
+
+/// The proxy.
+pub const PROXY: Peer = Peer {
+    port: 6001,
+    ..SERVER
+};
+
+/// The client, or the first one.
+pub const CLIENT: Peer = Peer {
+    port: 7001,
+    ..SERVER
+};
+
+/// Somebody that isn't a node.
+pub const STRANGER: Peer = Peer {
+    port: 9000,
+    ..SERVER
+};
+
+/// Where nobody stands.
+pub const NOWHERE: Peer = Peer {
+    port: 9001,
+    ..SERVER
+};
+
+/// Where the client of this number stands, from 0.
+pub fn place(client: u8) -> Peer {
+    Peer {
+        address: CLIENT.address,
+        port: 7001 + client as u16,
+    }
+}
+
+/// So many ms after the start; the start, where no moment is as late as that.
+pub fn at(ms: u64) -> Moment {
+    Moment::new(ms).unwrap_or(Moment::START)
+}
+
+/// A draw of this byte alone.
+pub fn drawn(byte: u8) -> Draw {
+    Draw([byte; 32])
+}
