@@ -1,16 +1,17 @@
 -- What no check refuses keeps the tree within its limits.
-use Rattle.std.proofs.Common.{◌≡◌, ℕ, ◌<◌, ◌≤◌, Bool, true, false, not, ◌&&◌, ◌||◌, List, [], ◌∷◌, Option, Some, None, is_some, is_none, nat_le, if◌then◌else◌, arith, refl, subst}
+use Rattle.std.proofs.Common.{◌≡◌, ℕ, ◌<◌, ◌≤◌, Bool, true, false, not, ◌&&◌, List, [], ◌∷◌, Option, Some, None, is_some, is_none, nat_le, if◌then◌else◌, arith, refl, subst}
 use Rattle.std.proofs.lemmas.Bool.Decides.{nat_tests}
 use Rattle.std.specs.List.{AllByRecursion}
 use Rattle.std.specs.FinMap as map
+use Rattle.std.specs.FinSet as set
 use Rattle.osc_model.specs.Tree.{Tree, payload_length, longest_payload, most_resources}
-use Rattle.osc_model.specs.Scope.{Scope, allows, names}
+use Rattle.osc_model.specs.Scope.{Scope, covers, is_same_method, allows, names}
 use Rattle.osc_model.specs.Checks.{CanWrite, AllowsWrite, first_failing, checks, refusal}
 use Rattle.osc_model.specs.declared.code.Code.{Code}
 use Rattle.osc_model.specs.declared.code.Method.{Method}
-use Rattle.osc_model.specs.declared.code.Method.TheVariants.{Get, Post, Put, Delete}
 use Rattle.osc_model.specs.declared.request.Request.{Request}
 use Rattle.osc_model.specs.declared.resource.Resource.{Resource}
+use Rattle.osc_model.proofs.Members.{any_weaker}
 
 first_passes : (b : Bool) (c : Code) (rest : Option Code) → (if b then rest else Some c) ≡ None → (b ≡ true) × (rest ≡ None)
 first_passes true c rest e = (refl, e)
@@ -41,18 +42,7 @@ allows_write tree scope path request passed resource e =
     let passes = all_pass (checks tree scope path request) passed in
     written_passes tree path _ resource e passes.1.1.1.1.1.1.0 passes.1.1.1.1.1.1.1.0
 
-either_true : (a b : Bool) → a ≡ true → (a || b) ≡ true
-either_true true b e = refl
-either_true false b e = cc
-
-other_true : (a b : Bool) → b ≡ true → (a || b) ≡ true
-other_true true b e = refl
-other_true false b e = e
-
 -- a scope that allows a method on a path has the path
 pub names_from_allows : (scope : Scope) (path : List ℕ) (method : Option Method) → allows scope path method ≡ true → names scope path ≡ true
 names_from_allows scope path None e = cc
-names_from_allows scope path (Some Get) e = either_true _ _ (either_true _ _ (either_true _ _ e))
-names_from_allows scope path (Some Post) e = either_true _ _ (either_true _ _ (other_true _ _ e))
-names_from_allows scope path (Some Put) e = either_true _ _ (other_true _ _ e)
-names_from_allows scope path (Some Delete) e = other_true _ _ e
+names_from_allows scope path (Some method) e = any_weaker (λ p. covers p path) (λ p. is_same_method method p.method) (set.items scope) e

@@ -45,7 +45,7 @@ text_next b rest true e text = let same : b ≡ 47 = grind (arith, nat_tests) in
 text_next b rest false e text = text_more b rest (parts rest) text
 
 -- the parts spell the text
-text_back : (rest : List ℕ) → path_text (parts rest) ≡ 47 ∷ rest
+pub text_back : (rest : List ℕ) → path_text (parts rest) ≡ 47 ∷ rest
 text_back [] = refl
 text_back (b ∷ rest) = text_next b rest (b == 47) refl (text_back rest)
 

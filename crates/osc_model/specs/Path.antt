@@ -1,6 +1,6 @@
 -- Paths of resources, as their texts: what the Uri-Path options of a request name (RFC 7252 section 5.10.1).
-use Rattle.std.specs.Prelude.{◌≡◌, ℕ, Bool, true, ◌&&◌, not, cond, List, [], ◌∷◌, ◌++◌, length, ◌==◌, nat_le, Option, Some, None}
-use Rattle.std.specs.List.{list_any, list_all}
+use Rattle.std.specs.Prelude.{◌≡◌, ℕ, Bool, true, false, ◌&&◌, not, cond, List, [], ◌∷◌, ◌++◌, length, drop, bytes_eq, ◌==◌, nat_le, Option, Some, None}
+use Rattle.std.specs.List.{list_any, list_all, slice_split}
 use Rattle.std.specs.Ordering.{nat_cmp}
 use Rattle.std.specs.Cmp.Lexicographic.{slice_cmp}
 use Rattle.std.specs.declared.cmp.Ordering.{Ordering}
@@ -28,6 +28,16 @@ pub record IsPath (text : List ℕ) : Type 0 where
 -- the path that these segments make, or none
 abbrev pub path_of : List (List ℕ) → Option (List ℕ)
 path_of segments = cond (are_segments segments) (Some (path_text segments)) None
+
+-- the segments of a path's text: what stands between its slashes
+abbrev pub segments_of : List ℕ → List (List ℕ)
+segments_of text = slice_split (λ b. b == 47) (drop 1 text)
+
+-- whether a path's segments begin with all those of another: it is that path, or one below it
+abbrev pub begins_with : List (List ℕ) → List (List ℕ) → Bool
+begins_with segments [] = true
+begins_with [] (top ∷ above) = false
+begins_with (segment ∷ segments) (top ∷ above) = bytes_eq segment top && begins_with segments above
 
 -- paths are ordered by the bytes of their texts
 abbrev pub path_cmp : List ℕ → List ℕ → Ordering

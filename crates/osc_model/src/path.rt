@@ -1,10 +1,10 @@
 //! The path of a resource.
-ghost use Rattle.std.specs.Prelude.{◌≡◌, ◌↔◌, length, map, Some, refl, IfOk, OnErr, IfSome, IfNone, IsTrue, nat_eq, ◌==◌};
+ghost use Rattle.std.specs.Prelude.{◌≡◌, ◌↔◌, length, take, map, Some, refl, IfOk, OnErr, IfSome, IfNone, IsTrue, nat_eq, ◌==◌};
 ghost use Rattle.std.specs.List.{slice_split, count_by, list_all};
 ghost use Rattle.std.specs.Cmp.{partial_equiv_from_equiv};
 ghost use Rattle.std.specs.Cmp.Lexicographic.{pointwise, nat_list_eq_equiv, nat_list_cmp_total, texts_ties, texts_po};
 ghost use Rattle.std.specs.Str.{is_utf8};
-ghost use Rattle.osc_model.specs.Path.{path_cmp, path_of, path_text, is_segment, are_segments, IsPath};
+ghost use Rattle.osc_model.specs.Path.{path_cmp, path_of, path_text, is_segment, are_segments, segments_of, begins_with, IsPath};
 
 use std::alloc::{AllocError, Global};
 use std::cmp::Ordering;
@@ -85,6 +85,23 @@ impl Path {
     {
         &self.text
     }
+
+    /// Whether this path begins with all segments of the other: it is that path, or one below it. Takes no memory.
+    pub fn begins_with(&self, above: &Path) -> bool
+        ensures { result ≡ begins_with (segments_of self.now) (segments_of above.now) }
+    {
+        match self.text.strip_prefix(above.text.as_slice()) {
+            Some(rest) => ends_a_segment(rest),
+            None => false,
+        }
+    }
+}
+
+// Whether a segment is whole where this follows: nothing, or a further segment.
+fn ends_a_segment(rest: &[u8]) -> bool
+    ensures { result ≡ list_all (λ b. b == 47) (take 1 rest.now) }
+{
+    matches!(rest, [] | [b'/', ..])
 }
 
 // Whether these are the segments of a path.

@@ -5,6 +5,7 @@ mod Parting
 mod MethodLemmas
 mod NameLemmas
 mod TextLemmas
+mod Grants
 mod SameScope
 mod LookupLemmas
 mod Spelled

@@ -1,5 +1,5 @@
 -- Methods, their names and their bits.
-use Rattle.std.proofs.Common.{◌≡◌, ◌≢◌, ℕ, ◌+◌, ◌*◌, ◌/◌, ◌%◌, ◌≤◌, ◌==◌, Bool, true, false, cond, not, List, [], ◌∷◌, ◌++◌, get_or, map, refl, sym, ap, ◌∙◌, arith, codes}
+use Rattle.std.proofs.Common.{◌≡◌, ◌≢◌, ℕ, ◌+◌, ◌*◌, ◌/◌, ◌%◌, ◌≤◌, ◌==◌, Bool, true, false, cond, not, List, [], ◌∷◌, ◌++◌, get_or, map, refl, sym, ap, ◌∙◌, add-zero, arith, codes}
 use Rattle.std.specs.List.{All, list_all, sum_by}
 use Rattle.std.proofs.lemmas.Bool.{and_parts, false≢true}
 use Rattle.std.proofs.lemmas.Bool.Decides.{nat_tests}
@@ -8,13 +8,13 @@ use Rattle.std.proofs.lemmas.List.Sums.{sum_by-cons}
 use Rattle.osc_model.specs.Code.{method_number, method_with_number, method_back}
 use Rattle.osc_model.specs.declared.code.Method.{Method}
 use Rattle.osc_model.specs.declared.code.Method.TheVariants.{Get, Post, Put, Delete}
-use Rattle.osc_scope.specs.Entries.{bit_of, has}
-use Rattle.osc_scope.specs.Text.{name_of, AreApart}
+use Rattle.osc_scope.specs.Entries.{bit_of, has, is_below}
+use Rattle.osc_scope.specs.Text.{name_of, below_word, below_bit, AreApart}
 use Rattle.osc_scope.proofs.Parting.{Lacks}
 
 -- ---- names
 
-lacks_by : (byte : ℕ) (text : List ℕ) → list_all (λ b. not (b == byte)) text ≡ true → Lacks byte text
+pub lacks_by : (byte : ℕ) (text : List ℕ) → list_all (λ b. not (b == byte)) text ≡ true → Lacks byte text
 lacks_by byte [] e = All-nil (λ b. b ≢ byte)
 lacks_by byte (b ∷ text) e =
     let parts = and_parts (not (b == byte)) (list_all (λ b. not (b == byte)) text) e in
@@ -40,6 +40,23 @@ names_lack (m ∷ ms) =
       All-cons (Lacks 58) (name_of m) (map name_of ms) one.2 more.2,
     )
 
+pub below_lacks : (b : Bool) → All (Lacks 43) (below_word b) × All (Lacks 44) (below_word b)
+below_lacks true = (
+  All-cons (Lacks 43) (codes "SUB") [] (lacks_by 43 (codes "SUB") refl) (All-nil (Lacks 43)),
+  All-cons (Lacks 44) (codes "SUB") [] (lacks_by 44 (codes "SUB") refl) (All-nil (Lacks 44)),
+)
+below_lacks false = (All-nil (Lacks 43), All-nil (Lacks 44))
+
+-- SUB is no method's name
+pub sub_is_no_name : (m : Method) → name_of m ≢ codes "SUB"
+sub_is_no_name m e = never m (ap (λ name. get_or name 0 0) e)
+  where
+    never : (m : Method) → get_or (name_of m) 0 0 ≢ 83
+    never Get = λ (same : 71 ≡ 83). absurd (omega arith)
+    never Post = λ (same : 80 ≡ 83). absurd (omega arith)
+    never Put = λ (same : 80 ≡ 83). absurd (omega arith)
+    never Delete = λ (same : 68 ≡ 83). absurd (omega arith)
+
 abbrev named_by : ℕ → ℕ → Method
 named_by first second = cond (first == 71) Get (cond (first == 68) Delete (cond (second == 79) Post Put))
 
@@ -52,14 +69,20 @@ named_back Delete = refl
 pub one_name : (m n : Method) → name_of m ≡ name_of n → m ≡ n
 one_name m n e = sym (named_back m) ∙ ap (λ name. named_by (get_or name 0 0) (get_or name 1 0)) e ∙ named_back n
 
-pub one_naming : (ms ns : List Method) → map name_of ms ≡ map name_of ns → ms ≡ ns
-one_naming [] [] e = refl
-one_naming [] (n ∷ ns) e = cc
-one_naming (m ∷ ms) [] e = cc
-one_naming (m ∷ ms) (n ∷ ns) e =
+-- words are those of some methods, and SUB or not, in one way
+pub one_saying : (ms ns : List Method) (b c : Bool) → map name_of ms ++ below_word b ≡ map name_of ns ++ below_word c → (ms ≡ ns) × (b ≡ c)
+one_saying [] [] true true e = (refl, refl)
+one_saying [] [] true false e = cc
+one_saying [] [] false true e = cc
+one_saying [] [] false false e = (refl, refl)
+one_saying [] (n ∷ ns) true c e = absurd (sub_is_no_name n (sym cc))
+one_saying [] (n ∷ ns) false c e = cc
+one_saying (m ∷ ms) [] b true e = absurd (sub_is_no_name m cc)
+one_saying (m ∷ ms) [] b false e = cc
+one_saying (m ∷ ms) (n ∷ ns) b c e =
     let head = one_name m n cc in
-    let tail = one_naming ms ns cc in
-    cc
+    let tail = one_saying ms ns b c cc in
+    ((λ i. head i ∷ tail.0 i), tail.1)
 
 -- ---- how often a method is among some
 
@@ -141,6 +164,34 @@ set_some (m ∷ ms) some = omega (arith, sum_by-cons bit_of m ms, some_bit m)
     some_bit Post = omega arith
     some_bit Put = omega arith
     some_bit Delete = omega arith
+
+-- ---- with the bit for the paths below
+
+pub whole_some : (ms : List Method) (b : Bool) → ms ≢ [] → AreApart ms → 1 ≤ (sum_by bit_of ms + below_bit b) % 16
+whole_some ms true some apart = omega (arith, set_some ms some, set_most ms apart)
+whole_some ms false some apart = omega (arith, set_some ms some, set_most ms apart)
+
+pub whole_most : (ms : List Method) (b : Bool) → AreApart ms → sum_by bit_of ms + below_bit b ≤ 31
+whole_most ms true apart = omega (arith, set_most ms apart)
+whole_most ms false apart = omega (arith, set_most ms apart)
+
+-- that bit touches none of the methods' ..
+untouched : (set : ℕ) (m : Method) → (set + 16) / bit_of m % 2 ≡ set / bit_of m % 2
+untouched set Get = omega arith
+untouched set Post = omega arith
+untouched set Put = omega arith
+untouched set Delete = omega arith
+
+pub has_whole : (set : ℕ) (b : Bool) (m : Method) → has (set + below_bit b) m ≡ has set m
+has_whole set true m = ap (λ n. n == 1) (untouched set m)
+has_whole set false m = ap (λ n. has n m) (add-zero set)
+
+-- .. nor these that one
+pub below_whole : (ms : List Method) (b : Bool) → AreApart ms → is_below (sum_by bit_of ms + below_bit b) ≡ b
+below_whole ms true apart =
+    let one : (sum_by bit_of ms + 16) / 16 % 2 ≡ 1 = omega (arith, set_most ms apart) in ap (λ n. n == 1) one
+below_whole ms false apart =
+    let none : (sum_by bit_of ms + 0) / 16 % 2 ≡ 0 = omega (arith, set_most ms apart) in ap (λ n. n == 1) none
 
 bit_at : (g p u d : ℕ) (m : Method) → g ≤ 1 → p ≤ 1 → u ≤ 1 → d ≤ 1
     → (g + 2 * p + 4 * u + 8 * d) / bit_of m % 2 ≡ cond (same m Get) g (cond (same m Post) p (cond (same m Put) u d))

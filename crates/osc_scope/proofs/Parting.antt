@@ -1,8 +1,8 @@
 -- Texts that are parted by a byte, and cut at it again.
-use Rattle.std.proofs.Common.{◌≡◌, ◌≢◌, ℕ, ◌==◌, Bool, true, false, cond, List, [], ◌∷◌, ◌++◌, refl, sym, ap, ◌∙◌, eqb-true, eq-eqb}
+use Rattle.std.proofs.Common.{◌≡◌, ◌≢◌, ℕ, ◌==◌, Bool, true, false, cond, List, [], ◌∷◌, ◌++◌, refl, sym, ap, ◌∙◌, append_assoc, eqb-true, eq-eqb}
 use Rattle.std.specs.List.{All, slice_split, onto_first, join_with_byte}
 use Rattle.std.proofs.lemmas.Bool.{false≢true}
-use Rattle.std.proofs.lemmas.List.Elements.{All-nil, All-cons, All-head, All-tail, All-append, All-weaker}
+use Rattle.std.proofs.lemmas.List.Elements.{All-nil, All-cons, All-head, All-tail, All-append, All-push, All-weaker}
 use Rattle.std.proofs.lemmas.List.Splits.{slice_split_none, slice_split_at, join_with_byte-slice_split}
 use Rattle.osc_scope.specs.Text.{parted_by}
 
@@ -29,6 +29,18 @@ cut_parted byte part [] h = slice_split_none (λ b. b == byte) part (no_test byt
 cut_parted byte part (next ∷ parts) h =
     slice_split_at (λ b. b == byte) part byte (parted_by byte (next ∷ parts)) (no_test byte part (All-head (Lacks byte) part (next ∷ parts) h)) (eq-eqb byte byte refl)
     ∙ ap (λ rest. part ∷ rest) (cut_parted byte next parts (All-tail (Lacks byte) part (next ∷ parts) h))
+
+pub parts_back : (byte : ℕ) (parts : List (List ℕ)) → parts ≢ [] → All (Lacks byte) parts → cut byte (parted_by byte parts) ≡ parts
+parts_back byte [] some h = absurd (some refl)
+parts_back byte (part ∷ parts) some h = cut_parted byte part parts h
+
+-- one part more
+pub parted_more : (byte : ℕ) (parts : List (List ℕ)) (last : List ℕ) → parts ≢ [] → parted_by byte (parts ++ last ∷ []) ≡ parted_by byte parts ++ byte ∷ last
+parted_more byte [] last some = absurd (some refl)
+parted_more byte (part ∷ []) last some = refl
+parted_more byte (part ∷ next ∷ parts) last some =
+    ap (λ rest. part ++ byte ∷ rest) (parted_more byte (next ∷ parts) last (λ none. cc))
+    ∙ sym (append_assoc part (byte ∷ parted_by byte (next ∷ parts)) (byte ∷ last))
 
 -- ---- a text, cut and parted again
 
@@ -63,6 +75,17 @@ some_part byte (b ∷ text) e = go (b == byte) (cut byte text) e
     go true parts e = cc
     go false [] e = cc
     go false (part ∷ parts) e = cc
+
+-- a text with one part more at its end is cut so
+pub cut_more : (byte : ℕ) (text last : List ℕ) → Lacks byte last → cut byte (text ++ byte ∷ last) ≡ cut byte text ++ last ∷ []
+cut_more byte text last h =
+    let parts = cut byte text in
+    ap (cut byte) (ap (λ front. front ++ byte ∷ last) (sym (parted_cut byte text)) ∙ sym (parted_more byte parts last (some_part byte text)))
+    ∙ parts_back byte (parts ++ last ∷ []) (not_empty parts) (All-push (Lacks byte) parts last (parts_lack byte text) h)
+  where
+    not_empty : (xs : List (List ℕ)) → xs ++ last ∷ [] ≢ []
+    not_empty [] e = cc
+    not_empty (x ∷ xs) e = cc
 
 -- ---- the first such byte
 

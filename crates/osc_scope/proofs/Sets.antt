@@ -4,7 +4,7 @@ use Rattle.std.specs.Ordering.{eq_by_cmp}
 use Rattle.std.specs.Cmp.{IsTotalOrder, Equal-is}
 use Rattle.std.specs.FinMap.{IsAntisymmetric}
 use Rattle.std.specs.FinSet as set
-use Rattle.osc_model.specs.Scope.{Scope as Permissions, permission_cmp}
+use Rattle.osc_model.specs.Scope.{Scope as Granted, Permission, exactly, permission_cmp}
 use Rattle.osc_model.specs.declared.code.Method.{Method}
 use Rattle.osc_model.specs.declared.code.Method.TheVariants.{Get, Post, Put, Delete}
 use Rattle.osc_scope.specs.Entries.{bit_of, permissions, scope_of}
@@ -18,25 +18,25 @@ absorbed false b h = refl
 
 -- to add what is there changes nothing
 pub insert_present : IsTotalOrder permission_cmp → IsAntisymmetric permission_cmp
-    → (scope : Permissions) (permission : List ℕ × Method) → set.contains scope permission ≡ true → set.insert scope permission ≡ scope
+    → (scope : Granted) (permission : Permission) → set.contains scope permission ≡ true → set.insert scope permission ≡ scope
 insert_present total exact scope permission there = set.same_set total exact _ _ (λ q.
     set.contains-insert total scope permission q
     ∙ absorbed (eq_by_cmp permission_cmp q permission) (set.contains scope q)
     (λ tied. ap (set.contains scope) (exact q permission ((Equal-is (permission_cmp q permission)).0 tied)) ∙ there))
 
--- the set of one method grants it alone
-one_permission : (path : List ℕ) (m : Method) → permissions (entry_with (path, bit_of m)) ≡ (path, m) ∷ []
+-- the set of one method permits it alone, on the path alone
+one_permission : (path : List ℕ) (m : Method) → permissions (entry_with (path, bit_of m)) ≡ exactly path m ∷ []
 one_permission path Get = refl
 one_permission path Post = refl
 one_permission path Put = refl
 one_permission path Delete = refl
 
--- so one such entry more adds the pair
+-- so one such entry more adds the permission
 pub scope_push : IsTotalOrder permission_cmp → IsAntisymmetric permission_cmp → (pairs : List (List ℕ × ℕ)) (path : List ℕ) (m : Method)
-    → scope_of (map entry_with (pairs ++ (path, bit_of m) ∷ [])) ≡ set.insert (scope_of (map entry_with pairs)) (path, m)
+    → scope_of (map entry_with (pairs ++ (path, bit_of m) ∷ [])) ≡ set.insert (scope_of (map entry_with pairs)) (exactly path m)
 scope_push total exact pairs path m =
     let entries = map entry_with pairs in
     ap scope_of (map-append entry_with pairs ((path, bit_of m) ∷ []))
     ∙ ap set.from_list (sym (flat_map_more permissions [] entries (entry_with (path, bit_of m))))
     ∙ ap (λ more. set.from_list (flat_map permissions entries ++ more)) (one_permission path m)
-    ∙ set.from_list_push total exact (flat_map permissions entries) (path, m)
+    ∙ set.from_list_push total exact (flat_map permissions entries) (exactly path m)

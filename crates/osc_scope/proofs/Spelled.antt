@@ -5,16 +5,16 @@ use Rattle.std.proofs.lemmas.List.Elements.{All-nil, All-cons, All-head, All-tai
 use Rattle.osc_cbor.specs.Data.{DataItem, array, item_count, items_nesting}
 use Rattle.osc_cbor.specs.Spelling.{Spells, HasSpelling, HaveSpellings, spelling}
 use Rattle.osc_scope.specs.Entries.{Entry, IsLawful, IsScope, entry_items}
-use Rattle.osc_scope.specs.Text.{Written, IsLawfulText, IsScopeText, name_of, parted_by, entry_text, entry_of}
+use Rattle.osc_scope.specs.Text.{Written, IsLawfulText, IsScopeText, words_of, parted_by, entry_text, entry_of}
 use Rattle.osc_scope.proofs.PathLemmas.{path_utf8}
-use Rattle.osc_scope.proofs.MethodLemmas.{set_some, set_most}
+use Rattle.osc_scope.proofs.MethodLemmas.{whole_some, whole_most}
 
 shallow : (entries : List Entry) → items_nesting (entry_items entries) ≤ 2
 shallow [] = omega arith
 shallow (entry ∷ entries) = omega (arith, shallow entries)
 
 lawful : (entry : Written) → IsLawfulText entry → IsLawful (entry_of entry)
-lawful entry e = record { is_path = e.is_path; some = set_some entry.methods e.some; known = set_most entry.methods e.apart }
+lawful entry e = record { is_path = e.is_path; some = whole_some entry.methods entry.below e.some e.apart; known = whole_most entry.methods entry.below e.apart }
 
 -- ---- lengths
 
@@ -56,8 +56,8 @@ have [] h short = tt
 have (entry ∷ entries) h short =
     let e = All-head IsLawfulText entry entries h in
     let text = All-head (λ part. length part < 2 ^ 64) (entry_text entry) (map entry_text entries) short in
-    let path : length entry.path < 2 ^ 64 = omega (arith, text, length-append entry.path (58 ∷ parted_by 43 (map name_of entry.methods))) in
-    let mask : (entry_of entry).mask < 2 ^ 64 = omega (arith, set_most entry.methods e.apart) in
+    let path : length entry.path < 2 ^ 64 = omega (arith, text, length-append entry.path (58 ∷ parted_by 43 (words_of entry))) in
+    let mask : (entry_of entry).mask < 2 ^ 64 = omega (arith, whole_most entry.methods entry.below e.apart) in
     ((lit< tt, ((path_utf8 entry.path e.is_path, path), (mask, tt))), have entries (All-tail IsLawfulText entry entries h) (All-tail (λ part. length part < 2 ^ 64) (entry_text entry) (map entry_text entries) short))
 
 pub spelled : (text : List ℕ) (entries : List Written) → ((d : DataItem) → HasSpelling d → Spells (spelling d) d)

@@ -12,44 +12,60 @@ use Rattle.osc_cbor.specs.declared.item.Item.TheVariants as code
 use Rattle.osc_scope.specs.Entries.{entry_item, entry_items}
 use Rattle.osc_scope.specs.declared.error.ScopeError.{ScopeError}
 use Rattle.osc_scope.specs.declared.error.ScopeError.TheVariants.{BadScope, Memory}
-use Rattle.osc_scope.specs.Text.{Written, name_of, parted_by, entry_text, entry_of, IsLawfulText, IsScopeText}
-use Rattle.osc_scope.specs.Reading.{IsEntry, Says, Names}
-use Rattle.osc_scope.proofs.Parting.{Lacks, cut, cut_parted, parted_cut, parts_lack, some_part, one_cut, not_lacking, first_lacks, parted_lacks}
-use Rattle.osc_scope.proofs.MethodLemmas.{names_lack, one_naming}
+use Rattle.osc_scope.specs.Text.{Written, name_of, parted_by, below_word, words_of, entry_text, entry_of, IsLawfulText, IsScopeText}
+use Rattle.osc_scope.specs.Reading.{IsEntry, Says, Words}
+use Rattle.osc_scope.proofs.Parting.{Lacks, cut, cut_parted, parts_back, parted_cut, parts_lack, some_part, one_cut, not_lacking, first_lacks, parted_lacks}
+use Rattle.osc_scope.proofs.MethodLemmas.{names_lack, below_lacks, one_saying}
 use Rattle.osc_scope.proofs.EntryLemmas.{pushed}
 
--- ---- methods
+-- ---- words
 
--- the names, parted and cut again
-names_back : (ms : List Method) → ms ≢ [] → cut 43 (parted_by 43 (map name_of ms)) ≡ map name_of ms
-names_back [] some = absurd (some refl)
-names_back (m ∷ ms) some = cut_parted 43 (name_of m) (map name_of ms) (names_lack (m ∷ ms)).0
+-- words are without these bytes: `+` and `,`
+words_lack : (entry : Written) → All (Lacks 43) (words_of entry) × All (Lacks 44) (words_of entry)
+words_lack entry =
+    let names = names_lack entry.methods in
+    let last = below_lacks entry.below in (
+      All-append (Lacks 43) (map name_of entry.methods) (below_word entry.below) names.0 last.0,
+      All-append (Lacks 44) (map name_of entry.methods) (below_word entry.below) names.1 last.1,
+    )
+
+-- there is one at least
+some_word : (entry : Written) → entry.methods ≢ [] → words_of entry ≢ []
+some_word entry some = go entry.methods some
+  where
+    go : (ms : List Method) → ms ≢ [] → map name_of ms ++ below_word entry.below ≢ []
+    go [] some e = some refl
+    go (m ∷ ms) some e = cc
+
+-- the words, parted and cut again
+words_back : (entry : Written) → entry.methods ≢ [] → cut 43 (parted_by 43 (words_of entry)) ≡ words_of entry
+words_back entry some = parts_back 43 (words_of entry) (some_word entry some) (words_lack entry).0
 
 -- ---- one entry
 
 -- what was found is an entry
-pub entry_is : (text path names : List ℕ) (mask : ℕ) → Lacks 58 path → text ≡ path ++ 58 ∷ names → IsPath path → (n : Names (cut 43 names) mask)
-    → IsEntry (record { path = path; methods = n.methods }) × (text ≡ entry_text (record { path = path; methods = n.methods }))
-entry_is text path names mask lacks is is_path n = (
+pub entry_is : (text path words : List ℕ) (mask : ℕ) → Lacks 58 path → text ≡ path ++ 58 ∷ words → IsPath path → (w : Words (cut 43 words) mask)
+    → IsEntry (record { path = path; methods = w.methods; below = w.below }) × (text ≡ entry_text (record { path = path; methods = w.methods; below = w.below }))
+entry_is text path words mask lacks is is_path w = (
   record {
     is_path = is_path;
     no_colon = lacks;
-    some = λ none. some_part 43 names (n.spelled ∙ ap (map name_of) none);
-    apart = n.apart;
+    some = w.some;
+    apart = w.apart;
   },
-  is ∙ ap (λ rest. path ++ 58 ∷ rest) (sym (parted_cut 43 names) ∙ ap (parted_by 43) n.spelled),
+  is ∙ ap (λ rest. path ++ 58 ∷ rest) (sym (parted_cut 43 words) ∙ ap (parted_by 43) w.spelled),
 )
 
 -- a text without `:` is none
 pub needs_colon : (text : List ℕ) → Lacks 58 text → (entry : Written) → IsEntry entry → text ≡ entry_text entry → ⊥
-needs_colon text lacks entry e is = not_lacking 58 entry.path (parted_by 43 (map name_of entry.methods)) (subst (Lacks 58) is lacks)
+needs_colon text lacks entry e is = not_lacking 58 entry.path (parted_by 43 (words_of entry)) (subst (Lacks 58) is lacks)
 
--- an entry's path stands before the first `:`, and the names of its methods behind it
-pub entry_parts : (text path names : List ℕ) → Lacks 58 path → text ≡ path ++ 58 ∷ names → (entry : Written) → IsEntry entry → text ≡ entry_text entry
-    → (path ≡ entry.path) × (cut 43 names ≡ map name_of entry.methods)
-entry_parts text path names lacks is entry e said =
-    let parts = one_cut 58 path entry.path names (parted_by 43 (map name_of entry.methods)) lacks e.no_colon (sym is ∙ said) in
-    (parts.0, ap (cut 43) parts.1 ∙ names_back entry.methods e.some)
+-- an entry's path stands before the first `:`, and its words behind it
+pub entry_parts : (text path words : List ℕ) → Lacks 58 path → text ≡ path ++ 58 ∷ words → (entry : Written) → IsEntry entry → text ≡ entry_text entry
+    → (path ≡ entry.path) × (cut 43 words ≡ words_of entry)
+entry_parts text path words lacks is entry e said =
+    let parts = one_cut 58 path entry.path words (parted_by 43 (words_of entry)) lacks e.no_colon (sym is ∙ said) in
+    (parts.0, ap (cut 43) parts.1 ∙ words_back entry e.some)
 
 pub view_array : (v : Vec Item Global) → view (code.Array v) ≡ array (items_view v.items)
 view_array v = search (rules, the_lemmas)
@@ -104,10 +120,10 @@ no_entry_text (x ∷ all) (suc k) part (lt, is) none (entry ∷ entries) lawful 
 
 comma_free : (entry : Written) → IsLawfulText entry → Lacks 44 (entry_text entry)
 comma_free entry e =
-    All-append (λ b. b ≢ 44) entry.path (58 ∷ parted_by 43 (map name_of entry.methods))
+    All-append (λ b. b ≢ 44) entry.path (58 ∷ parted_by 43 (words_of entry))
     (All-weaker (λ b. (b ≢ 58) × (b ≢ 44)) (λ b. b ≢ 44) (λ b h. h.1) entry.path e.plain)
-    (All-cons (λ b. b ≢ 44) 58 (parted_by 43 (map name_of entry.methods)) (λ (same : 58 ≡ 44). absurd (omega arith))
-    (parted_lacks 44 43 (map name_of entry.methods) (λ (same : 43 ≡ 44). absurd (omega arith)) (names_lack entry.methods).1))
+    (All-cons (λ b. b ≢ 44) 58 (parted_by 43 (words_of entry)) (λ (same : 58 ≡ 44). absurd (omega arith))
+    (parted_lacks 44 43 (words_of entry) (λ (same : 43 ≡ 44). absurd (omega arith)) (words_lack entry).1))
 
 comma_free_all : (entries : List Written) → All IsLawfulText entries → All (Lacks 44) (map entry_text entries)
 comma_free_all [] h = All-nil (Lacks 44)
@@ -140,7 +156,7 @@ lawful_text (entry ∷ entries) h lacks =
     one : IsEntry entry → Lacks 44 (entry_text entry) → IsLawfulText entry
     one e free = record {
       is_path = e.is_path;
-      plain = λ k d lt. (e.no_colon k d lt, first_lacks 44 entry.path (58 ∷ parted_by 43 (map name_of entry.methods)) free k d lt);
+      plain = λ k d lt. (e.no_colon k d lt, first_lacks 44 entry.path (58 ∷ parted_by 43 (words_of entry)) free k d lt);
       some = e.some;
       apart = e.apart;
     }
@@ -156,9 +172,9 @@ scope_from_parts text entries e h = record {
 -- an entry's text tells it
 one_entry : (entry other : Written) → IsEntry entry → IsEntry other → entry_text entry ≡ entry_text other → entry ≡ other
 one_entry entry other e o same =
-    let parts = entry_parts (entry_text entry) entry.path (parted_by 43 (map name_of entry.methods)) e.no_colon refl other o same in
-    let methods = one_naming entry.methods other.methods (sym (names_back entry.methods e.some) ∙ parts.1) in
-    λ i. record { path = parts.0 i; methods = methods i }
+    let parts = entry_parts (entry_text entry) entry.path (parted_by 43 (words_of entry)) e.no_colon refl other o same in
+    let words = one_saying entry.methods other.methods entry.below other.below (sym (words_back entry e.some) ∙ parts.1) in
+    λ i. record { path = parts.0 i; methods = words.0 i; below = words.1 i }
 
 pub one_list : (entries others : List Written) → All IsEntry entries → All IsEntry others → map entry_text entries ≡ map entry_text others → entries ≡ others
 one_list [] [] h g e = refl

@@ -1,12 +1,12 @@
 -- Reading entries, one after another. No public contract rests on this.
-use Rattle.std.specs.Prelude.{◌≡◌, ◌≢◌, ℕ, ◌≤◌, Bool, false, List, [], ◌∷◌, map, Option, Some, None, option_and_then, option_map}
+use Rattle.std.specs.Prelude.{◌≡◌, ◌≢◌, ℕ, ◌+◌, ◌%◌, ◌≤◌, Bool, false, List, [], ◌++◌, map, Option, Some, None, option_and_then, option_map}
 use Rattle.std.specs.List.{All, sum_by}
 use Rattle.osc_model.specs.Path.{IsPath}
 use Rattle.osc_model.specs.declared.code.Method.{Method}
 use Rattle.osc_cbor.specs.Data.{DataItem, Items, no_items, item}
 use Rattle.osc_cbor.specs.Parts.{as_array, as_text, as_unsigned}
 use Rattle.osc_scope.specs.Entries.{Entry, IsLawful, bit_of, has, entry_items}
-use Rattle.osc_scope.specs.Text.{Written, AreApart, name_of, entry_text, entry_of}
+use Rattle.osc_scope.specs.Text.{Written, AreApart, name_of, below_word, below_bit, entry_text, entry_of}
 
 -- ---- bytes
 
@@ -27,7 +27,7 @@ entry_with pair = record { path = pair.0; mask = pair.1 }
 
 -- a set with one method or more of the four
 abbrev pub HasMethods : List ℕ × ℕ → Type 0
-HasMethods pair = (1 ≤ pair.1) × (pair.1 ≤ 15)
+HasMethods pair = (1 ≤ pair.1 % 16) × (pair.1 ≤ 31)
 
 abbrev pub grants : ℕ → Option Method → Bool
 grants mask None = false
@@ -60,3 +60,12 @@ pub record Names (names : List (List ℕ)) (mask : ℕ) : Type 0 where
   pub apart : AreApart methods
   pub spelled : names ≡ map name_of methods
   pub counted : mask ≡ sum_by bit_of methods
+
+-- the words are the names of methods, one or more and none twice, and SUB last where the paths below count, and the number is their set
+pub record Words (words : List (List ℕ)) (mask : ℕ) : Type 0 where
+  pub methods : List Method
+  pub below : Bool
+  pub some : methods ≢ []
+  pub apart : AreApart methods
+  pub spelled : words ≡ map name_of methods ++ below_word below
+  pub counted : mask ≡ sum_by bit_of methods + below_bit below

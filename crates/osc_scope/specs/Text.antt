@@ -1,17 +1,18 @@
--- Scopes as text: `/log:GET+POST,/t:GET`.
-use Rattle.std.specs.Prelude.{◌≡◌, ◌≢◌, ℕ, List, [], ◌∷◌, ◌++◌, map, flat_map, codes}
+-- Scopes as text: `/log:GET+POST,/t:GET+SUB`.
+use Rattle.std.specs.Prelude.{◌≡◌, ◌≢◌, ℕ, ◌+◌, Bool, true, false, List, [], ◌∷◌, ◌++◌, map, flat_map, codes}
 use Rattle.std.specs.List.{All, sum_by}
 use Rattle.std.specs.FinSet as set
 use Rattle.osc_model.specs.Path.{IsPath}
-use Rattle.osc_model.specs.Scope.{Scope}
+use Rattle.osc_model.specs.Scope.{Scope, Permission}
 use Rattle.osc_model.specs.declared.code.Method.{Method}
 use Rattle.osc_model.specs.declared.code.Method.TheVariants.{Get, Post, Put, Delete}
 use Rattle.osc_scope.specs.Entries.{Entry, bit_of}
 
--- the text of a path, and methods in the order in which they are written
+-- the text of a path, methods in the order in which they are written, and whether they count on the paths below, too
 pub record Written : Type 0 where
   pub path : List ℕ
   pub methods : List Method
+  pub below : Bool
 
 abbrev pub name_of : Method → List ℕ
 name_of Get = codes "GET"
@@ -25,9 +26,17 @@ parted_by byte [] = []
 parted_by byte (part ∷ []) = part
 parted_by byte (part ∷ next ∷ parts) = part ++ byte ∷ parted_by byte (next ∷ parts)
 
--- PATH:METHOD+METHOD
+-- the word that stands last where the paths below count, too
+abbrev pub below_word : Bool → List (List ℕ)
+below_word true = codes "SUB" ∷ []
+below_word false = []
+
+abbrev pub words_of : Written → List (List ℕ)
+words_of entry = map name_of entry.methods ++ below_word entry.below
+
+-- PATH:METHOD+METHOD, or PATH:METHOD+METHOD+SUB
 abbrev pub entry_text : Written → List ℕ
-entry_text entry = entry.path ++ 58 ∷ parted_by 43 (map name_of entry.methods)
+entry_text entry = entry.path ++ 58 ∷ parted_by 43 (words_of entry)
 
 -- ENTRY,ENTRY
 abbrev pub scope_text : List Written → List ℕ
@@ -51,10 +60,18 @@ pub record IsScopeText (text : List ℕ) (entries : List Written) : Type 0 where
   pub some : entries ≢ []
   pub lawful : All IsLawfulText entries
 
--- what the entries stand for: each path with each of its methods
+-- the permissions of an entry: each of its methods
+abbrev pub permissions_written : Written → List Permission
+permissions_written entry = map (λ method. record { path = entry.path; below = entry.below; method = method }) entry.methods
+
+-- what the entries stand for
 abbrev pub scope_written : List Written → Scope
-scope_written entries = set.from_list (flat_map (λ entry. map (λ method. (entry.path, method)) entry.methods) entries)
+scope_written entries = set.from_list (flat_map permissions_written entries)
+
+abbrev pub below_bit : Bool → ℕ
+below_bit true = 16
+below_bit false = 0
 
 -- an entry of bytes: the methods as a set
 abbrev pub entry_of : Written → Entry
-entry_of entry = record { path = entry.path; mask = sum_by bit_of entry.methods }
+entry_of entry = record { path = entry.path; mask = sum_by bit_of entry.methods + below_bit entry.below }

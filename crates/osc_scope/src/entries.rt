@@ -9,7 +9,7 @@ ghost use Rattle.osc_scope.specs.Entries.{Entry, IsLawful, IsScope, scope_of, en
 ghost use Rattle.osc_scope.specs.Reading.{two_of, pair_of, entry_with, AreEntries};
 
 use crate::error::ScopeError;
-use crate::methods::ALL_METHODS;
+use crate::methods::{ALL_BITS, BELOW};
 use crate::scope::Scope;
 use osc_cbor::{Item, read_whole};
 use osc_model::Path;
@@ -17,12 +17,12 @@ use std::alloc::Global;
 
 impl Scope {
     /// The scope that the bytes are, all of them: a CBOR array of arrays of two, the text of a path and the set of methods
-    /// on it, as a number whose bits are 1 GET, 2 POST, 4 PUT and 8 DELETE. Entries of one path are joined; no entries
-    /// grant nothing.
+    /// on it, as a number whose bits are 1 GET, 2 POST, 4 PUT and 8 DELETE, and 16 where they count on each path below it,
+    /// too. Entries of one path are joined, apart with that bit and without it; no entries grant nothing.
     ///
     /// # Errors
     ///
-    /// `BadScope` where the bytes are none: a text that is no path, or a set that is empty or has another bit, too. Want of
+    /// `BadScope` where the bytes are none: a text that is no path, or a set that has no method or another bit, too. Want of
     /// memory where they are one CBOR item.
     pub fn from_cbor(alloc: Global, bytes: &[u8]) -> Result<Scope, ScopeError>
         // What is read is the scope of its entries ..
@@ -76,7 +76,7 @@ fn entry(alloc: Global, item: &Item) -> Result<(Path, u64), ScopeError>
     let Some((text, mask)) = text_and_number(item) else {
         return Err(ScopeError::BadScope);
     };
-    if mask == 0 || mask > ALL_METHODS {
+    if mask % BELOW == 0 || mask > ALL_BITS {
         return Err(ScopeError::BadScope);
     }
     match Path::from_text(alloc, text.as_bytes())? {

@@ -2,20 +2,21 @@
 ghost use Rattle.std.specs.Prelude.{◌≡◌, OnOk, OnErr, IsOk, IsTrue, map, option_map};
 ghost use Rattle.std.specs.List.{All};
 ghost use Rattle.std.specs.FinSet as set;
+ghost use Rattle.osc_model.specs.Scope.{exactly};
 ghost use Rattle.osc_scope.specs.Entries.{scope_of};
 ghost use Rattle.osc_scope.specs.Reading.{HasMethods, entry_with};
 ghost use Rattle.osc_scope.specs.Verdict.{verdict_of};
 
-use crate::lookup::{is_granted, verdict_on};
+use crate::lookup::{has_exactly, verdict_on};
 use crate::methods::bit_of;
 use crate::verdict::Verdict;
 use osc_model::{Code, Method, Path};
 use std::alloc::{AllocError, Global};
 use std::marker::Model;
 
-/// Which methods a holder may use on which paths, as contracts see it: a set of pairs of a path and a method. It is kept as
-/// entries of a path and a set of methods (RFC 9237 section 3); a look-up goes over them once, so it takes time linear in
-/// their number, and no memory.
+/// Which methods a holder may use on which paths, as contracts see it: a set of permissions, each of a method on a path, or on that
+/// path and each path below it. It is kept as entries of a path and a set of methods (RFC 9237 section 3); a look-up goes over them
+/// once, so it takes time linear in their number, and no memory.
 #[derive(Debug, Drop)]
 pub struct Scope {
     // Each with some method; a path may stand in several.
@@ -57,15 +58,15 @@ impl Scope {
         Scope { entries }
     }
 
-    /// Adds a method on a path. A pair that the scope has already takes no memory; without memory for another, the
-    /// scope stays as it was.
+    /// Adds a method on this path alone. A permission that the scope has already takes no memory; without memory for another,
+    /// the scope stays as it was.
     pub fn allow(&mut self, _alloc: Global, path: Path, method: Method) -> Result<(), AllocError>
-        ensures ok { OnOk result (self.new ≡ set.insert self.old (path, method)) }
+        ensures ok { OnOk result (self.new ≡ set.insert self.old (exactly path method)) }
         ensures err { OnErr result (self.new ≡ self.old) }
-        ensures present { IsTrue (set.contains self.old (path, method)) → IsOk result }
+        ensures present { IsTrue (set.contains self.old (exactly path method)) → IsOk result }
     {
         osc_model::laws::permissions_are_ordered();
-        if !self.allows(&path, method) {
+        if !self.has_exactly(&path, method) {
             self.entries.push((path, bit_of(method)))?;
         }
         Ok(())
@@ -81,11 +82,11 @@ impl Scope {
         }
     }
 
-    // Whether the scope has the method on the path.
-    fn allows(&self, path: &Path, method: Method) -> bool
-        ensures { result ≡ set.contains self.now (path.now, method) }
+    // Whether the scope has the method on exactly this path.
+    fn has_exactly(&self, path: &Path, method: Method) -> bool
+        ensures { result ≡ set.contains self.now (exactly path.now method) }
     {
-        crate::laws::one_of_the_entries();
-        is_granted(&self.entries, path, method)
+        osc_model::laws::permissions_are_ordered();
+        has_exactly(&self.entries, path, method)
     }
 }

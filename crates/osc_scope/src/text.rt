@@ -1,6 +1,6 @@
-//! Scopes as text, as people write them: `/log:GET+POST,/t:GET`.
+//! Scopes as text, as people write them: `/log:GET+POST,/t:GET+SUB`.
 
-ghost use Rattle.std.specs.Prelude.{◌≡◌, ◌≢◌, ◌⊎◌, ◌∷◌, ◌++◌, ◌==◌, List, map, IfOk, IfSome, IfNone, OnOk, OnErr, Ok, Err, MatchOption, string_bytes};
+ghost use Rattle.std.specs.Prelude.{◌≡◌, ◌≢◌, ◌⊎◌, [], ◌∷◌, ◌++◌, ◌==◌, List, map, IfOk, IfSome, IfNone, OnOk, OnErr, Ok, Err, MatchOption, string_bytes};
 ghost use Rattle.std.specs.List.{All, slice_split};
 ghost use Rattle.osc_cbor.specs.Data.{array};
 ghost use Rattle.osc_cbor.specs.Spelling.{spelling};
@@ -8,19 +8,19 @@ ghost use Rattle.osc_cbor.specs.View.{view, items_view};
 ghost use Rattle.osc_model.specs.Path.{IsPath};
 ghost use Rattle.osc_model.specs.declared.code.Method.{Method as AnyMethod};
 ghost use Rattle.osc_scope.specs.Entries.{entry_item, entry_items};
-ghost use Rattle.osc_scope.specs.Text.{Written, IsScopeText, AreApart, name_of, entry_text, entry_of};
-ghost use Rattle.osc_scope.specs.Reading.{IsEntry, Says, Names};
+ghost use Rattle.osc_scope.specs.Text.{Written, IsScopeText, AreApart, name_of, words_of, entry_text, entry_of};
+ghost use Rattle.osc_scope.specs.Reading.{IsEntry, Says, Names, Words};
 
 use crate::error::ScopeError;
-use crate::methods::{bit_of, has};
+use crate::methods::{BELOW, bit_of, has};
 use osc_cbor::{Item, write};
 use osc_model::{Method, Path};
 use std::alloc::Global;
 use std::str;
 
 /// Appends the bytes of the scope that the text says: one or more entries parted by `,`, each the text of a path without
-/// `:` and `,`, then `:`, then one or more of the methods `GET`, `POST`, `PUT` and `DELETE` parted by `+`, none twice.
-/// Each entry is written in its place, a path that is named twice too.
+/// `:` and `,`, then `:`, then one or more of the methods `GET`, `POST`, `PUT` and `DELETE` parted by `+`, none twice, and
+/// a last `+SUB` where they count on each path below, too. Each entry is written in its place, a path that is named twice too.
 ///
 /// # Errors
 ///
@@ -59,10 +59,10 @@ fn entry(alloc: Global, text: &[u8]) -> Result<Item, ScopeError>
     ensures bad { result ≡ Err ScopeError.BadScope
         → (entry : Written) → IsEntry entry → ¬ (text.now ≡ entry_text entry) }
 {
-    let Some((path, names)) = cut(text) else {
+    let Some((path, words)) = cut(text) else {
         return Err(ScopeError::BadScope);
     };
-    let Some(mask) = mask(names) else {
+    let Some(mask) = mask(words) else {
         return Err(ScopeError::BadScope);
     };
     let path = path_text(alloc, path)?;
@@ -94,8 +94,20 @@ fn path_text(alloc: Global, text: &[u8]) -> Result<String, ScopeError>
     }
 }
 
+/// The set that the words say: methods, none twice, on the path alone or, where `SUB` is the last, on those below, too.
+fn mask(words: &[u8]) -> Option<u64>
+    ensures found { IfSome result (λ mask. Words (slice_split (λ byte. byte == 43) words.now) mask) }
+    ensures none { IfNone result ((entry : Written) → entry.methods ≢ [] → AreApart entry.methods
+        → ¬ (slice_split (λ byte. byte == 43) words.now ≡ words_of entry)) }
+{
+    match words.strip_suffix(b"+SUB".as_slice()) {
+        Some(names) => Some(methods(names)? + BELOW),
+        None => methods(words),
+    }
+}
+
 /// The set of the methods that are named, none twice.
-fn mask(names: &[u8]) -> Option<u64>
+fn methods(names: &[u8]) -> Option<u64>
     ensures found { IfSome result (λ mask. Names (slice_split (λ byte. byte == 43) names.now) mask) }
     ensures none { IfNone result ((methods : List AnyMethod) → AreApart methods
         → ¬ (slice_split (λ byte. byte == 43) names.now ≡ map name_of methods)) }

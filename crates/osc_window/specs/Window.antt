@@ -2,9 +2,9 @@
 use Rattle.std.specs.Prelude.{◌≢◌, ◌↔◌, ℕ, ◌+◌, ◌<◌, Bool, ◌&&◌, not, nat_eq, nat_lt, if◌then◌else◌, List, [], ◌∷◌, filter}
 use Rattle.std.specs.List.{All, Contains, list_all}
 
--- how many numbers the window spans: the default size (RFC 8613 section 3.2.2)
+-- how many numbers the window spans: twice the default size (RFC 8613 section 3.2.2)
 unfoldable pub width : ℕ
-width = 32
+width = 64
 
 -- The number is none of those accepted so far, and less than the width below each of them, that is, below the greatest.
 abbrev pub IsFresh : List ℕ → ℕ → Type 0

@@ -6,11 +6,11 @@ ghost use Rattle.osc_window.specs.Window.{width, IsFresh, with_accepted};
 use std::marker::Model;
 
 /// How many numbers the window spans, and so how many bits it has.
-const WIDTH: u64 = 32;
+const WIDTH: u64 = 64;
 
 /// Whether there is a bit `i`, and it isn't set.
 #[tactic(auto, unfolding(crate::specs::Window::width))]
-fn is_clear(bits: u32, i: u64) -> bool
+fn is_clear(bits: u64, i: u64) -> bool
     ensures { IsTrue result ↔ ((i < width) × (bit_at bits i ≡ 0)) }
 {
     i < WIDTH && bits >> i & 1 == 0
@@ -18,7 +18,7 @@ fn is_clear(bits: u32, i: u64) -> bool
 
 /// Moves each bit up by some places: those past the last are gone.
 #[tactic(auto, unfolding(crate::specs::Window::width))]
-fn moved_up(bits: u32, places: u64) -> u32
+fn moved_up(bits: u64, places: u64) -> u64
     ensures { result ≡ bits * 2 ^ places % 2 ^ width }
 {
     if places < WIDTH { bits << places } else { 0 }
@@ -31,7 +31,7 @@ pub struct Window {
     /// The greatest accepted number; 0 before any is accepted.
     greatest: u64,
     /// Bit i is set where the number i below the greatest was accepted; none is set before any is accepted.
-    bits: u32,
+    bits: u64,
 }
 
 impl Model for Window {

@@ -1,7 +1,5 @@
-use Rattle.osc_scope.proofs.SameScope.{scope_has}
+use Rattle.osc_scope.proofs.Grants.{scope_allows}
 use Rattle.osc_scope.proofs.laws.one_of_the_entries.Goals as goal
 
 pub returns : goal.returns
-returns c =
-    let order = c.permissions_are_ordered.ensures in
-    scope_has order.total order.exact order.same
+returns c = scope_allows c.any_permission.ensures

@@ -4,12 +4,12 @@ use Rattle.osc_scope.proofs.lookup.verdict_on.Goals as goal
 
 pub returns-then-has_named : goal.returns-then-has_named
 returns-then-has_named c =
-    at_hit c.one_of_the_entries.ensures c.args.entries.now c.args.path.now c.args.code c.from_code-method.result c.loop-entry.entry-index c.loop-entry.verdict
-    c.entry-item.result c.requires c.from_code-method.ensures c.loop-entry-test.true c.entry-item.is (sym c.if-eq.ensures) (sym c.if-has_named.ensures)
+    at_hit c.any_permission.ensures c.args.entries.now c.args.path.now c.args.code c.from_code-method.result c.loop-entry.entry-index c.loop-entry.verdict
+    c.entry-item.result c.requires c.from_code-method.ensures c.loop-entry-test.true c.entry-item.is (sym c.if-has_path.ensures) (sym c.if-has_named.ensures)
     c.loop-entry.invariant
 
 pub returns : goal.returns
 returns c =
     let all : length c.args.entries.now ≤ c.loop-entry.entry-index = omega (arith, c.loop-entry-test.false) in
-    at_end c.one_of_the_entries.ensures c.args.entries.now c.args.path.now c.args.code c.from_code-method.result c.loop-entry.entry-index c.loop-entry.verdict
+    at_end c.any_permission.ensures c.args.entries.now c.args.path.now c.args.code c.from_code-method.result c.loop-entry.entry-index c.loop-entry.verdict
     c.requires c.from_code-method.ensures all c.loop-entry.invariant

@@ -1,43 +1,41 @@
-use Rattle.std.proofs.Common.{rules, tests, ◌==◌, subst, sym}
-use Rattle.std.proofs.lemmas.Iterator.{YieldsList}
-use Rattle.std.proofs.lemmas.Iterator.Consumers.{YieldsList-at, YieldsList-so_far, YieldsList-turn, YieldsList-end}
-use Rattle.std.proofs.lemmas.Iterator.Splits.{YieldsList-from_slice_split}
-use Rattle.osc_scope.specs.Reading.{Names}
-use Rattle.osc_scope.proofs.Parting.{cut}
-use Rattle.osc_scope.proofs.NameLemmas.{names_more, no_name, name_again}
-use Rattle.osc_scope.proofs.text.mask.Goals.{At-loop-name}
+use Rattle.std.proofs.Common.{◌≡◌, ◌≢◌, ℕ, ◌≤◌, ◌++◌, List, ◌∙◌, arith, ap, sym, None, Some, codes}
+use Rattle.std.specs.List.{sum_by}
+use Rattle.std.proofs.lemmas.Bool.Decides.{Decides-eqb}
+use Rattle.std.proofs.lemmas.Slice.Eq.{strip_suffix_is}
+use Rattle.osc_scope.specs.Entries.{bit_of}
+use Rattle.osc_scope.proofs.MethodLemmas.{set_most}
+use Rattle.osc_scope.proofs.NameLemmas.{words_below, no_words_below, each_alone, none_alone}
+use Rattle.osc_scope.proofs.text.mask.Goals.{In-Some, In-None}
 use Rattle.osc_scope.proofs.text.mask.Goals as goal
-use Rattle.osc_scope.proofs.text.mask.Given as given
 
--- the loop goes over the parts
-road : (c : At-loop-name) → YieldsList (given.iterator-loop-name).next_gives (λ x. x.now) c.into_iter-name-iterator.result (cut 43 c.args.names.now)
-road c =
-    YieldsList-at c.into_iter-name-iterator.ensures.into_iter_gives
-    (YieldsList-from_slice_split _ (λ b. b == 43) c.args.names.now c.split-name-items.ensures.rest c.split-name-items.ensures.done c.split-name-items.ensures.closure (λ x r q k. search (rules, tests)))
+-- the text ends with `+SUB` ..
+ends : (c : In-Some) → c.args.words.now ≡ c.in-Some.names.now ++ codes "+SUB"
+ends c =
+    strip_suffix_is Decides-eqb c.args.words.now c.as_slice.result.now (Some c.in-Some.names) c.in-Some.ensures.cases
+    ∙ ap (λ last. c.in-Some.names.now ++ last) c.as_slice.ensures
 
-pub returns-in_err-method-clause-none : goal.returns-in_err-method-clause-none
-returns-in_err-method-clause-none c =
-    let parts = road (goal.at.returns-in_err-method-clause-none c).At-loop-name in
-    let turn = YieldsList-turn parts c.loop-name.yielded _ c.loop-name.yielded_by _ _ _ c.in-Some.is c.next.ensures.steps in
-    rw c.from_residual.ensures (λ methods apart e. no_name (cut 43 c.args.names.now) _ c.in-Some.name.now turn c.in_err-method.ensures methods e)
+-- .. or with something else
+ends_otherwise : (c : In-None) → (front : List ℕ) → c.args.words.now ≢ front ++ codes "+SUB"
+ends_otherwise c front is =
+    strip_suffix_is Decides-eqb c.args.words.now c.as_slice.result.now None c.in-None.ensures.cases front
+    (is ∙ ap (λ last. front ++ last) (sym c.as_slice.ensures))
 
-pub returns-then-has-clause-none : goal.returns-then-has-clause-none
-returns-then-has-clause-none c =
-    let parts = road (goal.at.returns-then-has-clause-none c).At-loop-name in
-    let so_far = YieldsList-so_far parts c.loop-name.yielded _ c.loop-name.yielded_by in
-    let turn = YieldsList-turn parts c.loop-name.yielded _ c.loop-name.yielded_by _ _ _ c.in-Some.is c.next.ensures.steps in
-    name_again (cut 43 c.args.names.now) c.loop-name.yielded c.in-Some.name.now c.loop-name.mask c.in_ok-method.method
-    c.loop-name.invariant.names (sym c.if-has.ensures) c.in_ok-method.ensures so_far turn
+pub returns-in_err-methods-in-Some-clause-none : goal.returns-in_err-methods-in-Some-clause-none
+returns-in_err-methods-in-Some-clause-none c =
+    rw c.from_residual.ensures (no_words_below c.args.words.now c.in-Some.names.now (ends (goal.at.returns-in_err-methods-in-Some-clause-none c).In-Some) c.in_err-methods-in-Some.ensures.none)
 
-pub loop-name-preserved : goal.loop-name-preserved
-loop-name-preserved c = record {
-  can_next = search rules;
-  is_finite = tt;
-  names = rw c.bit_of-mask.ensures (names_more c.loop-name.yielded c.in-Some.name c.loop-name.mask c.in_ok-method.method c.loop-name.invariant.names (sym c.if-has.ensures) c.in_ok-method.ensures);
-}
+pub overflow_add-result : goal.overflow_add-result
+overflow_add-result c =
+    let names = c.in_ok-methods-in-Some.ensures.found in
+    let most : sum_by bit_of names.methods ≤ 15 = set_most names.methods names.apart in
+    omega (arith, names.counted, most)
 
-pub returns-clause-found : goal.returns-clause-found
-returns-clause-found c =
-    let parts = road (goal.at.returns-clause-found c).At-loop-name in
-    let end = YieldsList-end parts c.loop-name.yielded _ c.loop-name.yielded_by _ _ c.in-None.is c.next.ensures.steps in
-    subst (λ names. Names names c.loop-name.mask) end.0 c.loop-name.invariant.names
+pub returns-in_ok-methods-in-Some-clause-found : goal.returns-in_ok-methods-in-Some-clause-found
+returns-in_ok-methods-in-Some-clause-found c =
+    words_below c.args.words.now c.in-Some.names.now c.in_ok-methods-in-Some.field-0 (ends (goal.at.returns-in_ok-methods-in-Some-clause-found c).In-Some) c.in_ok-methods-in-Some.ensures.found
+
+pub returns-in-None-clause-found : goal.returns-in-None-clause-found
+returns-in-None-clause-found c = each_alone c.args.words.now c.methods-in-None.result c.methods-in-None.ensures.found
+
+pub returns-in-None-clause-none : goal.returns-in-None-clause-none
+returns-in-None-clause-none c = none_alone c.args.words.now c.methods-in-None.result (ends_otherwise (goal.at.returns-in-None-clause-none c).In-None) c.methods-in-None.ensures.none

@@ -1,5 +1,6 @@
 use Rattle.std.proofs.Common.{[], ◌∷◌, ◌++◌, map, sym, ap, ◌∙◌}
 use Rattle.std.specs.FinSet as set
+use Rattle.osc_model.specs.Scope.{exactly}
 use Rattle.osc_scope.specs.Entries.{scope_of}
 use Rattle.osc_scope.specs.Reading.{entry_with}
 use Rattle.osc_scope.proofs.Sets.{insert_present, scope_push}
@@ -12,9 +13,9 @@ returns-in_ok-push-clause-ok c =
     let items = c.self.inside.entries.items in
     ap (λ es. scope_of (map entry_with es)) (c.in_ok-push.ensures.items ∙ ap (λ bit. items ++ (c.args.path, bit) ∷ []) c.bit_of.ensures)
     ∙ scope_push order.total order.exact items c.args.path c.args.method
-    ∙ ap (λ s. set.insert s (c.args.path, c.args.method)) c.self.view_is
+    ∙ ap (λ s. set.insert s (exactly c.args.path c.args.method)) c.self.view_is
 
-pub returns-else-not-allows-clause-ok : goal.returns-else-not-allows-clause-ok
-returns-else-not-allows-clause-ok c =
+pub returns-else-not-has_exactly-clause-ok : goal.returns-else-not-has_exactly-clause-ok
+returns-else-not-has_exactly-clause-ok c =
     let order = c.permissions_are_ordered.ensures in
-    sym (insert_present order.total order.exact c.args.self.now (c.args.path, c.args.method) (sym c.allows.ensures ∙ c.if-not-allows.false))
+    sym (insert_present order.total order.exact c.args.self.now (exactly c.args.path c.args.method) (sym c.has_exactly.ensures ∙ c.if-not-has_exactly.false))

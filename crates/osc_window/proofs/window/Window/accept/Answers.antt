@@ -1,5 +1,5 @@
-use Rattle.std.proofs.Common.{◌≡◌, ◌<◌, ◌-◌, bit_or, ap, ◌∙◌, arith}
-use Rattle.std.specs.Int.{bit_at, w32}
+use Rattle.std.proofs.Common.{◌≡◌, ◌<◌, ◌-◌, bit_or, ap, ◌∙◌}
+use Rattle.std.specs.Int.{bit_at, w64}
 use Rattle.std.proofs.lemmas.Nat.Bits.{bit_at_set_same, bit_at_set_other}
 use Rattle.osc_window.specs.Bitmap.{numbers_of}
 use Rattle.osc_window.specs.Window.{width, IsFresh, with_accepted}
@@ -12,13 +12,6 @@ unfolding width
 overflow_shl-self c =
     let fresh : IsFresh (numbers_of c.self.inside.greatest c.self.inside.bits) c.args.n = rw c.self.view_is c.requires in
     near_when_fresh c.self.inside.greatest c.self.inside.bits c.args.n c.self.invariant fresh
-
-pub overflow_cast-self : goal.overflow_cast-self
-unfolding width
-overflow_cast-self c =
-    let fresh : IsFresh (numbers_of c.self.inside.greatest c.self.inside.bits) c.args.n = rw c.self.view_is c.requires in
-    let near : c.self.inside.greatest - c.args.n < 32 = near_when_fresh c.self.inside.greatest c.self.inside.bits c.args.n c.self.invariant fresh in
-    omega (arith, near)
 
 pub invariant_of-self : goal.invariant_of-self
 invariant_of-self c = λ some. raised_lowest c.moved_up.result
@@ -46,6 +39,6 @@ returns-else-n-self c =
     let bits = c.self.inside.bits in
     let n = c.args.n in
     let fresh : IsFresh (numbers_of g bits) n = rw c.self.view_is c.requires in
-    let near : g - n < 32 = near_when_fresh g bits n c.self.invariant fresh in
-    numbers_below g bits n _ c.if-n-self.false near fresh (bit_at_set_same w32 bits (g - n) near) (bit_at_set_other w32 bits (g - n) near)
+    let near : g - n < 64 = near_when_fresh g bits n c.self.invariant fresh in
+    numbers_below g bits n _ c.if-n-self.false near fresh (bit_at_set_same w64 bits (g - n) near) (bit_at_set_other w64 bits (g - n) near)
     ∙ ap (λ w. with_accepted w n) c.self.view_is

@@ -1,6 +1,6 @@
 use Rattle.std.proofs.Common.{map}
 use Rattle.osc_scope.specs.Reading.{Names}
-use Rattle.osc_scope.proofs.text.mask.Given as goal
+use Rattle.osc_scope.proofs.text.methods.Given as goal
 
 -- the names so far are those of the methods in the set
 abbrev pub invariant-loop-name : goal.invariant-loop-name

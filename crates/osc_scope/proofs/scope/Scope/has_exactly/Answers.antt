@@ -1,0 +1,22 @@
+use Rattle.std.proofs.Common.{◌∙◌, sym, ap, map, not, bytes_eq, ◌&&◌}
+use Rattle.std.specs.List.{list_any}
+use Rattle.std.specs.FinSet as set
+use Rattle.osc_model.specs.Scope.{exactly}
+use Rattle.osc_scope.specs.Entries.{Entry, has, is_below}
+use Rattle.osc_scope.specs.Reading.{entry_with}
+use Rattle.osc_scope.proofs.Grants.{any-map}
+use Rattle.osc_scope.proofs.SameScope.{scope_has}
+use Rattle.osc_scope.proofs.scope.Scope.has_exactly.Goals as goal
+
+-- the scope of the entries has what one of them has
+pub returns : goal.returns
+returns c =
+    let order = c.permissions_are_ordered.ensures in
+    let path = c.args.path.now in
+    let method = c.args.method in
+    let pairs = c.self.inside.entries.items in
+    c.has_exactly.ensures
+    ∙ ap (list_any (λ pair. bytes_eq path pair.0 && (not (is_below pair.1) && has pair.1 method))) c.deref.ensures.value
+    ∙ sym (any-map (λ (entry : Entry). bytes_eq path entry.path && (not (is_below entry.mask) && has entry.mask method)) entry_with pairs)
+    ∙ sym (scope_has order.total order.exact order.same (map entry_with pairs) path method)
+    ∙ ap (λ s. set.contains s (exactly path method)) c.self.view_is
