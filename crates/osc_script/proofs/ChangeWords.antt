@@ -4,7 +4,8 @@ use Rattle.std.specs.Prelude.{slice_index}
 use Rattle.osc_script.specs.declared.line.Change.{Change}
 use Rattle.osc_script.specs.declared.line.Line.{Line}
 use Rattle.osc_script.specs.declared.line.Line.TheVariants.{Alter}
-use Rattle.osc_script.specs.Words.{SpellChanges, SpellsHex, SpellsNumber}
+use Rattle.osc_script.specs.Values.{SpellsNumber}
+use Rattle.osc_script.specs.Words.{SpellChanges, SpellsPairs}
 use Rattle.osc_script.specs.Reading.{◌>>=◌, number_in, hex_in, change_in, changes_in, some_changes}
 use Rattle.osc_script.proofs.Found.{step_found, test_held}
 use Rattle.osc_script.proofs.Numbers.{number_found, number_again}
@@ -18,7 +19,7 @@ one_byte [] h = absurd (omega arith)
 one_byte (b ∷ []) h = refl
 one_byte (b ∷ c ∷ bytes) h = absurd (omega arith)
 
-change_found : (offset hex : List ℕ) (change : Change) → change_in offset hex ≡ Some change → SpellsNumber offset change.offset × SpellsHex hex (change.mask ∷ [])
+change_found : (offset hex : List ℕ) (change : Change) → change_in offset hex ≡ Some change → SpellsNumber offset change.offset × SpellsPairs hex (change.mask ∷ [])
 unfolding change_in
 change_found offset hex change e =
     let a = step_found (number_in offset) (λ n. hex_in hex >>= λ bytes. cond (length bytes == 1) (Some (record { offset = n; mask = slice_index bytes 0 })) None) change e in
@@ -26,9 +27,9 @@ change_found offset hex change e =
     let c = test_held (length b.0 == 1) (Some (record { offset = a.0; mask = slice_index b.0 0 })) change b.2 in
     let is : record { offset = a.0; mask = slice_index b.0 0 } ≡ change = change_is (record { offset = a.0; mask = slice_index b.0 0 }) change c.1 in
     let byte : b.0 ≡ change.mask ∷ [] = one_byte b.0 (eqb-true (length b.0) 1 c.0) ∙ ap (λ (c : Change). c.mask ∷ []) is in
-    (subst (SpellsNumber offset) (ap (λ (c : Change). c.offset) is) (number_found offset a.0 a.1), subst (SpellsHex hex) byte (hex_found hex b.0 b.1))
+    (subst (SpellsNumber offset) (ap (λ (c : Change). c.offset) is) (number_found offset a.0 a.1), subst (SpellsPairs hex) byte (hex_found hex b.0 b.1))
 
-change_again : (offset hex : List ℕ) (change : Change) → SpellsNumber offset change.offset → SpellsHex hex (change.mask ∷ []) → change_in offset hex ≡ Some change
+change_again : (offset hex : List ℕ) (change : Change) → SpellsNumber offset change.offset → SpellsPairs hex (change.mask ∷ []) → change_in offset hex ≡ Some change
 unfolding change_in
 change_again offset hex change n h = rw (number_again offset change.offset n, hex_again hex (change.mask ∷ []) h) refl
 

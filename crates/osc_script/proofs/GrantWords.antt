@@ -14,7 +14,8 @@ use Rattle.osc_script.specs.declared.line.Line.{Line}
 use Rattle.osc_script.specs.declared.line.Line.TheVariants.{Skipped, Put, Open, Grant, Proxy, Via, At, Draw, Drop, Skip, Exchange, Ask, Tick, Restart, Deliver, Alter, Graft, Inject, Lie, Quiet}
 use Rattle.osc_script.specs.Grants.{claims_of}
 use Rattle.osc_script.specs.Node.{client_name}
-use Rattle.osc_script.specs.Words.{SpellsNumber, SpellsDate, SpellsScope}
+use Rattle.osc_script.specs.Values.{SpellsNumber, SpellsScope}
+use Rattle.osc_script.specs.Words.{SpellsDate}
 use Rattle.osc_script.specs.Line.{Say}
 use Rattle.osc_script.specs.Reading.{◌>>=◌, number_in, date_in, one_date, dates_in, client_in}
 use Rattle.osc_script.proofs.Found.{step_found, test_held}

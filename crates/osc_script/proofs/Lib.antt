@@ -1,5 +1,6 @@
 pub mod Found
 pub mod Numbers
+pub mod Hexadecimal
 pub mod Payloads
 pub mod Nodes
 pub mod Requests

@@ -12,8 +12,9 @@ use Rattle.osc_script.specs.declared.node.Node.TheVariants.{Server, Client, Prox
 use Rattle.osc_script.specs.declared.proxy_name.ProxyName.{ProxyName}
 use Rattle.osc_model.specs.declared.node.Peer.{Peer}
 use Rattle.osc_script.specs.Node.{client_name, proxy_name, name_of, local, address_of}
-use Rattle.osc_script.specs.Words.{method_name}
+use Rattle.osc_scope.specs.Text.{name_of as method_name}
 use Rattle.osc_script.specs.Reading.{client_if, client_with, client_in, proxy_if, proxy_with, proxy_in, one_named, node_in, unless_stranger, worker_in, method_in}
+use Rattle.osc_script.specs.Values.{Reads, SpellsMethod}
 use Rattle.osc_script.proofs.Found.{step_found, test_held, chosen}
 
 -- ---- clients
@@ -223,6 +224,10 @@ method_again method.Get = refl
 method_again method.Post = refl
 method_again method.Put = refl
 method_again method.Delete = refl
+
+pub method_reads : (word : List ℕ) (found : Option Method) → found ≡ method_in word → Reads (SpellsMethod word) found
+method_reads word (Some m) e = method_found word m (sym e)
+method_reads word None e = λ m is. let no : None ≡ Some m = e ∙ ap method_in is ∙ method_again m in absurd cc
 
 -- two letters, the first of which is `c`
 pub client_word : (word : List ℕ) (found : Option ClientName) → 2 ≤ length word → length word < 3 → get_or word 0 0 ≡ 99 → found ≡ client_with (get_or word 1 0 - 48) → found ≡ client_in word

@@ -10,7 +10,8 @@ use Rattle.std.proofs.lemmas.Str.Ascii.{IsAscii-from_reads}
 use Rattle.std.proofs.lemmas.Str.Parse.{IsNumeralModel, numerals_by_value, tells_all_ascii_digits, digit_at, parse_plain}
 use Rattle.std.proofs.lemmas.Slice.Eq.{bytes_eq-Decides}
 use Rattle.osc_script.specs.Line.{last_number}
-use Rattle.osc_script.specs.Words.{SpellsNumber, SpellsFormat}
+use Rattle.osc_script.specs.Values.{Reads, SpellsNumber, SpellsShortNumber}
+use Rattle.osc_script.specs.Words.{SpellsFormat}
 use Rattle.osc_script.specs.Reading.{number_in, short_number_in, request_number_in, format_in}
 use Rattle.osc_script.proofs.Found.{step_found, none_unless}
 
@@ -106,3 +107,13 @@ format_again word (Some n) s =
           absurd cc
       | inr other ↦ rw (other, short_number_again word n s.0 s.1) refl
     ]
+
+-- ---- the same, of what was found
+
+pub number_reads : (word : List ℕ) (found : Option ℕ) → found ≡ number_in word → Reads (SpellsNumber word) found
+number_reads word (Some n) e = number_found word n (sym e)
+number_reads word None e = λ n s. let no : None ≡ Some n = e ∙ number_again word n s in absurd cc
+
+pub short_number_reads : (word : List ℕ) (found : Option ℕ) → found ≡ short_number_in word → Reads (SpellsShortNumber word) found
+short_number_reads word (Some n) e = short_number_found word n (sym e)
+short_number_reads word None e = λ n s. let no : None ≡ Some n = e ∙ short_number_again word n s.0 s.1 in absurd cc

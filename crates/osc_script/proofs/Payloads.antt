@@ -11,7 +11,8 @@ use Rattle.std.proofs.lemmas.Slice.Eq.{bytes_eq-Decides}
 use Rattle.hex.specs.Hex.{decode_of, is_hex_digit}
 use Rattle.hex.specs.declared.error.FromHexError.{FromHexError}
 use Rattle.hex.proofs.HexLemmas.{decode_of-ok}
-use Rattle.osc_script.specs.Words.{SpellsNumber, SpellsHex, SpellsRepeated, SpellParts, SpellsBytes}
+use Rattle.osc_script.specs.Values.{SpellsNumber}
+use Rattle.osc_script.specs.Words.{SpellsPairs, SpellsRepeated, SpellParts, SpellsBytes}
 use Rattle.osc_script.specs.Reading.{◌>>=◌, number_in, decoded, hex_in, nonce_in, repeated_in, part_in, part_length, parts_in, total_length, bytes_in, short_bytes_in, or_none}
 use Rattle.osc_script.proofs.Found.{step_found, test_held, none_unless}
 use Rattle.osc_script.proofs.Numbers.{number_found, number_again}
@@ -20,13 +21,13 @@ decoded_ok : (r : Result (List ℕ) FromHexError) (bytes : List ℕ) → decoded
 decoded_ok (Ok x) bytes e = cc
 decoded_ok (Err d) bytes e = absurd cc
 
-pub hex_found : (part bytes : List ℕ) → hex_in part ≡ Some bytes → SpellsHex part bytes
+pub hex_found : (part bytes : List ℕ) → hex_in part ≡ Some bytes → SpellsPairs part bytes
 unfolding hex_in
 hex_found part bytes e =
     let t = test_held (nat_lt 0 (length part)) (decoded (decode_of part)) bytes e in
     record { some = ltb-true 0 (length part) t.0; digits = decoded_ok (decode_of part) bytes t.1 }
 
-pub hex_again : (part bytes : List ℕ) → SpellsHex part bytes → hex_in part ≡ Some bytes
+pub hex_again : (part bytes : List ℕ) → SpellsPairs part bytes → hex_in part ≡ Some bytes
 unfolding hex_in
 hex_again part bytes s =
     let some : nat_lt 0 (length part) ≡ true = lt-ltb 0 (length part) s.some in
@@ -69,7 +70,7 @@ repeated_found high low digits bytes e =
     some_is : (x y : List ℕ) → Some x ≡ Some y → x ≡ y
     some_is x y e = cc
 
-pub part_found : (part bytes : List ℕ) → part_in part ≡ Some bytes → SpellsHex part bytes ⊎ SpellsRepeated part bytes
+pub part_found : (part bytes : List ℕ) → part_in part ≡ Some bytes → SpellsPairs part bytes ⊎ SpellsRepeated part bytes
 unfolding part_in
 part_found [] bytes e = inl (hex_found [] bytes e)
 part_found (high ∷ []) bytes e = inl (hex_found (high ∷ []) bytes e)
@@ -79,13 +80,13 @@ part_found (high ∷ low ∷ star ∷ digits) bytes e =
       | inl same ↦
           let is_star : 42 ≡ star = sym (eqb-true star 42 same) in
           let read : repeated_in (high ∷ low ∷ []) digits ≡ Some bytes = sym (rw same refl) ∙ e in
-          subst (λ (c : ℕ). SpellsHex (high ∷ low ∷ c ∷ digits) bytes ⊎ SpellsRepeated (high ∷ low ∷ c ∷ digits) bytes) is_star (inr (repeated_found high low digits bytes read))
+          subst (λ (c : ℕ). SpellsPairs (high ∷ low ∷ c ∷ digits) bytes ⊎ SpellsRepeated (high ∷ low ∷ c ∷ digits) bytes) is_star (inr (repeated_found high low digits bytes read))
       | inr other ↦
           let read : hex_in (high ∷ low ∷ star ∷ digits) ≡ Some bytes = sym (rw other refl) ∙ e in
           inl (hex_found (high ∷ low ∷ star ∷ digits) bytes read)
     ]
 
-hex_part : (part bytes : List ℕ) → SpellsHex part bytes → part_in part ≡ Some bytes
+hex_part : (part bytes : List ℕ) → SpellsPairs part bytes → part_in part ≡ Some bytes
 unfolding part_in
 hex_part [] bytes s = hex_again [] bytes s
 hex_part (high ∷ []) bytes s = hex_again (high ∷ []) bytes s
@@ -105,7 +106,7 @@ repeated_part (high ∷ low ∷ []) digits byte count d n =
     rw (pair, number_again digits count n) refl
 repeated_part (high ∷ low ∷ more ∷ rest) digits byte count d n = absurd (omega (arith, twice (high ∷ low ∷ more ∷ rest) (byte ∷ []) d))
 
-pub part_again : (part bytes : List ℕ) → SpellsHex part bytes ⊎ SpellsRepeated part bytes → part_in part ≡ Some bytes
+pub part_again : (part bytes : List ℕ) → SpellsPairs part bytes ⊎ SpellsRepeated part bytes → part_in part ≡ Some bytes
 part_again part bytes (inl s) = hex_part part bytes s
 part_again part bytes (inr s) = ap part_in s.whole ∙ repeated_part s.pair s.digits s.byte s.count s.is_pair s.is_count ∙ ap Some (sym s.repeated)
 
@@ -243,13 +244,13 @@ pub repeated_read : (pair digits read bytes : List ℕ) (count byte : ℕ) → S
 unfolding repeated_in
 repeated_read pair digits read bytes count byte h n b e = rw (← h, ← n, e, b) refl
 
-pub nonce_found : (word bytes : List ℕ) → nonce_in word ≡ Some bytes → (length word ≡ 16) × SpellsHex word bytes
+pub nonce_found : (word bytes : List ℕ) → nonce_in word ≡ Some bytes → (length word ≡ 16) × SpellsPairs word bytes
 unfolding nonce_in
 nonce_found word bytes e =
     let t = test_held (length word == 16) (hex_in word) bytes e in
     (eqb-true (length word) 16 t.0, hex_found word bytes t.1)
 
-pub nonce_again : (word bytes : List ℕ) → length word ≡ 16 → SpellsHex word bytes → nonce_in word ≡ Some bytes
+pub nonce_again : (word bytes : List ℕ) → length word ≡ 16 → SpellsPairs word bytes → nonce_in word ≡ Some bytes
 unfolding nonce_in
 nonce_again word bytes e s = rw e (hex_again word bytes s)
 

@@ -1,3 +1,5 @@
+pub mod Shown
+pub mod Values
 pub mod Words
 pub mod Node
 pub mod Line

@@ -8,11 +8,13 @@ use Rattle.osc_model.specs.Tree.{longest_payload, most_resources}
 use Rattle.osc_model.specs.declared.code.Method.{Method}
 use Rattle.osc_model.specs.declared.request.Request.{Request}
 use Rattle.osc_cbor.specs.Spelling.{spelling}
+use Rattle.osc_scope.specs.Text.{name_of as method_name}
 use Rattle.osc_token.specs.Minted.{most_claims}
 use Rattle.osc_token.specs.Token.{claims_item}
 use Rattle.osc_script.specs.Grants.{claims_of}
 use Rattle.osc_script.specs.Node.{client_name, proxy_name, name_of}
-use Rattle.osc_script.specs.Words.{words_of, method_name, SpellsNumber, SpellsFormat, SpellsBytes, SpellsHex, SpellsScope, SpellsDate, SpellChanges}
+use Rattle.osc_script.specs.Values.{SpellsNumber, SpellsScope}
+use Rattle.osc_script.specs.Words.{words_of, SpellsFormat, SpellsBytes, SpellsPairs, SpellsDate, SpellChanges}
 use Rattle.osc_script.specs.declared.line.Line.{Line}
 use Rattle.osc_script.specs.declared.line.Line.TheVariants.{Skipped, Put, Open, Grant, Proxy, Via, At, Draw, Drop, Skip, Exchange, Ask, Tick, Restart, Deliver, Alter, Graft, Inject, Lie, Quiet}
 use Rattle.osc_script.specs.declared.client_name.ClientName.{ClientName}
@@ -57,7 +59,7 @@ Say words (Via client proxy) = words ≡ codes "via" ∷ client_name client ∷ 
 -- at MS: the moment from here on
 Say words (At moment) = (number : List ℕ) × (words ≡ codes "at" ∷ number ∷ []) × SpellsNumber number moment.ms
 -- draw HEX16: the first random bytes of the next event
-Say words (Draw nonce) = (digits : List ℕ) × (words ≡ codes "draw" ∷ digits ∷ []) × (length digits ≡ 16) × SpellsHex digits nonce
+Say words (Draw nonce) = (digits : List ℕ) × (words ≡ codes "draw" ∷ digits ∷ []) × (length digits ≡ 16) × SpellsPairs digits nonce
 -- drop K: a datagram that quiet rounds leave out
 Say words (Drop datagram) = (number : List ℕ) × (words ≡ codes "drop" ∷ number ∷ []) × SpellsNumber number datagram
 -- skip CLIENT N: the number of the client's next request

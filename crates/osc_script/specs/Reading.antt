@@ -11,9 +11,9 @@ use Rattle.osc_model.specs.declared.code.Method.{Method}
 use Rattle.osc_model.specs.declared.code.Method.TheVariants as method
 use Rattle.osc_model.specs.declared.node.Moment.{Moment}
 use Rattle.osc_model.specs.declared.request.Request.{Request}
+use Rattle.osc_scope.specs.Text.{name_of as method_name}
 use Rattle.osc_script.specs.Line.{plain_request, last_number}
 use Rattle.osc_script.specs.Node.{name_of}
-use Rattle.osc_script.specs.Words.{method_name}
 use Rattle.osc_script.specs.declared.line.Change.{Change}
 use Rattle.osc_script.specs.declared.line.Line.{Line}
 use Rattle.osc_script.specs.declared.line.Line.TheVariants.{Put, Open, Proxy, Via, At, Draw, Drop, Skip, Exchange, Ask, Tick, Restart, Deliver, Alter, Graft, Inject, Lie, Quiet}
@@ -29,11 +29,6 @@ infixl 10 ◌>>=◌
 abbrev pub ◌>>=◌ : {A B : Type 0} → Option A → (A → Option B) → Option B
 (Some x) >>= f = f x
 None >>= f = None
-
--- What was found is such, and nothing was found only where nothing is.
-abbrev pub Reads : {X : Type 0} → (X → Type 0) → Option X → Type 0
-Reads P (Some x) = P x
-Reads {X} P None = (x : X) → ¬ P x
 
 -- ---- words
 

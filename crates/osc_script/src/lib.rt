@@ -1,8 +1,8 @@
 //! Scripts of the simulation: what each line says, and where it may stand.
 #![tactic(auto)]
 
-mod asking;
 mod client_name;
+mod clients;
 mod datagrams;
 mod grants;
 pub mod laws;
@@ -14,8 +14,10 @@ mod read;
 mod running;
 mod say;
 mod set_up;
+mod shown;
 mod split;
 mod text;
+pub mod values;
 mod words;
 
 pub use client_name::ClientName;
@@ -24,3 +26,4 @@ pub use line::{Change, Changes, Line, Script};
 pub use node::Node;
 pub use proxy_name::ProxyName;
 pub use read::{ScriptError, read_script};
+pub use shown::Shown;

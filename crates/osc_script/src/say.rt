@@ -2,9 +2,10 @@
 
 ghost use Rattle.std.specs.Prelude.{◌≡◌, IfOk, map};
 ghost use Rattle.osc_script.specs.Line.{Say};
-ghost use Rattle.osc_script.specs.Reading.{client_line_in, datagram_line_in, line_in, node_line_in, timed_line_in, Gives, Reads};
+ghost use Rattle.osc_script.specs.Reading.{client_line_in, datagram_line_in, line_in, node_line_in, timed_line_in, Gives};
+ghost use Rattle.osc_script.specs.Values.{Reads};
 
-use crate::asking::{ask, exchange, lie, skip};
+use crate::clients::{ask, exchange, lie, skip};
 use crate::datagrams::{alter, deliver, drop_line, graft, inject};
 use crate::line::Line;
 use crate::running::{at, draw, quiet, restart, tick};

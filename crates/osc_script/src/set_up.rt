@@ -7,11 +7,13 @@ ghost use Rattle.osc_token.specs.Token.{claims_item};
 ghost use Rattle.osc_script.specs.Grants.{claims_of};
 ghost use Rattle.osc_script.specs.Line.{Say};
 ghost use Rattle.osc_script.specs.declared.line.Line.TheVariants.{Open};
-ghost use Rattle.osc_script.specs.Reading.{with_one, with_two, with_three, proxy_line_in, put_in, via_in, Gives, Reads};
+ghost use Rattle.osc_script.specs.Reading.{with_one, with_two, with_three, proxy_line_in, put_in, via_in, Gives};
+ghost use Rattle.osc_script.specs.Values.{Reads};
 
 use crate::grants::grant_claims;
 use crate::line::Line;
-use crate::words::{client, dates, format, proxy, scope, short_bytes};
+use crate::values::scope;
+use crate::words::{client, dates, format, proxy, short_bytes};
 use osc_model::{Bytes, Path, Resource};
 use osc_token::claims_text;
 use std::alloc::{AllocError, Global};
@@ -106,7 +108,7 @@ fn grant_of(
     let Some((not_before, expires)) = dates(date_words) else {
         return Ok(None);
     };
-    let Some(scope) = scope(alloc, scope_text.as_bytes())? else {
+    let Some(scope) = scope(alloc, scope_text)? else {
         return Ok(None);
     };
     if !can_be_sealed(alloc, &scope, not_before, expires)? {

@@ -3,7 +3,7 @@
 ghost use Rattle.std.specs.Prelude.{◌≡◌, ◌==◌, ◌↔◌, IfOk, IsTrue, map};
 ghost use Rattle.std.specs.List.{slice_split};
 ghost use Rattle.osc_script.specs.Line.{IsSkipped, Says};
-ghost use Rattle.osc_script.specs.Reading.{Reads};
+ghost use Rattle.osc_script.specs.Values.{Reads};
 
 use crate::line::Line;
 use crate::say::say;

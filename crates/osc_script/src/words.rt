@@ -1,16 +1,14 @@
 //! Single words of a script.
 
 ghost use Rattle.std.specs.Prelude.{◌≡◌, ◌≢◌, ◌<◌, ◌==◌, ◌↔◌, length, slice_index, IfOk, IfSome, IsNone, IsTrue, ◌∷◌, [], map, option_map};
-ghost use Rattle.osc_script.specs.Reading.{number_in, short_number_in, request_number_in, format_in, client_in, client_with, proxy_in, proxy_with, node_in, one_named, worker_in, method_in, hex_in, nonce_in, repeated_in, part_in, part_length, parts_in, bytes_in, short_bytes_in, total_length, date_in, dates_in, one_date, Reads};
-ghost use Rattle.osc_script.specs.Words.{SpellsScope};
+ghost use Rattle.osc_script.specs.Reading.{number_in, short_number_in, request_number_in, format_in, client_in, client_with, proxy_in, proxy_with, node_in, one_named, worker_in, method_in, hex_in, nonce_in, repeated_in, part_in, part_length, parts_in, bytes_in, short_bytes_in, total_length, date_in, dates_in, one_date};
 
 use crate::client_name::ClientName;
 use crate::node::Node;
 use crate::proxy_name::ProxyName;
 use crate::split::parts;
-use hex::FromHexError;
+use crate::values::decoded;
 use osc_model::{Bytes, Method};
-use osc_scope::{ScopeError, text_to_cbor};
 use std::alloc::{AllocError, Global};
 use std::str;
 
@@ -34,9 +32,9 @@ fn unsigned(word: &[u8]) -> Option<u64>
     str::from_utf8(word).ok()?.parse().ok()
 }
 
-// The same of 16 bits.
+/// The same of 16 bits.
 #[tactic(auto, unfolding(crate::specs::Reading::short_number_in))]
-fn short_number(word: &[u8]) -> Option<u16>
+pub(crate) fn short_number(word: &[u8]) -> Option<u16>
     ensures { result ≡ short_number_in word.now }
 {
     u16::try_from(number(word)?).ok()
@@ -194,18 +192,6 @@ fn date(name: &[u8], word: &[u8]) -> Option<u64>
     number(word.strip_prefix(name)?)
 }
 
-/// The bytes of the scope of this text.
-pub(crate) fn scope(alloc: Global, text: &[u8]) -> Result<Option<Bytes>, AllocError>
-    ensures { IfOk result (λ found. Reads (SpellsScope text.now) found) }
-{
-    let mut bytes = Vec::new(alloc);
-    match text_to_cbor(alloc, text, &mut bytes) {
-        Ok(()) => Ok(Some(Bytes::from_vec(bytes))),
-        Err(ScopeError::BadScope) => Ok(None),
-        Err(ScopeError::Memory) => Err(AllocError),
-    }
-}
-
 /// `-` for no bytes, or parts joined by `+`.
 #[tactic(auto, unfolding(crate::specs::Reading::bytes_in))]
 pub(crate) fn bytes(alloc: Global, word: &[u8]) -> Result<Option<Bytes>, AllocError>
@@ -323,11 +309,7 @@ pub(crate) fn pairs(alloc: Global, part: &[u8]) -> Result<Option<Vec<u8>>, Alloc
     if part.is_empty() {
         return Ok(None);
     }
-    match hex::decode(alloc, part) {
-        Ok(items) => Ok(Some(items)),
-        Err(FromHexError::OutOfMemory) => Err(AllocError),
-        Err(_) => Ok(None),
-    }
+    decoded(alloc, part)
 }
 
 // The bytes, if there are eight.

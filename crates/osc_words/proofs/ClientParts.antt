@@ -6,7 +6,7 @@ use Rattle.osc_model.specs.Path.{IsPath}
 use Rattle.osc_model.specs.declared.code.Code.{Code}
 use Rattle.osc_model.specs.declared.code.Method.{Method as AnyMethod}
 use Rattle.osc_model.specs.declared.code.Method.TheVariants as method
-use Rattle.osc_script.specs.Words.{SpellsNumber}
+use Rattle.osc_script.specs.Values.{SpellsNumber}
 use Rattle.osc_words.specs.ClientWords.{AreClientWords, AreRequest, Says, SpellsMethod}
 use Rattle.osc_words.specs.NamedOptions.{value_of}
 use Rattle.osc_words.specs.Reading.{IsClientRefusal, IsRefusalOf}

@@ -1,6 +1,5 @@
 pub mod NoHelp
 pub mod Entered
-pub mod Hexadecimal
 pub mod Parts
 pub mod ClientParts
 pub mod Stand

@@ -4,7 +4,8 @@ use Rattle.clap.specs.Words.{Row}
 use Rattle.osc_token.specs.declared.claims.Claims.{Claims}
 use Rattle.osc_token.specs.declared.claims.InputMaterial.{InputMaterial}
 use Rattle.osc_words.specs.Options.{value_of}
-use Rattle.osc_words.specs.Values.{SpellsBytes, IsGiven}
+use Rattle.osc_script.specs.Values.{SpellsHexWithin}
+use Rattle.osc_words.specs.Values.{IsGiven}
 use Rattle.osc_words.specs.TokenWords.{SaysMaterial, SaysClaims, Says, AreMaterial, AreClaims}
 use Rattle.osc_words.specs.declared.named_option.NamedOption.TheVariants as named
 use Rattle.osc_words.specs.declared.token_option.TokenOption.{TokenOption}
@@ -54,7 +55,7 @@ token_said rows words key iv claims NotBefore = claims NotBefore
 token_said rows words key iv claims Iv = iv
 
 -- an IV that can't be read
-pub iv_refused : (rows : List Row) (error : WordsError) → IsRefusalOf (named.Token Iv) (IsGiven (SpellsBytes 13 13) (value_of Iv rows)) error → IsRefusal rows error
+pub iv_refused : (rows : List Row) (error : WordsError) → IsRefusalOf (named.Token Iv) (IsGiven (SpellsHexWithin 13 13) (value_of Iv rows)) error → IsRefusal rows error
 iv_refused rows (words_error.Clap error) h = h
 iv_refused rows (words_error.Value option) h = subst (λ refused. IsRefusal rows (words_error.Value refused)) (sym h.0) (λ words. h.1 words.iv)
 iv_refused rows words_error.Memory h = tt

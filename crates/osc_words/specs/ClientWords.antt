@@ -6,9 +6,10 @@ use Rattle.osc_model.specs.Path.{IsPath}
 use Rattle.osc_model.specs.declared.code.Code.{Code}
 use Rattle.osc_model.specs.declared.code.Method.{Method as AnyMethod}
 use Rattle.osc_model.specs.declared.request.Request.{Request}
-use Rattle.osc_script.specs.Words.{SpellsNumber, method_name}
+use Rattle.osc_scope.specs.Text.{name_of}
+use Rattle.osc_script.specs.Values.{SpellsHex, SpellsNumber, SpellsShortNumber}
 use Rattle.osc_words.specs.NamedOptions.{value_of}
-use Rattle.osc_words.specs.Values.{IsGiven, SpellsAnyBytes, SpellsShortNumber}
+use Rattle.osc_words.specs.Values.{IsGiven}
 use Rattle.osc_words.specs.declared.client_option.ClientOption.{ClientOption}
 use Rattle.osc_words.specs.declared.client_option.ClientOption.TheVariants.{Turns, Method, Path, Payload, Format}
 use Rattle.osc_words.specs.declared.client_words.ClientWords.{ClientWords}
@@ -16,14 +17,14 @@ use Rattle.osc_words.specs.declared.named_option.NamedOption.TheVariants.{Client
 
 -- the request code of the method of this name (RFC 7252 section 12.1.1)
 abbrev pub SpellsMethod : List ℕ → Code → Type 0
-SpellsMethod text spelled = (method : AnyMethod) × (text ≡ method_name method) × (spelled ≡ code 0 (method_number method))
+SpellsMethod text spelled = (method : AnyMethod) × (text ≡ name_of method) × (spelled ≡ code 0 (method_number method))
 
 -- what an option says of the request; an absent payload is an empty one
 abbrev pub SaysRequest : List Row → ClientOption → Request → Type 0
 SaysRequest rows Turns request = Unit {0}
 SaysRequest rows Method request = IsGiven SpellsMethod (value_of (Client Method) rows) (Some request.code)
 SaysRequest rows Path request = (path : List ℕ) × (value_of (Client Path) rows ≡ Some path) × IsPath path × (request.path ≡ Some path)
-SaysRequest rows Payload request = SpellsAnyBytes (unwrap_or (value_of (Client Payload) rows) []) request.payload
+SaysRequest rows Payload request = SpellsHex (unwrap_or (value_of (Client Payload) rows) []) request.payload
 SaysRequest rows Format request = IsGiven SpellsShortNumber (value_of (Client Format) rows) request.format
 
 -- a request with no other option of CoAP

@@ -1,21 +1,21 @@
 -- What the values of the options of `osc token` stand for.
 use Rattle.std.specs.Prelude.{◌≡◌, List, [], Some, unwrap_or}
 use Rattle.clap.specs.Words.{Row}
-use Rattle.osc_script.specs.Words.{SpellsNumber}
+use Rattle.osc_script.specs.Values.{SpellsHexWithin, SpellsNumber, SpellsScope}
 use Rattle.osc_token.specs.declared.claims.Claims.{Claims}
 use Rattle.osc_token.specs.declared.claims.InputMaterial.{InputMaterial}
 use Rattle.osc_words.specs.Options.{value_of}
-use Rattle.osc_words.specs.Values.{SpellsBytes, SpellsScope, IsGiven}
+use Rattle.osc_words.specs.Values.{IsGiven}
 use Rattle.osc_words.specs.declared.token_option.TokenOption.{TokenOption}
 use Rattle.osc_words.specs.declared.token_option.TokenOption.TheVariants.{Key, Audience, Id, Secret, Salt, Context, Scope, Expires, NotBefore, Iv}
 use Rattle.osc_words.specs.declared.token_words.TokenWords.{TokenWords}
 
 -- what an option says of the input material; an absent salt is an empty one
 abbrev pub SaysMaterial : List Row → TokenOption → InputMaterial → Type 0
-SaysMaterial rows Id material = IsGiven (SpellsBytes 0 64) (value_of Id rows) (Some material.id)
-SaysMaterial rows Secret material = IsGiven (SpellsBytes 1 64) (value_of Secret rows) (Some material.secret)
-SaysMaterial rows Salt material = SpellsBytes 0 64 (unwrap_or (value_of Salt rows) []) material.salt
-SaysMaterial rows Context material = IsGiven (SpellsBytes 0 64) (value_of Context rows) material.id_context
+SaysMaterial rows Id material = IsGiven (SpellsHexWithin 0 64) (value_of Id rows) (Some material.id)
+SaysMaterial rows Secret material = IsGiven (SpellsHexWithin 1 64) (value_of Secret rows) (Some material.secret)
+SaysMaterial rows Salt material = SpellsHexWithin 0 64 (unwrap_or (value_of Salt rows) []) material.salt
+SaysMaterial rows Context material = IsGiven (SpellsHexWithin 0 64) (value_of Context rows) material.id_context
 SaysMaterial rows option material = Unit {0}
 
 abbrev pub AreMaterial : List Row → InputMaterial → Type 0
@@ -34,8 +34,8 @@ AreClaims rows claims = (option : TokenOption) → SaysClaims rows option claims
 
 -- of a token
 abbrev pub Says : List Row → TokenOption → TokenWords → Type 0
-Says rows Key words = IsGiven (SpellsBytes 16 16) (value_of Key rows) (Some words.key)
-Says rows Iv words = IsGiven (SpellsBytes 13 13) (value_of Iv rows) words.iv
+Says rows Key words = IsGiven (SpellsHexWithin 16 16) (value_of Key rows) (Some words.key)
+Says rows Iv words = IsGiven (SpellsHexWithin 13 13) (value_of Iv rows) words.iv
 Says rows option words = SaysClaims rows option words.claims
 
 -- what each option says of the token is so

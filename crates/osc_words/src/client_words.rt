@@ -2,17 +2,19 @@
 ghost use Rattle.std.specs.Prelude.{◌≡◌, MatchResult, [], Some, unwrap_or};
 ghost use Rattle.clap.specs.Words.{found_of, rows_of};
 ghost use Rattle.osc_model.specs.Path.{IsPath};
+ghost use Rattle.osc_script.specs.Values.{SpellsHex, SpellsShortNumber};
 ghost use Rattle.osc_words.specs.ClientWords as spec;
 ghost use Rattle.osc_words.specs.NamedOptions.{value_of};
 ghost use Rattle.osc_words.specs.Reading.{IsClientRefusal, IsRefusalOf};
-ghost use Rattle.osc_words.specs.Values.{IsGiven, SpellsAnyBytes, SpellsShortNumber};
+ghost use Rattle.osc_words.specs.Values.{IsGiven};
 
 use crate::client_option::ClientOption;
 use crate::named_option::NamedOption;
+use crate::given;
 use crate::words::WordsError;
-use crate::{given, values};
 use clap::ArgMatches;
 use osc_model::{Bytes, Code, ETags, Path, Request};
+use osc_script::values;
 use std::alloc::Global;
 
 /// What `osc client` is asked for.
@@ -82,12 +84,12 @@ fn path(alloc: Global, options: &ArgMatches<'_>) -> Result<Path, WordsError>
 // The payload; an absent one is empty.
 fn payload(alloc: Global, options: &ArgMatches<'_>) -> Result<Bytes, WordsError>
     ensures { MatchResult result
-        (SpellsAnyBytes (unwrap_or (value_of (NamedOption.Client ClientOption.Payload) (rows_of (found_of options.now))) []))
-        (IsRefusalOf (NamedOption.Client ClientOption.Payload) (SpellsAnyBytes (unwrap_or (value_of (NamedOption.Client ClientOption.Payload) (rows_of (found_of options.now))) []))) }
+        (SpellsHex (unwrap_or (value_of (NamedOption.Client ClientOption.Payload) (rows_of (found_of options.now))) []))
+        (IsRefusalOf (NamedOption.Client ClientOption.Payload) (SpellsHex (unwrap_or (value_of (NamedOption.Client ClientOption.Payload) (rows_of (found_of options.now))) []))) }
 {
     let option = NamedOption::Client(ClientOption::Payload);
     let text = given::text(options, option).unwrap_or("");
-    values::any_bytes(alloc, text)?.ok_or(WordsError::Value(option))
+    values::bytes(alloc, text)?.ok_or(WordsError::Value(option))
 }
 
 // The format, where it is given.

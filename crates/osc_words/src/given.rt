@@ -1,17 +1,16 @@
 //! The values that options were given.
 ghost use Rattle.std.specs.Prelude.{◌≡◌, MatchResult, Some, None, option_map};
 ghost use Rattle.clap.specs.Words.{found_of, rows_of};
-ghost use Rattle.osc_script.specs.Words.{SpellsNumber};
+ghost use Rattle.osc_script.specs.Values.{SpellsNumber};
 ghost use Rattle.osc_words.specs.NamedOptions.{value_of};
 ghost use Rattle.osc_words.specs.Reading.{IsRefusalOf};
 ghost use Rattle.osc_words.specs.Values.{IsGiven, SpellsClient, SpellsTurns};
 
 use crate::command::text_of;
 use crate::named_option::NamedOption;
-use crate::values;
 use crate::words::WordsError;
 use clap::ArgMatches;
-use osc_script::ClientName;
+use osc_script::{ClientName, values};
 
 /// The value that an option was given.
 pub(crate) fn text<'a>(options: &ArgMatches<'a>, option: NamedOption) -> Option<&'a str>
@@ -62,7 +61,7 @@ pub(crate) fn client(
     let Some(text) = text(options, option) else {
         return Ok(None);
     };
-    let Some(client) = values::client(text) else {
+    let Some(client) = ClientName::named(text) else {
         return Err(WordsError::Value(option));
     };
     Ok(Some(client))

@@ -8,7 +8,6 @@ mod given;
 mod named_option;
 mod token_option;
 mod token_words;
-mod values;
 mod words;
 
 pub use client_option::ClientOption;

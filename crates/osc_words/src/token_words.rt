@@ -1,18 +1,19 @@
 //! What the options of `osc token` stand for.
 ghost use Rattle.std.specs.Prelude.{◌≡◌, MatchResult, [], unwrap_or};
 ghost use Rattle.clap.specs.Words.{found_of, rows_of};
-ghost use Rattle.osc_script.specs.Words.{SpellsNumber};
+ghost use Rattle.osc_script.specs.Values.{SpellsHexWithin, SpellsNumber, SpellsScope};
 ghost use Rattle.osc_words.specs.Options.{value_of};
 ghost use Rattle.osc_words.specs.Reading.{IsRefusal, IsRefusalOf};
 ghost use Rattle.osc_words.specs.TokenWords as spec;
-ghost use Rattle.osc_words.specs.Values.{IsGiven, SpellsBytes, SpellsScope};
+ghost use Rattle.osc_words.specs.Values.{IsGiven};
 
 use crate::named_option::NamedOption;
 use crate::token_option::TokenOption;
+use crate::given;
 use crate::words::WordsError;
-use crate::{given, values};
 use clap::ArgMatches;
 use osc_model::Bytes;
+use osc_script::values;
 use osc_token::{Audience, Claims, InputMaterial};
 use std::alloc::Global;
 use std::fmt;
@@ -80,8 +81,8 @@ fn required_array<const N: usize>(
     option: TokenOption,
 ) -> Result<[u8; N], WordsError>
     ensures { MatchResult result
-        (λ bytes. IsGiven (SpellsBytes N N) (value_of option (rows_of (found_of options.now))) (Some bytes))
-        (IsRefusalOf (NamedOption.Token option) (λ bytes. IsGiven (SpellsBytes N N) (value_of option (rows_of (found_of options.now))) (Some bytes))) }
+        (λ bytes. IsGiven (SpellsHexWithin N N) (value_of option (rows_of (found_of options.now))) (Some bytes))
+        (IsRefusalOf (NamedOption.Token option) (λ bytes. IsGiven (SpellsHexWithin N N) (value_of option (rows_of (found_of options.now))) (Some bytes))) }
 {
     let option = NamedOption::Token(option);
     let Some(bytes) = values::array(given::required_text(options, option)?) else {
@@ -96,8 +97,8 @@ fn array<const N: usize>(
     option: TokenOption,
 ) -> Result<Option<[u8; N]>, WordsError>
     ensures { MatchResult result
-        (IsGiven (SpellsBytes N N) (value_of option (rows_of (found_of options.now))))
-        (IsRefusalOf (NamedOption.Token option) (IsGiven (SpellsBytes N N) (value_of option (rows_of (found_of options.now))))) }
+        (IsGiven (SpellsHexWithin N N) (value_of option (rows_of (found_of options.now))))
+        (IsRefusalOf (NamedOption.Token option) (IsGiven (SpellsHexWithin N N) (value_of option (rows_of (found_of options.now))))) }
 {
     let option = NamedOption::Token(option);
     let Some(text) = given::text(options, option) else {
@@ -117,12 +118,12 @@ fn required_bytes(
     least: usize,
 ) -> Result<Bytes, WordsError>
     ensures { MatchResult result
-        (λ bytes. IsGiven (SpellsBytes least 64) (value_of option (rows_of (found_of options.now))) (Some bytes))
-        (IsRefusalOf (NamedOption.Token option) (λ bytes. IsGiven (SpellsBytes least 64) (value_of option (rows_of (found_of options.now))) (Some bytes))) }
+        (λ bytes. IsGiven (SpellsHexWithin least 64) (value_of option (rows_of (found_of options.now))) (Some bytes))
+        (IsRefusalOf (NamedOption.Token option) (λ bytes. IsGiven (SpellsHexWithin least 64) (value_of option (rows_of (found_of options.now))) (Some bytes))) }
 {
     let option = NamedOption::Token(option);
     let text = given::required_text(options, option)?;
-    let Some(bytes) = values::bytes(alloc, text, least, LONGEST)? else {
+    let Some(bytes) = values::bytes_within(alloc, text, least, LONGEST)? else {
         return Err(WordsError::Value(option));
     };
     Ok(bytes)
@@ -136,14 +137,14 @@ fn bytes(
     least: usize,
 ) -> Result<Option<Bytes>, WordsError>
     ensures { MatchResult result
-        (IsGiven (SpellsBytes least 64) (value_of option (rows_of (found_of options.now))))
-        (IsRefusalOf (NamedOption.Token option) (IsGiven (SpellsBytes least 64) (value_of option (rows_of (found_of options.now))))) }
+        (IsGiven (SpellsHexWithin least 64) (value_of option (rows_of (found_of options.now))))
+        (IsRefusalOf (NamedOption.Token option) (IsGiven (SpellsHexWithin least 64) (value_of option (rows_of (found_of options.now))))) }
 {
     let option = NamedOption::Token(option);
     let Some(text) = given::text(options, option) else {
         return Ok(None);
     };
-    let Some(bytes) = values::bytes(alloc, text, least, LONGEST)? else {
+    let Some(bytes) = values::bytes_within(alloc, text, least, LONGEST)? else {
         return Err(WordsError::Value(option));
     };
     Ok(Some(bytes))
@@ -152,12 +153,12 @@ fn bytes(
 // The salt; an absent one is empty.
 fn salt(alloc: Global, options: &ArgMatches<'_>) -> Result<Bytes, WordsError>
     ensures { MatchResult result
-        (SpellsBytes 0 64 (unwrap_or (value_of TokenOption.Salt (rows_of (found_of options.now))) []))
-        (IsRefusalOf (NamedOption.Token TokenOption.Salt) (SpellsBytes 0 64 (unwrap_or (value_of TokenOption.Salt (rows_of (found_of options.now))) []))) }
+        (SpellsHexWithin 0 64 (unwrap_or (value_of TokenOption.Salt (rows_of (found_of options.now))) []))
+        (IsRefusalOf (NamedOption.Token TokenOption.Salt) (SpellsHexWithin 0 64 (unwrap_or (value_of TokenOption.Salt (rows_of (found_of options.now))) []))) }
 {
     let option = NamedOption::Token(TokenOption::Salt);
     let text = given::text(options, option).unwrap_or("");
-    values::bytes(alloc, text, 0, LONGEST)?.ok_or(WordsError::Value(option))
+    values::bytes_within(alloc, text, 0, LONGEST)?.ok_or(WordsError::Value(option))
 }
 
 // A number, where it is given.

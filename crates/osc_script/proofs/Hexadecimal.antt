@@ -1,15 +1,15 @@
 -- What hexadecimal digits spell.
-use Rattle.std.proofs.Common.{◌≡◌, ℕ, ◌*◌, List, length, Option, Some, None, Result, Ok, Err, sym, ◌∙◌, arith}
+use Rattle.std.proofs.Common.{◌≡◌, ℕ, ◌*◌, List, length, Option, Some, None, Result, Ok, Err, sym, ap, ◌∙◌, arith}
 use Rattle.std.specs.Result.{result_ok}
 use Rattle.hex.specs.Hex.{decode_of, decode_sized}
 use Rattle.hex.specs.declared.error.FromHexError.{FromHexError}
 use Rattle.hex.proofs.HexLemmas.{decode_of-ok, decode_sized-ok, decode_sized-twice}
-use Rattle.osc_script.specs.Reading.{Reads}
-use Rattle.osc_words.specs.Values.{SpellsBytes}
+use Rattle.osc_script.specs.Reading.{decoded}
+use Rattle.osc_script.specs.Values.{Reads, SpellsHex, SpellsHexWithin}
 
 -- as many bytes as there is room for
 pub array_read : (n : ℕ) (text : List ℕ) (d : Result (List ℕ) FromHexError) (r : Option (List ℕ))
-    → d ≡ decode_sized text n → r ≡ result_ok d → Reads (SpellsBytes n n text) r
+    → d ≡ decode_sized text n → r ≡ result_ok d → Reads (SpellsHexWithin n n text) r
 array_read n text (Ok bytes) None e h = absurd cc
 array_read n text (Err x) (Some found) e h = absurd cc
 array_read n text (Ok bytes) (Some found) e h =
@@ -23,3 +23,14 @@ array_read n text (Err x) None e h = λ bytes s.
     let long : length text ≡ 2 * n = omega (arith, twice, s.at_least, s.at_most) in
     let read : Err x ≡ Ok bytes = e ∙ (decode_sized-twice text n long ∙ s.digits) in
     absurd cc
+
+-- what was decoded is what the digits spell
+pub some_decoded : (text bytes : List ℕ) → Some bytes ≡ decoded (decode_of text) → SpellsHex text bytes
+some_decoded text bytes e = of (decode_of text) e
+  where
+    of : (r : Result (List ℕ) FromHexError) → Some bytes ≡ decoded r → r ≡ Ok bytes
+    of (Ok x) e = cc
+    of (Err x) e = absurd cc
+
+pub none_decoded : (text : List ℕ) → None ≡ decoded (decode_of text) → (bytes : List ℕ) → ¬ SpellsHex text bytes
+none_decoded text e bytes s = let no : None ≡ Some bytes = e ∙ ap decoded s in absurd cc
