@@ -1,5 +1,6 @@
 -- The security context of a name (RFC 8613 section 3.2.1).
 use Rattle.std.specs.Prelude.{ℕ, List, [], Option, Some, None, codes}
+use Rattle.osc_model.specs.Algorithm.{algorithm_number}
 use Rattle.osc_model.specs.declared.context.ContextName.{ContextName}
 use Rattle.osc_model.specs.declared.context.Side.{Side}
 use Rattle.osc_model.specs.declared.context.Side.TheVariants.{Client, Server}
@@ -29,7 +30,7 @@ id_context_item (Some id_context) = byte_string id_context
 -- info = [id, id_context, alg_aead, type, L]
 abbrev pub info : ContextName → List ℕ → List ℕ → ℕ → DataItem
 info name id type size =
-    array (item (byte_string id) (item (id_context_item name.id_context) (item (unsigned (algorithm_of name)) (item (text_string type) (item (unsigned size) no_items)))))
+    array (item (byte_string id) (item (id_context_item name.id_context) (item (unsigned (algorithm_number (algorithm_of name))) (item (text_string type) (item (unsigned size) no_items)))))
 
 -- output = HKDF(salt, IKM, info, L), where the master salt is the salt and the master secret the IKM
 unfoldable pub derived : ContextName → List ℕ → List ℕ → ℕ → List ℕ

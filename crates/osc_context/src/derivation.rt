@@ -6,6 +6,7 @@ ghost use Rattle.osc_hkdf.specs.Hkdf.{extract_of, expand_of};
 ghost use Rattle.osc_context.specs.Derivation.{info, derived, common_iv_of, sender_of, recipient_of};
 ghost use Rattle.osc_context.specs.Nonce.{longest_id};
 
+use crate::algorithm::algorithm_of;
 use crate::append::{append_bytes, append_head, append_id_context, append_text, append_unsigned};
 use crate::error::DeriveError;
 use crate::nonce::{ID_LIMIT, id_copy};
@@ -15,9 +16,6 @@ use osc_cbor::Major;
 use osc_hkdf::Prk;
 use osc_model::{ContextName, Side};
 use std::alloc::{AllocError, Global};
-
-/// The number of AES-CCM-16-64-128 (RFC 9053 section 4.2).
-const ALGORITHM: u64 = 10;
 
 /// The info that tells an output from the others (RFC 8613 section 3.2.1): the ID, the id context of the name, the algorithm, what the
 /// output is for (`Key` or `IV`) and its length in bytes.
@@ -38,7 +36,7 @@ pub fn info_of(
     append_head(&mut out, Major::Array, 5)?;
     append_bytes(&mut out, id)?;
     append_id_context(&mut out, &name.id_context)?;
-    append_unsigned(&mut out, ALGORITHM)?;
+    append_unsigned(&mut out, algorithm_of(name).number())?;
     append_text(&mut out, output)?;
     append_unsigned(&mut out, size)?;
     Ok(out)

@@ -3,6 +3,7 @@
 //! A name fixes the keys of both ends and the common IV. A sender sequence number is taken once, and accepted once.
 #![tactic(auto)]
 
+mod algorithm;
 mod append;
 mod derivation;
 mod error;
@@ -12,6 +13,7 @@ mod recipient;
 mod salt;
 mod sender;
 
+pub use algorithm::algorithm_of;
 pub use derivation::{derive, info_of};
 pub use error::{DeriveError, Exhausted};
 pub use nonce::{ID_LIMIT, NUMBER_LIMIT, nonce_for, partial_iv_of};

@@ -2,6 +2,7 @@
 //! to a tree of resources under a scope, and of what a history of requests does (`specs/`).
 #![tactic(auto)]
 
+mod algorithm;
 mod bytes;
 mod code;
 mod context;
@@ -15,6 +16,7 @@ mod shared_name;
 mod step;
 mod step_notes;
 
+pub use algorithm::Algorithm;
 pub use bytes::Bytes;
 pub use code::{Code, Method};
 pub use context::{ContextName, Side};

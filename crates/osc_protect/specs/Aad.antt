@@ -1,5 +1,6 @@
 -- The associated data of a request and of its response (RFC 8613 section 5.4).
 use Rattle.std.specs.Prelude.{ℕ, List, []}
+use Rattle.osc_model.specs.Algorithm.{algorithm_number}
 use Rattle.osc_model.specs.declared.context.ContextName.{ContextName}
 use Rattle.osc_cbor.specs.Data.{unsigned, byte_string, array, no_items, item}
 use Rattle.osc_cbor.specs.Spelling.{spelling}
@@ -11,7 +12,7 @@ use Rattle.osc_context.specs.Nonce.{partial_iv}
 -- IV of the request, and no class I options
 unfoldable pub external_aad : ContextName → ℕ → List ℕ
 external_aad name number =
-    spelling (array (item (unsigned 1) (item (array (item (unsigned (algorithm_of name)) no_items)) (item (byte_string name.client_id) (item (byte_string (partial_iv number)) (item (byte_string []) no_items))))))
+    spelling (array (item (unsigned 1) (item (array (item (unsigned (algorithm_number (algorithm_of name))) no_items)) (item (byte_string name.client_id) (item (byte_string (partial_iv number)) (item (byte_string []) no_items))))))
 
 -- the cipher's associated data: the protected header is empty
 unfoldable pub aad_of : ContextName → ℕ → List ℕ

@@ -4,3 +4,4 @@ pub mod ValueReading
 pub mod Aad
 pub mod Protection
 pub mod Errors
+pub mod Ciphers

@@ -7,6 +7,7 @@
 #![tactic(auto)]
 
 mod aad;
+mod ciphers;
 mod error;
 pub mod laws;
 mod opening;
@@ -15,8 +16,10 @@ mod response;
 mod room;
 mod sealed;
 mod sealing;
+mod token_cipher;
 mod value;
 
+pub use ciphers::{Ciphers, TagOf8, TagOf16};
 pub use error::{
     Malformed, MessageTooLong, ReplyTooLong, RequestNotGenuine, ResponseNotGenuine, TextTooLong,
 };
@@ -27,4 +30,5 @@ pub use request::{
 pub use response::{ProtectedResponse, open_response, protect_reply, protect_response};
 pub use room::Room;
 pub use sealed::{SealedRequestRef, SealedResponseRef, read_request, read_response};
+pub use token_cipher::TokenCipher;
 pub use value::OscoreOption;
