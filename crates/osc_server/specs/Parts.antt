@@ -57,7 +57,7 @@ pub record IsTakenFor (tag : ℕ) (tree : Tree) (taken : Taken) : Type 0 where
   pub error : IfErr taken.read (λ code. 0 < code.0)
   pub context : taken.context ≡ taken.note.context
   pub plaintext : taken.plaintext ≡ taken.note.plaintext
-  pub room : taken.room ≡ record { name = taken.note.context; most = 14 + reply_length tree taken.read }
+  pub room : taken.room ≡ record { name = taken.note.context; number = taken.note.number; most = 14 + reply_length tree taken.read }
   pub reply : taken.reply ≡ 28 + reply_length tree taken.read + tag
   pub limit : reply_length tree taken.read ≤ 512
 

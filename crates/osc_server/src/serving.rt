@@ -7,6 +7,7 @@ ghost use Rattle.osc_authz.specs.Table.{accepted, meant};
 ghost use Rattle.osc_context.specs.Derivation.{accepted_of};
 ghost use Rattle.osc_model.specs.declared.context.Side.TheVariants.{Server};
 ghost use Rattle.osc_model.specs.Apply.{apply_read};
+ghost use Rattle.osc_protect.specs.Aad.{aad_of};
 ghost use Rattle.osc_protect.specs.Protection.{IsFor, IsRequest, IsProtectedResponse};
 ghost use Rattle.osc_run.specs.ServerKinds.{opening_note, reply_note, Replies as AppliesTo};
 ghost use Rattle.osc_run.specs.Texts.{read_request, IsWithinRanges};
@@ -160,6 +161,7 @@ fn protected<A: Aead>(
 ) -> ProtectedResponse
     requires number { number ≡ accepted_of context.now.name Server number.number }
     requires name { room.name ≡ context.now.name }
+    requires about { room.number ≡ number.number }
     requires short { FitsAResource reply.now }
     requires room { 14 + length reply.now.payload ≤ room.most }
     ensures protected { IsProtectedResponse A.is_sealing context.now.name number.number None
@@ -180,6 +182,7 @@ impl Taken {
     /// Reads what was opened, and takes the memory of all that follows.
     #[inline(never)]
     fn new<A: Aead>(alloc: Global, tree: &Tree, note: Note) -> Result<Taken, AllocError>
+        requires { note.aad ≡ aad_of note.context note.number }
         ensures note { IfOk result (λ taken. taken.note ≡ note) }
         ensures taken { IfOk result (λ taken. IsTakenFor A.TAG tree.now taken) }
     {
@@ -187,7 +190,7 @@ impl Taken {
         let most = PLAINTEXT_BESIDE_PAYLOAD + most_payload(tree, &read);
         let context = note.context.clone()?;
         let plaintext = note.plaintext.clone()?;
-        let room = Room::new(alloc, &note.context, most)?;
+        let room = Room::answering(alloc, &note, most)?;
         Ok(Taken {
             note,
             read,
