@@ -1,8 +1,9 @@
-mod WordLemmas
-mod ColumnTables
+pub mod Lanes
 pub mod FieldLaws
 pub mod Inverses
 pub mod Schedule
-pub mod StateLaws
 pub mod ByteLaws
-pub mod Table
+pub mod Forms
+pub mod FormLaws
+pub mod Rounds
+pub mod KeyLaws

@@ -1,57 +1,9 @@
 -- Laws of the key schedule.
-use Rattle.std.proofs.Common.{◌≡◌, ℕ, zero, suc, ◌+◌, ◌-◌, ◌*◌, ◌/◌, ◌%◌, ◌<◌, ◌≤◌, ◌==◌, ◌∙◌, Bool, true, false, if◌then◌else◌, List, [], ◌∷◌, ◌++◌, set, length, take, map, slice_index, sym, ap, ap₂, refl, subst, inl, inr, arith, length-append}
-use Rattle.std.proofs.lemmas.List.{take_more_set, take-append-le, get_or-take, take_all, get_or_append_left, get_or-append_right}
+use Rattle.std.proofs.Common.{◌≡◌, ℕ, zero, suc, ◌+◌, ◌-◌, ◌*◌, ◌/◌, ◌%◌, ◌<◌, ◌≤◌, ◌==◌, ◌∙◌, Bool, true, false, if◌then◌else◌, List, ◌++◌, length, take, slice_index, sym, ap, ap₂, refl, subst, inl, inr, arith, length-append}
+use Rattle.std.proofs.lemmas.List.{take-append-le, take_all, get_or_append_left, get_or-append_right}
 use Rattle.std.proofs.lemmas.Bool.{cases_lt}
-use Rattle.std.proofs.lemmas.List.FromFn.{get_or-map-range_with_len}
 use Rattle.std.proofs.lemmas.Bool.Decides.{nat_tests}
-use Rattle.std.proofs.lemmas.Grind.{flat_map-append}
-use Rattle.std.specs.List.{range_with_len}
-use Rattle.std.specs.Int.{w32, to_be_bytes}
-use Rattle.osc_aes.specs.Field.{times_x, times_power}
-use Rattle.osc_aes.specs.KeyExpansion.{word, add_words, rot_word, sub_word, schedule_word, with_next, first_words, key_expansion, round_constant}
-use Rattle.osc_aes.specs.Columns.{bytes_of}
-use Rattle.osc_aes.proofs.WordLemmas.{word-bytes_of, take-bytes_of, length-bytes_of}
-use Rattle.osc_aes.specs.declared.key_expansion.TheConstants.{ROUND_CONSTANTS}
-
--- computed: the powers of x
-constants_are : ROUND_CONSTANTS ≡ map (λ i. times_power i 1) (range_with_len 0 10)
-unfolding times_x
-constants_are = refl
-
-pub constant_entry : (j : ℕ) → 1 ≤ j → j ≤ 10 → slice_index ROUND_CONSTANTS (j - 1) ≡ slice_index (round_constant j) 0
-constant_entry j low high =
-    ap (λ xs. slice_index xs (j - 1)) constants_are
-    ∙ get_or-map-range_with_len (λ i. times_power i 1) 0 10 (j - 1) (j - 1) 0 (omega arith) (omega arith)
-
--- the words below n are those of the first bytes
-pub word-take : (w : List ℕ) (n j : ℕ) → 4 * j + 4 ≤ n → word (take n w) j ≡ word w j
-word-take w n j h =
-    let at : (r : ℕ) → r < 4 → slice_index (take n w) (4 * j + r) ≡ slice_index w (4 * j + r) =
-    λ r below. get_or-take n w (4 * j + r) 0 (omega arith) in
-    cc (at 0 (omega arith), at 1 (omega arith), at 2 (omega arith), at 3 (omega arith))
-
--- the four words of the key
-pub rounds_none : (key w : List ℕ) (m : ℕ) → 1 ≡ 1 + m → w ≡ key → w ≡ first_words key (4 * m)
-unfolding first_words
-rounds_none key w zero e h = h
-rounds_none key w (suc m) e h = absurd (omega arith)
-
--- word i written, where the words below it are known
-pub written : (words : List ℕ) (i x : ℕ) → 4 ≤ i → i < length words →
-    to_be_bytes w32 x ≡ schedule_word i (to_be_bytes w32 (slice_index words (i - 4))) (to_be_bytes w32 (slice_index words (i - 1))) →
-    take (4 * (i + 1)) (bytes_of (set words i x)) ≡ with_next (take (4 * i) (bytes_of words)) i
-unfolding bytes_of
-written words i x low high e =
-    let w : List ℕ = bytes_of words in
-    let back : word (take (4 * i) w) (i - 4) ≡ to_be_bytes w32 (slice_index words (i - 4)) =
-    word-take w (4 * i) (i - 4) (omega arith) ∙ word-bytes_of words (i - 4) (omega arith) in
-    let last : word (take (4 * i) w) (i - 1) ≡ to_be_bytes w32 (slice_index words (i - 1)) =
-    word-take w (4 * i) (i - 1) (omega arith) ∙ word-bytes_of words (i - 1) (omega arith) in
-    let grown : take (i + 1) (set words i x) ≡ take i words ++ x ∷ [] = take_more_set words i x high in
-    take-bytes_of (set words i x) (i + 1)
-    ∙ ap bytes_of grown
-    ∙ flat_map-append (to_be_bytes w32) (take i words) (x ∷ [])
-    ∙ ap₂ (λ l m. l ++ m) (sym (take-bytes_of words i)) (e ∙ sym (ap₂ (schedule_word i) back last))
+use Rattle.osc_aes.specs.KeyExpansion.{word, add_words, rot_word, sub_word, schedule_word, first_words, key_expansion, round_constant}
 
 -- which word begins a round key
 pub turned_word : (round : ℕ) (a b t x : List ℕ) → 1 ≤ round → t ≡ add_words (sub_word (rot_word b)) (round_constant round) →
@@ -69,30 +21,6 @@ plain_word i a b x inner ex =
     let goes_on : (i % 4 == 0) ≡ false = grind (arith, nat_tests) in
     ex ∙ ap (λ (p : Bool). add_words a (if p then add_words (sub_word (rot_word b)) (round_constant (i / 4)) else b)) (sym goes_on)
 
--- one word more after the key and n words
-first_words-next : (key w : List ℕ) (i n : ℕ) → i ≡ 4 + n → w ≡ first_words key n → with_next w i ≡ first_words key (suc n)
-unfolding first_words
-first_words-next key w i n at e = ap₂ with_next e at
-
--- one round key more
-pub first_words-round : (key : List ℕ) (i m : ℕ) (w x y z t : List ℕ) → i ≡ 4 + 4 * m → w ≡ first_words key (4 * m) →
-    x ≡ with_next w i → y ≡ with_next x (i + 1) → z ≡ with_next y (i + 2) → t ≡ with_next z (i + 3) → t ≡ first_words key (4 * suc m)
-first_words-round key i m w x y z t at e ex ey ez et =
-    et ∙ first_words-next key z (i + 3) (4 * m + 3) (omega arith)
-    (ez ∙ first_words-next key y (i + 2) (4 * m + 2) (omega arith)
-    (ey ∙ first_words-next key x (i + 1) (4 * m + 1) (omega arith)
-    (ex ∙ first_words-next key w i (4 * m) (omega arith) e ∙ ap (first_words key) (omega arith))
-    ∙ ap (first_words key) (omega arith))
-    ∙ ap (first_words key) (omega arith))
-    ∙ ap (first_words key) (omega arith)
-
-pub rounds_more : (key : List ℕ) (round m : ℕ) (w x y z t : List ℕ) → 1 ≤ round → round + 1 ≡ 1 + m →
-    ((k : ℕ) → round ≡ 1 + k → w ≡ first_words key (4 * k)) → x ≡ with_next w (4 * round) → y ≡ with_next x (4 * round + 1) →
-    z ≡ with_next y (4 * round + 2) → t ≡ with_next z (4 * round + 3) → t ≡ first_words key (4 * m)
-rounds_more key round zero w x y z t low at known ex ey ez et = absurd (omega arith)
-rounds_more key round (suc k) w x y z t low at known ex ey ez et =
-    first_words-round key (4 * round) k w x y z t (omega arith) (known k (omega arith)) ex ey ez et
-
 -- the key stands at the head of its schedule
 long : (key : List ℕ) (n : ℕ) → length key ≡ 16 → 16 ≤ length (first_words key n)
 unfolding first_words
@@ -107,20 +35,6 @@ take-first_words key (suc n) h = take-append-le 16 (first_words key n) (schedule
 pub take-key_expansion : (key : List ℕ) → length key ≡ 16 → take 16 (key_expansion key) ≡ key
 unfolding key_expansion
 take-key_expansion key h = take-first_words key 40 h
-
--- all words
-pub rounds_all : (key words : List ℕ) (round : ℕ) → 11 ≤ round → round ≤ 11 → length words ≡ 44 →
-    ((m : ℕ) → round ≡ 1 + m → take (4 * (4 * round)) (bytes_of words) ≡ first_words key (4 * m)) → bytes_of words ≡ key_expansion key
-unfolding key_expansion
-rounds_all key words round low high whole at =
-    sym (take_all (4 * (4 * round)) (bytes_of words) (omega (arith, length-bytes_of words))) ∙ at 10 (omega arith)
-
--- the schedule is that of the key at its head
-pub key_expansion-take : (key w : List ℕ) → length key ≡ 16 → w ≡ key_expansion key → w ≡ key_expansion (take 16 w)
-key_expansion-take key w h e = e ∙ ap key_expansion (sym (ap (take 16) e ∙ take-key_expansion key h))
-
-pub take-schedule : (key w : List ℕ) → length key ≡ 16 → w ≡ key_expansion key → take 16 w ≡ key
-take-schedule key w h e = ap (take 16) e ∙ take-key_expansion key h
 
 -- ---- the schedule by its words
 

@@ -2,4 +2,6 @@ pub mod Field
 pub mod SubBytes
 pub mod KeyExpansion
 pub mod Cipher
-pub mod Columns
+pub mod Tower
+pub mod States
+pub mod Keys

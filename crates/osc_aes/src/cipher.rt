@@ -1,151 +1,152 @@
-//! The rounds of the cipher (FIPS 197, section 5.1). The state is four columns, each a word of 32 bits whose byte in
-//! row 0 is the most significant. A column of the next state is the sum of four entries of the tables of columns and a
-//! word of the key schedule.
-ghost use Rattle.std.specs.Prelude.{◌≡◌, ◌≤◌, [], ◌∷◌, map};
-ghost use Rattle.std.specs.Int.{w32, to_be_bytes};
-ghost use Rattle.osc_aes.specs.SubBytes.{sub_byte};
-ghost use Rattle.osc_aes.specs.Cipher.{sub_bytes, shift_rows, mixed, mix_columns, add_round_key, rounds, cipher};
-ghost use Rattle.osc_aes.specs.Columns.{bytes_of, diagonal};
+//! The rounds of the cipher (FIPS 197, section 5.1) on sixteen lanes. A state is the forms of its bytes (`tower`), and
+//! ShiftRows moves none of them: the state counts as turned once more after each round, and four turns are none.
+ghost use Rattle.std.specs.Prelude.{◌≡◌, bit_xor};
+ghost use Rattle.std.specs.Simd.Lanes.{zip2};
+ghost use Rattle.osc_aes.specs.Cipher.{sub_bytes, shift_rows, rounds, cipher};
+ghost use Rattle.osc_aes.specs.KeyExpansion.{key_expansion};
+ghost use Rattle.osc_aes.specs.States.{state_in, mixed_state, with_constant};
+ghost use Rattle.osc_aes.specs.Keys.{AreKeys};
 
-use crate::columns::{column_0, column_1, column_2, column_3};
-use crate::key_expansion::Words;
-use crate::sub_bytes::sub_byte;
-use crate::words::{bytes_of, words_of};
+use crate::key_expansion::Keys;
+use crate::tower::{doubled_substitutes, forms, plain_substitutes};
+use std::simd::prelude::*;
 
-type State = [u32; 4];
+/// Where the form of the byte one row below stands, once ShiftRows has turned the state once.
+const NEXT_1: [usize; 16] = [5, 6, 7, 4, 9, 10, 11, 8, 13, 14, 15, 12, 1, 2, 3, 0];
 
-/// SubBytes, ShiftRows and MixColumns for one column of the next state: its byte in row r is made of that row's byte in
-/// the r-th of these columns (sections 5.1.1 to 5.1.3).
-fn mixed_column(a: u32, b: u32, c: u32, d: u32) -> u32
-    ensures { to_be_bytes w32 result ≡ map (λ r. mixed (map sub_byte (diagonal a b c d)) r 0) (0 ∷ 1 ∷ 2 ∷ 3 ∷ []) }
+/// Where the form of the byte one row above stands, once ShiftRows has turned the state once.
+const BEFORE_1: [usize; 16] = [15, 12, 13, 14, 3, 0, 1, 2, 7, 4, 5, 6, 11, 8, 9, 10];
+
+/// Where the form of the byte one row below stands, once ShiftRows has turned the state twice.
+const NEXT_2: [usize; 16] = [9, 10, 11, 8, 13, 14, 15, 12, 1, 2, 3, 0, 5, 6, 7, 4];
+
+/// Where the form of the byte one row above stands, once ShiftRows has turned the state twice.
+const BEFORE_2: [usize; 16] = [11, 8, 9, 10, 15, 12, 13, 14, 3, 0, 1, 2, 7, 4, 5, 6];
+
+/// Where the form of the byte one row below stands, once ShiftRows has turned the state three times.
+const NEXT_3: [usize; 16] = [13, 14, 15, 12, 1, 2, 3, 0, 5, 6, 7, 4, 9, 10, 11, 8];
+
+/// Where the form of the byte one row above stands, once ShiftRows has turned the state three times.
+const BEFORE_3: [usize; 16] = [7, 4, 5, 6, 11, 8, 9, 10, 15, 12, 13, 14, 3, 0, 1, 2];
+
+/// Where the form of the byte one row below stands, once ShiftRows has turned the state from three times to not at all.
+const NEXT_0: [usize; 16] = [1, 2, 3, 0, 5, 6, 7, 4, 9, 10, 11, 8, 13, 14, 15, 12];
+
+/// Where the form of the byte one row above stands, once ShiftRows has turned the state from three times to not at all.
+const BEFORE_0: [usize; 16] = [3, 0, 1, 2, 7, 4, 5, 6, 11, 8, 9, 10, 15, 12, 13, 14];
+
+/// A round before the last, after which the state is turned once.
+#[inline(always)]
+fn round_to_1(state: u8x16, key: u8x16) -> u8x16
+    ensures { state_in 1 result ≡ zip2 bit_xor (mixed_state (state_in 0 state)) (with_constant (state_in 1 key)) }
 {
-    column_0(a.to_be_bytes()[0])
-        ^ column_1(b.to_be_bytes()[1])
-        ^ column_2(c.to_be_bytes()[2])
-        ^ column_3(d.to_be_bytes()[3])
+    let (once, doubled) = doubled_substitutes(state);
+    let sum = once.swizzle(NEXT_1) ^ doubled;
+    once.swizzle(BEFORE_1) ^ key ^ sum ^ sum.swizzle(NEXT_1)
 }
 
-/// SubBytes and ShiftRows for one column of the next state (sections 5.1.1 and 5.1.2).
-fn shifted_column(a: u32, b: u32, c: u32, d: u32) -> u32
-    ensures { to_be_bytes w32 result ≡ map sub_byte (diagonal a b c d) }
+/// A round before the last, after which the state is turned twice.
+#[inline(always)]
+fn round_to_2(state: u8x16, key: u8x16) -> u8x16
+    ensures { state_in 2 result ≡ zip2 bit_xor (mixed_state (state_in 1 state)) (with_constant (state_in 2 key)) }
 {
-    u32::from_be_bytes([
-        sub_byte(a.to_be_bytes()[0]),
-        sub_byte(b.to_be_bytes()[1]),
-        sub_byte(c.to_be_bytes()[2]),
-        sub_byte(d.to_be_bytes()[3]),
-    ])
+    let (once, doubled) = doubled_substitutes(state);
+    let sum = once.swizzle(NEXT_2) ^ doubled;
+    once.swizzle(BEFORE_2) ^ key ^ sum ^ sum.swizzle(NEXT_2)
 }
 
-/// Adds the words `4 * round` to `4 * round + 3`, one to each column (section 5.1.4).
-fn add_round_key(state: State, words: &Words, round: usize) -> State
-    requires { round ≤ 10 }
-    ensures { bytes_of result ≡ add_round_key (bytes_of state) (bytes_of words.now) round }
+/// A round before the last, after which the state is turned three times.
+#[inline(always)]
+fn round_to_3(state: u8x16, key: u8x16) -> u8x16
+    ensures { state_in 3 result ≡ zip2 bit_xor (mixed_state (state_in 2 state)) (with_constant (state_in 3 key)) }
 {
-    let [a, b, c, d] = state;
-    let at = 4 * round;
-    [
-        a ^ words[at],
-        b ^ words[at + 1],
-        c ^ words[at + 2],
-        d ^ words[at + 3],
-    ]
+    let (once, doubled) = doubled_substitutes(state);
+    let sum = once.swizzle(NEXT_3) ^ doubled;
+    once.swizzle(BEFORE_3) ^ key ^ sum ^ sum.swizzle(NEXT_3)
 }
 
-/// SubBytes, ShiftRows and MixColumns.
-fn mixed_columns(state: State) -> State
-    ensures { bytes_of result ≡ mix_columns (shift_rows (sub_bytes (bytes_of state))) }
+/// A round before the last, after which the state is turned not at all.
+#[inline(always)]
+fn round_to_0(state: u8x16, key: u8x16) -> u8x16
+    ensures { state_in 0 result ≡ zip2 bit_xor (mixed_state (state_in 3 state)) (with_constant (state_in 0 key)) }
 {
-    let [a, b, c, d] = state;
-    [
-        mixed_column(a, b, c, d),
-        mixed_column(b, c, d, a),
-        mixed_column(c, d, a, b),
-        mixed_column(d, a, b, c),
-    ]
+    let (once, doubled) = doubled_substitutes(state);
+    let sum = once.swizzle(NEXT_0) ^ doubled;
+    once.swizzle(BEFORE_0) ^ key ^ sum ^ sum.swizzle(NEXT_0)
 }
 
-/// SubBytes and ShiftRows.
-#[tactic(auto, unfolding(crate::specs::Columns::bytes_of, crate::specs::Cipher::shift_rows, crate::specs::Cipher::sub_bytes))]
-fn shifted_columns(state: State) -> State
-    ensures { bytes_of result ≡ shift_rows (sub_bytes (bytes_of state)) }
+/// The last round, without MixColumns, of a state that is turned once.
+#[inline(always)]
+fn last_round(state: u8x16, key: u8x16) -> u8x16
+    ensures { result ≡ zip2 bit_xor (shift_rows (sub_bytes (state_in 1 state))) (with_constant key) }
 {
-    let [a, b, c, d] = state;
-    [
-        shifted_column(a, b, c, d),
-        shifted_column(b, c, d, a),
-        shifted_column(c, d, a, b),
-        shifted_column(d, a, b, c),
-    ]
+    plain_substitutes(state).swizzle([0, 9, 2, 11, 4, 13, 6, 15, 8, 1, 10, 3, 12, 5, 14, 7]) ^ key
 }
 
-/// A round before the last.
-fn round(state: State, words: &Words, round: usize) -> State
-    requires { round ≤ 10 }
-    ensures { bytes_of result ≡ add_round_key (mix_columns (shift_rows (sub_bytes (bytes_of state)))) (bytes_of words.now) round }
+/// The state of a block before the first round.
+#[inline(always)]
+fn first_state(block: u8x16, keys: &Keys) -> u8x16
+    requires { AreKeys keys.now }
+    ensures { state_in 0 result ≡ rounds block (key_expansion keys.now.key) 0 }
 {
-    add_round_key(mixed_columns(state), words, round)
+    forms(block ^ keys.key)
 }
 
-/// The state after nine rounds. They stand one by one and not in a loop, so that the compiler keeps the columns in
-/// registers of their own.
-#[tactic(auto, unfolding(crate::specs::Cipher::rounds))]
-fn nine_rounds(block: [u8; 16], words: &Words) -> State
-    ensures { bytes_of result ≡ rounds block (bytes_of words.now) 9 }
+/// The state after nine rounds. They stand one by one, so that the compiler keeps the state in a register.
+#[inline(always)]
+fn nine_rounds(block: u8x16, keys: &Keys) -> u8x16
+    requires { AreKeys keys.now }
+    ensures { state_in 1 result ≡ rounds block (key_expansion keys.now.key) 9 }
 {
-    let state = add_round_key(words_of(block), words, 0);
-    let state = round(state, words, 1);
-    let state = round(state, words, 2);
-    let state = round(state, words, 3);
-    let state = round(state, words, 4);
-    let state = round(state, words, 5);
-    let state = round(state, words, 6);
-    let state = round(state, words, 7);
-    let state = round(state, words, 8);
-    round(state, words, 9)
+    let state = first_state(block, keys);
+    let state = round_to_1(state, keys.round_1);
+    let state = round_to_2(state, keys.round_2);
+    let state = round_to_3(state, keys.round_3);
+    let state = round_to_0(state, keys.round_4);
+    let state = round_to_1(state, keys.round_5);
+    let state = round_to_2(state, keys.round_6);
+    let state = round_to_3(state, keys.round_7);
+    let state = round_to_0(state, keys.round_8);
+    round_to_1(state, keys.round_9)
 }
 
-/// The last round, without MixColumns, as a block.
-fn last_round(state: State, words: &Words) -> [u8; 16]
-    ensures { result ≡ add_round_key (shift_rows (sub_bytes (bytes_of state))) (bytes_of words.now) 10 }
+/// Ten rounds, the last without MixColumns (section 5.1).
+pub(crate) fn cipher(block: [u8; 16], keys: &Keys) -> [u8; 16]
+    requires { AreKeys keys.now }
+    ensures { result ≡ cipher block (key_expansion keys.now.key) }
 {
-    bytes_of(add_round_key(shifted_columns(state), words, 10))
+    let state = nine_rounds(u8x16::from_array(block), keys);
+    last_round(state, keys.last).to_array()
 }
 
-/// Ten rounds over the words of the key schedule, the last without MixColumns (section 5.1).
-#[tactic(auto, unfolding(crate::specs::Cipher::cipher))]
-pub(crate) fn cipher(block: [u8; 16], words: &Words) -> [u8; 16]
-    ensures { result ≡ cipher block (bytes_of words.now) }
+/// The states of two blocks after nine rounds, round by round in turn: the look-ups of one don't wait for those of the
+/// other.
+#[inline(always)]
+fn nine_rounds_of_two(one: u8x16, other: u8x16, keys: &Keys) -> (u8x16, u8x16)
+    requires { AreKeys keys.now }
+    ensures one { state_in 1 result.0 ≡ rounds one (key_expansion keys.now.key) 9 }
+    ensures other { state_in 1 result.1 ≡ rounds other (key_expansion keys.now.key) 9 }
 {
-    last_round(nine_rounds(block, words), words)
-}
-
-/// The states of two blocks after nine rounds, round by round in turn: the table entries of one don't wait for those of
-/// the other.
-#[tactic(auto, unfolding(crate::specs::Cipher::rounds))]
-fn nine_rounds_of_two(one: [u8; 16], other: [u8; 16], words: &Words) -> (State, State)
-    ensures one { bytes_of result.0 ≡ rounds one (bytes_of words.now) 9 }
-    ensures other { bytes_of result.1 ≡ rounds other (bytes_of words.now) 9 }
-{
-    let (a, b) = (words_of(one), words_of(other));
-    let (a, b) = (add_round_key(a, words, 0), add_round_key(b, words, 0));
-    let (a, b) = (round(a, words, 1), round(b, words, 1));
-    let (a, b) = (round(a, words, 2), round(b, words, 2));
-    let (a, b) = (round(a, words, 3), round(b, words, 3));
-    let (a, b) = (round(a, words, 4), round(b, words, 4));
-    let (a, b) = (round(a, words, 5), round(b, words, 5));
-    let (a, b) = (round(a, words, 6), round(b, words, 6));
-    let (a, b) = (round(a, words, 7), round(b, words, 7));
-    let (a, b) = (round(a, words, 8), round(b, words, 8));
-    (round(a, words, 9), round(b, words, 9))
+    let (a, b) = (first_state(one, keys), first_state(other, keys));
+    let (a, b) = (round_to_1(a, keys.round_1), round_to_1(b, keys.round_1));
+    let (a, b) = (round_to_2(a, keys.round_2), round_to_2(b, keys.round_2));
+    let (a, b) = (round_to_3(a, keys.round_3), round_to_3(b, keys.round_3));
+    let (a, b) = (round_to_0(a, keys.round_4), round_to_0(b, keys.round_4));
+    let (a, b) = (round_to_1(a, keys.round_5), round_to_1(b, keys.round_5));
+    let (a, b) = (round_to_2(a, keys.round_6), round_to_2(b, keys.round_6));
+    let (a, b) = (round_to_3(a, keys.round_7), round_to_3(b, keys.round_7));
+    let (a, b) = (round_to_0(a, keys.round_8), round_to_0(b, keys.round_8));
+    (round_to_1(a, keys.round_9), round_to_1(b, keys.round_9))
 }
 
 /// The ciphers of two blocks.
-#[tactic(auto, unfolding(crate::specs::Cipher::cipher))]
-pub(crate) fn cipher_two(one: [u8; 16], other: [u8; 16], words: &Words) -> ([u8; 16], [u8; 16])
-    ensures one { result.0 ≡ cipher one (bytes_of words.now) }
-    ensures other { result.1 ≡ cipher other (bytes_of words.now) }
+pub(crate) fn cipher_two(one: [u8; 16], other: [u8; 16], keys: &Keys) -> ([u8; 16], [u8; 16])
+    requires { AreKeys keys.now }
+    ensures one { result.0 ≡ cipher one (key_expansion keys.now.key) }
+    ensures other { result.1 ≡ cipher other (key_expansion keys.now.key) }
 {
-    let (a, b) = nine_rounds_of_two(one, other, words);
-    (last_round(a, words), last_round(b, words))
+    let (one, other) = (u8x16::from_array(one), u8x16::from_array(other));
+    let (a, b) = nine_rounds_of_two(one, other, keys);
+    let (a, b) = (last_round(a, keys.last), last_round(b, keys.last));
+    (a.to_array(), b.to_array())
 }

@@ -1,82 +1,142 @@
-//! The key schedule (FIPS 197, section 5.2).
-ghost use Rattle.std.specs.Prelude.{◌≡◌, ◌+◌, ◌*◌, ◌%◌, ◌≤◌, ◌<◌, take, slice_index};
-ghost use Rattle.std.specs.Int.{w32, to_be_bytes};
-ghost use Rattle.osc_aes.specs.KeyExpansion.{add_words, key_expansion, rot_word, round_constant, sub_word, with_next};
-ghost use Rattle.osc_aes.specs.Columns.{bytes_of};
+//! The key schedule (FIPS 197, section 5.2) on sixteen lanes, a round key at a time.
+ghost use Rattle.std.specs.Prelude.{◌≡◌, ◌++◌, map, take, replicate, bit_xor};
+ghost use Rattle.osc_aes.specs.Tower.{byte_of};
+ghost use Rattle.osc_aes.specs.States.{state_in, with_constant};
+ghost use Rattle.osc_aes.specs.Keys.{AreKeys, next_round_key};
 
-use crate::sub_bytes::sub_byte;
-use crate::words::words_of;
+use crate::tower::{bytes, forms, substitutes};
+use std::simd::prelude::*;
 
-/// 44 words: four for each of eleven round keys. The first byte of a word is its most significant.
-pub(crate) type Words = [u32; 44];
-
-/// The first bytes of the round constants number 1 to 10.
-const ROUND_CONSTANTS: [u8; 10] = [0x01, 0x02, 0x04, 0x08, 0x10, 0x20, 0x40, 0x80, 0x1b, 0x36];
-
-/// The first byte of the round constant number `j`.
-fn round_constant(j: usize) -> u8
-    requires low { 1 ≤ j }
-    requires high { j ≤ 10 }
-    ensures { result ≡ slice_index (round_constant j) 0 }
-{
-    ROUND_CONSTANTS[j - 1]
+/// The round keys as the rounds take them, each with 0x63 added to its bytes but the first: forms, turned as the state is
+/// then, and in the last round bytes.
+#[derive(Drop)]
+pub(crate) struct Keys {
+    /// The key itself, which is round key 0, as it was given.
+    pub(crate) key: u8x16,
+    pub(crate) round_1: u8x16,
+    pub(crate) round_2: u8x16,
+    pub(crate) round_3: u8x16,
+    pub(crate) round_4: u8x16,
+    pub(crate) round_5: u8x16,
+    pub(crate) round_6: u8x16,
+    pub(crate) round_7: u8x16,
+    pub(crate) round_8: u8x16,
+    pub(crate) round_9: u8x16,
+    /// Round key 10, as bytes.
+    pub(crate) last: u8x16,
 }
 
-/// A word turned left by one byte and substituted, with the round constant number `j` added.
-fn turned(word: u32, j: usize) -> u32
-    requires low { 1 ≤ j }
-    requires high { j ≤ 10 }
-    ensures { to_be_bytes w32 result ≡ add_words (sub_word (rot_word (to_be_bytes w32 word))) (round_constant j) }
+/// The form of 0x63.
+const CONSTANT: u8 = 0x5b;
+
+/// The forms of the first bytes of the round constants number 1 to 10, each with 0x63 added.
+const ROUND_CONSTANTS: [u8; 10] = [0x2b, 0x71, 0xc3, 0x53, 0x16, 0x27, 0x26, 0xda, 0x44, 0xd8];
+
+/// Lanes moved up by a word, behind zeros.
+#[inline(always)]
+fn word_later(lanes: u8x16) -> u8x16
+    ensures { result ≡ replicate 4 0 ++ take 12 lanes }
 {
-    let [a, b, c, d] = word.to_be_bytes();
-    u32::from_be_bytes([
-        sub_byte(b) ^ round_constant(j),
-        sub_byte(c),
-        sub_byte(d),
-        sub_byte(a),
-    ])
+    lanes.shuffle(
+        u8x16::splat(0),
+        [16, 16, 16, 16, 0, 1, 2, 3, 4, 5, 6, 7, 8, 9, 10, 11],
+    )
 }
 
-/// Writes word `4 * round`, which begins a round key.
-fn begin_round_key(words: &mut Words, round: usize)
-    requires low { 1 ≤ round }
-    requires high { round ≤ 10 }
-    ensures { take (4 * (4 * round + 1)) (bytes_of words.new)
-        ≡ with_next (take (4 * (4 * round)) (bytes_of words.old)) (4 * round) }
+/// Lanes moved up by two words, behind zeros.
+#[inline(always)]
+fn two_words_later(lanes: u8x16) -> u8x16
+    ensures { result ≡ replicate 8 0 ++ take 8 lanes }
 {
-    let i = 4 * round;
-    words[i] = words[i - 4] ^ turned(words[i - 1], round);
+    lanes.shuffle(
+        u8x16::splat(0),
+        [16, 16, 16, 16, 16, 16, 16, 16, 0, 1, 2, 3, 4, 5, 6, 7],
+    )
 }
 
-/// Writes word `i`, which goes on with a round key.
-fn add_word(words: &mut Words, i: usize)
-    requires low { 4 ≤ i }
-    requires high { i < 44 }
-    requires inner { 0 < i % 4 }
-    ensures { take (4 * (i + 1)) (bytes_of words.new) ≡ with_next (take (4 * i) (bytes_of words.old)) i }
+/// The forms of the next round key: each word is the sum of the words up to it and of the last one, turned left by one
+/// byte and substituted. `constant` is the form of the round constant's first byte with 0x63 added.
+#[inline(always)]
+fn next_key(key: u8x16, constant: u8) -> u8x16
+    ensures { map byte_of result ≡ next_round_key (bit_xor (byte_of constant) 0x63) (map byte_of key) }
 {
-    words[i] = words[i - 4] ^ words[i - 1];
+    let (n, c) = (constant, CONSTANT);
+    let constants = u8x16::from_array([n, c, c, c, n, c, c, c, n, c, c, c, n, c, c, c]);
+    let last = key.swizzle([
+        13, 14, 15, 12, 13, 14, 15, 12, 13, 14, 15, 12, 13, 14, 15, 12,
+    ]);
+    let pairs = key ^ word_later(key);
+    let sums = pairs ^ two_words_later(pairs);
+    sums ^ constants ^ substitutes(last)
 }
 
-/// The words of the key, and zeros.
-fn key_and_zeros(key: &[u8; 16]) -> Words
-    ensures { take 16 (bytes_of result) ≡ key.now }
+/// A round key for a state that is turned not at all.
+#[inline(always)]
+fn turned_0(key: u8x16) -> u8x16
+    ensures { state_in 0 result ≡ with_constant (map byte_of key) }
 {
-    let mut words = [0; 44];
-    words[..4].copy_from_slice(&words_of(*key));
-    words
+    key ^ u8x16::splat(CONSTANT)
 }
 
-/// The words of the schedule of `key`.
-pub(crate) fn key_expansion(key: &[u8; 16]) -> Words
-    ensures { bytes_of result ≡ key_expansion key.now }
+/// A round key for a state that is turned once.
+#[inline(always)]
+fn turned_1(key: u8x16) -> u8x16
+    ensures { state_in 1 result ≡ with_constant (map byte_of key) }
 {
-    let mut words = key_and_zeros(key);
-    'rounds: for round in 1..11 {
-        begin_round_key(&mut words, round);
-        add_word(&mut words, 4 * round + 1);
-        add_word(&mut words, 4 * round + 2);
-        add_word(&mut words, 4 * round + 3);
+    (key ^ u8x16::splat(CONSTANT)).swizzle([0, 13, 10, 7, 4, 1, 14, 11, 8, 5, 2, 15, 12, 9, 6, 3])
+}
+
+/// A round key for a state that is turned twice.
+#[inline(always)]
+fn turned_2(key: u8x16) -> u8x16
+    ensures { state_in 2 result ≡ with_constant (map byte_of key) }
+{
+    (key ^ u8x16::splat(CONSTANT)).swizzle([0, 9, 2, 11, 4, 13, 6, 15, 8, 1, 10, 3, 12, 5, 14, 7])
+}
+
+/// A round key for a state that is turned three times.
+#[inline(always)]
+fn turned_3(key: u8x16) -> u8x16
+    ensures { state_in 3 result ≡ with_constant (map byte_of key) }
+{
+    (key ^ u8x16::splat(CONSTANT)).swizzle([0, 5, 10, 15, 4, 9, 14, 3, 8, 13, 2, 7, 12, 1, 6, 11])
+}
+
+/// The last round key.
+#[inline(always)]
+fn last_key(key: u8x16) -> u8x16
+    ensures { result ≡ with_constant (map byte_of key) }
+{
+    bytes(key) ^ u8x16::splat(0x63)
+}
+
+/// All round keys of `key`.
+pub(crate) fn key_expansion(key: &[u8; 16]) -> Keys
+    ensures key { result.key ≡ key.now }
+    ensures keys { AreKeys result }
+{
+    let key = u8x16::from_array(*key);
+    let one = next_key(forms(key), ROUND_CONSTANTS[0]);
+    let two = next_key(one, ROUND_CONSTANTS[1]);
+    let three = next_key(two, ROUND_CONSTANTS[2]);
+    let four = next_key(three, ROUND_CONSTANTS[3]);
+    let five = next_key(four, ROUND_CONSTANTS[4]);
+    let six = next_key(five, ROUND_CONSTANTS[5]);
+    let seven = next_key(six, ROUND_CONSTANTS[6]);
+    let eight = next_key(seven, ROUND_CONSTANTS[7]);
+    let nine = next_key(eight, ROUND_CONSTANTS[8]);
+    let ten = next_key(nine, ROUND_CONSTANTS[9]);
+    Keys {
+        key,
+        round_1: turned_1(one),
+        round_2: turned_2(two),
+        round_3: turned_3(three),
+        round_4: turned_0(four),
+        round_5: turned_1(five),
+        round_6: turned_2(six),
+        round_7: turned_3(seven),
+        round_8: turned_0(eight),
+        round_9: turned_1(nine),
+        last: last_key(ten),
     }
-    words
 }

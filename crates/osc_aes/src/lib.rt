@@ -2,40 +2,38 @@
 //!
 //! `specs/` defines the cipher on lists of bytes, in the standard's terms: bytes as polynomials (`Field`), the
 //! substitution as the affine map of the inverse (`SubBytes`), the key schedule word by word (`KeyExpansion`) and the
-//! rounds on a state of rows and columns (`Cipher`). `Aes128::encrypt` gives what they define, by tables of columns
-//! (`columns`, `Columns`).
+//! rounds on a state of rows and columns (`Cipher`). `Aes128::encrypt` gives what they define, on vectors of sixteen
+//! lanes: bytes are substituted by look-ups among 16 entries that stay in registers (`tower`, `Tower`), and so are those of
+//! the key schedule.
 //!
-//! Nothing is claimed about time. The bodies branch on no byte of a key or a block, but they look up tables at places
-//! that depend on both, so look-ups are not constant-time where a cache can show them. Nothing erases a key.
+//! By its form the code branches on no byte of a key or a block and reads memory at no place that depends on one: what is
+//! done to them is sums, shifts and shuffles of lanes. No contract says so; `bench/secrets` looks at what was built. Nothing erases a key.
 #![tactic(auto)]
 
 mod cipher;
-pub mod columns;
 mod key_expansion;
 pub mod laws;
-mod sub_bytes;
-mod words;
+mod tower;
 
 use cipher::{cipher, cipher_two};
-use key_expansion::{Words, key_expansion};
+use key_expansion::{Keys, key_expansion};
 use std::marker::Model;
 
 /// A key of AES-128, expanded. Contracts see it as the 16 bytes of the key.
 #[derive(Drop)]
 pub struct Aes128 {
-    words: Words,
+    keys: Keys,
 }
 
 impl Model for Aes128 {
-    ghost use Rattle.std.specs.Prelude.{◌≡◌, ℕ, List, take};
-    ghost use Rattle.osc_aes.specs.KeyExpansion.{key_expansion};
-    ghost use Rattle.osc_aes.specs.Columns.{bytes_of};
+    ghost use Rattle.std.specs.Prelude.{ℕ, List};
+    ghost use Rattle.osc_aes.specs.Keys.{AreKeys};
 
     ghost Value = { List ℕ };
 
-    ghost view = { λ a. take 16 (bytes_of a.words) };
+    ghost view = { λ a. a.keys.key };
 
-    ghost invariant = { λ a. bytes_of a.words ≡ key_expansion (take 16 (bytes_of a.words)) };
+    ghost invariant = { λ a. AreKeys a.keys };
 }
 
 impl Aes128 {
@@ -47,7 +45,7 @@ impl Aes128 {
         ensures { result ≡ key.now }
     {
         Aes128 {
-            words: key_expansion(key),
+            keys: key_expansion(key),
         }
     }
 
@@ -55,7 +53,7 @@ impl Aes128 {
     pub fn encrypt(&self, block: [u8; 16]) -> [u8; 16]
         ensures { result ≡ encrypt_block self.now block }
     {
-        cipher(block, &self.words)
+        cipher(block, &self.keys)
     }
 
     /// The ciphers of two blocks, which takes less time than one after the other.
@@ -63,6 +61,6 @@ impl Aes128 {
         ensures one { result.0 ≡ encrypt_block self.now one }
         ensures other { result.1 ≡ encrypt_block self.now other }
     {
-        cipher_two(one, other, &self.words)
+        cipher_two(one, other, &self.keys)
     }
 }

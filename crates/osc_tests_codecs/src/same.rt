@@ -1,7 +1,7 @@
 //! The ciphers beside plain ones, at pseudo-random keys and bytes.
 
 use crate::reference::Plain;
-use osc_aes::{Aes128, columns};
+use osc_aes::Aes128;
 use osc_ccm::{Aead, Ccm, lanes};
 use std::process::Abort;
 use std::test::Fail;
@@ -34,15 +34,8 @@ fn blocks(rt: HostRuntime) {
     }
 }
 
-/// Each table is the one before it with its words turned by a byte.
 #[test]
-fn tables(rt: HostRuntime) {
-    for byte in 0..=255 {
-        let column = columns::column_0(byte);
-        assert!(rt; columns::column_1(byte) == column.rotate_right(8));
-        assert!(rt; columns::column_2(byte) == column.rotate_right(16));
-        assert!(rt; columns::column_3(byte) == column.rotate_right(24));
-    }
+fn xored_lanes(rt: HostRuntime) {
     let mut bytes = [3; 16];
     lanes::xor_into(&mut bytes, [5; 16]);
     assert!(rt; bytes == lanes::xor([3; 16], [5; 16]));

@@ -1,0 +1,7 @@
+use Rattle.osc_aes.proofs.Rounds.{round_2}
+use Rattle.osc_aes.proofs.cipher.round_to_2.Goals as goal
+
+pub returns : goal.returns
+returns c =
+    round_2 c.args.state c.args.key c.doubled_substitutes.result.0 c.doubled_substitutes.result.1 c.fits-state c.fits-key
+    c.doubled_substitutes.ensures.once c.doubled_substitutes.ensures.doubled
