@@ -263,8 +263,8 @@ fn serve_opened<A: Aead>(
     ensures accepted { desk.new ≡ record desk.old { table = accepted request.now.says.kid request.now.says.number desk.old.table } }
 {
     let says = &request.says;
-    let number = desk.accept(says.kid(), says.number());
-    let context = desk.get(says.kid()).unwrap();
+    let (number, place) = desk.accept(says.kid(), says.number());
+    let context = desk.confirmed_at(place).unwrap();
     let reply = applied(alloc, tree, context.scope(), &taken.read);
     taken.answered::<A>(context, number, endpoint, request.came, reply)
 }

@@ -9,8 +9,8 @@ ghost use Rattle.osc_words.specs.Reading.{IsClientRefusal, IsRefusalOf};
 ghost use Rattle.osc_words.specs.Values.{IsGiven};
 
 use crate::client_option::ClientOption;
-use crate::named_option::NamedOption;
 use crate::given;
+use crate::named_option::NamedOption;
 use crate::words::WordsError;
 use clap::ArgMatches;
 use osc_model::{Bytes, Code, ETags, Path, Request};

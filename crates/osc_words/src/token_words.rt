@@ -7,9 +7,9 @@ ghost use Rattle.osc_words.specs.Reading.{IsRefusal, IsRefusalOf};
 ghost use Rattle.osc_words.specs.TokenWords as spec;
 ghost use Rattle.osc_words.specs.Values.{IsGiven};
 
+use crate::given;
 use crate::named_option::NamedOption;
 use crate::token_option::TokenOption;
-use crate::given;
 use crate::words::WordsError;
 use clap::ArgMatches;
 use osc_model::Bytes;

@@ -1,7 +1,7 @@
 use Rattle.std.proofs.Common.{◌≡◌, ℕ, List, Some, ap, ◌∙◌, sym}
 use Rattle.std.proofs.lemmas.Option.{same_Some}
 use Rattle.osc_authz.specs.Held.{Held}
-use Rattle.osc_authz.specs.Table.{taking, with_id}
+use Rattle.osc_authz.specs.Table.{confirmed_at, taking, with_id}
 use Rattle.osc_context.specs.Derivation.{Accepted}
 use Rattle.osc_server.proofs.Requests.{is_found}
 use Rattle.osc_server.proofs.Served.{served_as}
@@ -23,18 +23,17 @@ returns-clause-served g c =
     let there : with_id c.kid.result.now c.args.desk.now.table ≡ Some held =
     rw c.kid.ensures (is_found c.args.request.now.came.now.at c.args.request.now.says.kid c.args.request.now.says.kid_context c.args.desk.now.table held opened.1.meant.is_meant).same
     in
-    let again : with_id c.kid.result.now c.accept-number.new.self.table ≡ Some (taking c.number.result held) = rw there at c.accept-number.ensures.found in
-    let read : Some c.unwrap-context.result.now ≡ with_id c.kid-2.result.now c.accept-number.new.self.table = rw c.unwrap-context.ensures at c.get.ensures in
+    let again : confirmed_at c.accept-number.result.1 c.accept-number.new.self.table ≡ Some (taking c.number.result held) = rw there at c.accept-number.ensures.placed in
+    let read : Some c.unwrap-context.result.now ≡ confirmed_at c.accept-number.result.1 c.accept-number.new.self.table = rw c.unwrap-context.ensures at c.confirmed_at.ensures in
     let context : c.unwrap-context.result.now ≡ taking c.number.result held =
-    same_Some c.unwrap-context.result.now (taking c.number.result held)
-    (read ∙ ap (λ (id : List ℕ). with_id id c.accept-number.new.self.table) (c.kid-2.ensures ∙ sym c.kid.ensures) ∙ again)
+    same_Some c.unwrap-context.result.now (taking c.number.result held) (read ∙ again)
     in
     let right = rw there at c.accept-number.ensures.right in
-    let number : c.accept-number.result.number ≡ c.args.request.now.says.number = ap (λ (r : Accepted). r.number) right ∙ c.number.ensures.value in
+    let number : c.accept-number.result.0.number ≡ c.args.request.now.says.number = ap (λ (r : Accepted). r.number) right ∙ c.number.ensures.value in
     let came = c.args.request.now.came.now in
     let text = c.args.taken.note.plaintext in
     let replied : IsReplied g.A.Aead.is_sealing c.args.tree.now c.args.endpoint.now came.at came.draw.now came.message
-    c.unwrap-context.result.now c.accept-number.result.number text c.answered.result c.applied-reply.new.tree = record {
+    c.unwrap-context.result.now c.accept-number.result.0.number text c.answered.result c.applied-reply.new.tree = record {
       reply = c.applied-reply.result;
       within = c.applied-reply.ensures.within;
       applied = rw (c.scope.ensures, c.requires.taken.read) at c.applied-reply.ensures.applied;
@@ -43,7 +42,7 @@ returns-clause-served g c =
       room = c.answered.ensures.room;
     } in
     served_as g.A.Aead.is_sealing c.args.tree.now c.args.desk.now c.args.endpoint.now came.at came.draw.now came.message c.args.request.now.says
-    held c.unwrap-context.result.now c.number.result c.accept-number.result.number text c.answered.result c.applied-reply.new.tree
+    held c.unwrap-context.result.now c.number.result c.accept-number.result.0.number text c.answered.result c.applied-reply.new.tree
     opened.1 context number replied
 
 pub answered-requires-clause-taken : goal.answered-requires-clause-taken
