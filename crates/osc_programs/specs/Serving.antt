@@ -2,6 +2,7 @@
 use Rattle.std.specs.Prelude.{◌≡◌, ℕ, List, [], map}
 use Rattle.std.specs.FinMap as map
 use Rattle.std.specs.FinSet as set
+use Rattle.osc_model.specs.Scope.{exactly}
 use Rattle.osc_model.specs.declared.code.Method.TheVariants.{Get}
 use Rattle.osc_message.specs.Endpoint.{fresh}
 use Rattle.osc_proxy.specs.Exchanges.{none_open}
@@ -22,7 +23,7 @@ pub record IsServerOf (settings : ServerSettings) (server : Server) : Type 0 whe
   pub key : server.desk.key ≡ settings.key
   pub audience : server.desk.audience ≡ settings.audience
   pub contexts : server.desk.table ≡ []
-  pub open_paths : server.open_scope ≡ set.from_list (map (λ path. (path, Get)) settings.open.items)
+  pub open_paths : server.open_scope ≡ set.from_list (map (λ path. exactly path Get) settings.open.items)
   pub tree : server.tree ≡ map.empty
   pub endpoint : server.endpoint ≡ fresh
 

@@ -1,6 +1,7 @@
 //! Nodes that run on a socket: a server, and a proxy.
 ghost use Rattle.std.specs.FinSet as set;
 ghost use Rattle.std.specs.Prelude.{◌≡◌, ℕ, List, IfErr, IfOk, IfSome, map, option_map, string_bytes};
+ghost use Rattle.osc_model.specs.Scope.{exactly};
 ghost use Rattle.osc_model.specs.declared.code.Method.TheVariants as AnyMethod;
 ghost use Rattle.osc_turn.specs.Ports.{grown};
 ghost use Rattle.osc_programs.specs.Ended as ends;
@@ -175,7 +176,7 @@ fn server_of(alloc: Global, settings: ServerSettings) -> Result<Server, AllocErr
 
 // A GET of these paths needs no protection.
 fn open_scope(alloc: Global, paths: &[Path]) -> Result<Scope, AllocError>
-    ensures { IfOk result (λ scope. scope ≡ set.from_list (map (λ path. (path, AnyMethod.Get)) paths.now)) }
+    ensures { IfOk result (λ scope. scope ≡ set.from_list (map (λ path. exactly path AnyMethod.Get) paths.now)) }
 {
     permissions_are_ordered();
     let mut scope = Scope::new(alloc);

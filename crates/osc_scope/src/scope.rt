@@ -7,7 +7,7 @@ ghost use Rattle.osc_scope.specs.Entries.{scope_of};
 ghost use Rattle.osc_scope.specs.Reading.{HasMethods, entry_with};
 ghost use Rattle.osc_scope.specs.Verdict.{verdict_of};
 
-use crate::lookup::{has_exactly, verdict_on};
+use crate::lookup::{goes_below, has_exactly, verdict_on};
 use crate::methods::bit_of;
 use crate::verdict::Verdict;
 use osc_model::{Code, Method, Path};
@@ -21,23 +21,25 @@ use std::marker::Model;
 pub struct Scope {
     // Each with some method; a path may stand in several.
     entries: Vec<(Path, u64)>,
+    // Whether one of them counts on the paths below its own, too.
+    goes_below: bool,
 }
 
 impl Model for Scope {
-    ghost use Rattle.std.specs.Prelude.{map};
+    ghost use Rattle.std.specs.Prelude.{◌≡◌, map};
     ghost use Rattle.osc_model.specs.Scope.{Scope as Permissions, coded_scope};
 
     ghost Value = { Permissions };
 
     ghost coded = { coded_scope };
 
-    ghost use Rattle.std.specs.List.{All};
-    ghost use Rattle.osc_scope.specs.Entries.{scope_of};
+    ghost use Rattle.std.specs.List.{All, list_any};
+    ghost use Rattle.osc_scope.specs.Entries.{scope_of, is_below};
     ghost use Rattle.osc_scope.specs.Reading.{HasMethods, entry_with};
 
     ghost view = { λ s. scope_of (map entry_with s.entries.items) };
 
-    ghost invariant = { λ s. All HasMethods s.entries.items };
+    ghost invariant = { λ s. All HasMethods s.entries.items × (s.goes_below ≡ list_any (λ entry. is_below entry.1) s.entries.items) };
 }
 
 impl Scope {
@@ -47,6 +49,7 @@ impl Scope {
     {
         Scope {
             entries: Vec::new(alloc),
+            goes_below: false,
         }
     }
 
@@ -55,7 +58,11 @@ impl Scope {
         requires { All HasMethods entries.items }
         ensures { result ≡ scope_of (map entry_with entries.items) }
     {
-        Scope { entries }
+        let goes_below = goes_below(&entries);
+        Scope {
+            entries,
+            goes_below,
+        }
     }
 
     /// Adds a method on this path alone. A permission that the scope has already takes no memory; without memory for another,
@@ -77,7 +84,7 @@ impl Scope {
         ensures { result ≡ verdict_of self.now (option_map (λ p. p.now) path.entry) code }
     {
         match path {
-            Some(path) => verdict_on(&self.entries, path, code),
+            Some(path) => verdict_on(&self.entries, self.goes_below, path, code),
             None => Verdict::NoPath,
         }
     }

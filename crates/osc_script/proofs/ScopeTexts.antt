@@ -7,7 +7,7 @@ use Rattle.std.proofs.lemmas.List.Elements.{All-nil, All-cons, All-head, All-tai
 use Rattle.std.proofs.lemmas.List.Splits.{slice_split_none, slice_split_at}
 use Rattle.osc_model.specs.declared.code.Method.{Method}
 use Rattle.osc_model.specs.declared.code.Method.TheVariants.{Get, Post, Put, Delete}
-use Rattle.osc_scope.specs.Text.{Written, name_of, parted_by, entry_text, IsLawfulText, IsScopeText}
+use Rattle.osc_scope.specs.Text.{Written, name_of, below_word, words_of, parted_by, entry_text, IsLawfulText, IsScopeText}
 
 abbrev Lacks : ℕ → List ℕ → Type 0
 Lacks byte text = All (λ b. b ≢ byte) text
@@ -84,25 +84,63 @@ named_back Delete = refl
 one_name : (m n : Method) → name_of m ≡ name_of n → m ≡ n
 one_name m n e = sym (named_back m) ∙ ap (λ name. named_by (get_or name 0 0) (get_or name 1 0)) e ∙ named_back n
 
-one_naming : (ms ns : List Method) → map name_of ms ≡ map name_of ns → ms ≡ ns
-one_naming [] [] e = refl
-one_naming [] (n ∷ ns) e = cc
-one_naming (m ∷ ms) [] e = cc
-one_naming (m ∷ ms) (n ∷ ns) e =
-    let head = one_name m n cc in
-    let tail = one_naming ms ns cc in
-    cc
+below_lacks : (b : Bool) → All (Lacks 43) (below_word b) × All (Lacks 44) (below_word b)
+below_lacks true = (
+  All-cons (Lacks 43) (codes "SUB") [] (lacks_by 43 (codes "SUB") refl) (All-nil (Lacks 43)),
+  All-cons (Lacks 44) (codes "SUB") [] (lacks_by 44 (codes "SUB") refl) (All-nil (Lacks 44)),
+)
+below_lacks false = (All-nil (Lacks 43), All-nil (Lacks 44))
 
-names_back : (ms : List Method) → ms ≢ [] → cut 43 (parted_by 43 (map name_of ms)) ≡ map name_of ms
-names_back [] some = absurd (some refl)
-names_back (m ∷ ms) some = cut_parted 43 (name_of m) (map name_of ms) (names_lack (m ∷ ms)).0
+words_lack : (entry : Written) → All (Lacks 43) (words_of entry) × All (Lacks 44) (words_of entry)
+words_lack entry =
+    let names = names_lack entry.methods in
+    let last = below_lacks entry.below in (
+      All-append (Lacks 43) (map name_of entry.methods) (below_word entry.below) names.0 last.0,
+      All-append (Lacks 44) (map name_of entry.methods) (below_word entry.below) names.1 last.1,
+    )
+
+sub_is_no_name : (m : Method) → name_of m ≢ codes "SUB"
+sub_is_no_name m e = never m (ap (λ name. get_or name 0 0) e)
+  where
+    never : (m : Method) → get_or (name_of m) 0 0 ≢ 83
+    never Get = λ (same : 71 ≡ 83). absurd (omega arith)
+    never Post = λ (same : 80 ≡ 83). absurd (omega arith)
+    never Put = λ (same : 80 ≡ 83). absurd (omega arith)
+    never Delete = λ (same : 68 ≡ 83). absurd (omega arith)
+
+-- words are those of some methods, and SUB or not, in one way
+one_saying : (ms ns : List Method) (b c : Bool) → map name_of ms ++ below_word b ≡ map name_of ns ++ below_word c → (ms ≡ ns) × (b ≡ c)
+one_saying [] [] true true e = (refl, refl)
+one_saying [] [] true false e = cc
+one_saying [] [] false true e = cc
+one_saying [] [] false false e = (refl, refl)
+one_saying [] (n ∷ ns) true c e = absurd (sub_is_no_name n (sym cc))
+one_saying [] (n ∷ ns) false c e = cc
+one_saying (m ∷ ms) [] b true e = absurd (sub_is_no_name m cc)
+one_saying (m ∷ ms) [] b false e = cc
+one_saying (m ∷ ms) (n ∷ ns) b c e =
+    let head = one_name m n cc in
+    let tail = one_saying ms ns b c cc in
+    ((λ i. head i ∷ tail.0 i), tail.1)
+
+-- the words, parted and cut again
+words_back : (entry : Written) → entry.methods ≢ [] → cut 43 (parted_by 43 (words_of entry)) ≡ words_of entry
+words_back entry some = go (words_of entry) (some_word entry.methods some) (words_lack entry).0
+  where
+    some_word : (ms : List Method) → ms ≢ [] → map name_of ms ++ below_word entry.below ≢ []
+    some_word [] some e = some refl
+    some_word (m ∷ ms) some e = cc
+
+    go : (words : List (List ℕ)) → words ≢ [] → All (Lacks 43) words → cut 43 (parted_by 43 words) ≡ words
+    go [] some h = absurd (some refl)
+    go (word ∷ words) some h = cut_parted 43 word words h
 
 comma_free : (entry : Written) → IsLawfulText entry → Lacks 44 (entry_text entry)
 comma_free entry e =
-    All-append (λ b. b ≢ 44) entry.path (58 ∷ parted_by 43 (map name_of entry.methods))
+    All-append (λ b. b ≢ 44) entry.path (58 ∷ parted_by 43 (words_of entry))
     (All-weaker (λ b. (b ≢ 58) × (b ≢ 44)) (λ b. b ≢ 44) (λ b h. h.1) entry.path e.plain)
-    (All-cons (λ b. b ≢ 44) 58 (parted_by 43 (map name_of entry.methods)) (λ (same : 58 ≡ 44). absurd (omega arith))
-    (parted_lacks 44 43 (map name_of entry.methods) (λ (same : 43 ≡ 44). absurd (omega arith)) (names_lack entry.methods).1))
+    (All-cons (λ b. b ≢ 44) 58 (parted_by 43 (words_of entry)) (λ (same : 58 ≡ 44). absurd (omega arith))
+    (parted_lacks 44 43 (words_of entry) (λ (same : 43 ≡ 44). absurd (omega arith)) (words_lack entry).1))
 
 comma_free_all : (entries : List Written) → All IsLawfulText entries → All (Lacks 44) (map entry_text entries)
 comma_free_all [] h = All-nil (Lacks 44)
@@ -120,9 +158,9 @@ one_entry : (entry other : Written) → IsLawfulText entry → IsLawfulText othe
 one_entry entry other e o same =
     let free = All-weaker (λ b. (b ≢ 58) × (b ≢ 44)) (λ b. b ≢ 58) (λ b h. h.0) entry.path e.plain in
     let other_free = All-weaker (λ b. (b ≢ 58) × (b ≢ 44)) (λ b. b ≢ 58) (λ b h. h.0) other.path o.plain in
-    let parts = one_cut 58 entry.path other.path (parted_by 43 (map name_of entry.methods)) (parted_by 43 (map name_of other.methods)) free other_free same in
-    let methods = one_naming entry.methods other.methods (sym (names_back entry.methods e.some) ∙ (ap (cut 43) parts.1 ∙ names_back other.methods o.some)) in
-    λ i. record { path = parts.0 i; methods = methods i }
+    let parts = one_cut 58 entry.path other.path (parted_by 43 (words_of entry)) (parted_by 43 (words_of other)) free other_free same in
+    let words = one_saying entry.methods other.methods entry.below other.below (sym (words_back entry e.some) ∙ (ap (cut 43) parts.1 ∙ words_back other o.some)) in
+    λ i. record { path = parts.0 i; methods = words.0 i; below = words.1 i }
 
 one_list : (entries others : List Written) → All IsLawfulText entries → All IsLawfulText others → map entry_text entries ≡ map entry_text others → entries ≡ others
 one_list [] [] h g e = refl

@@ -4,7 +4,7 @@ use Rattle.std.specs.FinMap as map
 use Rattle.std.specs.FinSet as set
 use Rattle.osc_model.specs.Isolation.{Answer, alone}
 use Rattle.osc_model.specs.Tree.{Tree}
-use Rattle.osc_model.specs.Scope.{Scope}
+use Rattle.osc_model.specs.Scope.{Scope, exactly}
 use Rattle.osc_model.specs.declared.code.Method.TheVariants.{Get}
 use Rattle.osc_ccm.specs.Ccm.{IsSealing}
 use Rattle.osc_client.specs.Way.{HostAndPort}
@@ -50,7 +50,7 @@ tree_from tree (line ∷ lines) = tree_from (tree_after tree line) lines
 
 -- the paths whose GET needs no protection
 abbrev pub scope_after : Scope → Line → Scope
-scope_after scope (Open path) = set.insert scope (path, Get)
+scope_after scope (Open path) = set.insert scope (exactly path Get)
 scope_after scope line = scope
 
 abbrev pub scope_from : Scope → List Line → Scope

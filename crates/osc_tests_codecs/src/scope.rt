@@ -44,15 +44,21 @@ fn a_scope_grants_what_it_was_given(rt: HostRuntime) {
 /// Three entries, two of them of one path.
 const THREE: &[u8] = b"\x83\x82\x64/log\x03\x82\x62/t\x01\x82\x64/log\x04";
 
+/// Two entries of one path: GET on the path alone, POST on those below, too.
+const GET_AND_POST_BELOW: &[u8] = b"\x82\x82\x64/log\x01\x82\x64/log\x12";
+
 /// Text, and the bytes that are written for it.
-const WRITTEN: [(&[u8], &[u8]); 3] = [
+const WRITTEN: [(&[u8], &[u8]); 6] = [
     (b"/log:GET+POST", b"\x81\x82\x64/log\x03"),
+    (b"/log:GET+POST+SUB", b"\x81\x82\x64/log\x13"),
+    (b"/t:DELETE+PUT+POST+GET+SUB", b"\x81\x82\x62/t\x18\x1f"),
+    (b"/log:GET,/log:POST+SUB", GET_AND_POST_BELOW),
     (b"/t:DELETE+PUT", b"\x81\x82\x62/t\x0c"),
     (b"/log:GET+POST,/t:GET,/log:PUT", THREE),
 ];
 
 /// Texts that say no scope.
-const NO_TEXTS: [&[u8]; 12] = [
+const NO_TEXTS: [&[u8]; 19] = [
     b"",
     b"/log",
     b"/log:",
@@ -65,6 +71,13 @@ const NO_TEXTS: [&[u8]; 12] = [
     b"/a//b:GET",
     b"/log:GET+",
     b"/:GET",
+    b"/log:SUB",
+    b"/log:+SUB",
+    b"/log:SUB+GET",
+    b"/log:GET+SUB+POST",
+    b"/log:GET+SUB+SUB",
+    b"/log:GET+sub",
+    b"/log:GETSUB",
 ];
 
 /// Whether these bytes are written for the text.
@@ -95,8 +108,11 @@ fn texts_are_written(rt: HostRuntime) {
     }
 }
 
+/// GET and DELETE on `/a/b` and each path below it.
+const SUBTREE: &[u8] = b"\x81\x82\x64/a/b\x18\x19";
+
 /// Bytes, a path, and what is granted on it.
-const READ: [(&[u8], &[u8], [Verdict; 4]); 6] = [
+const READ: [(&[u8], &[u8], [Verdict; 4]); 15] = [
     (b"\x80", b"/t", [NoPath; 4]),
     (b"\x81\x82\x62/t\x0f", b"/t", [Granted; 4]),
     (
@@ -107,9 +123,30 @@ const READ: [(&[u8], &[u8], [Verdict; 4]); 6] = [
     (THREE, b"/log", [Granted, Granted, Granted, NoMethod]),
     (THREE, b"/t", [Granted, NoMethod, NoMethod, NoMethod]),
     (THREE, b"/lo", [NoPath; 4]),
+    (
+        GET_AND_POST_BELOW,
+        b"/log",
+        [Granted, Granted, NoMethod, NoMethod],
+    ),
+    (
+        GET_AND_POST_BELOW,
+        b"/log/a",
+        [NoMethod, Granted, NoMethod, NoMethod],
+    ),
+    (GET_AND_POST_BELOW, b"/logs", [NoPath; 4]),
+    (GET_AND_POST_BELOW, b"/lo", [NoPath; 4]),
+    (SUBTREE, b"/a/b", [Granted, NoMethod, NoMethod, Granted]),
+    (
+        SUBTREE,
+        b"/a/b/c/d/e/f/g/h",
+        [Granted, NoMethod, NoMethod, Granted],
+    ),
+    (SUBTREE, b"/a", [NoPath; 4]),
+    (SUBTREE, b"/a/bc", [NoPath; 4]),
+    (SUBTREE, b"/b/a/b", [NoPath; 4]),
 ];
 
-/// No scopes: no array, an entry that is none, entries of one item and of three, a set that is empty, with another bit and
+/// No scopes: no array, an entry that is none, entries of one item and of three, a set that is empty, of no method and
 /// negative, a path without `/`, a path as a byte string, a byte left over, an end inside an entry, nothing.
 const NO_SCOPES: [&[u8]; 12] = [
     b"\xa0",
@@ -161,5 +198,16 @@ fn bytes_are_read(rt: HostRuntime) {
             refused_bytes(rt.alloc(), bytes) == Some(24),
             "at {bytes:?}"
         );
+    }
+}
+
+#[test]
+fn a_set_has_a_method_and_no_bit_past_the_fifth(rt: HostRuntime) {
+    for set in 0..256 {
+        let bytes = [0x81, 0x82, 0x62, b'/', b't', 0x18, set as u8];
+        let is_set = 1 <= set && set <= 15 || 17 <= set && set <= 31;
+        let refused = refused_bytes(rt.alloc(), bytes.as_slice());
+        assert!(rt; refused.is_none() == is_set, "{set}");
+        assert!(rt; is_set || refused == Some(24), "{set}");
     }
 }

@@ -219,7 +219,7 @@ fn places(rt: HostRuntime) {
 }
 
 /// Scripts of grants, and the first bad line of each.
-const GRANTS: [(&[u8], Option<u64>); 16] = [
+const GRANTS: [(&[u8], Option<u64>); 19] = [
     (b"grant c1 /a:GET\ngrant c1 /a:GET", Some(2)),
     (b"grant c0 /a:GET", Some(1)),
     (b"grant c10 /a:GET", Some(1)),
@@ -228,6 +228,9 @@ const GRANTS: [(&[u8], Option<u64>); 16] = [
     (b"grant c1 /a", Some(1)),
     (b"grant c1 /a:GET+GET", Some(1)),
     (b"grant c1 /a:FETCH", Some(1)),
+    (b"grant c1 /a:SUB", Some(1)),
+    (b"grant c1 /a:SUB+GET", Some(1)),
+    (b"grant c1 /a:GET+SUB", None),
     (b"grant c1 /a:GET exp=2 nbf=1", Some(1)),
     (b"grant c1 /a:GET nbf=1 nbf=1", Some(1)),
     (b"grant c1 /a:GET nbf=", Some(1)),

@@ -128,7 +128,7 @@ fn two_tokens_without_an_iv_differ(rt: HostRuntime) -> Result<(), Fail> {
 }
 
 // Values that an option may have: a text so many times.
-const GOOD: [(&str, &str, usize); 10] = [
+const GOOD: [(&str, &str, usize); 11] = [
     ("--id", "", 0),
     ("--id", "0a", 64),
     ("--secret", "0B", 1),
@@ -139,10 +139,11 @@ const GOOD: [(&str, &str, usize); 10] = [
     ("--exp", "18446744073709551615", 1),
     ("--nbf", "007", 1),
     ("--scope", "/t:GET,/t:PUT", 1),
+    ("--scope", "/t:GET+SUB", 1),
 ];
 
 // And values that it may not.
-const BAD: [(&str, &str, usize); 19] = [
+const BAD: [(&str, &str, usize); 20] = [
     ("--key", "40", 15),
     ("--key", "40", 17),
     ("--key", "4", 31),
@@ -161,6 +162,7 @@ const BAD: [(&str, &str, usize); 19] = [
     ("--exp", "18446744073709551616", 1),
     ("--nbf", "0x1", 1),
     ("--scope", "/log", 1),
+    ("--scope", "/log:SUB", 1),
     ("--scope", "", 0),
 ];
 

@@ -111,7 +111,8 @@ impl TokenOption {
             TokenOption::Secret => "The master secret: 1 to 64 bytes",
             TokenOption::Salt => "The salt that master salts begin with: 0 to 64 bytes",
             TokenOption::Context => "The id context: 0 to 64 bytes",
-            TokenOption::Scope => "What the holder may do, as /log:GET+POST,/t:GET",
+            TokenOption::Scope =>
+                "What the holder may do, as /log:GET+POST,/t:GET+SUB; SUB takes in the paths below",
             TokenOption::Expires => "The second from which on the token counts no more",
             TokenOption::NotBefore => "The first second at which the token counts",
             TokenOption::Iv =>
