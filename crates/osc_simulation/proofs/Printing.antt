@@ -4,11 +4,11 @@ use Rattle.std.proofs.Math.Seq.{drop-cons}
 use Rattle.osc_script.specs.declared.client_name.ClientName.{ClientName}
 use Rattle.osc_world.specs.Worlds.{State}
 use Rattle.osc_world.specs.declared.log.Record.{Record}
-use Rattle.osc_world.specs.declared.log.Sent.{Sent}
+use Rattle.osc_world.specs.declared.log.SentDatagram.{SentDatagram}
 use Rattle.osc_simulation.specs.Text.{line}
 use Rattle.osc_simulation.specs.Records.{PrintsSent, PrintAllSent, PrintsRecord, PrintAllRecords}
 
-pub datagrams_more : (with_bytes : Bool) (number : ℕ) (left left-after : List Sent) (d : Sent) (text line : List ℕ) (P : List ℕ → Type 0)
+pub datagrams_more : (with_bytes : Bool) (number : ℕ) (left left-after : List SentDatagram) (d : SentDatagram) (text line : List ℕ) (P : List ℕ → Type 0)
     → left ≡ d ∷ left-after → PrintsSent with_bytes number d line
     → ((rest : List ℕ) → PrintAllSent with_bytes number left rest → P (text ++ rest))
     → (rest : List ℕ) → PrintAllSent with_bytes (number + 1) left-after rest → P ((text ++ line) ++ rest)
@@ -16,7 +16,7 @@ datagrams_more with_bytes number left left-after d text line P e printed h rest 
     subst P (sym (append_assoc text line rest))
     (h (line ++ rest) (subst (λ ds. PrintAllSent with_bytes number ds (line ++ rest)) (sym e) (line, rest, printed, more, refl)))
 
-pub datagrams_end : (with_bytes : Bool) (number : ℕ) (left : List Sent) (text : List ℕ) (P : List ℕ → Type 0)
+pub datagrams_end : (with_bytes : Bool) (number : ℕ) (left : List SentDatagram) (text : List ℕ) (P : List ℕ → Type 0)
     → left ≡ [] → ((rest : List ℕ) → PrintAllSent with_bytes number left rest → P (text ++ rest)) → P text
 datagrams_end with_bytes number left text P e h =
     subst P (append-nil text) (h [] (subst (λ ds. PrintAllSent with_bytes number ds []) (sym e) refl))

@@ -14,34 +14,34 @@ use Rattle.osc_script.specs.declared.line.Line.{Line}
 use Rattle.osc_script.specs.declared.line.Line.TheVariants as line
 use Rattle.osc_world.specs.declared.event.What.{What}
 use Rattle.osc_world.specs.declared.event.What.TheVariants.{Exchange, Ask, Lie, Tick, Restart, Deliver, Inject}
-use Rattle.osc_world.specs.declared.log.Sent.{Sent}
+use Rattle.osc_world.specs.declared.log.SentDatagram.{SentDatagram}
 use Rattle.osc_simulation.specs.Copies.{altered, grafted}
 use Rattle.osc_simulation.specs.Names.{Names, number_of, proxy_number}
 
 -- the number in the world of the datagram K, which a script counts from 1; for 0, the number of the next one
-abbrev pub datagram_number : List Sent → ℕ → ℕ
+abbrev pub datagram_number : List SentDatagram → ℕ → ℕ
 datagram_number sent zero = length sent
 datagram_number sent (suc before) = before
 
-abbrev pub datagram_of : List Sent → ℕ → Option Sent
+abbrev pub datagram_of : List SentDatagram → ℕ → Option SentDatagram
 datagram_of sent k = slice_get sent (datagram_number sent k)
 
 -- nothing comes to anyone: what would be the next datagram wasn't sent
-abbrev pub nothing_comes : List Sent → What
+abbrev pub nothing_comes : List SentDatagram → What
 nothing_comes sent = Deliver (length sent)
 
 -- these bytes come from the datagram's sender to its addressee
-abbrev pub comes_like : List Sent → Sent → Option (List ℕ) → What
+abbrev pub comes_like : List SentDatagram → SentDatagram → Option (List ℕ) → What
 comes_like sent datagram None = nothing_comes sent
 comes_like sent datagram (Some bytes) = Inject datagram.from datagram.to bytes
 
 -- a copy of it with these bytes changed, if it was sent and has them
-abbrev pub what_altered : List Sent → List Change → Option Sent → What
+abbrev pub what_altered : List SentDatagram → List Change → Option SentDatagram → What
 what_altered sent changes None = nothing_comes sent
 what_altered sent changes (Some datagram) = comes_like sent datagram (altered changes datagram.bytes)
 
 -- the header and the token of one with the options and the payload of another, if both were sent
-abbrev pub what_grafted : List Sent → Option Sent → Option Sent → What
+abbrev pub what_grafted : List SentDatagram → Option SentDatagram → Option SentDatagram → What
 what_grafted sent (Some header) (Some body) = comes_like sent header (Some (grafted header.bytes body.bytes))
 what_grafted sent header body = nothing_comes sent
 
@@ -57,16 +57,16 @@ actor_of names (node.Proxy proxy) = Some (actor.Proxy (proxy_number names.proxie
 actor_of names node.Stranger = None
 
 -- the stranger does nothing
-abbrev pub ticks : List Sent → Option Actor → What
+abbrev pub ticks : List SentDatagram → Option Actor → What
 ticks sent None = nothing_comes sent
 ticks sent (Some node) = Tick node
 
-abbrev pub restarts : List Sent → Option Actor → What
+abbrev pub restarts : List SentDatagram → Option Actor → What
 restarts sent None = nothing_comes sent
 restarts sent (Some node) = Restart node
 
 -- what happens by a line that is one event, and none of the others
-abbrev pub what_of : Names → List Sent → Line → Option What
+abbrev pub what_of : Names → List SentDatagram → Line → Option What
 what_of names sent (line.Exchange client) = Some (Exchange (number_of names.clients client))
 what_of names sent (line.Ask client request) = Some (Ask (number_of names.clients client) request)
 what_of names sent (line.Tick node) = Some (ticks sent (actor_of names node))

@@ -15,7 +15,7 @@ use Rattle.osc_script.specs.declared.client_name.ClientName.{ClientName}
 use Rattle.osc_script.specs.declared.node.Node.{Node}
 use Rattle.osc_world.specs.Worlds.{State}
 use Rattle.osc_world.specs.declared.log.Record.{Record}
-use Rattle.osc_world.specs.declared.log.Sent.{Sent}
+use Rattle.osc_world.specs.declared.log.SentDatagram.{SentDatagram}
 use Rattle.osc_simulation.specs.Names.{name_of_number}
 use Rattle.osc_simulation.specs.Text.{line, code_text, format_text, short_text}
 use Rattle.osc_simulation.specs.Trace.{message_text, or_nothing, wanted_bytes_text}
@@ -71,7 +71,7 @@ pub data TellsMessage (bytes text : List ℕ) : Type 0 where
   of_none : ((message : Message) → ¬ Spells bytes message) → text ≡ codes "?" → TellsMessage bytes text
 
 -- sent K FROM>TO TYPE CODE [BYTES]
-pub record PrintsSent (with_bytes : Bool) (number : ℕ) (sent : Sent) (text : List ℕ) : Type 0 where
+pub record PrintsSent (with_bytes : Bool) (number : ℕ) (sent : SentDatagram) (text : List ℕ) : Type 0 where
   pub from : List ℕ
   pub to : List ℕ
   pub message : List ℕ
@@ -81,7 +81,7 @@ pub record PrintsSent (with_bytes : Bool) (number : ℕ) (sent : Sent) (text : L
   pub whole : text ≡ line (codes "sent " ++ decimal number ++ codes " " ++ from ++ codes ">" ++ to ++ codes " " ++ message ++ wanted_bytes_text with_bytes sent.bytes)
 
 -- datagrams are numbered as they are sent
-abbrev pub PrintAllSent : Bool → ℕ → List Sent → List ℕ → Type 0
+abbrev pub PrintAllSent : Bool → ℕ → List SentDatagram → List ℕ → Type 0
 PrintAllSent with_bytes number [] text = text ≡ []
 PrintAllSent with_bytes number (datagram ∷ datagrams) text =
     (first rest : List ℕ) × PrintsSent with_bytes number datagram first × PrintAllSent with_bytes (number + 1) datagrams rest × (text ≡ first ++ rest)
@@ -94,7 +94,7 @@ step_at None steps = None
 step_at (Some number) steps = slice_get (reverse steps) number
 
 -- the datagrams that an event sent
-abbrev pub sent_at : Record → List Sent → List Sent
+abbrev pub sent_at : Record → List SentDatagram → List SentDatagram
 sent_at event sent = take (event.end - event.first) (drop event.first sent)
 
 -- What came of an event of the world, in this order: what was served, what a client learnt, what was sent; `nothing` where there is none of it.

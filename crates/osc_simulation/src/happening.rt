@@ -8,14 +8,14 @@ use crate::names::{Names, number_of, proxy_number};
 use osc_model::{Bytes, Peer, Request};
 use osc_run::Actor;
 use osc_script::{Change, Line, Node};
-use osc_world::{Sent, What};
+use osc_world::{SentDatagram, What};
 use std::alloc::{AllocError, Global};
 
 /// What happens by a line that is one event, in a world that sent these datagrams; by any other line nothing.
 pub(crate) fn what_of(
     alloc: Global,
     names: &Names,
-    sent: &[Sent],
+    sent: &[SentDatagram],
     line: &Line,
 ) -> Result<Option<What>, AllocError>
     ensures { IfOk result (λ what. what ≡ spec.what_of names.now sent.now line.now) }
@@ -90,7 +90,7 @@ fn injects(alloc: Global, from: Peer, to: Peer, bytes: &Bytes) -> Result<Option<
 }
 
 /// The number in the world of a datagram, which a script counts from 1; for 0, the number of the next one.
-pub(crate) fn datagram_number(sent: &[Sent], number: u64) -> usize
+pub(crate) fn datagram_number(sent: &[SentDatagram], number: u64) -> usize
     ensures { result ≡ spec.datagram_number sent.now number }
 {
     if number == 0 {
@@ -101,14 +101,14 @@ pub(crate) fn datagram_number(sent: &[Sent], number: u64) -> usize
 }
 
 /// The datagram that a script counts so, if it was sent.
-fn datagram_of(sent: &[Sent], number: u64) -> Option<&Sent>
+fn datagram_of(sent: &[SentDatagram], number: u64) -> Option<&SentDatagram>
     ensures { option_map (λ datagram. datagram.now) result ≡ spec.datagram_of sent.now number }
 {
     sent.get(datagram_number(sent, number))
 }
 
 /// What would be the next datagram wasn't sent, so nothing comes to anyone.
-fn nothing_comes(sent: &[Sent]) -> What
+fn nothing_comes(sent: &[SentDatagram]) -> What
     ensures { result ≡ spec.nothing_comes sent.now }
 {
     What::Deliver {
@@ -128,7 +128,7 @@ fn actor_of(names: &Names, node: Node) -> Option<Actor>
     }
 }
 
-fn ticks(sent: &[Sent], node: Option<Actor>) -> What
+fn ticks(sent: &[SentDatagram], node: Option<Actor>) -> What
     ensures { result ≡ spec.ticks sent.now node }
 {
     match node {
@@ -137,7 +137,7 @@ fn ticks(sent: &[Sent], node: Option<Actor>) -> What
     }
 }
 
-fn restarts(sent: &[Sent], node: Option<Actor>) -> What
+fn restarts(sent: &[SentDatagram], node: Option<Actor>) -> What
     ensures { result ≡ spec.restarts sent.now node }
 {
     match node {
@@ -149,9 +149,9 @@ fn restarts(sent: &[Sent], node: Option<Actor>) -> What
 /// A copy of a datagram comes to its addressee, with these bytes changed, if it was sent and has them.
 fn what_altered(
     alloc: Global,
-    sent: &[Sent],
+    sent: &[SentDatagram],
     changes: &[Change],
-    datagram: Option<&Sent>,
+    datagram: Option<&SentDatagram>,
 ) -> Result<Option<What>, AllocError>
     ensures { IfOk result (λ what. what ≡ Some (spec.what_altered sent.now changes.now (option_map (λ datagram. datagram.now) datagram.entry))) }
 {
@@ -167,9 +167,9 @@ fn what_altered(
 /// The header and the token of one datagram come with the options and the payload of another, if both were sent.
 fn what_grafted(
     alloc: Global,
-    sent: &[Sent],
-    header: Option<&Sent>,
-    body: Option<&Sent>,
+    sent: &[SentDatagram],
+    header: Option<&SentDatagram>,
+    body: Option<&SentDatagram>,
 ) -> Result<Option<What>, AllocError>
     ensures { IfOk result (λ what. what ≡ Some (spec.what_grafted sent.now (option_map (λ datagram. datagram.now) header.entry)
         (option_map (λ datagram. datagram.now) body.entry))) }
@@ -184,7 +184,7 @@ fn what_grafted(
 }
 
 /// These bytes, if there are any, come from the datagram's sender to its addressee.
-fn comes_like(sent: &[Sent], datagram: &Sent, bytes: Option<Bytes>) -> What
+fn comes_like(sent: &[SentDatagram], datagram: &SentDatagram, bytes: Option<Bytes>) -> What
     ensures { result ≡ spec.comes_like sent.now datagram.now bytes }
 {
     match bytes {

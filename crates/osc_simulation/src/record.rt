@@ -10,7 +10,7 @@ use osc_coap::MessageRef;
 use osc_model::{Bytes, ClientResult, Code, Entry, Peer, Reply};
 use osc_run::{Actor, Minted, Noted};
 use osc_script::{ClientName, Node};
-use osc_world::{Record, Sent, World};
+use osc_world::{Record, SentDatagram, World};
 use std::alloc::{AllocError, Global};
 use std::cmp::min;
 
@@ -71,7 +71,7 @@ fn step_at(number: Option<usize>, steps: &[Noted]) -> Option<&Noted>
 }
 
 /// The datagrams that an event sent.
-fn sent_at<'a>(event: &Record, sent: &'a [Sent]) -> &'a [Sent]
+fn sent_at<'a>(event: &Record, sent: &'a [SentDatagram]) -> &'a [SentDatagram]
     ensures sent { result.now ≡ spec.sent_at event.now sent.now }
     ensures few { event.now.first + length result.now < 2 ^ 64 }
 {
@@ -203,7 +203,7 @@ fn sent_lines(
     alloc: Global,
     with_bytes: bool,
     before: usize,
-    datagrams: &[Sent],
+    datagrams: &[SentDatagram],
 ) -> Result<Vec<u8>, AllocError>
     requires { before + length datagrams.now < 2 ^ 64 }
     ensures { IfOk result (λ lines. PrintAllSent with_bytes (before + 1) datagrams.now lines.items) }
@@ -223,7 +223,7 @@ fn sent_line(
     alloc: Global,
     with_bytes: bool,
     number: usize,
-    datagram: &Sent,
+    datagram: &SentDatagram,
 ) -> Result<String, AllocError>
     ensures { IfOk result (λ line. PrintsSent with_bytes number datagram.now (string_bytes line)) }
 {

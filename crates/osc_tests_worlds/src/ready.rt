@@ -10,7 +10,7 @@ use osc_model::{ClientResult, Code, ContextName, Draw, Moment, Path, Peer, Reply
 use osc_run::Actor;
 use osc_scope::{Scope, Verdict};
 use osc_tree::Tree;
-use osc_world::{Event, Sent, What, World};
+use osc_world::{Event, SentDatagram, What, World};
 use std::alloc::Global;
 use std::process::Abort;
 use std::test::*;
@@ -79,7 +79,7 @@ fn id_of(datagram: &[u8]) -> Option<u16> {
 }
 
 /// The message ID of this datagram, if it was sent from there.
-fn id_from(sent: &Sent, at: Peer) -> Option<u16> {
+fn id_from(sent: &SentDatagram, at: Peer) -> Option<u16> {
     if sent.from != at {
         return None;
     }

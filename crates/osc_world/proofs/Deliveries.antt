@@ -14,7 +14,7 @@ use Rattle.osc_world.specs.Quiet.{OneMore, Rounds, delivery, waiting_first}
 use Rattle.osc_world.specs.Steps.{ClientGets, ClientTakes, ProxyGets, ProxyTakes, ServerGets, ServerTakes, Takes, TakesOf, TakesOfProxy}
 use Rattle.osc_world.specs.Worlds.{Happens, State}
 use Rattle.osc_world.specs.declared.event.Event.{Event}
-use Rattle.osc_world.specs.declared.log.Sent.{Sent}
+use Rattle.osc_world.specs.declared.log.SentDatagram.{SentDatagram}
 use Rattle.osc_world.specs.declared.nodes.Placed.{Placed}
 use Rattle.osc_world.specs.declared.nodes.PlacedProxy.{PlacedProxy}
 use Rattle.osc_world.specs.declared.nodes.Taken.{Taken}
@@ -26,7 +26,7 @@ use Rattle.osc_world.proofs.Queue.{IsFirst, all_wait, done, first_of, first_plac
 -- ---- one delivery
 
 module _ (is_sealing : List ℕ → List ℕ → List ℕ → List ℕ → List ℕ → Type 0) (tag : ℕ) (now : Moment) (draw : Draw)
-    (old : State) (first : Sent) (later : List Sent) (it : IsFirst old.sent first later) (next : State) (apart : StandApart old.nodes)
+    (old : State) (first : SentDatagram) (later : List SentDatagram) (it : IsFirst old.sent first later) (next : State) (apart : StandApart old.nodes)
     (happens : Happens is_sealing tag old (delivery now draw it.number) next) where
   abbrev arriving : Event
   arriving = delivery now draw it.number
@@ -41,10 +41,10 @@ module _ (is_sealing : List ℕ → List ℕ → List ℕ → List ℕ → List 
   queue_after taken is =
       ap queue happens.is
       ∙ filter-append waits (settled it.number old.sent) (sent_by happens.taken)
-      ∙ ap (λ (o : Option Sent). filter waits (settled_at it.number o old.sent) ++ filter waits (sent_by happens.taken)) it.here
-      ∙ ap (λ (all : List Sent). all ++ filter waits (sent_by happens.taken)) it.left
+      ∙ ap (λ (o : Option SentDatagram). filter waits (settled_at it.number o old.sent) ++ filter waits (sent_by happens.taken)) it.here
+      ∙ ap (λ (all : List SentDatagram). all ++ filter waits (sent_by happens.taken)) it.left
       ∙ ap (λ (t : Option Taken). later ++ filter waits (sent_by t)) is
-      ∙ ap (λ (all : List Sent). later ++ all) (all_wait taken.at taken.out)
+      ∙ ap (λ (all : List SentDatagram). later ++ all) (all_wait taken.at taken.out)
 
   steps_after : (taken : Taken) → happens.taken ≡ Some taken → next.steps ≡ taken.noted ∷ old.steps
   steps_after taken is = ap (λ (w : State). w.steps) happens.is ∙ ap (λ (t : Option Taken). steps_with t old.steps) is
@@ -64,7 +64,7 @@ module _ (is_sealing : List ℕ → List ℕ → List ℕ → List ℕ → List 
       by t = record {
         step = t.step;
         server = t.server;
-        hears = subst (λ (o : Option Sent). ServerGets is_sealing tag old.nodes.server now draw o t.step t.server) it.here t.does;
+        hears = subst (λ (o : Option SentDatagram). ServerGets is_sealing tag old.nodes.server now draw o t.step t.server) it.here t.does;
         nodes = ap (λ (w : State). w.nodes) happens.is ∙ t.is;
         waits = queue_after _ t.taken_is;
         steps = steps_after _ t.taken_is;
@@ -81,7 +81,7 @@ module _ (is_sealing : List ℕ → List ℕ → List ℕ → List ℕ → List 
       by t = record {
         step = t.step;
         client = t.client;
-        hears = subst (λ (o : Option Sent). ClientGets is_sealing tag placed.client now o t.step t.client) it.here t.does;
+        hears = subst (λ (o : Option SentDatagram). ClientGets is_sealing tag placed.client now o t.step t.client) it.here t.does;
         nodes = ap (λ (w : State). w.nodes) happens.is ∙ t.is;
         waits = queue_after _ t.taken_is;
         steps = steps_after _ t.taken_is;
@@ -98,7 +98,7 @@ module _ (is_sealing : List ℕ → List ℕ → List ℕ → List ℕ → List 
       by t = record {
         step = t.step;
         proxy = t.proxy;
-        hears = subst (λ (o : Option Sent). ProxyGets placed.proxy now draw o t.step t.proxy) it.here t.does;
+        hears = subst (λ (o : Option SentDatagram). ProxyGets placed.proxy now draw o t.step t.proxy) it.here t.does;
         nodes = ap (λ (w : State). w.nodes) happens.is ∙ t.is;
         waits = queue_after _ t.taken_is;
         steps = steps_after _ t.taken_is;
@@ -124,13 +124,13 @@ module _ (is_sealing : List ℕ → List ℕ → List ℕ → List ℕ → List 
   pub over : (limit : ℕ) (old : State) (is_quiet : Bool) (new : State) → queue old ≡ [] → Rounds is_sealing tag drawn now limit old is_quiet new → (is_quiet ≡ true) × (new ≡ old)
   over limit old is_quiet new none rounds = over_by limit old is_quiet new (still old none) rounds
 
-  one_more : (left : ℕ) (old : State) (first : Sent) (later : List Sent) (it : IsFirst old.sent first later) (is_quiet : Bool) (new : State) → Rounds is_sealing tag drawn now (suc left) old is_quiet new
+  one_more : (left : ℕ) (old : State) (first : SentDatagram) (later : List SentDatagram) (it : IsFirst old.sent first later) (is_quiet : Bool) (new : State) → Rounds is_sealing tag drawn now (suc left) old is_quiet new
       → (next : State) × Happens is_sealing tag old (delivery now (drawn (length old.records)) it.number) next × Rounds is_sealing tag drawn now left next is_quiet new
   one_more left old first later it is_quiet new rounds =
       subst (λ (o : Option ℕ). OneMore is_sealing tag (λ next. Rounds is_sealing tag drawn now left next is_quiet new) now (drawn (length old.records)) old o is_quiet new)
       (first_place old.sent first later it) rounds
 
-  module _ (itself : (a : Peer) → same_peer a a ≡ true) (left : ℕ) (old : State) (first : Sent) (later : List Sent) (is_quiet : Bool) (new : State)
+  module _ (itself : (a : Peer) → same_peer a a ≡ true) (left : ℕ) (old : State) (first : SentDatagram) (later : List SentDatagram) (is_quiet : Bool) (new : State)
       (apart : StandApart old.nodes) (waits_first : queue old ≡ first ∷ later) (rounds : Rounds is_sealing tag drawn now (suc left) old is_quiet new) where
     it : IsFirst old.sent first later
     it = first_of old.sent first later waits_first
@@ -166,9 +166,9 @@ pub sent_behind : (is_sealing : List ℕ → List ℕ → List ℕ → List ℕ 
     → delivered event.what old.sent ≡ old.sent → queue new ≡ queue old ++ sent_by happens.taken
 sent_behind is_sealing tag old new event happens stays =
     ap queue happens.is
-    ∙ ap (λ (all : List Sent). filter waits (all ++ sent_by happens.taken)) stays
+    ∙ ap (λ (all : List SentDatagram). filter waits (all ++ sent_by happens.taken)) stays
     ∙ filter-append waits old.sent (sent_by happens.taken)
-    ∙ ap (λ (all : List Sent). queue old ++ all) (sent_wait happens.taken)
+    ∙ ap (λ (all : List SentDatagram). queue old ++ all) (sent_wait happens.taken)
 
 -- ---- what was minted stays
 

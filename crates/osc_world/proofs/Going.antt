@@ -16,7 +16,7 @@ use Rattle.osc_world.specs.Steps.{IsSkip, IsStep, OfNobody, OfServer, OfClient, 
 use Rattle.osc_world.specs.Worlds.{State, Happens, Happen, run_with, world_of}
 use Rattle.osc_world.specs.declared.event.Event.{Event}
 use Rattle.osc_world.specs.declared.log.Record.{Record}
-use Rattle.osc_world.specs.declared.log.Sent.{Sent}
+use Rattle.osc_world.specs.declared.log.SentDatagram.{SentDatagram}
 use Rattle.osc_world.specs.declared.nodes.Placed.{Placed}
 use Rattle.osc_world.specs.declared.nodes.Taken.{Taken}
 
@@ -92,7 +92,7 @@ happened is_sealing tag self minted first old new log same later event taken is 
       };
     })
   where
-    recorded_same : (sent sent' : List Sent) (steps steps' : List Noted) (records records' : List Record) (taken : Option Taken)
+    recorded_same : (sent sent' : List SentDatagram) (steps steps' : List Noted) (records records' : List Record) (taken : Option Taken)
         → sent ≡ sent' → steps ≡ steps' → records ≡ records'
         → records ++ recorded sent steps taken ∷ [] ≡ records' ++ recorded sent' steps' taken ∷ []
     recorded_same sent sent' steps steps' records records' taken s t r = λ j. r j ++ recorded (s j) (t j) taken ∷ []

@@ -17,7 +17,7 @@ use Rattle.osc_world.specs.Ready.{IsNotRefused, beginning}
 use Rattle.osc_world.specs.Steps.{ClientTakes, TakesOf}
 use Rattle.osc_world.specs.Worlds.{Happens, State}
 use Rattle.osc_world.specs.declared.event.Event.{Event}
-use Rattle.osc_world.specs.declared.log.Sent.{Sent}
+use Rattle.osc_world.specs.declared.log.SentDatagram.{SentDatagram}
 use Rattle.osc_world.specs.declared.nodes.Placed.{Placed}
 use Rattle.osc_world.specs.declared.nodes.Taken.{Taken}
 use Rattle.osc_world.proofs.Deliveries.{at_rest, sent_behind}
@@ -54,7 +54,7 @@ module _ (is_sealing : List ℕ → List ℕ → List ℕ → List ℕ → List 
     steps = steps_are;
     nodes = ap (λ (w : State). w.nodes) happens.is ∙ takes.is;
     waits = sent_behind is_sealing tag old begun event happens refl
-        ∙ ap (λ (all : List Sent). all ++ sent_by happens.taken) (at_rest old still)
+        ∙ ap (λ (all : List SentDatagram). all ++ sent_by happens.taken) (at_rest old still)
         ∙ ap (λ (t : Option Taken). sent_by t) takes.taken_is;
     fits = fits (by_client number false takes.step.notes) steps_are;
   }

@@ -7,27 +7,27 @@ use Rattle.std.proofs.lemmas.Option.{slice_get_within}
 use Rattle.osc_model.specs.declared.node.Peer.{Peer}
 use Rattle.osc_model.specs.declared.step.Datagram.{Datagram}
 use Rattle.osc_world.specs.Log.{sent_from}
-use Rattle.osc_world.specs.declared.log.Sent.{Sent}
+use Rattle.osc_world.specs.declared.log.SentDatagram.{SentDatagram}
 
-abbrev pub waits : Sent → Bool
+abbrev pub waits : SentDatagram → Bool
 waits datagram = datagram.waits
 
-abbrev pub done : Sent → Sent
+abbrev pub done : SentDatagram → SentDatagram
 done one = record one { waits = false }
 
 -- ---- the first
 
 -- this datagram waits first, and those behind it
-pub record IsFirst (sent : List Sent) (first : Sent) (later : List Sent) : Type 0 where
+pub record IsFirst (sent : List SentDatagram) (first : SentDatagram) (later : List SentDatagram) : Type 0 where
   pub number : ℕ
   pub place : position_or_len waits sent ≡ number
   pub here : slice_get sent number ≡ Some first
   pub left : filter waits (slice_set sent number (done first)) ≡ later
 
 -- behind one that doesn't wait
-behind : (one : Sent) (sent : List Sent) (first : Sent) (later : List Sent) → one.waits ≡ false → IsFirst sent first later → IsFirst (one ∷ sent) first later
+behind : (one : SentDatagram) (sent : List SentDatagram) (first : SentDatagram) (later : List SentDatagram) → one.waits ≡ false → IsFirst sent first later → IsFirst (one ∷ sent) first later
 behind one sent first later is it =
-    let rest : List Sent = filter waits (slice_set sent it.number (done first)) in
+    let rest : List SentDatagram = filter waits (slice_set sent it.number (done first)) in
     record {
       number = suc it.number;
       place = subst (λ (b : Bool). cond (not b) (1 + position_or_len waits sent) 0 ≡ suc it.number) (sym is) (omega (arith, it.place));
@@ -35,7 +35,7 @@ behind one sent first later is it =
       left = subst (λ (b : Bool). cond b (one ∷ rest) rest ≡ later) (sym is) it.left;
     }
 
-pub first_of : (sent : List Sent) (first : Sent) (later : List Sent) → filter waits sent ≡ first ∷ later → IsFirst sent first later
+pub first_of : (sent : List SentDatagram) (first : SentDatagram) (later : List SentDatagram) → filter waits sent ≡ first ∷ later → IsFirst sent first later
 first_of [] first later e = absurd (cc)
 first_of (one ∷ sent) first later e = by one.waits refl (first_of sent first later)
   where
@@ -48,12 +48,12 @@ first_of (one ∷ sent) first later e = by one.waits refl (first_of sent first l
     by false is rest =
         behind one sent first later is (rest (subst (λ (b : Bool). cond b (one ∷ filter waits sent) (filter waits sent) ≡ first ∷ later) is e))
 
-pub first_place : (sent : List Sent) (first : Sent) (later : List Sent) (it : IsFirst sent first later) → position waits sent ≡ Some it.number
+pub first_place : (sent : List SentDatagram) (first : SentDatagram) (later : List SentDatagram) (it : IsFirst sent first later) → position waits sent ≡ Some it.number
 first_place sent first later it = rw (it.place, lt-ltb it.number (length sent) (slice_get_within sent it.number first it.here)) refl
 
 -- ---- none
 
-past_all : (sent : List Sent) → filter waits sent ≡ [] → position_or_len waits sent ≡ length sent
+past_all : (sent : List SentDatagram) → filter waits sent ≡ [] → position_or_len waits sent ≡ length sent
 past_all [] e = refl
 past_all (one ∷ sent) e = by one.waits refl (past_all sent)
   where
@@ -61,13 +61,13 @@ past_all (one ∷ sent) e = by one.waits refl (past_all sent)
     by true is rest = let some : one ∷ filter waits sent ≡ [] = subst (λ (b : Bool). cond b (one ∷ filter waits sent) (filter waits sent) ≡ []) is e in absurd (cc)
     by false is rest = rw is (omega (arith, rest (subst (λ (b : Bool). cond b (one ∷ filter waits sent) (filter waits sent) ≡ []) is e)))
 
-pub none_first : (sent : List Sent) → filter waits sent ≡ [] → position waits sent ≡ None
+pub none_first : (sent : List SentDatagram) → filter waits sent ≡ [] → position waits sent ≡ None
 none_first sent e = rw (past_all sent e, le-ltb (length sent) (length sent) (omega arith)) refl
 
-pub none_waits : (sent : List Sent) → position waits sent ≡ None → filter waits sent ≡ []
+pub none_waits : (sent : List SentDatagram) → position waits sent ≡ None → filter waits sent ≡ []
 none_waits sent none = by (filter waits sent) refl
   where
-    by : (all : List Sent) → filter waits sent ≡ all → filter waits sent ≡ []
+    by : (all : List SentDatagram) → filter waits sent ≡ all → filter waits sent ≡ []
     by [] is = is
     by (first ∷ later) is =
         let it : IsFirst sent first later = first_of sent first later is in
@@ -78,4 +78,4 @@ none_waits sent none = by (filter waits sent) refl
 
 pub all_wait : (at : Peer) (out : List Datagram) → filter waits (map (sent_from at) out) ≡ map (sent_from at) out
 all_wait at [] = refl
-all_wait at (one ∷ out) = ap (λ (rest : List Sent). sent_from at one ∷ rest) (all_wait at out)
+all_wait at (one ∷ out) = ap (λ (rest : List SentDatagram). sent_from at one ∷ rest) (all_wait at out)

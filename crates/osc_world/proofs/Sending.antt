@@ -3,9 +3,9 @@ use Rattle.std.proofs.Common.{◌≡◌, List, [], ◌∷◌, ◌++◌, length, 
 use Rattle.osc_model.specs.declared.node.Peer.{Peer}
 use Rattle.osc_model.specs.declared.step.Datagram.{Datagram}
 use Rattle.osc_world.specs.Log.{sent_from}
-use Rattle.osc_world.specs.declared.log.Sent.{Sent}
+use Rattle.osc_world.specs.declared.log.SentDatagram.{SentDatagram}
 
-pub sent_more : (at : Peer) (old new : List Sent) (one : Sent) (datagram : Datagram) (rest later : List Datagram)
+pub sent_more : (at : Peer) (old new : List SentDatagram) (one : SentDatagram) (datagram : Datagram) (rest later : List Datagram)
     → new ≡ old ++ one ∷ [] → rest ≡ datagram ∷ later → sent_from at datagram ≡ one
     → new ++ map (sent_from at) later ≡ old ++ map (sent_from at) rest
 sent_more at old new one datagram rest later is split same =

@@ -18,13 +18,13 @@ use Rattle.osc_world.specs.Queue.{IsHeardByClient, IsHeardByServer, queue}
 use Rattle.osc_world.specs.Quiet.{Rounds}
 use Rattle.osc_world.specs.Ready.{IsRound}
 use Rattle.osc_world.specs.Worlds.{State}
-use Rattle.osc_world.specs.declared.log.Sent.{Sent}
+use Rattle.osc_world.specs.declared.log.SentDatagram.{SentDatagram}
 use Rattle.osc_world.specs.declared.nodes.Placed.{Placed}
 use Rattle.osc_world.proofs.Deliveries.{client_hears, over, server_hears, still}
 use Rattle.osc_world.proofs.Rounds.{none_lost}
 
 -- from here to there
-abbrev pub from_to : Peer → Peer → List ℕ → Sent
+abbrev pub from_to : Peer → Peer → List ℕ → SentDatagram
 from_to from to bytes = record { from = from; to = to; bytes = bytes; waits = true }
 
 -- a draw of 32 bytes
@@ -61,7 +61,7 @@ module _ (is_sealing : List ℕ → List ℕ → List ℕ → List ℕ → List 
       (there : slice_get nodes.clients number ≡ Some placed)
       (alone : queue begun ≡ from_to placed.at nodes.server_at bytes ∷ [])
       (rounds : Rounds is_sealing tag drawn now (suc (suc left)) begun is_quiet new) where
-    abbrev one : Sent
+    abbrev one : SentDatagram
     one = from_to placed.at nodes.server_at bytes
 
     first : (next : State) × IsHeardByServer is_sealing now (drawn (length begun.records)) begun one [] next × Rounds is_sealing tag drawn now (suc left) next is_quiet new
@@ -79,7 +79,7 @@ module _ (is_sealing : List ℕ → List ℕ → List ℕ → List ℕ → List 
     abbrev answered : IsAnsweredBack is_sealing now placed.client placed.at nodes.server_at s.step
     answered = law (drawn (length begun.records)) s.step s.server is_good served
 
-    abbrev two : Sent
+    abbrev two : SentDatagram
     two = from_to nodes.server_at placed.at answered.answer
 
     nodes_2 : first.0.nodes ≡ record nodes { server = s.server }

@@ -17,7 +17,7 @@ use Rattle.osc_world.specs.Log.{sent_from}
 use Rattle.osc_world.specs.Nodes.{NodeStates}
 use Rattle.osc_world.specs.Steps.{ServerDoes, ClientDoes, ProxyDoes, ServerTakes, TakesOf, TakesOfProxy, IsSkip, Skips, IsStep, OfServer, OfClient, OfProxy, is_lie, most_of, most_of_placed, most_of_proxy, one_or}
 use Rattle.osc_world.specs.declared.event.Event.{Event}
-use Rattle.osc_world.specs.declared.log.Sent.{Sent}
+use Rattle.osc_world.specs.declared.log.SentDatagram.{SentDatagram}
 use Rattle.osc_world.specs.declared.nodes.Placed.{Placed}
 use Rattle.osc_world.specs.declared.nodes.PlacedProxy.{PlacedProxy}
 
@@ -25,7 +25,7 @@ abbrev nodes_of : Peer → Server → List Placed → List PlacedProxy → NodeS
 nodes_of at server clients proxies = record { server_at = at; server = server; clients = clients; proxies = proxies }
 
 pub server_took : (is_sealing : List ℕ → List ℕ → List ℕ → List ℕ → List ℕ → Type 0) (tag : ℕ) (self : NodeStates) (at : Peer) (old server : Server) (clients : List Placed) (proxies : List PlacedProxy)
-    (sent : List Sent) (event : Event) (noted : Noted) (step : Step)
+    (sent : List SentDatagram) (event : Event) (noted : Noted) (step : Step)
     → nodes_of at old clients proxies ≡ self
     → ServerDoes is_sealing tag old event.moment event.draw sent event.what step server
     → noted ≡ by_server step.notes
@@ -44,7 +44,7 @@ server_stepped now self at old server clients proxies noted step is kind told =
     (OfServer step server kind (ap (λ n. Some (record { at = at; noted = n; out = step.out })) told) refl)
 
 pub client_took : (is_sealing : List ℕ → List ℕ → List ℕ → List ℕ → List ℕ → Type 0) (tag : ℕ) (self : NodeStates) (at : Peer) (server : Server) (clients : List Placed) (proxies : List PlacedProxy)
-    (number : ℕ) (placed : Placed) (client : Client) (sent : List Sent) (event : Event) (noted : Noted) (step : Step)
+    (number : ℕ) (placed : Placed) (client : Client) (sent : List SentDatagram) (event : Event) (noted : Noted) (step : Step)
     → nodes_of at server clients proxies ≡ self → slice_get clients number ≡ Some placed
     → ClientDoes is_sealing tag placed.client event.moment event.draw sent event.what step client
     → noted ≡ by_client number (is_lie event.what) step.notes
@@ -88,7 +88,7 @@ client_skipped self at server clients proxies number placed client is there kind
     (Skips placed (record { at = placed.at; client = client }) there kind refl)
 
 pub proxy_took : (self : NodeStates) (at : Peer) (server : Server) (clients : List Placed) (proxies : List PlacedProxy)
-    (number : ℕ) (placed : PlacedProxy) (proxy : Proxy) (sent : List Sent) (event : Event) (noted : Noted) (step : Step)
+    (number : ℕ) (placed : PlacedProxy) (proxy : Proxy) (sent : List SentDatagram) (event : Event) (noted : Noted) (step : Step)
     → nodes_of at server clients proxies ≡ self → slice_get proxies number ≡ Some placed
     → ProxyDoes placed.proxy event.moment event.draw sent event.what step proxy
     → noted ≡ by_proxy number step.notes

@@ -22,7 +22,7 @@ use Rattle.osc_world.specs.Nodes.{NodeStates, StandApart}
 use Rattle.osc_world.specs.Queue.{IsHeardByClient, IsHeardByProxy, IsHeardByServer, queue}
 use Rattle.osc_world.specs.Quiet.{AreWhole, Rounds, waiting_first}
 use Rattle.osc_world.specs.Worlds.{State}
-use Rattle.osc_world.specs.declared.log.Sent.{Sent}
+use Rattle.osc_world.specs.declared.log.SentDatagram.{SentDatagram}
 use Rattle.osc_world.specs.declared.nodes.Placed.{Placed}
 use Rattle.osc_world.specs.declared.nodes.PlacedProxy.{PlacedProxy}
 use Rattle.osc_world.proofs.Deliveries.{client_hears, over, proxy_hears, server_hears, still}
@@ -92,18 +92,18 @@ begins_with route =
 
 module _ (is_sealing : List ℕ → List ℕ → List ℕ → List ℕ → List ℕ → Type 0) (tag : ℕ) (drawn : ℕ → Draw) (now : Moment) (route : Route) (new : State) (is_quiet : Bool) where
   -- how far the round has come: the nodes, what waits, and how many deliveries are left
-  pub record Stage (left : ℕ) (world : State) (server : Server) (client : Client) (proxy : Proxy) (waiting : List Sent) : Type 0 where
+  pub record Stage (left : ℕ) (world : State) (server : Server) (client : Client) (proxy : Proxy) (waiting : List SentDatagram) : Type 0 where
     pub nodes : world.nodes ≡ nodes_of route server client proxy
     pub apart : StandApart world.nodes
     pub waits : queue world ≡ waiting
     pub rest : Rounds is_sealing tag drawn now left world is_quiet new
 
-  pub at_stage : (left : ℕ) (world : State) (server : Server) (client : Client) (proxy : Proxy) (waiting more : List Sent) → waiting ≡ more → Stage left world server client proxy waiting
+  pub at_stage : (left : ℕ) (world : State) (server : Server) (client : Client) (proxy : Proxy) (waiting more : List SentDatagram) → waiting ≡ more → Stage left world server client proxy waiting
       → Stage left world server client proxy more
-  at_stage left world server client proxy waiting more e stage = subst (λ (all : List Sent). Stage left world server client proxy all) e stage
+  at_stage left world server client proxy waiting more e stage = subst (λ (all : List SentDatagram). Stage left world server client proxy all) e stage
 
   -- the proxy hears the first that waits
-  pub record AtProxy (left : ℕ) (world : State) (server : Server) (client : Client) (proxy : Proxy) (from : Peer) (bytes : List ℕ) (later : List Sent) : Type 0 where
+  pub record AtProxy (left : ℕ) (world : State) (server : Server) (client : Client) (proxy : Proxy) (from : Peer) (bytes : List ℕ) (later : List SentDatagram) : Type 0 where
     pub next : State
     pub step : Step
     pub after : Proxy
@@ -113,7 +113,7 @@ module _ (is_sealing : List ℕ → List ℕ → List ℕ → List ℕ → List 
     pub records : length next.records ≡ length world.records + 1
 
   -- the client hears it
-  pub record AtClient (left : ℕ) (world : State) (server : Server) (client : Client) (proxy : Proxy) (from : Peer) (bytes : List ℕ) (later : List Sent) : Type 0 where
+  pub record AtClient (left : ℕ) (world : State) (server : Server) (client : Client) (proxy : Proxy) (from : Peer) (bytes : List ℕ) (later : List SentDatagram) : Type 0 where
     pub next : State
     pub step : Step
     pub after : Client
@@ -123,7 +123,7 @@ module _ (is_sealing : List ℕ → List ℕ → List ℕ → List ℕ → List 
     pub records : length next.records ≡ length world.records + 1
 
   -- the server hears it
-  pub record AtServer (left : ℕ) (world : State) (server : Server) (client : Client) (proxy : Proxy) (from : Peer) (bytes : List ℕ) (later : List Sent) : Type 0 where
+  pub record AtServer (left : ℕ) (world : State) (server : Server) (client : Client) (proxy : Proxy) (from : Peer) (bytes : List ℕ) (later : List SentDatagram) : Type 0 where
     pub next : State
     pub step : Step
     pub after : Server
@@ -132,7 +132,7 @@ module _ (is_sealing : List ℕ → List ℕ → List ℕ → List ℕ → List 
     pub steps : next.steps ≡ by_server step.notes ∷ world.steps
     pub records : length next.records ≡ length world.records + 1
 
-  module _ (itself : (a : Peer) → same_peer a a ≡ true) (left : ℕ) (world : State) (server : Server) (client : Client) (proxy : Proxy) (from : Peer) (bytes : List ℕ) (later : List Sent) where
+  module _ (itself : (a : Peer) → same_peer a a ≡ true) (left : ℕ) (world : State) (server : Server) (client : Client) (proxy : Proxy) (from : Peer) (bytes : List ℕ) (later : List SentDatagram) where
     pub at_proxy : Stage (suc left) world server client proxy (from_to from route.proxy.at bytes ∷ later) → AtProxy left world server client proxy from bytes later
     at_proxy stage =
         let here : slice_get world.nodes.proxies route.proxy_number ≡ Some (record route.proxy { proxy = proxy }) =
@@ -291,7 +291,7 @@ module _ (is_sealing : List ℕ → List ℕ → List ℕ → List ℕ → List 
     abbrev forwards : IsForwarded is_sealing drawn first now route.placed.at route.proxy.at route.nodes.server_at route.placed.client route.nodes.server w1.after w1.step
     forwards = law w1.step w1.after whole_1 hears_1
 
-    abbrev behind : List Sent
+    abbrev behind : List SentDatagram
     behind = from_to route.proxy.at route.nodes.server_at forwards.forwarded ∷ []
 
     -- its acknowledgement to the client

@@ -6,19 +6,19 @@ use Rattle.std.proofs.lemmas.List.Sums.{fails_before_first, passes_at_first, pre
 use Rattle.osc_model.specs.declared.node.Peer.{Peer}
 use Rattle.osc_model.specs.declared.step.Datagram.{Datagram}
 use Rattle.osc_world.specs.Log.{first_waiting, sent_from, settled, settled_at}
-use Rattle.osc_world.specs.declared.log.Sent.{Sent}
+use Rattle.osc_world.specs.declared.log.SentDatagram.{SentDatagram}
 
-abbrev waits : Sent → Bool
+abbrev waits : SentDatagram → Bool
 waits datagram = datagram.waits
 
 -- what is sent comes behind what waits
-pub first_stays : (at : Peer) (sent : List Sent) (out : List Datagram) → first_waiting (sent ++ map (sent_from at) out) ≡ first_waiting sent
+pub first_stays : (at : Peer) (sent : List SentDatagram) (out : List Datagram) → first_waiting (sent ++ map (sent_from at) out) ≡ first_waiting sent
 first_stays at [] [] = refl
 first_stays at [] (datagram ∷ out) = refl
 first_stays at (datagram ∷ sent) out = ap (λ n. cond (not datagram.waits) (1 + n) 0) (first_stays at sent out)
 
 -- where one more waits no more, the first isn't before it was
-pub first_moves_on : (sent : List Sent) (number : ℕ) (datagram : Sent) → datagram.waits ≡ false → first_waiting sent ≤ first_waiting (slice_set sent number datagram)
+pub first_moves_on : (sent : List SentDatagram) (number : ℕ) (datagram : SentDatagram) → datagram.waits ≡ false → first_waiting sent ≤ first_waiting (slice_set sent number datagram)
 first_moves_on [] number datagram settled = omega arith
 first_moves_on (first ∷ sent) zero datagram settled = at first.waits
   where
@@ -32,21 +32,21 @@ first_moves_on (first ∷ sent) (suc number) datagram settled = at first.waits (
     at true rest = omega arith
     at false rest = omega (arith, rest)
 
-pub settled_moves_on : (sent : List Sent) (number : ℕ) → first_waiting sent ≤ first_waiting (settled number sent)
+pub settled_moves_on : (sent : List SentDatagram) (number : ℕ) → first_waiting sent ≤ first_waiting (settled number sent)
 settled_moves_on sent number = at (slice_get sent number)
   where
-    at : (o : Option Sent) → first_waiting sent ≤ first_waiting (settled_at number o sent)
+    at : (o : Option SentDatagram) → first_waiting sent ≤ first_waiting (settled_at number o sent)
     at None = omega arith
     at (Some datagram) = first_moves_on sent number (record datagram { waits = false }) refl
 
-pub found : (sent : List Sent) (number : ℕ) (d : Sent) → number ≤ first_waiting sent → (get_or sent number d).waits ≡ true → number ≡ first_waiting sent
+pub found : (sent : List SentDatagram) (number : ℕ) (d : SentDatagram) → number ≤ first_waiting sent → (get_or sent number d).waits ≡ true → number ≡ first_waiting sent
 found sent number d below here =
     elim (cases_lt number (first_waiting sent)) [
       | inl less ↦ let settled : (get_or sent number d).waits ≡ false = fails_before_first waits sent number d less in absurd (cc)
       | inr least ↦ omega (arith, least, below)
     ]
 
-pub passed : (sent : List Sent) (number : ℕ) (d : Sent) → number ≤ first_waiting sent → number < length sent → (get_or sent number d).waits ≡ false → number + 1 ≤ first_waiting sent
+pub passed : (sent : List SentDatagram) (number : ℕ) (d : SentDatagram) → number ≤ first_waiting sent → number < length sent → (get_or sent number d).waits ≡ false → number + 1 ≤ first_waiting sent
 passed sent number d below inside settled =
     elim (cases_lt number (first_waiting sent)) [
       | inl less ↦ omega (arith, less)
@@ -57,5 +57,5 @@ passed sent number d below inside settled =
           absurd (cc)
     ]
 
-pub none_found : (sent : List Sent) (number : ℕ) → number ≤ first_waiting sent → length sent ≤ number → length sent ≡ first_waiting sent
-none_found sent number below outside = omega (arith, below, outside, prefix_len-le-length (λ (datagram : Sent). not datagram.waits) sent)
+pub none_found : (sent : List SentDatagram) (number : ℕ) → number ≤ first_waiting sent → length sent ≤ number → length sent ≡ first_waiting sent
+none_found sent number below outside = omega (arith, below, outside, prefix_len-le-length (λ (datagram : SentDatagram). not datagram.waits) sent)

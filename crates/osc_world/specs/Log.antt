@@ -7,12 +7,12 @@ use Rattle.osc_run.specs.Notes.{Noted}
 use Rattle.osc_world.specs.declared.event.What.{What}
 use Rattle.osc_world.specs.declared.event.What.TheVariants.{Deliver}
 use Rattle.osc_world.specs.declared.log.Record.{Record}
-use Rattle.osc_world.specs.declared.log.Sent.{Sent}
+use Rattle.osc_world.specs.declared.log.SentDatagram.{SentDatagram}
 use Rattle.osc_world.specs.declared.nodes.Taken.{Taken}
 
 -- each datagram ever sent; what the steps noted, the newest first; what came of each event; and the room that was taken for more
 pub record LogState : Type 0 where
-  pub sent : List Sent
+  pub sent : List SentDatagram
   pub steps : List Noted
   pub records : List Record
   pub room_for_sent : ℕ
@@ -28,33 +28,33 @@ pub record HasRoom (log : LogState) (datagrams : ℕ) : Type 0 where
 -- ---- which datagrams wait
 
 -- the number of the first that waits; that of all that were sent, where none does
-abbrev pub first_waiting : List Sent → ℕ
+abbrev pub first_waiting : List SentDatagram → ℕ
 first_waiting sent = position_or_len (λ datagram. datagram.waits) sent
 
 -- the numbers of those that wait, in order
-abbrev pub waiting : List Sent → List ℕ
+abbrev pub waiting : List SentDatagram → List ℕ
 waiting sent = map (λ numbered. numbered.0) (filter (λ numbered. numbered.1.waits) (enumerate_from 0 sent))
 
 -- ---- what an event adds
 
 -- the datagram of this number waits no more, if it was sent
-abbrev pub settled_at : ℕ → Option Sent → List Sent → List Sent
+abbrev pub settled_at : ℕ → Option SentDatagram → List SentDatagram → List SentDatagram
 settled_at number None sent = sent
 settled_at number (Some datagram) sent = slice_set sent number (record datagram { waits = false })
 
-abbrev pub settled : ℕ → List Sent → List Sent
+abbrev pub settled : ℕ → List SentDatagram → List SentDatagram
 settled number sent = settled_at number (slice_get sent number) sent
 
 -- a datagram that is delivered waits no more
-abbrev pub delivered : What → List Sent → List Sent
+abbrev pub delivered : What → List SentDatagram → List SentDatagram
 delivered (Deliver datagram) sent = settled datagram sent
 delivered what sent = sent
 
-abbrev pub sent_from : Peer → Datagram → Sent
+abbrev pub sent_from : Peer → Datagram → SentDatagram
 sent_from at datagram = record { from = at; to = datagram.to; bytes = datagram.bytes; waits = true }
 
 -- what the step sent, if one was taken
-abbrev pub sent_by : Option Taken → List Sent
+abbrev pub sent_by : Option Taken → List SentDatagram
 sent_by None = []
 sent_by (Some taken) = map (sent_from taken.at) taken.out
 
@@ -67,7 +67,7 @@ abbrev pub number_of : Option Taken → List Noted → Option ℕ
 number_of None steps = None
 number_of (Some taken) steps = Some (length steps)
 
-abbrev pub recorded : List Sent → List Noted → Option Taken → Record
+abbrev pub recorded : List SentDatagram → List Noted → Option Taken → Record
 recorded sent steps taken = record { step = number_of taken steps; first = length sent; end = length (sent ++ sent_by taken) }
 
 -- what is kept then

@@ -10,7 +10,7 @@ use Rattle.osc_client.specs.State.{skipped_to}
 use Rattle.osc_server.specs.State.{State as Server}
 use Rattle.osc_world.specs.declared.event.What.{What}
 use Rattle.osc_world.specs.declared.event.What.TheVariants.{Exchange, Ask, Lie, Tick, Restart, Deliver, Inject}
-use Rattle.osc_world.specs.declared.log.Sent.{Sent}
+use Rattle.osc_world.specs.declared.log.SentDatagram.{SentDatagram}
 use Rattle.osc_world.specs.declared.nodes.Placed.{Placed}
 use Rattle.osc_world.specs.declared.nodes.PlacedProxy.{PlacedProxy}
 use Rattle.osc_world.specs.declared.nodes.Whose.{Whose}
@@ -62,11 +62,11 @@ node_of (actor.Client number) = whose.Client number
 node_of (actor.Proxy number) = whose.Proxy number
 
 -- a datagram is heard by whom it was sent to
-abbrev pub hearer : NodeStates → Option Sent → Whose
+abbrev pub hearer : NodeStates → Option SentDatagram → Whose
 hearer nodes None = whose.Nobody
 hearer nodes (Some datagram) = node_at nodes datagram.to
 
-abbrev pub whose_step : NodeStates → List Sent → What → Whose
+abbrev pub whose_step : NodeStates → List SentDatagram → What → Whose
 whose_step nodes sent (Exchange client) = whose.Client client
 whose_step nodes sent (Ask client request) = if request.code.0 == 0 then whose.Nobody else whose.Client client
 whose_step nodes sent (Lie client number text) = if nat_le number greatest_number then whose.Client client else whose.Nobody

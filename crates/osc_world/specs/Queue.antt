@@ -13,18 +13,18 @@ use Rattle.osc_proxy.specs.State.{State as Proxy}
 use Rattle.osc_world.specs.Log.{sent_from}
 use Rattle.osc_world.specs.Nodes.{StandApart}
 use Rattle.osc_world.specs.Worlds.{State}
-use Rattle.osc_world.specs.declared.log.Sent.{Sent}
+use Rattle.osc_world.specs.declared.log.SentDatagram.{SentDatagram}
 use Rattle.osc_world.specs.declared.nodes.Placed.{Placed}
 use Rattle.osc_world.specs.declared.nodes.PlacedProxy.{PlacedProxy}
 
 -- the datagrams that were neither delivered nor dropped, in order of sending
-abbrev pub queue : State → List Sent
+abbrev pub queue : State → List SentDatagram
 queue world = filter (λ datagram. datagram.waits) world.sent
 
 -- ---- The first that waits is delivered: what its hearer sends waits behind the others, and no node moves.
 
 -- a proxy, of this number, hears it
-pub record IsHeardByProxy (now : Moment) (draw : Draw) (number : ℕ) (placed : PlacedProxy) (old : State) (first : Sent) (later : List Sent) (next : State) : Type 0 where
+pub record IsHeardByProxy (now : Moment) (draw : Draw) (number : ℕ) (placed : PlacedProxy) (old : State) (first : SentDatagram) (later : List SentDatagram) (next : State) : Type 0 where
   pub step : Step
   pub proxy : Proxy
   pub hears : ProxyHears placed.proxy now draw first.from first.bytes step proxy
@@ -37,7 +37,7 @@ pub record IsHeardByProxy (now : Moment) (draw : Draw) (number : ℕ) (placed : 
 -- `is_sealing key nonce aad text sealed` is the cipher's relation
 module _ (is_sealing : List ℕ → List ℕ → List ℕ → List ℕ → List ℕ → Type 0) where
   -- the server hears it
-  pub record IsHeardByServer (now : Moment) (draw : Draw) (old : State) (first : Sent) (later : List Sent) (next : State) : Type 0 where
+  pub record IsHeardByServer (now : Moment) (draw : Draw) (old : State) (first : SentDatagram) (later : List SentDatagram) (next : State) : Type 0 where
     pub step : Step
     pub server : Server
     pub hears : ServerHears is_sealing old.nodes.server now draw first.from first.bytes step server
@@ -48,7 +48,7 @@ module _ (is_sealing : List ℕ → List ℕ → List ℕ → List ℕ → List 
     pub apart : StandApart next.nodes
 
   -- a client, of this number, hears it
-  pub record IsHeardByClient (now : Moment) (number : ℕ) (placed : Placed) (old : State) (first : Sent) (later : List Sent) (next : State) : Type 0 where
+  pub record IsHeardByClient (now : Moment) (number : ℕ) (placed : Placed) (old : State) (first : SentDatagram) (later : List SentDatagram) (next : State) : Type 0 where
     pub step : Step
     pub client : Client
     pub hears : ClientHears is_sealing placed.client now first.from first.bytes step client

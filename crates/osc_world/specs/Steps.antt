@@ -24,7 +24,7 @@ use Rattle.osc_world.specs.Nodes.{NodeStates}
 use Rattle.osc_world.specs.declared.event.Event.{Event}
 use Rattle.osc_world.specs.declared.event.What.{What}
 use Rattle.osc_world.specs.declared.event.What.TheVariants.{Exchange, Ask, Lie, Tick, Restart, Deliver, Inject}
-use Rattle.osc_world.specs.declared.log.Sent.{Sent}
+use Rattle.osc_world.specs.declared.log.SentDatagram.{SentDatagram}
 use Rattle.osc_world.specs.declared.nodes.Placed.{Placed}
 use Rattle.osc_world.specs.declared.nodes.PlacedProxy.{PlacedProxy}
 use Rattle.osc_world.specs.declared.nodes.Taken.{Taken}
@@ -79,12 +79,12 @@ server_again old = record old { desk = record old.desk { table = [] }; endpoint 
 -- ---- what a proxy does, which seals and opens nothing
 
 -- a datagram that was sent comes to it; what was never sent doesn't come
-abbrev pub ProxyGets : Proxy → Moment → Draw → Option Sent → Step → Proxy → Type 0
+abbrev pub ProxyGets : Proxy → Moment → Draw → Option SentDatagram → Step → Proxy → Type 0
 ProxyGets old now draw None step new = Idles old step new
 ProxyGets old now draw (Some datagram) step new = ProxyHears old now draw datagram.from datagram.bytes step new
 
 -- where the event is its own
-abbrev pub ProxyDoes : Proxy → Moment → Draw → List Sent → What → Step → Proxy → Type 0
+abbrev pub ProxyDoes : Proxy → Moment → Draw → List SentDatagram → What → Step → Proxy → Type 0
 ProxyDoes old now draw sent (Exchange client) step new = Idles old step new
 ProxyDoes old now draw sent (Ask client request) step new = Idles old step new
 ProxyDoes old now draw sent (Lie client number text) step new = Idles old step new
@@ -99,14 +99,14 @@ pub record NobodyTakes (old : NodeStates) (taken : Option Taken) (new : NodeStat
   pub is : new ≡ old
 
 -- this proxy, of this number, takes a step
-pub record ProxyTakes (old : NodeStates) (number : ℕ) (placed : PlacedProxy) (sent : List Sent) (event : Event) (taken : Option Taken) (new : NodeStates) : Type 0 where
+pub record ProxyTakes (old : NodeStates) (number : ℕ) (placed : PlacedProxy) (sent : List SentDatagram) (event : Event) (taken : Option Taken) (new : NodeStates) : Type 0 where
   pub step : Step
   pub proxy : Proxy
   pub does : ProxyDoes placed.proxy event.moment event.draw sent event.what step proxy
   pub taken_is : taken ≡ Some (record { at = placed.at; noted = by_proxy number step.notes; out = step.out })
   pub is : new ≡ record old { proxies = slice_set old.proxies number (record placed { proxy = proxy }) }
 
-abbrev pub TakesOfProxy : NodeStates → ℕ → Option PlacedProxy → List Sent → Event → Option Taken → NodeStates → Type 0
+abbrev pub TakesOfProxy : NodeStates → ℕ → Option PlacedProxy → List SentDatagram → Event → Option Taken → NodeStates → Type 0
 TakesOfProxy old number None sent event taken new = NobodyTakes old taken new
 TakesOfProxy old number (Some placed) sent event taken new = ProxyTakes old number placed sent event taken new
 
@@ -115,16 +115,16 @@ TakesOfProxy old number (Some placed) sent event taken new = ProxyTakes old numb
 -- `is_sealing key nonce aad text sealed` is the cipher's relation, and `tag` how long its tag is
 module _ (is_sealing : List ℕ → List ℕ → List ℕ → List ℕ → List ℕ → Type 0) (tag : ℕ) where
   -- a datagram that was sent comes to the server; what was never sent doesn't come
-  abbrev pub ServerGets : Server → Moment → Draw → Option Sent → Step → Server → Type 0
+  abbrev pub ServerGets : Server → Moment → Draw → Option SentDatagram → Step → Server → Type 0
   ServerGets old now draw None step new = Idles old step new
   ServerGets old now draw (Some datagram) step new = ServerHears is_sealing old now draw datagram.from datagram.bytes step new
 
-  abbrev pub ClientGets : Client → Moment → Option Sent → Step → Client → Type 0
+  abbrev pub ClientGets : Client → Moment → Option SentDatagram → Step → Client → Type 0
   ClientGets old now None step new = Idles old step new
   ClientGets old now (Some datagram) step new = ClientHears is_sealing old now datagram.from datagram.bytes step new
 
   -- what the server does, where the event is its own
-  abbrev pub ServerDoes : Server → Moment → Draw → List Sent → What → Step → Server → Type 0
+  abbrev pub ServerDoes : Server → Moment → Draw → List SentDatagram → What → Step → Server → Type 0
   ServerDoes old now draw sent (Exchange client) step new = Idles old step new
   ServerDoes old now draw sent (Ask client request) step new = Idles old step new
   ServerDoes old now draw sent (Lie client number text) step new = Idles old step new
@@ -144,7 +144,7 @@ module _ (is_sealing : List ℕ → List ℕ → List ℕ → List ℕ → List 
     is_lied : number ≤ greatest_number → TellsLie is_sealing tag old number text draw step → new ≡ old → LiesAt old number text draw step new
 
   -- what a client does, where the event is its own
-  abbrev pub ClientDoes : Client → Moment → Draw → List Sent → What → Step → Client → Type 0
+  abbrev pub ClientDoes : Client → Moment → Draw → List SentDatagram → What → Step → Client → Type 0
   ClientDoes old now draw sent (Exchange client) step new = Begins old now draw step new
   ClientDoes old now draw sent (Ask client request) step new = AsksFor old now draw request step new
   ClientDoes old now draw sent (Lie client number text) step new = LiesAt old number text draw step new
@@ -156,7 +156,7 @@ module _ (is_sealing : List ℕ → List ℕ → List ℕ → List ℕ → List 
   -- ---- one node takes a step, or none does
 
   -- the server takes a step
-  pub record ServerTakes (old : NodeStates) (sent : List Sent) (event : Event) (taken : Option Taken) (new : NodeStates) : Type 0 where
+  pub record ServerTakes (old : NodeStates) (sent : List SentDatagram) (event : Event) (taken : Option Taken) (new : NodeStates) : Type 0 where
     pub step : Step
     pub server : Server
     pub does : ServerDoes old.server event.moment event.draw sent event.what step server
@@ -164,18 +164,18 @@ module _ (is_sealing : List ℕ → List ℕ → List ℕ → List ℕ → List 
     pub is : new ≡ record old { server = server }
 
   -- this client, of this number, takes a step
-  pub record ClientTakes (old : NodeStates) (number : ℕ) (placed : Placed) (sent : List Sent) (event : Event) (taken : Option Taken) (new : NodeStates) : Type 0 where
+  pub record ClientTakes (old : NodeStates) (number : ℕ) (placed : Placed) (sent : List SentDatagram) (event : Event) (taken : Option Taken) (new : NodeStates) : Type 0 where
     pub step : Step
     pub client : Client
     pub does : ClientDoes placed.client event.moment event.draw sent event.what step client
     pub taken_is : taken ≡ Some (record { at = placed.at; noted = by_client number (is_lie event.what) step.notes; out = step.out })
     pub is : new ≡ record old { clients = slice_set old.clients number (record placed { client = client }) }
 
-  abbrev pub TakesOf : NodeStates → ℕ → Option Placed → List Sent → Event → Option Taken → NodeStates → Type 0
+  abbrev pub TakesOf : NodeStates → ℕ → Option Placed → List SentDatagram → Event → Option Taken → NodeStates → Type 0
   TakesOf old number None sent event taken new = NobodyTakes old taken new
   TakesOf old number (Some placed) sent event taken new = ClientTakes old number placed sent event taken new
 
-  abbrev pub Takes : NodeStates → Whose → List Sent → Event → Option Taken → NodeStates → Type 0
+  abbrev pub Takes : NodeStates → Whose → List SentDatagram → Event → Option Taken → NodeStates → Type 0
   Takes old whose.Server sent event taken new = ServerTakes old sent event taken new
   Takes old (whose.Client number) sent event taken new = TakesOf old number (slice_get old.clients number) sent event taken new
   Takes old (whose.Proxy number) sent event taken new = TakesOfProxy old number (slice_get old.proxies number) sent event taken new

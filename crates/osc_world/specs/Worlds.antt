@@ -10,7 +10,7 @@ use Rattle.osc_world.specs.Nodes.{NodeStates, whose_step}
 use Rattle.osc_world.specs.Steps.{Takes}
 use Rattle.osc_world.specs.declared.event.Event.{Event}
 use Rattle.osc_world.specs.declared.log.Record.{Record}
-use Rattle.osc_world.specs.declared.log.Sent.{Sent}
+use Rattle.osc_world.specs.declared.log.SentDatagram.{SentDatagram}
 use Rattle.osc_world.specs.declared.nodes.Taken.{Taken}
 
 -- The grants and the resources that it began with; the nodes; each datagram ever sent; what the steps noted, the newest first; and
@@ -19,7 +19,7 @@ pub record State : Type 0 where
   pub minted : List Minted
   pub first : Tree
   pub nodes : NodeStates
-  pub sent : List Sent
+  pub sent : List SentDatagram
   pub steps : List Noted
   pub records : List Record
 

@@ -31,7 +31,7 @@ ghost use Rattle.osc_world.specs.Quiet.{AreWhole, Rounds, waiting_first};
 ghost use Rattle.osc_world.specs.Ready.{AreMinted, HasAnswered, HasMade, IsNotRefused, IsReady, IsRound, KeepsThePremise, LeavesUnheard, asking, beginning};
 ghost use Rattle.osc_world.specs.Worlds.{Happens, State};
 ghost use Rattle.osc_world.specs.declared.event.Event.{Event as AnyEvent};
-ghost use Rattle.osc_world.specs.declared.log.Sent.{Sent as AnySent};
+ghost use Rattle.osc_world.specs.declared.log.SentDatagram.{SentDatagram as AnySent};
 ghost use Rattle.osc_world.specs.Refusals.{FitAToken};
 ghost use Rattle.osc_world.specs.Starts.{Beginning, Enrols, begun, new_proxy};
 ghost use Rattle.osc_world.specs.declared.nodes.Placed.{Placed as AnyPlaced};

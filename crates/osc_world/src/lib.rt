@@ -15,7 +15,7 @@ mod world;
 pub use draws::Draws;
 pub use error::{EnrollError, PlaceError};
 pub use event::{Event, What};
-pub use log::{Record, Sent};
+pub use log::{Record, SentDatagram};
 pub use nodes::{Placed, PlacedProxy};
 pub use start::{Holder, Parts, Start};
 pub use world::World;

@@ -10,7 +10,7 @@ use std::alloc::{AllocError, Global};
 use std::marker::Model;
 
 /// A datagram that was sent.
-pub struct Sent {
+pub struct SentDatagram {
     /// From where.
     pub from: Peer,
     /// To whom.
@@ -22,9 +22,9 @@ pub struct Sent {
 }
 
 // Proved once, and not anew at each exit of whoever owns one.
-impl Drop for Sent {
+impl Drop for SentDatagram {
     fn drop(self) {
-        let Sent {
+        let SentDatagram {
             from: _,
             to: _,
             bytes: _,
@@ -47,7 +47,7 @@ pub struct Record {
 
 /// What is kept of the events: each datagram ever sent, what each step noted, and what came of each event.
 pub(crate) struct Log {
-    sent: Vec<Sent>,
+    sent: Vec<SentDatagram>,
     // The number of the first that waits; that of all that were sent, where none does.
     next_waiting: usize,
     notes: Notes,
@@ -100,7 +100,7 @@ impl Log {
     }
 
     /// Each datagram that was sent.
-    pub fn sent(&self) -> &[Sent]
+    pub fn sent(&self) -> &[SentDatagram]
         ensures { result.now ≡ self.now.sent }
     {
         &self.sent
@@ -205,7 +205,7 @@ impl Log {
 }
 
 /// The datagram of this number waits no more, if it was sent.
-fn settle(sent: &mut Vec<Sent>, number: usize)
+fn settle(sent: &mut Vec<SentDatagram>, number: usize)
     ensures items { sent.new.items ≡ settled number sent.old.items }
     ensures room { vec_capacity sent.new - vec_len sent.new ≡ vec_capacity sent.old - vec_len sent.old }
 {
@@ -215,7 +215,7 @@ fn settle(sent: &mut Vec<Sent>, number: usize)
 }
 
 /// The number of the first that waits, or of all where none does; none below this number does.
-fn first_from(sent: &[Sent], number: usize) -> usize
+fn first_from(sent: &[SentDatagram], number: usize) -> usize
     requires { number ≤ first_waiting sent.now }
     ensures { result ≡ first_waiting sent.now }
 {
@@ -228,12 +228,12 @@ fn first_from(sent: &[Sent], number: usize) -> usize
 }
 
 /// Adds what was sent from there, for which there is room; takes no memory.
-fn send(sent: &mut Vec<Sent>, at: Peer, out: Vec<Datagram>)
+fn send(sent: &mut Vec<SentDatagram>, at: Peer, out: Vec<Datagram>)
     requires { length out.items ≤ vec_capacity sent.old - vec_len sent.old }
     ensures { sent.new.items ≡ sent.old.items ++ map (sent_from at) out.items }
 {
     for Datagram { to, bytes } in out {
-        sent.push_reserved(Sent {
+        sent.push_reserved(SentDatagram {
             from: at,
             to,
             bytes,

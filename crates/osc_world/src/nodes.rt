@@ -16,7 +16,7 @@ ghost use Rattle.osc_proxy.specs.Hearing.{Hears as ProxyHears};
 ghost use Rattle.osc_world.specs.Steps.{AsksFor, ClientDoes, ClientGets, IsStep, ProxyDoes, ProxyGets, ServerDoes, ServerGets, ServerTakes, Takes, TakesOf, TakesOfProxy, IsSkip, LiesAt, is_lie, most_of, most_of_placed, most_of_proxy, most_sent, one_or};
 
 use crate::event::{Event, What};
-use crate::log::Sent;
+use crate::log::SentDatagram;
 use osc_ccm::Aead;
 use osc_client::Client;
 use osc_context::NUMBER_LIMIT;
@@ -163,7 +163,7 @@ fn server_does<A: Aead>(
     alloc: Global,
     server: &mut Server,
     event: &Event,
-    sent: &[Sent],
+    sent: &[SentDatagram],
 ) -> Result<Step, AllocError>
     ensures does { IfOk result (λ step. ServerDoes A.is_sealing A.TAG server.old event.now.moment event.now.draw sent.now event.now.what step server.new) }
     ensures kind { IfOk result (λ step. ServerStep (core_of_server server.old) event.now.moment step.notes (core_of_server server.new)) }
@@ -207,7 +207,7 @@ fn server_gets<A: Aead>(
     server: &mut Server,
     now: Moment,
     draw: &Draw,
-    datagram: Option<&Sent>,
+    datagram: Option<&SentDatagram>,
 ) -> Result<Step, AllocError>
     ensures gets { IfOk result (λ step. ServerGets A.is_sealing A.TAG server.old now draw.now (option_map (λ d. d.now) datagram.entry) step server.new) }
     ensures kind { IfOk result (λ step. ServerStep (core_of_server server.old) now step.notes (core_of_server server.new)) }
@@ -244,7 +244,7 @@ fn client_does<A: Aead>(
     alloc: Global,
     client: &mut Client,
     event: &Event,
-    sent: &[Sent],
+    sent: &[SentDatagram],
 ) -> Result<Step, AllocError>
     ensures does { IfOk result (λ step. ClientDoes A.is_sealing A.TAG client.old event.now.moment event.now.draw sent.now event.now.what step client.new) }
     ensures kind { IfOk result (λ step. ClientStep (is_lie event.now.what) (core_of_client client.old) step.notes (core_of_client client.new)) }
@@ -276,7 +276,7 @@ fn proxy_does(
     alloc: Global,
     proxy: &mut Proxy,
     event: &Event,
-    sent: &[Sent],
+    sent: &[SentDatagram],
 ) -> Result<Step, AllocError>
     ensures does { IfOk result (λ step. ProxyDoes proxy.old event.now.moment event.now.draw sent.now event.now.what step proxy.new) }
     ensures silent { IfOk result (λ step. ProxyStep step.notes) }
@@ -314,7 +314,7 @@ fn proxy_gets(
     proxy: &mut Proxy,
     now: Moment,
     draw: &Draw,
-    datagram: Option<&Sent>,
+    datagram: Option<&SentDatagram>,
 ) -> Result<Step, AllocError>
     ensures gets { IfOk result (λ step. ProxyGets proxy.old now draw.now (option_map (λ d. d.now) datagram.entry) step proxy.new) }
     ensures silent { IfOk result (λ step. ProxyStep step.notes) }
@@ -435,7 +435,7 @@ impl Nodes {
     }
 
     /// Whose step an event is.
-    pub fn whose(&self, sent: &[Sent], what: &What) -> Whose
+    pub fn whose(&self, sent: &[SentDatagram], what: &What) -> Whose
         ensures { result ≡ whose_step self.now sent.now what.now }
     {
         match what {
@@ -472,7 +472,7 @@ impl Nodes {
         alloc: Global,
         whose: Whose,
         event: &Event,
-        sent: &[Sent],
+        sent: &[SentDatagram],
     ) -> Result<Option<Taken>, AllocError>
         ensures takes { IfOk result (λ taken. Takes A.is_sealing A.TAG self.old whose sent.now event.now taken self.new) }
         ensures step { IfOk result (λ taken. IsStep event.now.moment self.old taken self.new) }
@@ -504,7 +504,7 @@ impl Nodes {
         &mut self,
         alloc: Global,
         event: &Event,
-        sent: &[Sent],
+        sent: &[SentDatagram],
     ) -> Result<Option<Taken>, AllocError>
         ensures takes { IfOk result (λ taken. ServerTakes A.is_sealing A.TAG self.old sent.now event.now taken self.new) }
         ensures step { IfOk result (λ taken. IsStep event.now.moment self.old taken self.new) }
@@ -525,7 +525,7 @@ impl Nodes {
         alloc: Global,
         number: usize,
         event: &Event,
-        sent: &[Sent],
+        sent: &[SentDatagram],
     ) -> Result<Option<Taken>, AllocError>
         ensures takes { IfOk result (λ taken. TakesOf A.is_sealing A.TAG self.old number (slice_get self.old.clients number) sent.now event.now taken self.new) }
         ensures step { IfOk result (λ taken. IsStep event.now.moment self.old taken self.new) }
@@ -549,7 +549,7 @@ impl Nodes {
         alloc: Global,
         number: usize,
         event: &Event,
-        sent: &[Sent],
+        sent: &[SentDatagram],
     ) -> Result<Option<Taken>, AllocError>
         ensures takes { IfOk result (λ taken. TakesOfProxy self.old number (slice_get self.old.proxies number) sent.now event.now taken self.new) }
         ensures step { IfOk result (λ taken. IsStep event.now.moment self.old taken self.new) }
@@ -640,7 +640,7 @@ fn client_gets<A: Aead>(
     alloc: Global,
     client: &mut Client,
     now: Moment,
-    datagram: Option<&Sent>,
+    datagram: Option<&SentDatagram>,
 ) -> Result<Step, AllocError>
     ensures gets { IfOk result (λ step. ClientGets A.is_sealing A.TAG client.old now (option_map (λ d. d.now) datagram.entry) step client.new) }
     ensures kind { IfOk result (λ step. ClientStep false (core_of_client client.old) step.notes (core_of_client client.new)) }

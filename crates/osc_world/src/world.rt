@@ -20,7 +20,7 @@ use crate::draws::Draws;
 use crate::event::{Event, What};
 use crate::isolation::alone;
 use crate::laws::{an_asked_round, an_exchanged_round};
-use crate::log::{Log, Record, Sent};
+use crate::log::{Log, Record, SentDatagram};
 use crate::nodes::{Nodes, Placed, PlacedProxy};
 use osc_ccm::Aead;
 use osc_model::{Draw, Entry, Moment, Reply};
@@ -364,7 +364,7 @@ impl World {
     }
 
     /// Each datagram that was ever sent, the first of them first.
-    pub fn sent(&self) -> &[Sent]
+    pub fn sent(&self) -> &[SentDatagram]
         ensures { result.now ≡ self.now.sent }
     {
         self.log.sent()
