@@ -6,13 +6,14 @@
 //!
 //! A block is xored as one vector of 16 lanes (`lanes`), and what is left of a text byte by byte.
 //! Sealing is one pass over the text: each step of the CBC-MAC goes beside a block of the key stream,
-//! so that the block cipher has two blocks at once. Opening is the same pass, into a buffer on the
-//! stack, for a text up to the 1,152 bytes of a datagram; only when the tag is found right is the text
-//! copied out. A longer text is gone over twice, for the tag and then for the text.
+//! so that the block cipher has two blocks at once, which is as many as it takes to keep its shuffles
+//! going. Opening is the same pass, into a buffer on the stack, for a text up to the 1,152 bytes of a
+//! datagram; only when the tag is found right is the text copied out. A longer text is gone over twice,
+//! for the tag and then for the text, with two blocks at once each time.
 //!
-//! Nothing is claimed of the time that a call takes: no branch depends on a byte of a key or a text
-//! but the verdict on a tag, whose comparison doesn't stop at the first difference; the block cipher
-//! looks up tables at places that depend on the key.
+//! By its form the code branches on no byte of a key or a text but by the verdict on a tag, whose
+//! comparison doesn't stop at the first difference, and reads memory at no place that depends on one.
+//! No contract says so; `bench/secrets` looks at what was built.
 #![tactic(auto)]
 
 mod aead;

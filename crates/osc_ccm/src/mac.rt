@@ -43,16 +43,48 @@ fn absorb(cipher: &Aes128, state: &mut [u8; 16], bytes: &[u8])
     }
 }
 
-/// The blocks of the text that a ciphertext stands for under the CBC-MAC.
-fn absorb_ciphered(cipher: &Aes128, state: &mut [u8; 16], nonce: &[u8; 13], bytes: &[u8])
-    requires { length bytes.now ≤ 65535 }
+/// One block more under the CBC-MAC, number `index` of `count`, and beside it the key stream of the next one. After the
+/// last one the answer is any block.
+pub fn step_and_next(
+    cipher: &Aes128,
+    state: &mut [u8; 16],
+    block: &[u8; 16],
+    nonce: &[u8; 13],
+    index: usize,
+    count: usize,
+) -> [u8; 16]
+    requires low { index < count }
+    requires high { count ≤ 4096 }
+    ensures state { state.new ≡ mac_step cipher.now state.old block.now }
+    ensures stream { index + 1 < count → result ≡ stream_block cipher.now nonce.now (index + 2) }
+{
+    if index + 1 < count {
+        return step_and_stream(cipher, state, block, nonce, index + 2);
+    }
+    mac_step(cipher, state, block);
+    *block
+}
+
+/// The blocks of the text that a ciphertext stands for under the CBC-MAC, each beside the key stream of the next, which
+/// begins with `first_key`.
+fn absorb_ciphered(
+    cipher: &Aes128,
+    state: &mut [u8; 16],
+    nonce: &[u8; 13],
+    first_key: [u8; 16],
+    bytes: &[u8],
+)
+    requires key { first_key ≡ stream_block cipher.now nonce.now 1 }
+    requires short { length bytes.now ≤ 65535 }
     ensures state { state.new
         ≡ fold (mac_step cipher.now) state.old (blocks (ciphered cipher.now nonce.now bytes.now)) }
     ensures whole { length (ciphered cipher.now nonce.now bytes.now) ≡ length bytes.now }
 {
-    for index in 0..block::block_count(bytes.len()) {
-        let block = stream::ciphered_block(cipher, nonce, bytes, index);
-        mac_step(cipher, state, &block);
+    let mut key = first_key;
+    let count = block::block_count(bytes.len());
+    for index in 0..count {
+        let block = stream::ciphered_block(bytes, index, &key);
+        key = step_and_next(cipher, state, &block, nonce, index, count);
     }
 }
 
@@ -193,7 +225,7 @@ pub fn tag_of_ciphertext(
         ≡ tag_of cipher.now size nonce.now aad.now (ciphered cipher.now nonce.now bytes.now) }
     ensures whole { length (ciphered cipher.now nonce.now bytes.now) ≡ length bytes.now }
 {
-    let (mut state, mask) = begin(cipher, size, nonce, aad, bytes.len());
-    absorb_ciphered(cipher, &mut state, nonce, bytes);
+    let (mut state, mask, key) = begin_and_stream(cipher, size, nonce, aad, bytes.len());
+    absorb_ciphered(cipher, &mut state, nonce, key, bytes);
     lanes::xor(state, mask)
 }

@@ -1,7 +1,7 @@
 //! Encryption and authentication in one pass. A step of the CBC-MAC and a block of the key stream don't wait for each
 //! other, so the block cipher makes both at once (RFC 3610 sections 2.2 and 2.3).
 
-ghost use Rattle.std.specs.Prelude.{◌≡◌, ◌+◌, ◌<◌, ◌≤◌, fold, take, length};
+ghost use Rattle.std.specs.Prelude.{◌≡◌, ◌≤◌, fold, take, length};
 ghost use Rattle.osc_ccm.specs.Ccm.{blocks, ciphered, mac_step, stream_block, tag_of};
 
 use crate::{block, lanes, mac, stream};
@@ -18,28 +18,6 @@ fn encrypt_and_absorb(cipher: &Aes128, state: &mut [u8; 16], nonce: &[u8; 13], b
         let key = mac::step_and_stream(cipher, state, &block, nonce, index + 1);
         stream::xor_piece(bytes, index, &key);
     }
-}
-
-/// One block more under the CBC-MAC, number `index` of `count`, and beside it the key stream of the next one. After the
-/// last one the answer is any block.
-fn step_and_next(
-    cipher: &Aes128,
-    state: &mut [u8; 16],
-    block: &[u8; 16],
-    nonce: &[u8; 13],
-    index: usize,
-    count: usize,
-) -> [u8; 16]
-    requires low { index < count }
-    requires high { count ≤ 4096 }
-    ensures state { state.new ≡ mac_step cipher.now state.old block.now }
-    ensures stream { index + 1 < count → result ≡ stream_block cipher.now nonce.now (index + 2) }
-{
-    if index + 1 < count {
-        return mac::step_and_stream(cipher, state, block, nonce, index + 2);
-    }
-    mac::mac_step(cipher, state, block);
-    *block
 }
 
 /// Decrypts a ciphertext in place by the key stream, which begins with `first_key`, and takes the blocks of its text under
@@ -62,7 +40,7 @@ fn decrypt_and_absorb(
     for index in 0..count {
         stream::xor_piece(bytes, index, &key);
         let block = block::block_at(bytes, index);
-        key = step_and_next(cipher, state, &block, nonce, index, count);
+        key = mac::step_and_next(cipher, state, &block, nonce, index, count);
     }
 }
 

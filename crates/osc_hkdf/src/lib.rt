@@ -3,7 +3,8 @@
 //! `specs/` defines them on lists of bytes over SHA-256, in the standards' terms, and the functions give what it
 //! defines. They take no memory.
 //!
-//! Nothing is claimed about time, and nothing erases a key.
+//! By its form the code branches on no byte of a key or a text, only on their lengths, and reads memory at no place that
+//! depends on one. No contract says so; `bench/secrets` looks at what was built. Nothing erases a key.
 #![tactic(auto)]
 
 mod error;

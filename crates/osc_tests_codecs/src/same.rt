@@ -51,8 +51,8 @@ fn seals_as<A: Aead>(
     aad: &[u8],
     text: &[u8],
 ) -> Result<(), Fail> {
-    let (mut sealed, mut want, mut opened) = ([0xee; 128], [0xee; 128], [0xee; 128]);
-    assert!(rt; 2 <= size && size <= 16 && text.len() <= 100);
+    let (mut sealed, mut want, mut opened) = ([0xee; 1424], [0xee; 1424], [0xee; 1424]);
+    assert!(rt; 2 <= size && size <= 16 && text.len() <= 1400);
     Plain::new(key).seal(size, nonce, aad, text, &mut want);
     let cipher = A::from_key(key);
     let count = cipher.seal(nonce, aad, text, &mut sealed)?;
@@ -88,4 +88,21 @@ fn short_tags(rt: HostRuntime) -> Result<(), Fail> {
 #[test]
 fn long_tags(rt: HostRuntime) -> Result<(), Fail> {
     each_length::<Ccm<16>>(&rt, 16, 4)
+}
+
+/// Texts that are opened in one pass, and longer ones, of an even and an odd number of blocks, the last whole or not.
+#[test]
+fn long_texts(rt: HostRuntime) -> Result<(), Fail> {
+    let (mut key, mut nonce) = ([0; 16], [0; 13]);
+    let (mut aad, mut text) = ([0; 20], [0; 1400]);
+    let seed = fill(fill(5, &mut key), &mut nonce);
+    fill(fill(seed, &mut aad), &mut text);
+    for length in [
+        1023, 1024, 1136, 1151, 1152, 1153, 1168, 1169, 1184, 1185, 1399, 1400,
+    ] {
+        let text = text.get(..length).ok_or("a text")?;
+        seals_as::<Ccm<8>>(&rt, 8, &key, &nonce, &aad, text)?;
+        seals_as::<Ccm<16>>(&rt, 16, &key, &nonce, &[], text)?;
+    }
+    Ok(())
 }

@@ -1,10 +1,12 @@
-use Rattle.std.proofs.Common.{◌≡◌, ◌*◌, map, length}
+use Rattle.std.proofs.Common.{◌≡◌, ◌+◌, ◌*◌, ◌<◌, map, length}
 use Rattle.std.specs.List.{fold, range_with_len}
-use Rattle.osc_ccm.specs.Ccm.{filled, piece, mac_step, key_stream, ciphered}
+use Rattle.osc_ccm.specs.Ccm.{block_count, filled, piece, mac_step, key_stream, stream_block, ciphered}
 use Rattle.osc_ccm.proofs.mac.absorb_ciphered.Given as goal
 
 abbrev pub invariant-loop-index : goal.invariant-loop-index
 invariant-loop-index l = record {
   done : l.state ≡ fold (mac_step l.cipher) l.initial.state (map (λ i. filled (piece (ciphered l.cipher l.nonce l.bytes) i)) (range_with_len 0 l.index));
+  next : l.index < block_count (length l.bytes) → l.key ≡ stream_block l.cipher l.nonce (l.index + 1);
+  whole : length l.key ≡ 16;
   streamed : length (key_stream l.cipher l.nonce l.index) ≡ 16 * l.index;
 }

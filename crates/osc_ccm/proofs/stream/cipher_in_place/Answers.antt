@@ -1,38 +1,34 @@
-use Rattle.std.proofs.Common.{◌≡◌, ◌≤◌, ◌+◌, ◌*◌, ◌++◌, length, drop, take, ap, sym, ◌∙◌, arith, refl}
-use Rattle.osc_ccm.specs.Ccm.{xor, key_stream, ciphered, block_count}
-use Rattle.osc_ccm.proofs.StreamLemmas.{length-key_stream_none, key_stream_more, length-key_stream_more, ciphered_more, ciphered_all}
+use Rattle.std.proofs.Common.{◌≡◌, ◌≤◌, ℕ, List, ◌+◌, ◌-◌, ◌*◌, length, ap, subst, ◌∙◌, arith, refl}
+use Rattle.std.proofs.lemmas.Bool.Decides.{nat_tests}
+use Rattle.osc_ccm.specs.Ccm.{xor, key_stream, stream_block, ciphered, block_count}
+use Rattle.osc_ccm.specs.Stream.{IsCiphered}
+use Rattle.osc_ccm.proofs.StreamLemmas.{length-key_stream_none, ciphered_all}
 use Rattle.osc_ccm.proofs.stream.cipher_in_place.Goals as goal
 
-pub loop-index-init : goal.loop-index-init
-loop-index-init c = record { done = refl; streamed = length-key_stream_none c.args.cipher.now c.args.nonce.now }
-
-pub loop-index-preserved : goal.loop-index-preserved
-loop-index-preserved c =
-    let key = c.args.cipher.now in
-    let nonce = c.args.nonce.now in
-    let i = c.loop-index.index in
-    let xs = c.args.bytes.now in
-    let s = c.stream_block.result in
-    let ks = key_stream key nonce i in
-    let within : 16 * i ≤ length xs = omega arith in
-    let step : length s ≡ 16 = omega arith in
-    let next : 16 * (i + 1) ≡ 16 * i + 16 = omega arith in
-    let grown : ks ++ s ≡ key_stream key nonce (i + 1) = ap (λ l. ks ++ l) c.stream_block.ensures ∙ sym (key_stream_more key nonce i) in
-    record {
-      done = ciphered_more xs c.loop-index.bytes c.xor_piece.new.bytes ks s (16 * i) within c.loop-index.invariant.streamed step c.loop-index.invariant.done c.xor_piece.ensures
-          ∙ ap (λ l. xor (take (16 * i + 16) xs) l ++ drop (16 * i + 16) xs) grown
-          ∙ ap (λ n. xor (take n xs) (key_stream key nonce (i + 1)) ++ drop n xs) (sym next);
-      streamed = length-key_stream_more key nonce i c.loop-index.invariant.streamed (sym (ap length c.stream_block.ensures) ∙ step);
-    }
-
-pub returns : goal.returns
+-- every piece was encrypted
+whole : (key nonce xs ys : List ℕ) (n : ℕ) → n ≡ block_count (length xs) → IsCiphered key nonce xs n ys → ys ≡ ciphered key nonce xs
 unfolding ciphered
-returns c =
+whole key nonce xs ys n count so_far =
+    let past : length xs ≤ 16 * n = omega arith in
+    ciphered_all xs ys (key_stream key nonce n) (16 * n) past so_far.done ∙ ap (λ k. xor xs (key_stream key nonce k)) count
+
+pub loop-pair-init : goal.loop-pair-init
+loop-pair-init c = record { done = refl; streamed = length-key_stream_none c.args.cipher.now c.args.nonce.now }
+
+pub returns-then-count-eq1 : goal.returns-then-count-eq1
+returns-then-count-eq1 c =
     let key = c.args.cipher.now in
     let nonce = c.args.nonce.now in
-    let i = c.loop-index.index in
     let xs = c.args.bytes.now in
-    let count : i ≡ block_count (length xs) = omega arith in
-    let past : length xs ≤ 16 * i = omega arith in
-    ciphered_all xs c.loop-index.bytes (key_stream key nonce i) (16 * i) past c.loop-index.invariant.done
-    ∙ ap (λ n. xor xs (key_stream key nonce n)) count
+    let n : ℕ = c.block_count-count.result in
+    let before : 2 * c.loop-pair.pair ≡ n - 1 = grind (arith, nat_tests) in
+    let count : n - 1 + 1 ≡ block_count (length xs) = omega (arith, c.block_count-count.ensures) in
+    let last : n ≡ n - 1 + 1 = omega arith in
+    whole key nonce xs c.cipher_piece.new.bytes (n - 1 + 1) count
+    (c.cipher_piece.ensures key nonce xs (c.stream_block.ensures ∙ ap (stream_block key nonce) last)
+    (subst (λ k. IsCiphered key nonce xs k c.loop-pair.bytes) before c.loop-pair.invariant))
+
+pub returns-else-count-eq1 : goal.returns-else-count-eq1
+returns-else-count-eq1 c =
+    let count : 2 * c.loop-pair.pair ≡ block_count (length c.args.bytes.now) = grind (arith, nat_tests, c.block_count-count.ensures) in
+    whole c.args.cipher.now c.args.nonce.now c.args.bytes.now c.loop-pair.bytes (2 * c.loop-pair.pair) count c.loop-pair.invariant
