@@ -398,7 +398,7 @@ static uint64_t mbedtls_open(const uint8_t *sealed, size_t length, uint8_t *out,
 /* What OpenSSL takes for a block, and for sealing and opening each length, in ns. OpenSSL reads which instructions it may use when it is
    loaded, so a child process of this program takes the figures. */
 enum { FIGURES = 1 + 2 * LENGTH_COUNT };
-static double openssl_plain[FIGURES], openssl_all[FIGURES];
+static double openssl_plain[FIGURES], openssl_vectors[FIGURES], openssl_all[FIGURES];
 
 static EVP_CIPHER_CTX *openssl_keyed(int seals) {
     EVP_CIPHER_CTX *ctx = EVP_CIPHER_CTX_new();
@@ -487,10 +487,11 @@ static int read_openssl(const char *program, const char *environment, double fig
 }
 #endif
 
-/* Ends a row, with what it takes for one of OpenSSL's ns: without AES and vector instructions, and with them. */
+/* Ends a row, with what it takes for one of OpenSSL's ns: without AES and vector instructions, with vector instructions alone, and with
+   both. */
 static void end_row(size_t figure, double ns) {
 #ifdef WITH_OPENSSL
-    printf("  %6.2f  %6.2f\n", ns / openssl_plain[figure], ns / openssl_all[figure]);
+    printf("  %6.2f  %6.2f  %6.2f\n", ns / openssl_plain[figure], ns / openssl_vectors[figure], ns / openssl_all[figure]);
 #else
     (void)figure;
     (void)ns;
@@ -519,7 +520,8 @@ static uint64_t encrypt(uint64_t rounds) { return osc_bench_encrypt(rounds); }
 
 static int ciphers(void) {
 #ifdef WITH_OPENSSL
-    printf("Ciphers; the last two columns: as many times what OpenSSL takes without AES and vector instructions, and with them\n");
+    printf("Ciphers; the last three columns: as many times what OpenSSL takes without AES and vector instructions, with vector instructions "
+        "alone, and with both\n");
 #endif
     block_row("Aes128::encrypt", encrypt);
 #ifdef WITH_MBEDTLS
@@ -549,7 +551,10 @@ static int ciphers(void) {
 int main(int count, char **words) {
 #ifdef WITH_OPENSSL
     if (count == 2 && strcmp(words[1], "openssl") == 0) return print_openssl();
-    if (read_openssl(words[0], "OPENSSL_ia32cap=0:0", openssl_plain) != 0 || read_openssl(words[0], "", openssl_all) != 0) {
+    /* The second masks AES-NI and the product of polynomials, which go together. */
+    if (read_openssl(words[0], "OPENSSL_ia32cap=0:0", openssl_plain) != 0
+        || read_openssl(words[0], "OPENSSL_ia32cap='~0x200000200000000'", openssl_vectors) != 0
+        || read_openssl(words[0], "", openssl_all) != 0) {
         fprintf(stderr, "bench: OpenSSL was not timed\n");
         return 1;
     }
