@@ -34,8 +34,9 @@ pub const NOWHERE: Peer = Peer {
 
 /// Where the client of this number stands, from 0.
 pub fn place(client: u8) -> Peer {
+    let address = CLIENT.address;
     Peer {
-        address: CLIENT.address,
+        address,
         port: 7001 + client as u16,
     }
 }

@@ -203,8 +203,8 @@ fn bytes_are_read(rt: HostRuntime) {
 
 #[test]
 fn a_set_has_a_method_and_no_bit_past_the_fifth(rt: HostRuntime) {
-    for set in 0..256 {
-        let bytes = [0x81, 0x82, 0x62, b'/', b't', 0x18, set as u8];
+    for set in 0..=255u8 {
+        let bytes = [0x81, 0x82, 0x62, b'/', b't', 0x18, set];
         let is_set = 1 <= set && set <= 15 || 17 <= set && set <= 31;
         let refused = refused_bytes(rt.alloc(), bytes.as_slice());
         assert!(rt; refused.is_none() == is_set, "{set}");

@@ -3,8 +3,8 @@ use Rattle.osc_context.specs.Derivation.{Recipient}
 use Rattle.osc_window.specs.Window.{IsFresh}
 use Rattle.osc_tests_rights.proofs.authz.accepted.Goals as goal
 
-pub accept-requires-clause-fresh : goal.accept-requires-clause-fresh
-accept-requires-clause-fresh c = (
+pub accept-number-requires-clause-fresh : goal.accept-number-requires-clause-fresh
+accept-number-requires-clause-fresh c = (
   c.in-Some.context.now,
   sym c.in-Some.ensures,
   subst (λ (r : Recipient). IsFresh r.window 0) c.recipient.ensures (c.is_fresh.ensures.0 c.if-is_fresh.true),
