@@ -179,7 +179,7 @@ pub(crate) fn answer(
     drawn: [u8; 32],
     datagram: &[u8],
 ) -> Result<Step, AllocError> {
-    server.on_datagram::<Ccm<8>>(alloc, now, STRANGER, datagram, &Draw(drawn))
+    server.on_datagram::<(Ccm<8>, Ccm<16>)>(alloc, now, STRANGER, datagram, &Draw(drawn))
 }
 
 // How many bytes the step sends.

@@ -62,7 +62,7 @@ pub(crate) fn protect_next(
     }
     let room = Room::new(alloc, name, next, DATAGRAM_LIMIT)?;
     let number = sender.take_number().unwrap();
-    match protect_request::<Ccm<8>>(room, number, request) {
+    match protect_request::<(Ccm<8>, Ccm<16>)>(room, number, request) {
         Ok(made) => Ok(Some(made)),
         Err(MessageTooLong { room, number }) => {
             drop(room);
@@ -208,7 +208,7 @@ fn open_once(
     requires recipient { recipient.now ≡ recipient_of name.now Server recipient.now.window }
     requires named { IsFor name.now sealed.now }
 {
-    match open_request::<Ccm<8>>(alloc, name, recipient, sealed)? {
+    match open_request::<(Ccm<8>, Ccm<16>)>(alloc, name, recipient, sealed)? {
         Ok(note) => Ok(note.plaintext.len()),
         Err(_) => Ok(0),
     }

@@ -4,6 +4,7 @@ use Rattle.std.specs.Prelude.{IfSome, IfNone}
 use Rattle.osc_model.specs.declared.step.Note.{Note}
 use Rattle.osc_coap.specs.Message.{Message}
 use Rattle.osc_options.specs.Split.{has_oscore}
+use Rattle.osc_protect.specs.Ciphers.{Sealings}
 use Rattle.osc_protect.specs.Protection.{SealedResponse, IsResponse}
 use Rattle.osc_authz.specs.Begun.{ClientContextState}
 use Rattle.osc_run.specs.ClientKinds.{response_note}
@@ -13,7 +14,7 @@ use Rattle.osc_client.specs.declared.answering.Outcome.{Outcome}
 use Rattle.osc_client.specs.declared.answering.Outcome.TheVariants.{Stays, Answers}
 use Rattle.osc_client.specs.declared.waiting.OpenAsk.{OpenAsk}
 
-module _ (is_sealing : List ℕ → List ℕ → List ℕ → List ℕ → List ℕ → Type 0) (context : ClientContextState) (ask : OpenAsk) (message : Message) (response : SealedResponse) where
+module _ (is_sealing : Sealings) (context : ClientContextState) (ask : OpenAsk) (message : Message) (response : SealedResponse) where
   abbrev IsGenuine : Option Note → Type 0
   IsGenuine opened = IfSome opened (λ note. IsSealedFor is_sealing context ask response note.plaintext)
 

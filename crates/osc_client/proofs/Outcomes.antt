@@ -7,6 +7,7 @@ use Rattle.osc_model.specs.declared.step.ClientResult.{ClientResult}
 use Rattle.osc_model.specs.declared.step.ClientResult.TheVariants as result
 use Rattle.osc_model.specs.declared.step.Note.{Note}
 use Rattle.osc_coap.specs.Message.{Message}
+use Rattle.osc_protect.specs.Ciphers.{Sealings}
 use Rattle.osc_authz.specs.Begun.{Begun, ClientContextState}
 use Rattle.osc_authz.specs.Client.{Finishes}
 use Rattle.osc_authz.specs.declared.error.FinishError.{FinishError}
@@ -41,7 +42,7 @@ something k (Exchange begun) has e = let wrong : OpenExchange begun ≡ Nothing 
 something (Some held) (Ask ask) has e = let wrong : AskOf (record { context = held.name; number = ask.number; plaintext = ask.plaintext }) ≡ Nothing = e in cc
 something None (Ask ask) has e = has refl
 
-module _ (is_sealing : List ℕ → List ℕ → List ℕ → List ℕ → List ℕ → Type 0) (desk : ClientDesk) (message : Message) where
+module _ (is_sealing : Sealings) (desk : ClientDesk) (message : Message) where
   finishing : (context : Option ClientContextState) (begun : Begun) (P : Outcome → Type 0) → OfEach desk context (Exchange begun) P
       → (came : Result ClientContextState FinishError) (code : Code) (payload : List ℕ) → Finishes desk begun code payload came → P (ended_by came)
   finishing context begun P each (Ok made) code payload finishes = each.makes begun code payload made refl finishes

@@ -9,6 +9,7 @@ use Rattle.osc_coap.specs.Message.{Message}
 use Rattle.osc_coap.specs.declared.kind.Kind.{Kind}
 use Rattle.osc_message.specs.Heard.{noted_reply}
 use Rattle.osc_message.specs.Sending.{acknowledgement, reset, again, datagram, sent_to}
+use Rattle.osc_protect.specs.Ciphers.{Sealings}
 use Rattle.osc_client.specs.Case.{is_ended}
 use Rattle.osc_client.specs.State.{State}
 use Rattle.osc_client.specs.Table.{Answers, SendsOne, Settles, refusal}
@@ -31,7 +32,7 @@ settled_one : (ends : Bool) (old : State) (now : Moment) (from : Peer) (kind : K
 settled_one false old now from kind id step new settled = sent_by from step [] (ap (λ (s : Step). s.out) settled.0) tt
 settled_one true old now from kind id step new settled = sent_by from step [] (ap (λ (s : Step). s.out) settled.0) tt
 
-pub one_is_sent : (is_sealing : List ℕ → List ℕ → List ℕ → List ℕ → List ℕ → Type 0) (old : State) (now : Moment) (from : Peer) (case : Case) (step : Step) (new : State)
+pub one_is_sent : (is_sealing : Sealings) (old : State) (now : Moment) (from : Peer) (case : Case) (step : Step) (new : State)
     → Answers is_sealing old now from case step new → SendsOne from step.out
 one_is_sent is_sealing old now from Ignored step new answers = sent_by from step [] (ap (λ (s : Step). s.out) answers.0) tt
 one_is_sent is_sealing old now from (Reset id) step new answers = sent_by from step (datagram from (reset id) ∷ []) (ap (λ (s : Step). s.out) answers.0) refl

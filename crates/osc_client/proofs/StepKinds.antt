@@ -18,6 +18,7 @@ use Rattle.osc_run.specs.States.{ClientState, Nothing, Exchange as OpenExchange}
 use Rattle.osc_client.specs.Bounds.{HasContext}
 use Rattle.osc_client.specs.Case.{is_ended, is_reset}
 use Rattle.osc_context.specs.Nonce.{greatest_number}
+use Rattle.osc_protect.specs.Ciphers.{Sealings, Tags}
 use Rattle.osc_client.specs.Lying.{LiesUnder, lies}
 use Rattle.osc_client.specs.State.{State, core, outstanding}
 use Rattle.osc_client.specs.Table.{Answers, Settles}
@@ -49,7 +50,7 @@ settles true old now from kind id step new something settled =
     })
 
 -- a step of the table
-pub kind_of : (is_sealing : List ℕ → List ℕ → List ℕ → List ℕ → List ℕ → Type 0) (old : State) (now : Moment) (from : Peer) (case : Case) (step : Step) (new : State)
+pub kind_of : (is_sealing : Sealings) (old : State) (now : Moment) (from : Peer) (case : Case) (step : Step) (new : State)
     → HasContext old.context old.waiting
     → ((begun : Begun) (came : Code) (payload : List ℕ) (made : ClientContextState) (before : ClientState) → before.outstanding ≡ OpenExchange begun
     → Finishes before.desk begun came payload (Ok made)
@@ -75,7 +76,7 @@ kind_of is_sealing old now from (Counted message) step new has makes answers =
     rw (before, answers.told, answers.kept) kind
 
 -- a lie, under the context that the client has
-pub lied : (is_sealing : List ℕ → List ℕ → List ℕ → List ℕ → List ℕ → Type 0) (tag : ℕ) (old : State) (to : Peer) (context : ClientContextState) (number : ℕ) (text : List ℕ) (outside : Message) (step : Step)
+pub lied : (is_sealing : Sealings) (tag : Tags) (old : State) (to : Peer) (context : ClientContextState) (number : ℕ) (text : List ℕ) (outside : Message) (step : Step)
     → old.context ≡ Some context → number ≤ greatest_number → LiesUnder is_sealing tag to context number text outside step → ClientStep true (core old) step.notes (core old)
 lied is_sealing tag old to context number text outside step held lawful (LiesUnder.too_long long told) = rw told (refusals true (core old) 14)
 lied is_sealing tag old to context number text outside step held lawful (lies protected fits sealed spelled told) =

@@ -21,6 +21,7 @@ use Rattle.osc_model.specs.declared.step.Step.{Step}
 use Rattle.osc_coap.specs.Message.{Message, Spells}
 use Rattle.osc_coap.specs.declared.kind.Kind.{Kind}
 use Rattle.osc_options.specs.Split.{has_oscore}
+use Rattle.osc_protect.specs.Ciphers.{Sealings, Tags}
 use Rattle.osc_protect.specs.Protection.{IsRequestOf, plain_bytes}
 use Rattle.osc_authz.specs.Begun.{Begun, ClientContextState}
 use Rattle.osc_authz.specs.declared.error.FinishError.{FinishError}
@@ -130,7 +131,7 @@ module _ (old : State) (now : Moment) where
 
 -- ---- requests and lies
 
-module _ (is_sealing : List ℕ → List ℕ → List ℕ → List ℕ → List ℕ → Type 0) (old : State) (now : Moment) where
+module _ (is_sealing : Sealings) (old : State) (now : Moment) where
   as_sent : (came : Option (List ℕ)) (step it : Step) → step ≡ it → AreTold is_sealing old now came it → AreTold is_sealing old now came step
   as_sent came step it e told = subst (AreTold is_sealing old now came) (sym e) told
 
@@ -160,22 +161,22 @@ module _ (is_sealing : List ℕ → List ℕ → List ℕ → List ℕ → List 
         answers = λ reply e. absurd (cc);
       }
 
-  pub ask_told : (tag : ℕ) (request : Request) (draw : Draw) (step : Step) (new : State) → Asks is_sealing tag old now request draw step new → AreTold is_sealing old now None step
+  pub ask_told : (tag : Tags) (request : Request) (draw : Draw) (step : Step) (new : State) → Asks is_sealing tag old now request draw step new → AreTold is_sealing old now None step
   ask_told tag request draw step new (hindered number why refused) = told_refusal step number refused.told
   ask_told tag request draw step new (asks context protected free sealed spelled told kept) =
       as_sent None step _ told (told_seal old.next_hop (plain_bytes (plain_of old draw request)) context.name context.next (plain_of old draw request) protected sealed)
 
-  under_told : (tag : ℕ) (to : Peer) (context : ClientContextState) (number : ℕ) (text : List ℕ) (outside : Message) (step : Step)
+  under_told : (tag : Tags) (to : Peer) (context : ClientContextState) (number : ℕ) (text : List ℕ) (outside : Message) (step : Step)
       → LiesUnder is_sealing tag to context number text outside step → AreTold is_sealing old now None step
   under_told tag to context number text outside step (lying.LiesUnder.too_long long told) = told_refusal step 14 told
   under_told tag to context number text outside step (lies protected fits sealed spelled told) = as_sent None step _ told (told_seal to text context.name number outside protected sealed)
 
-  by_told : (tag : ℕ) (to : Peer) (context : Option ClientContextState) (number : ℕ) (text : List ℕ) (outside : Message) (step : Step)
+  by_told : (tag : Tags) (to : Peer) (context : Option ClientContextState) (number : ℕ) (text : List ℕ) (outside : Message) (step : Step)
       → LiesBy is_sealing tag to context number text outside step → AreTold is_sealing old now None step
   by_told tag to None number text outside step told = told_refusal step 22 told
   by_told tag to (Some context) number text outside step it = under_told tag to context number text outside step it
 
-  pub lie_told : (tag number : ℕ) (text : List ℕ) (draw : Draw) (step : Step) → Lies is_sealing tag old number text draw step → AreTold is_sealing old now None step
+  pub lie_told : (tag : Tags) (number : ℕ) (text : List ℕ) (draw : Draw) (step : Step) → Lies is_sealing tag old number text draw step → AreTold is_sealing old now None step
   lie_told tag number text draw step it = by_told tag old.next_hop old.context number text (outside_of old.origin draw) step it
 
   -- ---- a datagram

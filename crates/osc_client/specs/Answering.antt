@@ -11,8 +11,10 @@ use Rattle.osc_cbor.specs.Spelling.{IsWhole}
 use Rattle.osc_coap.specs.Message.{Message}
 use Rattle.osc_message.specs.Sending.{is_confirmable}
 use Rattle.osc_options.specs.Split.{has_oscore}
+use Rattle.osc_context.specs.Algorithm.{algorithm_of}
 use Rattle.osc_context.specs.Derivation.{key_of}
 use Rattle.osc_protect.specs.Aad.{aad_of}
+use Rattle.osc_protect.specs.Ciphers.{Sealings}
 use Rattle.osc_protect.specs.Protection.{SealedResponse, IsResponse, response_nonce}
 use Rattle.osc_authz.specs.Begun.{Begun, ClientContextState}
 use Rattle.osc_authz.specs.Client.{Finishes}
@@ -64,12 +66,12 @@ pub data ExchangeComes (desk : ClientDesk) (begun : Begun) (message : Message) (
 
 -- ---- the answer to a protected request
 
--- `is_sealing key nonce aad text sealed` is the cipher's relation
-module _ (is_sealing : List ℕ → List ℕ → List ℕ → List ℕ → List ℕ → Type 0) where
+-- `is_sealing algorithm` is the relation of the algorithm's cipher
+module _ (is_sealing : Sealings) where
   -- this text is sealed in it, for the request
   abbrev pub IsSealedFor : ClientContextState → OpenAsk → SealedResponse → List ℕ → Type 0
   IsSealedFor context ask response text =
-      is_sealing (key_of context.name Server) (response_nonce context.name ask.number response.own) (aad_of context.name ask.number) text response.sealed
+      is_sealing (algorithm_of context.name) (key_of context.name Server) (response_nonce context.name ask.number response.own) (aad_of context.name ask.number) text response.sealed
 
   -- An error without protection ends it, and anything else without protection changes nothing. What isn't a protected response, or
   -- doesn't open, changes nothing; what opens and is no response is noted. A response answers it.

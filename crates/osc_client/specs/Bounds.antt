@@ -7,6 +7,7 @@ use Rattle.osc_authz.specs.declared.granted.ClientDesk.{ClientDesk}
 use Rattle.osc_coap.specs.Message.{Message}
 use Rattle.osc_message.specs.Confirmables.{Open, is_named}
 use Rattle.osc_model.specs.declared.context.ContextName.{ContextName}
+use Rattle.osc_protect.specs.Ciphers.{Tags}
 use Rattle.osc_protect.specs.Protection.{plain_bytes, request_length}
 use Rattle.osc_context.specs.Nonce.{greatest_number}
 use Rattle.osc_client.specs.Case.{counts}
@@ -43,7 +44,7 @@ abbrev pub IsOfGrant : ClientDesk → Option ClientContextState → Type 0
 IsOfGrant desk context = IfSome context (λ made. made.name.id_context ≡ desk.id_context)
 
 -- the room that a request takes, protected at this number under the context of this name
-abbrev pub room_for : (tag : ℕ) → ContextName → ℕ → Message → AskRoom
+abbrev pub room_for : (tag : Tags) → ContextName → ℕ → Message → AskRoom
 room_for tag name number plain = record {
   seal = record { name = name; number = number; most = length (plain_bytes plain) };
   plaintext = length (plain_bytes plain);

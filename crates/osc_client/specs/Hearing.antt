@@ -10,6 +10,7 @@ use Rattle.osc_message.specs.Heard.{heard}
 use Rattle.osc_message.specs.Received.{Receives}
 use Rattle.osc_message.specs.Sending.{AreSendable}
 use Rattle.osc_message.specs.declared.received.Received.{Received}
+use Rattle.osc_protect.specs.Ciphers.{Sealings, Tags}
 use Rattle.osc_client.specs.Case.{case_of}
 use Rattle.osc_client.specs.Lying.{Lies}
 use Rattle.osc_client.specs.Sending.{Asks, Exchanges}
@@ -30,8 +31,8 @@ pub record Begins (old : State) (now : Moment) (draw : Draw) (step : Step) (new 
   pub told : SealsNothing old now step
   pub fits : AreSendable step.out
 
--- `is_sealing key nonce aad text sealed` is the cipher's relation
-module _ (is_sealing : List ℕ → List ℕ → List ℕ → List ℕ → List ℕ → Type 0) where
+-- `is_sealing algorithm` is the relation of the algorithm's cipher
+module _ (is_sealing : Sealings) where
   -- these bytes come from this address
   pub record Hears (old : State) (now : Moment) (from : Peer) (bytes : List ℕ) (step : Step) (new : State) : Type 0 where
     pub received : Received
@@ -41,13 +42,13 @@ module _ (is_sealing : List ℕ → List ℕ → List ℕ → List ℕ → List 
     pub fits : AreSendable step.out
 
   -- a request is asked, or refused, where the cipher's tag is so long
-  pub record Requests (tag : ℕ) (old : State) (now : Moment) (request : Request) (draw : Draw) (step : Step) (new : State) : Type 0 where
+  pub record Requests (tag : Tags) (old : State) (now : Moment) (request : Request) (draw : Draw) (step : Step) (new : State) : Type 0 where
     pub asks : Asks is_sealing tag old now request draw step new
     pub told : AreTold is_sealing old now None step
     pub fits : AreSendable step.out
 
   -- a lie is told, or refused; the client stays as it is
-  pub record TellsLie (tag : ℕ) (old : State) (number : ℕ) (text : List ℕ) (draw : Draw) (step : Step) : Type 0 where
+  pub record TellsLie (tag : Tags) (old : State) (number : ℕ) (text : List ℕ) (draw : Draw) (step : Step) : Type 0 where
     pub lies : Lies is_sealing tag old number text draw step
     pub told : (now : Moment) → AreTold is_sealing old now None step
     pub fits : AreSendable step.out

@@ -8,6 +8,8 @@ use Rattle.osc_model.specs.declared.step.Step.{Step}
 use Rattle.osc_coap.specs.Building.{bare}
 use Rattle.osc_coap.specs.Message.{Message, Spells, spelling}
 use Rattle.osc_coap.specs.declared.kind.Kind.TheVariants.{Confirmable}
+use Rattle.osc_context.specs.Algorithm.{algorithm_of}
+use Rattle.osc_protect.specs.Ciphers.{Sealings, Tags}
 use Rattle.osc_protect.specs.Protection.{IsRequestOf, length_of_request, longest_message}
 use Rattle.osc_authz.specs.Begun.{ClientContextState}
 use Rattle.osc_run.specs.ClientKinds.{request_note}
@@ -20,14 +22,14 @@ use Rattle.osc_client.specs.Way.{HostAndPort, through}
 abbrev pub outside_of : Option HostAndPort → Draw → Message
 outside_of origin draw = through origin (bare Confirmable 2 (message_id_drawn draw) (token_drawn draw))
 
--- `is_sealing key nonce aad text sealed` is the cipher's relation, and `tag` how long its tag is
-module _ (is_sealing : List ℕ → List ℕ → List ℕ → List ℕ → List ℕ → Type 0) (tag : ℕ) where
+-- `is_sealing algorithm` is the relation of the algorithm's cipher, and `tag algorithm` how long its tag is
+module _ (is_sealing : Sealings) (tag : Tags) where
   -- 14 where it would be longer than a datagram may be, and else a protected request with this text and this number goes out, as bytes that
   -- are read again as it
   pub data LiesUnder (to : Peer) (context : ClientContextState) (number : ℕ) (text : List ℕ) (outside : Message) (step : Step) : Type 0 where
-    too_long : longest_message < length_of_request (length text + tag) context.name number outside → step ≡ refusing 14
+    too_long : longest_message < length_of_request (length text + tag (algorithm_of context.name)) context.name number outside → step ≡ refusing 14
         → LiesUnder to context number text outside step
-    lies : (protected : Message) → length_of_request (length text + tag) context.name number outside ≤ longest_message
+    lies : (protected : Message) → length_of_request (length text + tag (algorithm_of context.name)) context.name number outside ≤ longest_message
         → IsRequestOf is_sealing text context.name number outside protected
         → Spells (spelling protected) protected
         → step

@@ -19,6 +19,7 @@ use Rattle.osc_message.specs.Endpoint.{EndpointState, own_id, id_taken, after_ti
 use Rattle.osc_message.specs.Ticks.{acts, ticked, tick_sends}
 use Rattle.osc_message.specs.Timeout.{timeout_of}
 use Rattle.osc_context.specs.Nonce.{greatest_number}
+use Rattle.osc_protect.specs.Ciphers.{Sealings, Tags}
 use Rattle.osc_protect.specs.Protection.{IsProtectedRequest, longest_message, plain_bytes, request_length}
 use Rattle.osc_authz.specs.Begun.{Begun, ClientContextState}
 use Rattle.osc_authz.specs.Client.{offered_id}
@@ -126,8 +127,8 @@ plain_request id token request = with_request (bare Confirmable request.code.0 i
 abbrev pub plain_of : State → Draw → Request → Message
 plain_of old draw request = through old.origin (plain_request (own_id draw old.endpoint.next_id) (token_drawn draw) request)
 
--- `is_sealing key nonce aad text sealed` is the cipher's relation, and `tag` how long its tag is
-module _ (is_sealing : List ℕ → List ℕ → List ℕ → List ℕ → List ℕ → Type 0) (tag : ℕ) where
+-- `is_sealing algorithm` is the relation of the algorithm's cipher, and `tag algorithm` how long its tag is
+module _ (is_sealing : Sealings) (tag : Tags) where
   -- why a request isn't sent, by its number: something is open; there is no context; its numbers are used up; protected under the next
   -- one it would be longer than a datagram may be
   pub data IsHindered (old : State) (request : Request) (draw : Draw) (number : ℕ) : Type 0 where

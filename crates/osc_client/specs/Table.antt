@@ -17,6 +17,7 @@ use Rattle.osc_message.specs.Heard.{noted_reply}
 use Rattle.osc_message.specs.Sending.{acknowledgement, reset, again, datagram, sent_to}
 use Rattle.osc_message.specs.declared.handling.Handling.TheVariants as handling
 use Rattle.osc_message.specs.declared.heard.Heard.TheVariants as heard
+use Rattle.osc_protect.specs.Ciphers.{Sealings}
 use Rattle.osc_client.specs.Answering.{Comes, CountsInMemory, context_after, notes_of, waits_after}
 use Rattle.osc_client.specs.Case.{is_ended}
 use Rattle.osc_client.specs.State.{State}
@@ -43,8 +44,8 @@ Settles true old now from kind id step new =
     (step ≡ record { out = []; notes = record quiet { result = Some (Unverified (record { 0 = 0 })) } })
     × (new ≡ record old { waiting = None; endpoint = settled old.endpoint now from (heard.Empty kind id) handling.Dropped })
 
--- `is_sealing key nonce aad text sealed` is the cipher's relation
-module _ (is_sealing : List ℕ → List ℕ → List ℕ → List ℕ → List ℕ → Type 0) where
+-- `is_sealing algorithm` is the relation of the algorithm's cipher
+module _ (is_sealing : Sealings) where
   -- A response that counts acknowledges the message that it answers, is noted, and is acknowledged where it is confirmable (RFC 7252
   -- sections 4.2 and 5.2.2), whatever it comes to.
   pub record Counts (old : State) (now : Moment) (from : Peer) (message : Message) (step : Step) (new : State) : Type 0 where

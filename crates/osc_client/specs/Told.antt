@@ -12,6 +12,7 @@ use Rattle.osc_coap.specs.Message.{Message, spelling}
 use Rattle.osc_options.specs.Split.{has_oscore}
 use Rattle.osc_message.specs.Confirmables.{Open}
 use Rattle.osc_message.specs.Heard.{noted_reply}
+use Rattle.osc_protect.specs.Ciphers.{Sealings}
 use Rattle.osc_run.specs.Seals.{IsOpenOf, IsSealOf}
 use Rattle.osc_run.specs.Texts.{IsReplyIn}
 use Rattle.osc_client.specs.State.{State}
@@ -31,8 +32,8 @@ pub record SealsNothing (old : State) (now : Moment) (step : Step) : Type 0 wher
   pub opens : step.notes.opens ≡ None
   pub answers : (reply : Reply) → step.notes.result ≢ Some (Answer reply)
 
--- `is_sealing key nonce aad text sealed` is the cipher's relation
-module _ (is_sealing : List ℕ → List ℕ → List ℕ → List ℕ → List ℕ → Type 0) where
+-- `is_sealing algorithm` is the relation of the algorithm's cipher
+module _ (is_sealing : Sealings) where
   -- it was sealed in this step, as noted, or needs no seal
   pub data IsToldOf (old : State) (now : Moment) (notes : StepNotes) (sent : Datagram) : Type 0 where
     sealed_now : (note : Note) → notes.seals ≡ Some note → IsSealOf is_sealing note sent → IsToldOf old now notes sent

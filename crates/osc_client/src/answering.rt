@@ -18,13 +18,12 @@ ghost use Rattle.osc_model.specs.declared.step.ClientResult.TheVariants as ended
 
 use crate::waiting::{Awaited, OpenAsk, Waiting};
 use osc_authz::{ClientContext, ClientDesk, FinishError, OpenExchange};
-use osc_ccm::Aead;
 use osc_coap::MessageRef;
 use osc_coap::laws::reading;
 use osc_model::{ClientResult, Code, Note, Reply, StepNotes};
 use osc_options::numbers::OSCORE;
 use osc_options::{PlaintextError, has_option, reply_of};
-use osc_protect::{SealedResponseRef, open_response, read_response};
+use osc_protect::{Ciphers, SealedResponseRef, open_response, read_response};
 use std::alloc::{AllocError, Global};
 
 /// What an answer that counts comes to.
@@ -130,7 +129,7 @@ const FIELDS: u8 = 30;
 const EQUAL_IDS: u8 = 20;
 
 /// What an answer to a protected request comes to.
-fn ask_outcome<A: Aead>(
+fn ask_outcome<A: Ciphers>(
     alloc: Global,
     context: &ClientContext,
     ask: &OpenAsk,
@@ -154,7 +153,7 @@ fn ask_outcome<A: Aead>(
 }
 
 /// What a protected response comes to.
-fn opened_outcome<A: Aead>(
+fn opened_outcome<A: Ciphers>(
     alloc: Global,
     context: &ClientContext,
     ask: &OpenAsk,
@@ -185,7 +184,7 @@ fn outcome_opened(alloc: Global, opened: Option<Note>) -> Result<Outcome, AllocE
 }
 
 /// Opens the response to the request, if it is genuine.
-fn open<A: Aead>(
+fn open<A: Ciphers>(
     alloc: Global,
     context: &ClientContext,
     ask: &OpenAsk,
@@ -245,7 +244,7 @@ fn judge_exchange(
 }
 
 /// What an answer to a protected request comes to, and what is awaited then.
-fn judge_ask<A: Aead>(
+fn judge_ask<A: Ciphers>(
     alloc: Global,
     context: &ClientContext,
     ask: OpenAsk,
@@ -266,7 +265,7 @@ fn judge_ask<A: Aead>(
 }
 
 /// What an answer that counts comes to, and what waits then: all that waited, where memory is wanting.
-pub(crate) fn outcome_of<A: Aead>(
+pub(crate) fn outcome_of<A: Ciphers>(
     alloc: Global,
     desk: &ClientDesk,
     context: &Option<ClientContext>,

@@ -13,7 +13,6 @@ use crate::proxied::through;
 use crate::waiting::OpenAsk;
 use crate::way::Origin;
 use osc_authz::ClientContext;
-use osc_ccm::Aead;
 use osc_coap::laws::length_of_spelling;
 use osc_coap::{DatagramTooLong, Kind, MessageBuilder};
 use osc_message::{Buffer, ReplyRoom};
@@ -21,7 +20,7 @@ use osc_model::{Note, Request};
 use osc_options::laws::merged_options;
 use osc_options::request_message;
 use osc_protect::laws::protected_messages_are_longer;
-use osc_protect::{ProtectedRequest, RequestSize, Room, protect_request, request_size};
+use osc_protect::{Ciphers, ProtectedRequest, RequestSize, Room, protect_request, request_size};
 use std::alloc::{AllocError, Global};
 
 /// The request as a message that goes to the server; refused only where it is longer than a datagram may be.
@@ -42,7 +41,7 @@ fn plain_message(
 }
 
 /// The request as a message, and how long it is under the context's next number, where it fits a datagram once it is protected.
-pub(crate) fn fitting<A: Aead>(
+pub(crate) fn fitting<A: Ciphers>(
     context: &ClientContext,
     origin: &Option<Origin>,
     id: u16,
@@ -120,7 +119,7 @@ pub(crate) struct Asked {
 }
 
 /// Protects the request under the context's next number, which is taken; takes no memory.
-pub(crate) fn protected<A: Aead>(
+pub(crate) fn protected<A: Ciphers>(
     context: &mut ClientContext,
     room: AskRoom,
     plain: &MessageBuilder,

@@ -37,12 +37,12 @@ use crate::sending::{acknowledged, refusal};
 use crate::waiting::{Awaited, Waiting};
 use crate::way::{Origin, Way};
 use osc_authz::{ClientContext, ClientDesk};
-use osc_ccm::Aead;
 use osc_coap::{Kind, MessageBuilder, MessageRef};
 use osc_context::NUMBER_LIMIT;
 use osc_message::laws::ticks_at_rest;
 use osc_message::{Handling, Heard, ReplyRoom, noted, reset, sending_message};
 use osc_model::{ClientResult, Code, Datagrams, Draw, Moment, Peer, Request, Step, StepNotes};
+use osc_protect::Ciphers;
 use osc_run::kinds;
 use std::alloc::{AllocError, Global};
 use std::marker::Model;
@@ -218,7 +218,7 @@ impl Client {
     /// Asks for this: protects the request under the context's next number, and sends it. Refused, with nothing changed, by 17 where
     /// something is open, by 22 without a context, by 18 once its numbers are used up, and by 14 where the datagram would be
     /// longer than one may be.
-    pub fn ask<A: Aead>(
+    pub fn ask<A: Ciphers>(
         &mut self,
         alloc: Global,
         now: Moment,
@@ -253,7 +253,7 @@ impl Client {
     /// Seals any text at any lawful number in the client's context, as a holder can that keeps no rule, and sends it as a protected
     /// request to the next hop. Refused by 22 without a context, and by 14 where the datagram would be longer than one may be. The
     /// client stays as it is: nothing waits for an answer, nothing is sent again, and no number is taken.
-    pub fn lie<A: Aead>(
+    pub fn lie<A: Ciphers>(
         &self,
         alloc: Global,
         number: u64,
@@ -275,7 +275,7 @@ impl Client {
     }
 
     /// The request as a message, and room for it; or the number of what hinders it.
-    fn prepared<A: Aead>(
+    fn prepared<A: Ciphers>(
         &self,
         alloc: Global,
         request: &Request,
@@ -339,7 +339,7 @@ impl Client {
     /// These bytes came from this peer at this moment as one datagram: the step that answers them. What is sent is at most one
     /// datagram, to that peer: a Reset, an acknowledgement, a refusal, or what answered the same message before. What comes of an
     /// answer that counts stands in the step's notes. Without memory for it an `AllocError`; then nothing has changed.
-    pub fn on_datagram<A: Aead>(
+    pub fn on_datagram<A: Ciphers>(
         &mut self,
         alloc: Global,
         now: Moment,
@@ -361,7 +361,7 @@ impl Client {
     }
 
     /// What is sent in this case, and what is kept after it.
-    fn answer<A: Aead>(
+    fn answer<A: Ciphers>(
         &mut self,
         alloc: Global,
         now: Moment,
@@ -436,7 +436,7 @@ impl Client {
     }
 
     /// What comes of a response that counts.
-    fn count<A: Aead>(
+    fn count<A: Ciphers>(
         &mut self,
         alloc: Global,
         now: Moment,

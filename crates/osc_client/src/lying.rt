@@ -10,10 +10,9 @@ use crate::refusing::{TOO_LONG, refused};
 use crate::sending::message_out;
 use crate::way::Origin;
 use osc_authz::ClientContext;
-use osc_ccm::Aead;
 use osc_coap::{DATAGRAM_LIMIT, Kind, MessageBuilder};
 use osc_model::{Draw, Peer, Step, StepNotes};
-use osc_protect::{Room, UncountedRequest, protect_uncounted};
+use osc_protect::{Ciphers, Room, UncountedRequest, protect_uncounted};
 use std::alloc::{AllocError, Global};
 
 /// The code of a POST.
@@ -31,7 +30,7 @@ pub(crate) fn outside(origin: &Option<Origin>, draw: &Draw) -> MessageBuilder
 }
 
 /// Seals the text at this number under the context, in this message.
-pub(crate) fn lie_under<A: Aead>(
+pub(crate) fn lie_under<A: Ciphers>(
     alloc: Global,
     to: Peer,
     context: &ClientContext,

@@ -53,7 +53,13 @@ fn server(alloc: Global) -> Result<Server, AllocError> {
 /// What the server sends for this datagram, in hexadecimal.
 fn answer(alloc: Global, server: &mut Server, datagram: &[u8]) -> Result<String, AllocError> {
     // The moment is your clock's, and the draw 32 bytes of your generator, new for each call.
-    let step = server.on_datagram::<Ccm<8>>(alloc, Moment::START, PEER, datagram, &Draw([0; 32]))?;
+    let step = server.on_datagram::<(Ccm<8>, Ccm<16>)>(
+        alloc,
+        Moment::START,
+        PEER,
+        datagram,
+        &Draw([0; 32]),
+    )?;
     match step.out.as_slice() {
         [reply] => hex::encode(alloc, reply.bytes.as_slice()),
         _ => "nothing".to_string(alloc),

@@ -27,7 +27,7 @@ use Rattle.osc_script.specs.declared.line.Line.{Line}
 use Rattle.osc_script.specs.declared.line.Line.TheVariants.{Exchange, Ask}
 use Rattle.osc_world.specs.declared.nodes.Placed.{Placed}
 use Rattle.osc_simulation.specs.Names.{granted, name_of_number}
-use Rattle.osc_simulation.specs.Simulation.{is_sealing}
+use Rattle.osc_simulation.specs.Simulation.{is_sealing, tag_of}
 use Rattle.osc_simulation.specs.Trace.{end_text}
 use Rattle.osc_turn.specs.Nodes.{ServerSteps}
 use Rattle.osc_turn.specs.Ports.{Arrival}
@@ -155,7 +155,7 @@ does_exchange asked name old new now draw step is begins kind =
 
 -- by one that has it ask
 pub does_ask : (asked : Line) (name : ClientName) (request : Request) (old new : Client) (now : Moment) (draw : Draw) (step : Step) → asked ≡ Ask name request
-    → hearing.Requests is_sealing 8 old now request draw step new → ClientStep false (core old) step.notes (core new) → DoesBy asked old step new
+    → hearing.Requests is_sealing tag_of old now request draw step new → ClientStep false (core old) step.notes (core new) → DoesBy asked old step new
 does_ask asked name request old new now draw step is asks kind =
     subst (λ (line : Line). DoesBy line old step new) (sym is) (record { now = now; draw = draw; begins = asks; kind = kind })
 

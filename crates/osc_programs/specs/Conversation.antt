@@ -15,7 +15,7 @@ use Rattle.osc_settings.specs.declared.client.ClientSettings.{ClientSettings}
 use Rattle.osc_turn.specs.Nodes.{ClientSteps}
 use Rattle.osc_turn.specs.Ports.{Arrival}
 use Rattle.osc_simulation.specs.Records.{learnt_text}
-use Rattle.osc_simulation.specs.Simulation.{is_sealing}
+use Rattle.osc_simulation.specs.Simulation.{is_sealing, tag_of}
 use Rattle.osc_simulation.specs.Text.{line}
 use Rattle.osc_programs.specs.Turning.{Supply, IsSeeded, Running, Gives, TakesTurn}
 use Rattle.osc_programs.specs.declared.asking.Outcome.{Outcome}
@@ -42,7 +42,7 @@ pub record Sends (request : Request) (old : Running Client) (step : Step) (new :
   pub now : Moment
   pub draw : Draw
   pub gives : Gives old.supply now draw new.supply
-  pub asks : Asks is_sealing 8 old.node now request draw step new.node
+  pub asks : Asks is_sealing tag_of old.node now request draw step new.node
   pub busy : new.busy ≡ old.busy
 
 -- ---- what comes of them

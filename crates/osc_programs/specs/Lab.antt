@@ -30,7 +30,7 @@ use Rattle.osc_turn.specs.Nodes.{ClientSteps, ServerSteps}
 use Rattle.osc_turn.specs.Ports.{Arrival}
 use Rattle.osc_simulation.specs.Names.{granted, name_of_number, number_of}
 use Rattle.osc_simulation.specs.Records.{learnt_text}
-use Rattle.osc_simulation.specs.Simulation.{IsStartOf, is_sealing}
+use Rattle.osc_simulation.specs.Simulation.{IsStartOf, is_sealing, tag_of}
 use Rattle.osc_simulation.specs.Text.{line}
 use Rattle.osc_simulation.specs.Trace.{end_text}
 use Rattle.osc_programs.specs.Ended.{IsFault}
@@ -66,7 +66,7 @@ is_waiting clients number = waits (slice_get clients number)
 -- what a line has its client do, at some moment and with some draw: it posts its token, or sends a request, protected
 abbrev pub Begins : Line → Client → Moment → Draw → Step → Client → Type 0
 Begins (Exchange client) old now draw step new = hearing.Begins old now draw step new
-Begins (Ask client request) old now draw step new = hearing.Requests is_sealing 8 old now request draw step new
+Begins (Ask client request) old now draw step new = hearing.Requests is_sealing tag_of old now request draw step new
 Begins other old now draw step new = ⊥
 
 -- the line has a client do nothing: a request with the code 0.00 is none

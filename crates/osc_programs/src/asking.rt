@@ -316,7 +316,7 @@ fn send_request<W: Watch + Drop, P: Port>(
         return Err(Ended::BadCommandLine);
     }
     let (now, draw) = moment_and_draw(supply)?;
-    match client.ask::<Ccm<8>>(alloc, now, request, &draw) {
+    match client.ask::<(Ccm<8>, Ccm<16>)>(alloc, now, request, &draw) {
         Ok(step) => sent(port, step),
         Err(_) => Err(Ended::OutOfMemory),
     }

@@ -314,7 +314,7 @@ fn begun<W: Watch + Drop>(
             Err(_) => Err(Ended::OutOfMemory),
         },
         Line::Ask { request, .. } if request.code.0 > 0 => {
-            match client.ask::<Ccm<8>>(alloc, now, request, &draw) {
+            match client.ask::<(Ccm<8>, Ccm<16>)>(alloc, now, request, &draw) {
                 Ok(step) => Ok(Some(step)),
                 Err(_) => Err(Ended::OutOfMemory),
             }
@@ -398,7 +398,7 @@ fn reserve(notes: &mut Notes) -> Result<(), Ended>
 }
 
 // A turn of the node.
-fn turn_of<W: Watch + Drop, P: Port + Drop, N: osc_turn::Node<Ccm<8>>>(
+fn turn_of<W: Watch + Drop, P: Port + Drop, N: osc_turn::Node<(Ccm<8>, Ccm<16>)>>(
     alloc: Global,
     supply: &mut Supply<W>,
     berth: &mut Berth<P>,

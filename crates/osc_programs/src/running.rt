@@ -217,7 +217,7 @@ fn target_of(setting: &TargetSetting) -> Result<Target, AllocError>
 // ---- turns
 
 // The node takes so many turns at this address.
-fn run<R: Clock + Eprint + Net + RandomSource, N: Node<Ccm<8>>, L: Log>(
+fn run<R: Clock + Eprint + Net + RandomSource, N: Node<(Ccm<8>, Ccm<16>)>, L: Log>(
     alloc: Global,
     runtime: &R,
     bind: Peer,
@@ -248,7 +248,7 @@ pub(crate) fn bound<R: Net>(runtime: &R, bind: Peer) -> Result<UdpPort, Ended>
     }
 }
 
-fn started<R: Clock + Eprint + RandomSource, N: Node<Ccm<8>>, L: Log>(
+fn started<R: Clock + Eprint + RandomSource, N: Node<(Ccm<8>, Ccm<16>)>, L: Log>(
     alloc: Global,
     runtime: &R,
     port: &mut UdpPort,

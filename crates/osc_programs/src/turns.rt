@@ -15,7 +15,7 @@ use std::alloc::Global;
 
 /// The node takes so many turns, unless one fails, and the log tells of each. A datagram that can't be sent is lost, as on the way; so
 /// is what came where there is no memory for its step.
-pub(crate) fn take_turns<W: Watch + Drop, P: Port, N: Node<Ccm<8>>, L: Log>(
+pub(crate) fn take_turns<W: Watch + Drop, P: Port, N: Node<(Ccm<8>, Ccm<16>)>, L: Log>(
     alloc: Global,
     supply: &mut Supply<W>,
     port: &mut P,
@@ -41,7 +41,7 @@ pub(crate) fn take_turns<W: Watch + Drop, P: Port, N: Node<Ccm<8>>, L: Log>(
 }
 
 // One turn, of which the log tells.
-fn one_turn<W: Watch + Drop, P: Port, N: Node<Ccm<8>>, L: Log>(
+fn one_turn<W: Watch + Drop, P: Port, N: Node<(Ccm<8>, Ccm<16>)>, L: Log>(
     alloc: Global,
     supply: &mut Supply<W>,
     port: &mut P,
@@ -58,7 +58,7 @@ fn one_turn<W: Watch + Drop, P: Port, N: Node<Ccm<8>>, L: Log>(
     ensures fault { IfErr result ends.IsFault }
 {
     let (now, draw) = moment_and_draw(supply)?;
-    match paced_turn::<Ccm<8>, _, _>(alloc, port, node, pace, now, &draw) {
+    match paced_turn::<(Ccm<8>, Ccm<16>), _, _>(alloc, port, node, pace, now, &draw) {
         Ok(turned) => {
             log.step(alloc, now, &turned.step);
             drop(turned);
@@ -75,7 +75,7 @@ fn one_turn<W: Watch + Drop, P: Port, N: Node<Ccm<8>>, L: Log>(
 }
 
 /// One turn of the node, at the next moment and with the next draw.
-pub(crate) fn take_turn<W: Watch + Drop, P: Port, N: Node<Ccm<8>>>(
+pub(crate) fn take_turn<W: Watch + Drop, P: Port, N: Node<(Ccm<8>, Ccm<16>)>>(
     alloc: Global,
     supply: &mut Supply<W>,
     port: &mut P,
@@ -90,7 +90,7 @@ pub(crate) fn take_turn<W: Watch + Drop, P: Port, N: Node<Ccm<8>>>(
     ensures fault { IfErr result ends.IsFault }
 {
     let (now, draw) = moment_and_draw(supply)?;
-    match paced_turn::<Ccm<8>, _, _>(alloc, port, node, pace, now, &draw) {
+    match paced_turn::<(Ccm<8>, Ccm<16>), _, _>(alloc, port, node, pace, now, &draw) {
         Ok(turned) => Ok(turned),
         Err(error) => Err(ended_by_turn(error)),
     }

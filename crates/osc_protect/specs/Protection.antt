@@ -9,10 +9,12 @@ use Rattle.osc_coap.specs.Message.{Message, spelling}
 use Rattle.osc_coap.specs.Plaintext.{plaintext_spelling}
 use Rattle.osc_options.specs.Requests.{value}
 use Rattle.osc_options.specs.Split.{plaintext_of, protected}
+use Rattle.osc_context.specs.Algorithm.{algorithm_of}
 use Rattle.osc_context.specs.Derivation.{key_of}
 use Rattle.osc_context.specs.Nonce.{nonce_of}
 use Rattle.osc_protect.specs.Value.{value_spelling, SpellsValue}
 use Rattle.osc_protect.specs.Aad.{aad_of}
+use Rattle.osc_protect.specs.Ciphers.{Sealing, Sealings, Tags}
 
 -- an id context is short enough for the option's value
 abbrev pub HasShortContext : ContextName → Type 0
@@ -55,12 +57,12 @@ request_with name number m sealed = protected m 2 (request_value name number) se
 abbrev pub response_with : Option ℕ → Message → List ℕ → Message
 response_with own m sealed = protected m 68 (response_value own) sealed
 
--- `is_sealing key nonce aad text sealed` is the cipher's relation
-module _ (is_sealing : List ℕ → List ℕ → List ℕ → List ℕ → List ℕ → Type 0) where
+-- `is_sealing algorithm` is the relation of the algorithm's cipher; a message is under the algorithm of its context
+module _ (is_sealing : Sealings) where
   -- a protected request in place of m, in which this text is sealed
   pub record IsRequestOf (text : List ℕ) (name : ContextName) (number : ℕ) (m p : Message) : Type 0 where
     pub sealed : List ℕ
-    pub is_sealed : is_sealing (key_of name Client) (request_nonce name number) (aad_of name number) text sealed
+    pub is_sealed : is_sealing (algorithm_of name) (key_of name Client) (request_nonce name number) (aad_of name number) text sealed
     pub whole : p ≡ request_with name number m sealed
 
   -- m, protected
@@ -69,12 +71,12 @@ module _ (is_sealing : List ℕ → List ℕ → List ℕ → List ℕ → List 
 
   pub record IsProtectedResponse (name : ContextName) (number : ℕ) (own : Option ℕ) (m p : Message) : Type 0 where
     pub sealed : List ℕ
-    pub is_sealed : is_sealing (key_of name Server) (response_nonce name number own) (aad_of name number) (plain_bytes m) sealed
+    pub is_sealed : is_sealing (algorithm_of name) (key_of name Server) (response_nonce name number own) (aad_of name number) (plain_bytes m) sealed
     pub whole : p ≡ response_with own m sealed
 
-  -- what is sealed is the sealing of some text
-  abbrev pub IsGenuine : (key nonce aad sealed : List ℕ) → Type 0
-  IsGenuine key nonce aad sealed = (text : List ℕ) × is_sealing key nonce aad text sealed
+-- what is sealed is the sealing of some text
+abbrev pub IsGenuine : Sealing → (key nonce aad sealed : List ℕ) → Type 0
+IsGenuine is_sealing key nonce aad sealed = (text : List ℕ) × is_sealing key nonce aad text sealed
 
 -- the most bytes of a protected message: those of a datagram (RFC 7252 section 4.6)
 abbrev pub longest_message : ℕ
@@ -84,8 +86,8 @@ longest_message = 1152
 abbrev pub length_of_request : ℕ → ContextName → ℕ → Message → ℕ
 length_of_request size name number m = length (spelling (request_with name number m (replicate size 0)))
 
-abbrev pub request_length : ℕ → ContextName → ℕ → Message → ℕ
-request_length tag name number m = length_of_request (length (plain_bytes m) + tag) name number m
+abbrev pub request_length : Tags → ContextName → ℕ → Message → ℕ
+request_length tag name number m = length_of_request (length (plain_bytes m) + tag (algorithm_of name)) name number m
 
 abbrev pub response_length : ℕ → Option ℕ → Message → ℕ
 response_length tag own m = length (spelling (response_with own m (replicate (length (plain_bytes m) + tag) 0)))

@@ -6,13 +6,15 @@ ghost use Rattle.osc_coap.specs.Message.{Message, HasSpelling, spelling};
 ghost use Rattle.osc_coap.specs.Plaintext.{SpellsPlaintext};
 ghost use Rattle.osc_options.specs.Split.{AreInOrder, plaintext_of, unprotected, has_oscore};
 ghost use Rattle.osc_model.specs.declared.context.Side.TheVariants.{Client, Server};
+ghost use Rattle.osc_context.specs.Algorithm.{algorithm_of};
 ghost use Rattle.osc_context.specs.Derivation.{key_of};
 ghost use Rattle.osc_context.specs.Nonce.{longest_id, greatest_number};
 ghost use Rattle.osc_protect.specs.Aad.{aad_of};
+ghost use Rattle.osc_protect.specs.Ciphers.{Tags};
 ghost use Rattle.osc_protect.specs.Value.{Compressed, SpellsValue};
 ghost use Rattle.osc_protect.specs.Protection.{HasShortContext, plain_bytes, request_nonce, request_value, response_nonce, response_value, request_length, response_length, IsProtectedRequest, IsProtectedResponse, SealedRequest, IsRequest, SealedResponse, IsResponse, IsFor};
 
-use osc_ccm::Aead;
+use crate::ciphers::Ciphers;
 use osc_coap::laws::one_plaintext;
 use osc_options::laws::{
     merging_what_was_split, option_of_a_protected_message, protecting_lengthens,
@@ -40,7 +42,7 @@ pub fn lengths_of_values()
 
 /// Protecting a message makes it longer, under any name and number, however long the cipher's tag is.
 pub fn protected_messages_are_longer()
-    ensures request { (tag number : ℕ) (name : AnyName) (m : Message)
+    ensures request { (tag : Tags) (number : ℕ) (name : AnyName) (m : Message)
         → AreInOrder 0 m.options → has_oscore m.options ≡ false → length (spelling m) < request_length tag name number m }
     ensures response { (tag : ℕ) (own : Option ℕ) (m : Message)
         → AreInOrder 0 m.options → has_oscore m.options ≡ false → length (spelling m) < response_length tag own m }
@@ -65,12 +67,12 @@ pub fn one_response()
 /// A protected request is read as what it was made of: it is a request of this number for this context; under this context's
 /// key, nonce and associated data it opens, and to nothing but the plaintext of the message that was protected; and with it the
 /// message is as it was.
-pub fn unprotecting_a_protected_request<A: Aead>()
+pub fn unprotecting_a_protected_request<A: Ciphers>()
     ensures request { (name : AnyName) (number : ℕ) (m p : Message) → HasShortContext name → number ≤ greatest_number
         → IsProtectedRequest A.is_sealing name number m p
         → (request : SealedRequest) × IsRequest p request × (request.number ≡ number) × IsFor name request
-        × A.is_sealing (key_of name Client) (request_nonce name number) (aad_of name number) (plain_bytes m) request.sealed
-        × ((text : List ℕ) → A.is_sealing (key_of name Client) (request_nonce name number) (aad_of name number) text request.sealed → text ≡ plain_bytes m) }
+        × A.is_sealing (algorithm_of name) (key_of name Client) (request_nonce name number) (aad_of name number) (plain_bytes m) request.sealed
+        × ((text : List ℕ) → A.is_sealing (algorithm_of name) (key_of name Client) (request_nonce name number) (aad_of name number) text request.sealed → text ≡ plain_bytes m) }
     ensures again { (name : AnyName) (number : ℕ) (m p : Message)
         → HasSpelling m → has_oscore m.options ≡ false → IsProtectedRequest A.is_sealing name number m p
         → SpellsPlaintext (plain_bytes m) (plaintext_of m) × (unprotected p (plaintext_of m) ≡ m) }
@@ -82,12 +84,12 @@ pub fn unprotecting_a_protected_request<A: Aead>()
 }
 
 /// The same of a protected response.
-pub fn unprotecting_a_protected_response<A: Aead>()
+pub fn unprotecting_a_protected_response<A: Ciphers>()
     ensures response { (name : AnyName) (number : ℕ) (own : Option ℕ) (m p : Message)
         → IfSome own (λ n. n ≤ greatest_number) → IsProtectedResponse A.is_sealing name number own m p
         → (response : SealedResponse) × IsResponse p response × (response.own ≡ own)
-        × A.is_sealing (key_of name Server) (response_nonce name number own) (aad_of name number) (plain_bytes m) response.sealed
-        × ((text : List ℕ) → A.is_sealing (key_of name Server) (response_nonce name number own) (aad_of name number) text response.sealed → text ≡ plain_bytes m) }
+        × A.is_sealing (algorithm_of name) (key_of name Server) (response_nonce name number own) (aad_of name number) (plain_bytes m) response.sealed
+        × ((text : List ℕ) → A.is_sealing (algorithm_of name) (key_of name Server) (response_nonce name number own) (aad_of name number) text response.sealed → text ≡ plain_bytes m) }
     ensures again { (name : AnyName) (number : ℕ) (own : Option ℕ) (m p : Message)
         → HasSpelling m → has_oscore m.options ≡ false → IsProtectedResponse A.is_sealing name number own m p
         → SpellsPlaintext (plain_bytes m) (plaintext_of m) × (unprotected p (plaintext_of m) ≡ m) }

@@ -1,6 +1,6 @@
 //! Protection of requests and responses (RFC 8613 sections 4 to 8).
 //!
-//! Generic over the cipher: all that is known of it is the law of `Aead`. Protecting takes no memory, since its room was taken
+//! Generic over the ciphers, one for each algorithm: all that is known of them are the laws of `Ciphers`. Protecting takes no memory, since its room was taken
 //! before, and opening takes none before it is known that what is sealed is genuine; each use of a key is noted. A message is read before it is opened, so that its context and its
 //! number can be looked at first: numbers are accepted by the caller, last, and a reply under a request's nonce is protected
 //! only with the number that was accepted.

@@ -4,22 +4,23 @@ ghost use Rattle.std.specs.Prelude.{◌≡◌, ◌≤◌, ◌<◌, ◌⊎◌, �
 ghost use Rattle.osc_coap.specs.Message.{spelling};
 ghost use Rattle.osc_options.specs.Split.{protected};
 ghost use Rattle.osc_model.specs.declared.context.Side.TheVariants.{Client, Server};
+ghost use Rattle.osc_context.specs.Algorithm.{algorithm_of};
 ghost use Rattle.osc_context.specs.Derivation.{key_of, taken_of, sender_of, recipient_of};
 ghost use Rattle.osc_context.specs.Nonce.{longest_id, greatest_number};
 ghost use Rattle.osc_protect.specs.Aad.{aad_of};
 ghost use Rattle.osc_protect.specs.Protection.{HasShortContext, HasRoomFor, longest_message, plain_bytes, request_nonce, note_of, IsRequestOf, IsProtectedRequest, IsGenuine, length_of_request, request_length, IsFor};
 
+use crate::ciphers::Ciphers;
 use crate::error::{MessageTooLong, RequestNotGenuine, TextTooLong};
 use crate::opening::{KeyUse, open};
 use crate::room::Room;
 use crate::sealed::SealedRequestRef;
 use crate::sealing::{outer_message, seal, size_with, split};
 use crate::value::request_option;
-use osc_ccm::Aead;
 use osc_coap::laws::length_of_growing;
 use osc_coap::{DATAGRAM_LIMIT, MessageBuilder, MessageRef};
 use osc_context::{RecipientContext, SendNumber, SenderContext, nonce_for};
-use osc_model::{ContextName, Note, SharedName, Side};
+use osc_model::{Algorithm, ContextName, Note, SharedName, Side};
 use std::alloc::{AllocError, Global};
 
 /// The code of a protected request, POST (RFC 8613 section 4.2).
@@ -45,7 +46,7 @@ pub struct RequestSize {
 
 /// How many bytes the message has, protected as a request with this number: `None` exactly where they are more than a datagram
 /// may have. Takes no memory.
-pub fn request_size<A: Aead>(
+pub fn request_size<A: Ciphers>(
     name: &ContextName,
     number: u64,
     message: &MessageRef<'_>,
@@ -58,11 +59,12 @@ pub fn request_size<A: Aead>(
     ensures fits { IsSome result ↔ (request_length A.TAG name.now number message.now ≤ longest_message) }
 {
     let value = request_option(name, number);
-    let (outer, plaintext) = split::<A>(message, OUTER_CODE, value.as_slice())?;
+    let algorithm = osc_context::algorithm_of(name);
+    let (outer, plaintext) = split::<A>(algorithm, message, OUTER_CODE, value.as_slice())?;
     let plaintext = plaintext.bytes().len();
     Some(RequestSize {
         plaintext,
-        message: size_with(&outer, plaintext + A::TAG),
+        message: size_with(&outer, plaintext + A::tag(algorithm)),
     })
 }
 
@@ -72,7 +74,7 @@ pub fn request_size<A: Aead>(
 /// # Errors
 ///
 /// Exactly where the protected message is longer than a datagram may be; room and number are handed back.
-pub fn protect_request<A: Aead>(
+pub fn protect_request<A: Ciphers>(
     room: Room,
     number: SendNumber,
     message: &MessageRef<'_>,
@@ -90,7 +92,12 @@ pub fn protect_request<A: Aead>(
 {
     let nonce = nonce_for(number.common_iv(), number.id(), number.get());
     let value = request_option(room.name(), number.get());
-    let Some((outer, plaintext)) = split::<A>(message, OUTER_CODE, value.as_slice()) else {
+    let Some((outer, plaintext)) = split::<A>(
+        room.algorithm(),
+        message,
+        OUTER_CODE,
+        value.as_slice(),
+    ) else {
         return Err(MessageTooLong { room, number });
     };
     let (message, note) = seal::<A>(
@@ -122,7 +129,7 @@ pub struct UncountedRequest {
 /// # Errors
 ///
 /// Exactly where the request is longer than a datagram may be; the room is handed back.
-pub fn protect_uncounted<A: Aead>(
+pub fn protect_uncounted<A: Ciphers>(
     room: Room,
     sender: &SenderContext,
     number: u64,
@@ -136,12 +143,13 @@ pub fn protect_uncounted<A: Aead>(
     requires room { HasRoomFor text.now room.most }
     ensures protected { IfOk result (λ made. IsRequestOf A.is_sealing text.now room.name number message.now made.message) }
     ensures noted { IfOk result (λ made. made.note ≡ note_of room.name Client number (request_nonce room.name number) text.now) }
-    ensures fits { IsOk result ↔ (length_of_request (length text.now + A.TAG) room.name number message.now ≤ longest_message) }
+    ensures fits { IsOk result ↔ (length_of_request (length text.now + A.TAG (algorithm_of room.name)) room.name number message.now ≤ longest_message) }
     ensures err { IfErr result (λ refused. refused.room ≡ room) }
 {
     let nonce = nonce_for(sender.common_iv(), sender.id(), number);
     let value = request_option(room.name(), number);
-    let Some(outer) = outer_of_text::<A>(message, value.as_slice(), text.len()) else {
+    let Some(outer) = outer_of_text::<A>(room.algorithm(), message, value.as_slice(), text.len())
+    else {
         return Err(TextTooLong { room });
     };
     let (message, note) = seal::<A>(outer, room, sender.key(), Side::Client, nonce, text);
@@ -150,7 +158,8 @@ pub fn protect_uncounted<A: Aead>(
 
 /// The message of a request with this option value, still without its payload; `None` exactly where it is longer than a
 /// datagram may be with a text of so many bytes sealed in it.
-fn outer_of_text<A: Aead>(
+fn outer_of_text<A: Ciphers>(
+    algorithm: Algorithm,
     message: &MessageRef<'_>,
     value: &[u8],
     size: usize,
@@ -158,13 +167,13 @@ fn outer_of_text<A: Aead>(
     ensures outer { IfSome result (λ outer. outer ≡ protected message.now 2 value.now []) }
     ensures short { IsSome result → size ≤ longest_message }
     ensures fits { IsSome result
-        ↔ (length (spelling (protected message.now 2 value.now (replicate (size + A.TAG) 0))) ≤ longest_message) }
+        ↔ (length (spelling (protected message.now 2 value.now (replicate (size + A.TAG algorithm) 0))) ≤ longest_message) }
 {
     length_of_growing();
     if size > DATAGRAM_LIMIT {
         return None;
     }
-    outer_message(message, OUTER_CODE, value, size + A::TAG)
+    outer_message(message, OUTER_CODE, value, size + A::tag(algorithm))
 }
 
 /// Opens a protected request at the server, under the context of this name, and answers the note of the opening, whose plaintext
@@ -175,7 +184,7 @@ fn outer_of_text<A: Aead>(
 ///
 /// `RequestNotGenuine` exactly where what is sealed is the sealing of no text. Want of memory is no answer to that, unless more
 /// is sealed than a datagram can hold.
-pub fn open_request<A: Aead>(
+pub fn open_request<A: Ciphers>(
     alloc: Global,
     name: &SharedName,
     recipient: &RecipientContext,
@@ -184,13 +193,13 @@ pub fn open_request<A: Aead>(
     requires recipient { recipient.now ≡ recipient_of name.now Server recipient.now.window }
     requires named { IsFor name.now request.now }
     ensures opened { IfOk result (λ outcome. IfOk outcome (λ note.
-        A.is_sealing (key_of name.now Client) (request_nonce name.now request.now.number) (aad_of name.now request.now.number) note.plaintext request.now.sealed)) }
+        A.is_sealing (algorithm_of name.now) (key_of name.now Client) (request_nonce name.now request.now.number) (aad_of name.now request.now.number) note.plaintext request.now.sealed)) }
     ensures noted { IfOk result (λ outcome. IfOk outcome (λ note. note
         ≡ note_of name.now Server request.now.number (request_nonce name.now request.now.number) note.plaintext)) }
     ensures not_genuine { IfOk result (λ outcome. IsErr outcome
-        ↔ ((text : List ℕ) → ¬ A.is_sealing (key_of name.now Client) (request_nonce name.now request.now.number) (aad_of name.now request.now.number) text request.now.sealed)) }
+        ↔ ((text : List ℕ) → ¬ A.is_sealing (algorithm_of name.now) (key_of name.now Client) (request_nonce name.now request.now.number) (aad_of name.now request.now.number) text request.now.sealed)) }
     ensures memory { IsErr result
-        → IsGenuine A.is_sealing (key_of name.now Client) (request_nonce name.now request.now.number) (aad_of name.now request.now.number) request.now.sealed
+        → IsGenuine (A.is_sealing (algorithm_of name.now)) (key_of name.now Client) (request_nonce name.now request.now.number) (aad_of name.now request.now.number) request.now.sealed
         ⊎ (longest_message < length request.now.sealed) }
 {
     let number = request.number();

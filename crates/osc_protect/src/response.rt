@@ -2,18 +2,19 @@
 
 ghost use Rattle.std.specs.Prelude.{◌≡◌, ◌≤◌, ◌<◌, ◌⊎◌, ◌↔◌, ℕ, List, Some, None, length, IfSome, IsOk, IsErr, IfOk, IfErr};
 ghost use Rattle.osc_model.specs.declared.context.Side.TheVariants.{Client, Server};
+ghost use Rattle.osc_context.specs.Algorithm.{algorithm_of};
 ghost use Rattle.osc_context.specs.Derivation.{key_of, accepted_of, taken_of, sender_of, recipient_of};
 ghost use Rattle.osc_context.specs.Nonce.{longest_id, greatest_number};
 ghost use Rattle.osc_protect.specs.Aad.{aad_of};
 ghost use Rattle.osc_protect.specs.Protection.{HasRoomFor, longest_message, plain_bytes, request_nonce, response_nonce, note_of, IsGenuine, IsProtectedResponse, response_length};
 
+use crate::ciphers::Ciphers;
 use crate::error::{MessageTooLong, ReplyTooLong, ResponseNotGenuine};
 use crate::opening::{KeyUse, open};
 use crate::room::Room;
 use crate::sealed::SealedResponseRef;
 use crate::sealing::{seal, split};
 use crate::value::response_option;
-use osc_ccm::Aead;
 use osc_coap::{MessageBuilder, MessageRef};
 use osc_context::{AcceptedNumber, RecipientContext, SendNumber, SenderContext, nonce_for};
 use osc_model::{ContextName, Note, SharedName, Side};
@@ -37,7 +38,7 @@ pub struct ProtectedResponse {
 /// # Errors
 ///
 /// Exactly where the protected message is longer than a datagram may be; room and number are handed back.
-pub fn protect_reply<A: Aead>(
+pub fn protect_reply<A: Ciphers>(
     room: Room,
     number: AcceptedNumber,
     sender: &SenderContext,
@@ -50,12 +51,17 @@ pub fn protect_reply<A: Aead>(
     ensures protected { IfOk result (λ made. IsProtectedResponse A.is_sealing room.name number.number None message.now made.message) }
     ensures noted { IfOk result (λ made. made.note
         ≡ note_of room.name Server number.number (request_nonce room.name number.number) (plain_bytes message.now)) }
-    ensures fits { IsOk result ↔ (response_length A.TAG None message.now ≤ longest_message) }
+    ensures fits { IsOk result ↔ (response_length (A.TAG (algorithm_of room.name)) None message.now ≤ longest_message) }
     ensures err { IfErr result (λ refused. (refused.room ≡ room) × (refused.number ≡ number)) }
 {
     let nonce = nonce_for(number.common_iv(), number.id(), number.get());
     let value = response_option(None);
-    let Some((outer, plaintext)) = split::<A>(message, OUTER_CODE, value.as_slice()) else {
+    let Some((outer, plaintext)) = split::<A>(
+        room.algorithm(),
+        message,
+        OUTER_CODE,
+        value.as_slice(),
+    ) else {
         return Err(ReplyTooLong { room, number });
     };
     let (message, note) = seal::<A>(
@@ -76,7 +82,7 @@ pub fn protect_reply<A: Aead>(
 /// # Errors
 ///
 /// Exactly where the protected message is longer than a datagram may be; room and number are handed back.
-pub fn protect_response<A: Aead>(
+pub fn protect_response<A: Ciphers>(
     room: Room,
     request: u64,
     number: SendNumber,
@@ -91,13 +97,18 @@ pub fn protect_response<A: Aead>(
         IsProtectedResponse A.is_sealing room.name request (Some number.number) message.now made.message) }
     ensures noted { IfOk result (λ made. made.note
         ≡ note_of room.name Server request (response_nonce room.name request (Some number.number)) (plain_bytes message.now)) }
-    ensures fits { IsOk result ↔ (response_length A.TAG (Some number.number) message.now ≤ longest_message) }
+    ensures fits { IsOk result ↔ (response_length (A.TAG (algorithm_of room.name)) (Some number.number) message.now ≤ longest_message) }
     ensures err { IfErr result (λ refused. (refused.room ≡ room) × (refused.number ≡ number)) }
 {
     let id = number.id();
     let nonce = nonce_for(number.common_iv(), id, number.get());
     let value = response_option(Some(number.get()));
-    let Some((outer, plaintext)) = split::<A>(message, OUTER_CODE, value.as_slice()) else {
+    let Some((outer, plaintext)) = split::<A>(
+        room.algorithm(),
+        message,
+        OUTER_CODE,
+        value.as_slice(),
+    ) else {
         return Err(MessageTooLong { room, number });
     };
     let (message, note) = seal::<A>(
@@ -139,7 +150,7 @@ fn nonce_of_response(
 ///
 /// `ResponseNotGenuine` exactly where what is sealed is the sealing of no text. Want of memory is no answer to that, unless more
 /// is sealed than a datagram can hold.
-pub fn open_response<A: Aead>(
+pub fn open_response<A: Ciphers>(
     alloc: Global,
     name: &SharedName,
     recipient: &RecipientContext,
@@ -150,13 +161,13 @@ pub fn open_response<A: Aead>(
     requires number { number ≤ greatest_number }
     requires id { length name.now.client_id ≤ longest_id }
     ensures opened { IfOk result (λ outcome. IfOk outcome (λ note.
-        A.is_sealing (key_of name.now Server) (response_nonce name.now number response.now.own) (aad_of name.now number) note.plaintext response.now.sealed)) }
+        A.is_sealing (algorithm_of name.now) (key_of name.now Server) (response_nonce name.now number response.now.own) (aad_of name.now number) note.plaintext response.now.sealed)) }
     ensures noted { IfOk result (λ outcome. IfOk outcome (λ note. note
         ≡ note_of name.now Client number (response_nonce name.now number response.now.own) note.plaintext)) }
     ensures not_genuine { IfOk result (λ outcome. IsErr outcome
-        ↔ ((text : List ℕ) → ¬ A.is_sealing (key_of name.now Server) (response_nonce name.now number response.now.own) (aad_of name.now number) text response.now.sealed)) }
+        ↔ ((text : List ℕ) → ¬ A.is_sealing (algorithm_of name.now) (key_of name.now Server) (response_nonce name.now number response.now.own) (aad_of name.now number) text response.now.sealed)) }
     ensures memory { IsErr result
-        → IsGenuine A.is_sealing (key_of name.now Server) (response_nonce name.now number response.now.own) (aad_of name.now number) response.now.sealed
+        → IsGenuine (A.is_sealing (algorithm_of name.now)) (key_of name.now Server) (response_nonce name.now number response.now.own) (aad_of name.now number) response.now.sealed
         ⊎ (longest_message < length response.now.sealed) }
 {
     let nonce = nonce_of_response(name, recipient, number, response.own_number());

@@ -1,12 +1,13 @@
 //! The memory of one seal, taken beforehand.
 
 ghost use Rattle.std.specs.Prelude.{◌≡◌, ◌≤◌, length, IfOk};
+ghost use Rattle.osc_context.specs.Algorithm.{algorithm_of};
 ghost use Rattle.osc_context.specs.Nonce.{longest_id, greatest_number};
 ghost use Rattle.osc_protect.specs.Aad.{aad_of};
 ghost use Rattle.osc_protect.specs.Protection.{note_of};
 
 use crate::aad::associated_data;
-use osc_model::{Bytes, ContextName, Note, SharedName, Side};
+use osc_model::{Algorithm, Bytes, ContextName, Note, SharedName, Side};
 use std::alloc::{AllocError, Global};
 use std::fmt;
 use std::marker::Model;
@@ -103,6 +104,13 @@ impl Room {
         ensures { result.now ≡ self.now.name }
     {
         &self.name
+    }
+
+    /// The algorithm of the context.
+    pub(crate) fn algorithm(&self) -> Algorithm
+        ensures { result ≡ algorithm_of self.now.name }
+    {
+        osc_context::algorithm_of(&self.name)
     }
 
     /// The number of the request.

@@ -5,16 +5,18 @@ ghost use Rattle.osc_coap.specs.Message.{spelling};
 ghost use Rattle.osc_coap.specs.Building.{payload_of, with_payload};
 ghost use Rattle.osc_coap.specs.Length.{payload_length};
 ghost use Rattle.osc_options.specs.Split.{protected, plaintext_of as plaintext_in};
+ghost use Rattle.osc_context.specs.Algorithm.{algorithm_of};
 ghost use Rattle.osc_context.specs.Nonce.{longest_id};
 ghost use Rattle.osc_protect.specs.Aad.{aad_of};
 ghost use Rattle.osc_protect.specs.Protection.{plain_bytes, longest_message, note_of};
 
+use crate::ciphers::Ciphers;
 use crate::room::Room;
-use osc_ccm::Aead;
 use osc_coap::laws::length_of_growing;
 use osc_coap::{DATAGRAM_LIMIT, MessageBuilder, MessageRef, PayloadWriter, PlaintextBuilder};
-use osc_model::{Note, Side};
+use osc_model::{Algorithm, Note, Side};
 use osc_options::{plaintext_of, protected_message};
+use std::marker::PhantomData;
 
 /// How many bytes a payload of this size takes, with its marker.
 fn payload_size(size: usize) -> usize
@@ -59,8 +61,9 @@ pub(crate) fn outer_message(
 }
 
 /// The message with this code and option value, still without its payload, and what is sealed of it; `None` exactly where the
-/// protected message is longer than a datagram may be.
-pub(crate) fn split<A: Aead>(
+/// protected message is longer than a datagram may be, with the tag of this algorithm.
+pub(crate) fn split<A: Ciphers>(
+    algorithm: Algorithm,
     message: &MessageRef<'_>,
     code: u8,
     value: &[u8],
@@ -70,14 +73,14 @@ pub(crate) fn split<A: Aead>(
     ensures inner { IfSome result (λ parts. parts.1 ≡ plaintext_in message.now) }
     ensures short { IsSome result → length (plain_bytes message.now) ≤ longest_message }
     ensures fits { IsSome result
-        ↔ (length (spelling (protected message.now code value.now (replicate (length (plain_bytes message.now) + A.TAG) 0)))
+        ↔ (length (spelling (protected message.now code value.now (replicate (length (plain_bytes message.now) + A.TAG algorithm) 0)))
         ≤ longest_message) }
 {
     length_of_growing();
     let Ok(plaintext) = plaintext_of(message) else {
         return None;
     };
-    let size = plaintext.bytes().len() + A::TAG;
+    let size = plaintext.bytes().len() + A::tag(algorithm);
     let outer = outer_message(message, code, value, size)?;
     Some((outer, plaintext))
 }
@@ -85,29 +88,38 @@ pub(crate) fn split<A: Aead>(
 /// The sealing of a text, which is written as a payload where it is sent from.
 #[derive(Drop)]
 struct Sealing<'a, A> {
-    cipher: A,
+    algorithm: Algorithm,
+    key: &'a [u8; 16],
     nonce: &'a [u8; 13],
     aad: &'a [u8],
     text: &'a [u8],
+    of: PhantomData<A>,
 }
 
-impl<A: Aead> PayloadWriter for Sealing<'_, A> {
-    ghost can_write = { λ sealing size. (size ≡ length sealing.text.now + A.TAG) × (size ≤ longest_message)
+impl<A: Ciphers> PayloadWriter for Sealing<'_, A> {
+    ghost can_write = { λ sealing size. (size ≡ length sealing.text.now + A.TAG sealing.algorithm) × (size ≤ longest_message)
         × (length sealing.aad.now ≤ 31) };
 
     ghost is_written = { λ sealing sealed.
-        A.is_sealing (A.key_of sealing.cipher) sealing.nonce.now sealing.aad.now sealing.text.now sealed };
+        A.is_sealing sealing.algorithm sealing.key.now sealing.nonce.now sealing.aad.now sealing.text.now sealed };
 
     fn write(&self, payload: &mut [u8]) {
-        self.cipher
-            .seal(self.nonce, self.aad, self.text, payload)
-            .unwrap();
+        A::seal(
+            self.algorithm,
+            self.key,
+            self.nonce,
+            self.aad,
+            self.text,
+            payload,
+        )
+        .unwrap();
     }
 }
 
 /// Seals a text as the payload of a message.
-fn seal_payload<A: Aead>(
+fn seal_payload<A: Ciphers>(
     message: &mut MessageBuilder,
+    algorithm: Algorithm,
     key: &[u8; 16],
     nonce: &[u8; 13],
     aad: &[u8],
@@ -115,26 +127,28 @@ fn seal_payload<A: Aead>(
 )
     requires code { 0 < message.old.code }
     requires payload { message.old.payload ≡ None }
-    requires fits { length (spelling (with_payload message.old (replicate (length text.now + A.TAG) 0))) ≤ longest_message }
+    requires fits { length (spelling (with_payload message.old (replicate (length text.now + A.TAG algorithm) 0))) ≤ longest_message }
     requires aad { length aad.now ≤ 31 }
     ensures { (sealed : List ℕ)
-        × A.is_sealing key.now nonce.now aad.now text.now sealed
+        × A.is_sealing algorithm key.now nonce.now aad.now text.now sealed
         × (message.new ≡ with_payload message.old sealed) }
 {
     length_of_growing();
-    let sealing = Sealing {
-        cipher: A::from_key(key),
+    let sealing = Sealing::<A> {
+        algorithm,
+        key,
         nonce,
         aad,
         text,
+        of: PhantomData,
     };
     message
-        .write_payload(text.len() + A::TAG, &sealing)
+        .write_payload(text.len() + A::tag(algorithm), &sealing)
         .unwrap();
 }
 
 /// Seals a text as the payload of a message, and notes it, which uses up the room.
-pub(crate) fn seal<A: Aead>(
+pub(crate) fn seal<A: Ciphers>(
     outer: MessageBuilder,
     room: Room,
     key: &[u8; 16],
@@ -144,18 +158,26 @@ pub(crate) fn seal<A: Aead>(
 ) -> (MessageBuilder, Note)
     requires code { 0 < outer.code }
     requires payload { outer.payload ≡ None }
-    requires fits { length (spelling (with_payload outer (replicate (length text.now + A.TAG) 0))) ≤ longest_message }
+    requires fits { length (spelling (with_payload outer (replicate (length text.now + A.TAG (algorithm_of room.name)) 0))) ≤ longest_message }
     requires id { length room.name.client_id ≤ longest_id }
     requires room { length text.now ≤ room.most }
     ensures sealed { (sealed : List ℕ)
-        × A.is_sealing key.now nonce (aad_of room.name room.number) text.now sealed
+        × A.is_sealing (algorithm_of room.name) key.now nonce (aad_of room.name room.number) text.now sealed
         × (result.0 ≡ with_payload outer sealed) }
-    ensures size { length (spelling result.0) ≡ length (spelling (with_payload outer (replicate (length text.now + A.TAG) 0))) }
+    ensures size { length (spelling result.0) ≡ length (spelling (with_payload outer (replicate (length text.now + A.TAG (algorithm_of room.name)) 0))) }
     ensures noted { result.1 ≡ note_of room.name side room.number nonce text.now }
 {
     length_of_growing();
+    let algorithm = room.algorithm();
     let note = room.note(side, nonce, text);
     let mut message = outer;
-    seal_payload::<A>(&mut message, key, &nonce, note.aad.as_slice(), text);
+    seal_payload::<A>(
+        &mut message,
+        algorithm,
+        key,
+        &nonce,
+        note.aad.as_slice(),
+        text,
+    );
     (message, note)
 }

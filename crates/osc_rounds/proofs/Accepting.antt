@@ -24,9 +24,11 @@ use Rattle.osc_message.specs.Sending.{acknowledgement, sent_to}
 use Rattle.osc_message.specs.declared.heard.Heard.TheVariants as heard_as
 use Rattle.osc_message.specs.declared.received.Received.{Received}
 use Rattle.osc_message.specs.declared.received.Received.TheVariants as received
+use Rattle.osc_context.specs.Algorithm.{algorithm_of}
 use Rattle.osc_context.specs.Derivation.{key_of}
 use Rattle.osc_context.specs.Nonce.{greatest_number}
 use Rattle.osc_protect.specs.Aad.{aad_of}
+use Rattle.osc_protect.specs.Ciphers.{Sealings}
 use Rattle.osc_protect.specs.Protection.{IsProtectedResponse, IsResponse, SealedResponse, plain_bytes, response_nonce, response_value}
 use Rattle.osc_protect.specs.Value.{Compressed, SpellsValue}
 use Rattle.osc_authz.specs.Begun.{ClientContextState}
@@ -50,7 +52,7 @@ use Rattle.osc_proxy.specs.ThereAndBack.{IsCarried}
 use Rattle.osc_client.specs.Hearing.{Hears as ClientHears}
 use Rattle.osc_rounds.proofs.Asking.{received_as, one_option, in_place, payload_is}
 
-module _ (is_sealing : List ℕ → List ℕ → List ℕ → List ℕ → List ℕ → Type 0) where
+module _ (is_sealing : Sealings) where
   pub record ReplyLaws : Type 0 where
     pub one_reception : (bytes : List ℕ) (a b : Received) → Receives bytes a → Receives bytes b → a ≡ b
     pub one_value : (bytes : List ℕ) (c d : Compressed) → SpellsValue bytes c → SpellsValue bytes d → c ≡ d
@@ -59,8 +61,8 @@ module _ (is_sealing : List ℕ → List ℕ → List ℕ → List ℕ → List 
     pub says : (name : ContextName) (number : ℕ) (own : Option ℕ) (m p : Message) → IfSome own (λ n. n ≤ greatest_number)
         → IsProtectedResponse is_sealing name number own m p
         → (response : SealedResponse) × IsResponse p response × (response.own ≡ own)
-        × is_sealing (key_of name side.Server) (response_nonce name number own) (aad_of name number) (plain_bytes m) response.sealed
-        × ((text : List ℕ) → is_sealing (key_of name side.Server) (response_nonce name number own) (aad_of name number) text response.sealed → text ≡ plain_bytes m)
+        × is_sealing (algorithm_of name) (key_of name side.Server) (response_nonce name number own) (aad_of name number) (plain_bytes m) response.sealed
+        × ((text : List ℕ) → is_sealing (algorithm_of name) (key_of name side.Server) (response_nonce name number own) (aad_of name number) text response.sealed → text ≡ plain_bytes m)
     pub one_plaintext : (bytes : List ℕ) (p q : Plaintext) → SpellsPlaintext bytes p → SpellsPlaintext bytes q → p ≡ q
     pub spelled : (reply : Reply) → IfSome reply.etag (λ tag. length tag ≡ 8) → HasPlaintextSpelling (reply_plaintext reply)
     pub again : (reply : Reply) → 64 ≤ reply.code.0 → reply.code.0 < 192
@@ -117,7 +119,7 @@ protects m v sealed inside = rw inside refl
 both_ways : (b : Bool) → b ≡ true → b ≡ false → ⊥
 both_ways b is isnt = cc
 
-module _ (is_sealing : List ℕ → List ℕ → List ℕ → List ℕ → List ℕ → Type 0) (laws : ReplyLaws is_sealing)
+module _ (is_sealing : Sealings) (laws : ReplyLaws is_sealing)
     (name : ContextName) (number : ℕ) (m p : Message)
     (made : IsProtectedResponse is_sealing name number None m p) where
   abbrev said : SealedResponse
@@ -147,11 +149,11 @@ module _ (is_sealing : List ℕ → List ℕ → List ℕ → List ℕ → List 
       let it = laws.says name number None m p tt made in
       subst (IsResponse p) (reads_as it.0 it.1) it.1
 
-  opens_once : (text : List ℕ) → is_sealing (key_of name side.Server) (response_nonce name number None) (aad_of name number) text made.sealed → text ≡ plain_bytes m
+  opens_once : (text : List ℕ) → is_sealing (algorithm_of name) (key_of name side.Server) (response_nonce name number None) (aad_of name number) text made.sealed → text ≡ plain_bytes m
   opens_once text is =
       let it = laws.says name number None m p tt made in
       let same : it.0.sealed ≡ made.sealed = ap (λ (r : SealedResponse). r.sealed) (reads_as it.0 it.1) in
-      it.4 text (subst (λ (s : List ℕ). is_sealing (key_of name side.Server) (response_nonce name number None) (aad_of name number) text s) (sym same) is)
+      it.4 text (subst (λ (s : List ℕ). is_sealing (algorithm_of name) (key_of name side.Server) (response_nonce name number None) (aad_of name number) text s) (sym same) is)
 
   -- ---- it answers
 
@@ -182,16 +184,16 @@ module _ (is_sealing : List ℕ → List ℕ → List ℕ → List ℕ → List 
           → text ≡ reply_text reply
       sealed_for response text is sealed =
           let a : IsSealedFor is_sealing context ask said text = subst (λ (r : SealedResponse). IsSealedFor is_sealing context ask r text) (reads_as response is) sealed in
-          let b : is_sealing (key_of name side.Server) (response_nonce name ask.number None) (aad_of name ask.number) text made.sealed =
-          subst (λ (n : ContextName). is_sealing (key_of n side.Server) (response_nonce n ask.number None) (aad_of n ask.number) text made.sealed) name_is a in
-          let c : is_sealing (key_of name side.Server) (response_nonce name number None) (aad_of name number) text made.sealed =
-          subst (λ (n : ℕ). is_sealing (key_of name side.Server) (response_nonce name n None) (aad_of name n) text made.sealed) number_is b in
+          let b : is_sealing (algorithm_of name) (key_of name side.Server) (response_nonce name ask.number None) (aad_of name ask.number) text made.sealed =
+          subst (λ (n : ContextName). is_sealing (algorithm_of n) (key_of n side.Server) (response_nonce n ask.number None) (aad_of n ask.number) text made.sealed) name_is a in
+          let c : is_sealing (algorithm_of name) (key_of name side.Server) (response_nonce name number None) (aad_of name number) text made.sealed =
+          subst (λ (n : ℕ). is_sealing (algorithm_of name) (key_of name side.Server) (response_nonce name n None) (aad_of name n) text made.sealed) number_is b in
           opens_once text c ∙ text_is
 
       is_sealed_for : IsSealedFor is_sealing context ask said (plain_bytes m)
       is_sealed_for =
-          subst (λ (n : ℕ). is_sealing (key_of context.name side.Server) (response_nonce context.name n None) (aad_of context.name n) (plain_bytes m) made.sealed) (sym number_is)
-          (subst (λ (n : ContextName). is_sealing (key_of n side.Server) (response_nonce n number None) (aad_of n number) (plain_bytes m) made.sealed) (sym name_is) made.is_sealed)
+          subst (λ (n : ℕ). is_sealing (algorithm_of context.name) (key_of context.name side.Server) (response_nonce context.name n None) (aad_of context.name n) (plain_bytes m) made.sealed) (sym number_is)
+          (subst (λ (n : ContextName). is_sealing (algorithm_of n) (key_of n side.Server) (response_nonce n number None) (aad_of n number) (plain_bytes m) made.sealed) (sym name_is) made.is_sealed)
 
       abbrev outcome_due : Outcome
       outcome_due = Answers (response_note name number None (reply_text reply)) reply
@@ -220,7 +222,7 @@ module _ (is_sealing : List ℕ → List ℕ → List ℕ → List ℕ → List 
 
 -- ---- it comes to the client
 
-module _ (is_sealing : List ℕ → List ℕ → List ℕ → List ℕ → List ℕ → Type 0) (laws : ReplyLaws is_sealing)
+module _ (is_sealing : Sealings) (laws : ReplyLaws is_sealing)
     (old : Client) (now : Moment) (from : Peer) (name : ContextName) (number : ℕ) (request m p : Message) (reply : Reply) (step : Step) (new : Client)
     (awaits : AwaitsReply old from name number request) (carries : CarriesReply old now from request reply m)
     (made : IsProtectedResponse is_sealing name number None m p) where

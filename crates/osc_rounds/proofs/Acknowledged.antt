@@ -13,6 +13,7 @@ use Rattle.osc_message.specs.Received.{Receives}
 use Rattle.osc_message.specs.Sending.{empty_acknowledgement}
 use Rattle.osc_message.specs.declared.received.Received.{Received}
 use Rattle.osc_message.specs.declared.received.Received.TheVariants as received
+use Rattle.osc_protect.specs.Ciphers.{Sealings}
 use Rattle.osc_client.specs.Case.{case_of as client_case}
 use Rattle.osc_client.specs.Hearing.{Hears as ClientHears}
 use Rattle.osc_client.specs.State.{State as Client}
@@ -21,7 +22,7 @@ use Rattle.osc_client.specs.declared.case.Case.{Case}
 use Rattle.osc_client.specs.declared.case.Case.TheVariants.{Empty}
 use Rattle.osc_rounds.proofs.Asking.{received_as}
 
-module _ (is_sealing : List ℕ → List ℕ → List ℕ → List ℕ → List ℕ → Type 0)
+module _ (is_sealing : Sealings)
     (one_reception : (bytes : List ℕ) (a b : Received) → Receives bytes a → Receives bytes b → a ≡ b)
     (lawful : (id : ℕ) → id < 2 ^ 16 → HasSpelling (empty_acknowledgement id))
     (short : (id : ℕ) → length (spelling (empty_acknowledgement id)) ≤ datagram_limit) where

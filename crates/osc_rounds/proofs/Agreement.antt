@@ -12,6 +12,7 @@ use Rattle.osc_model.specs.Draw.{nonce_drawn}
 use Rattle.osc_model.specs.Grant.{HasBegun, IsNotOver}
 use Rattle.osc_model.specs.Scope.{Scope}
 use Rattle.osc_model.specs.StepNotes.{quiet}
+use Rattle.osc_model.specs.declared.algorithm.Algorithm.TheVariants.{EightByteTag}
 use Rattle.osc_model.specs.declared.node.Draw.{Draw}
 use Rattle.osc_model.specs.declared.node.Moment.{Moment}
 use Rattle.osc_model.specs.declared.node.Peer.{Peer}
@@ -33,6 +34,7 @@ use Rattle.osc_message.specs.Sending.{acknowledgement, datagram, sent_to}
 use Rattle.osc_message.specs.declared.heard.Heard.TheVariants as heard_as
 use Rattle.osc_message.specs.declared.received.Received.{Received}
 use Rattle.osc_message.specs.declared.received.Received.TheVariants as received
+use Rattle.osc_protect.specs.Ciphers.{Sealings}
 use Rattle.osc_protect.specs.Protection.{HasShortContext}
 use Rattle.osc_scope.specs.Entries.{Entry, scope_of}
 use Rattle.osc_token.specs.Minted.{HasLawfulParts}
@@ -181,20 +183,20 @@ pub record IsEnded (old : Client) (from : Peer) (response : Message) (held : Hel
 
 -- ---- the laws below
 
-module _ (is_sealing : List ℕ → List ℕ → List ℕ → List ℕ → List ℕ → Type 0) where
+module _ (is_sealing : Sealings) where
   pub record ExchangeLaws : Type 0 where
     pub itself : (a : Peer) → same_peer a a ≡ true
     pub one_reception : (bytes : List ℕ) (a b : Received) → Receives bytes a → Receives bytes b → a ≡ b
     pub spelled_length : (m : Message) → length (spelling m) ≡ spelled_length m
     pub answer_length : (nonce2 : List ℕ) (id : ℕ) → length nonce2 ≡ 8 → length (item_spelling (answer_item nonce2 (id ∷ []))) ≡ 16
     pub welcome : (before after : DeskState) (now : Moment) (draw : Draw) (post : Post) (claims : Claims) (entries : List Entry) (holder : ClientDesk) (nonce1 : List ℕ) (id : ℕ)
-        → IsWelcome is_sealing before now claims entries holder → length nonce1 ≡ 8
-        → Posts is_sealing before now (item_spelling (post_item holder.token nonce1 (id ∷ []))) draw post after
+        → IsWelcome (is_sealing EightByteTag) before now claims entries holder → length nonce1 ≡ 8
+        → Posts (is_sealing EightByteTag) before now (item_spelling (post_item holder.token nonce1 (id ∷ []))) draw post after
         → (answer : PostAnswer) × (post.answer ≡ Ok answer) × (answer.nonce2 ≡ nonce_drawn draw)
     pub one_name : (before after : DeskState) (now : Moment) (draw : Draw) (post : Post) (answer : PostAnswer)
         (claims : Claims) (entries : List Entry) (client : ClientDesk) (begun : Begun) (finished : Result ClientContextState FinishError)
-        → length draw.0 ≡ 32 → length begun.nonce1 ≡ 8 → HoldsToken is_sealing before.key claims entries client
-        → Posts is_sealing before now (item_spelling (post_item client.token begun.nonce1 (begun.recipient_id ∷ []))) draw post after
+        → length draw.0 ≡ 32 → length begun.nonce1 ≡ 8 → HoldsToken (is_sealing EightByteTag) before.key claims entries client
+        → Posts (is_sealing EightByteTag) before now (item_spelling (post_item client.token begun.nonce1 (begun.recipient_id ∷ []))) draw post after
         → post.answer ≡ Ok answer
         → Finishes client begun (code 2 1) (item_spelling (answer_item answer.nonce2 (answer.recipient_id ∷ []))) finished
         → (held : Held) × In held (contexts after.table) × (held.scope ≡ scope_of entries)
@@ -204,15 +206,15 @@ module _ (is_sealing : List ℕ → List ℕ → List ℕ → List ℕ → List 
 
 -- ---- the server agrees
 
-module _ (is_sealing : List ℕ → List ℕ → List ℕ → List ℕ → List ℕ → Type 0) (laws : ExchangeLaws is_sealing)
+module _ (is_sealing : Sealings) (laws : ExchangeLaws is_sealing)
     (server : Server) (now : Moment) (from : Peer) (id : ℕ) (claims : Claims) (entries : List Entry) (holder : ClientDesk) (its : Begun)
     (awaits : AwaitsPost is_sealing server now from id claims entries holder its)
     (host : Option (List ℕ)) (lawful : AreLawful host) (token : List ℕ) (draw : Draw) (step : Step) (new : Server) where
   agreed_to : AnswersPost is_sealing server now from draw (post_to host id token (body_of holder its)) step new
       → IsAgreedTo is_sealing server now from draw holder its id token step new
   agreed_to it =
-      let posts : Posts is_sealing server.desk now (body_of holder its) draw it.post new.desk =
-      subst (λ (bytes : List ℕ). Posts is_sealing server.desk now bytes draw it.post new.desk) (payload_again (body_of holder its)) it.posts in
+      let posts : Posts (is_sealing EightByteTag) server.desk now (body_of holder its) draw it.post new.desk =
+      subst (λ (bytes : List ℕ). Posts (is_sealing EightByteTag) server.desk now bytes draw it.post new.desk) (payload_again (body_of holder its)) it.posts in
       let answered = laws.welcome server.desk new.desk now draw it.post claims entries holder its.nonce1 its.recipient_id awaits.welcome awaits.nonce posts in
       let reply_is : reply_to server.endpoint draw (post_to host id token (body_of holder its)) (post_reply it.post.answer) ≡ agreement Acknowledgement id token answered.0 =
       ap (λ (a : Result PostAnswer PostError). reply_to server.endpoint draw (post_to host id token (body_of holder its)) (post_reply a)) answered.1 in
@@ -240,7 +242,7 @@ module _ (is_sealing : List ℕ → List ℕ → List ℕ → List ℕ → List 
 
 -- ---- the client has a context
 
-module _ (is_sealing : List ℕ → List ℕ → List ℕ → List ℕ → List ℕ → Type 0) (laws : ExchangeLaws is_sealing)
+module _ (is_sealing : Sealings) (laws : ExchangeLaws is_sealing)
     (server : Server) (now : Moment) (from : Peer) (id : ℕ) (claims : Claims) (entries : List Entry) (holder : ClientDesk) (its : Begun)
     (awaits : AwaitsPost is_sealing server now from id claims entries holder its)
     (token : List ℕ) (draw : Draw) (step : Step) (agreed : Server) (size : length draw.0 ≡ 32)

@@ -10,6 +10,7 @@ use Rattle.osc_model.specs.Apply.{apply_read}
 use Rattle.osc_model.specs.Draw.{token_drawn}
 use Rattle.osc_model.specs.Scope.{Scope}
 use Rattle.osc_model.specs.Tree.{Tree, IsWithinLimits}
+use Rattle.osc_model.specs.declared.algorithm.Algorithm.{Algorithm}
 use Rattle.osc_model.specs.declared.context.ContextName.{ContextName}
 use Rattle.osc_model.specs.declared.node.Draw.{Draw}
 use Rattle.osc_model.specs.declared.node.Moment.{Moment}
@@ -18,6 +19,7 @@ use Rattle.osc_model.specs.declared.reply.Reply.{Reply}
 use Rattle.osc_model.specs.declared.request.Request.{Request}
 use Rattle.osc_model.specs.declared.step.Datagram.{Datagram}
 use Rattle.osc_model.specs.declared.step.Step.{Step}
+use Rattle.osc_ccm.specs.Limits.{most_tag}
 use Rattle.osc_coap.specs.Length.{spelled_length}
 use Rattle.osc_coap.specs.Message.{Message, spelling}
 use Rattle.osc_coap.specs.declared.kind.Kind.{Kind}
@@ -31,6 +33,7 @@ use Rattle.osc_message.specs.Confirmables.{same_peer}
 use Rattle.osc_message.specs.Endpoint.{EndpointState, own_id}
 use Rattle.osc_message.specs.Sending.{acknowledgement, empty_acknowledgement, is_confirmable, reply_start, sent_to}
 use Rattle.osc_context.specs.Nonce.{longest_id}
+use Rattle.osc_protect.specs.Ciphers.{Sealings, Tags, IsLongerBy}
 use Rattle.osc_protect.specs.Protection.{HasShortContext, IsProtectedRequest, longest_message, plain_bytes, request_length, request_value}
 use Rattle.osc_authz.specs.Begun.{ClientContextState}
 use Rattle.osc_authz.specs.Contexts.{IsLive}
@@ -60,7 +63,7 @@ use Rattle.osc_rounds.proofs.Sent.{IsSent, id_few, its_context}
 use Rattle.osc_rounds.proofs.Unheard.{still_unheard}
 use Rattle.osc_rounds.proofs.Sendable.{IsShortReply, TextLaw, request_sendable, response_sendable}
 
-module _ (is_sealing : List ℕ → List ℕ → List ℕ → List ℕ → List ℕ → Type 0) (tag : ℕ) where
+module _ (is_sealing : Sealings) (tag : Tags) where
   pub record RoundLaws : Type 0 where
     pub itself : (a : Peer) → same_peer a a ≡ true
     pub meant_is : (now : Moment) (table : List Holding) (held : Held) → IsTable table → In held (contexts table) → IsLive now held
@@ -69,8 +72,8 @@ module _ (is_sealing : List ℕ → List ℕ → List ℕ → List ℕ → List 
     pub reply : ReplyLaws is_sealing
     pub spelled_length : (m : Message) → length (spelling m) ≡ spelled_length m
     pub text_length : TextLaw
-    pub sealed_length : (key nonce aad text sealed : List ℕ) → is_sealing key nonce aad text sealed → length sealed ≡ length text + tag
-    pub short_tag : tag ≤ 16
+    pub sealed_length : (algorithm : Algorithm) → IsLongerBy (tag algorithm) (is_sealing algorithm)
+    pub short_tag : (algorithm : Algorithm) → tag algorithm ≤ most_tag
     pub encrypted : (request : Request) → outer_options (request_options request) ≡ []
     pub written : (message : Message) (reply : Reply) → plaintext_of (with_reply message reply) ≡ reply_plaintext reply
     pub least : (old new : Tree) (scope : Scope) (text : List ℕ) (reply : Reply) → AppliesTo old (apply_read old scope (read_request text)) reply new → 64 ≤ reply.code.0
@@ -101,7 +104,7 @@ etag_short (Some bytes) is tag e = let same : bytes ≡ tag = same_Some bytes ta
 
 -- ---- what the server sends back
 
-module _ (is_sealing : List ℕ → List ℕ → List ℕ → List ℕ → List ℕ → Type 0) (tag : ℕ) (laws : RoundLaws is_sealing tag)
+module _ (is_sealing : Sealings) (tag : Tags) (laws : RoundLaws is_sealing tag)
     (old : Server) (now : Moment) (from : Peer) (draw : Draw) (held : Held) (number : ℕ) (text : List ℕ) (message : Message) (step : Step) (new : Server)
     (kind : message.kind ≡ Confirmable) (id : message.id < 2 ^ 16) (token : length message.token ≤ 8) (limits : IsWithinLimits old.tree)
     (is : IsServed is_sealing old now from draw message held number text step new) where
@@ -173,7 +176,7 @@ answered_unheard endpoint now later from draw message answer other kind isnt unh
 
 -- ---- what the client asks
 
-module _ (is_sealing : List ℕ → List ℕ → List ℕ → List ℕ → List ℕ → Type 0) (tag : ℕ) (laws : RoundLaws is_sealing tag)
+module _ (is_sealing : Sealings) (tag : Tags) (laws : RoundLaws is_sealing tag)
     (client : Client) (server : Server) (asked_at now : Moment) (draw : Draw) (request : Request) (at server_at : Peer) (context : ClientContextState) (held : Held) (first : Step) (asked : Client)
     (lawful : IsLawfulServer server) (lawful_client : IsLawfulClient asked) (way : IsStraight client server now draw at server_at) (ends : MayAsk client server now context held)
     (sent : IsSent is_sealing tag client asked asked_at draw request first context) where

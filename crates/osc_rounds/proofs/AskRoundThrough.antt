@@ -11,6 +11,7 @@ use Rattle.osc_dedup.specs.Table.{Entry, looked}
 use Rattle.osc_message.specs.Confirmables.{acknowledged}
 use Rattle.osc_message.specs.Endpoint.{EndpointState}
 use Rattle.osc_message.specs.Sending.{empty_acknowledgement}
+use Rattle.osc_protect.specs.Ciphers.{Sealings}
 use Rattle.osc_authz.specs.Held.{Held}
 use Rattle.osc_server.specs.Hearing.{Hears as ServerHears}
 use Rattle.osc_server.specs.State.{State as Server}
@@ -27,7 +28,7 @@ use Rattle.osc_rounds.specs.Ready.{IsThrough}
 use Rattle.osc_rounds.proofs.AskedThrough.{IsAskedAndAnsweredThrough, IsServedAndAnsweredThrough}
 use Rattle.osc_rounds.proofs.PassedOn.{PassesLaw, can_send, takes_up, token_size}
 
-module _ (is_sealing : List ℕ → List ℕ → List ℕ → List ℕ → List ℕ → Type 0) where
+module _ (is_sealing : Sealings) where
   abbrev pub AcknowledgedLaw : Type 0
   AcknowledgedLaw = (old new : Client) (now : Moment) (from : Peer) (id : ℕ) (step : Step) → id < 2 ^ 16
       → ClientHears is_sealing old now from (spelling (empty_acknowledgement id)) step new

@@ -18,6 +18,7 @@ use Rattle.osc_message.specs.Confirmables.{same_peer}
 use Rattle.osc_message.specs.Endpoint.{EndpointState, own_id}
 use Rattle.osc_message.specs.Sending.{datagram, empty_acknowledgement}
 use Rattle.osc_context.specs.Nonce.{longest_id}
+use Rattle.osc_protect.specs.Ciphers.{Sealings, Tags}
 use Rattle.osc_protect.specs.Protection.{HasShortContext, plain_bytes, request_value, response_value}
 use Rattle.osc_authz.specs.Begun.{ClientContextState}
 use Rattle.osc_authz.specs.Held.{Held}
@@ -47,7 +48,7 @@ use Rattle.osc_rounds.proofs.Sent.{IsSent, its_id}
 
 -- ---- to a proxy
 
-module _ (is_sealing : List ℕ → List ℕ → List ℕ → List ℕ → List ℕ → Type 0) (tag : ℕ) (laws : RoundLaws is_sealing tag)
+module _ (is_sealing : Sealings) (tag : Tags) (laws : RoundLaws is_sealing tag)
     (client asked : Client) (asked_at : Moment) (draw : Draw) (request : Request) (origin : HostAndPort) (proxy_at : Peer) (context : ClientContextState) (first : Step)
     (may : SendsThrough client draw origin proxy_at context) (is : IsSent is_sealing tag client asked asked_at draw request first context) where
   abbrev bare_request : Message
@@ -154,7 +155,7 @@ abbrev ShorterLaw : Type 0
 ShorterLaw = (id : ℕ) (token : List ℕ) (message : Message) → HasSpelling message → length token ≤ length message.token
     → length (spelling (forwarded id token message)) ≤ length (spelling message)
 
-module _ (is_sealing : List ℕ → List ℕ → List ℕ → List ℕ → List ℕ → Type 0) (tag : ℕ) where
+module _ (is_sealing : Sealings) (tag : Tags) where
   pub record ThroughLaws : Type 0 where
     pub round : RoundLaws is_sealing tag
     pub fewer : FewerLaw
@@ -179,7 +180,7 @@ forwarded_sendable fewer shorter origin id token m few eight is = record {
 
 -- ---- what the server sends back
 
-module _ (is_sealing : List ℕ → List ℕ → List ℕ → List ℕ → List ℕ → Type 0) (tag : ℕ) (laws : RoundLaws is_sealing tag)
+module _ (is_sealing : Sealings) (tag : Tags) (laws : RoundLaws is_sealing tag)
     (asked : Client) (old : Server) (now : Moment) (proxy_at : Peer) (draw : Draw) (held : Held) (number : ℕ) (text : List ℕ) (request message : Message) (step : Step) (new : Server)
     (kind : message.kind ≡ Confirmable) (id : message.id < 2 ^ 16) (eight : length message.token ≡ 8) (limits : IsWithinLimits old.tree)
     (is : IsServed is_sealing old now proxy_at draw message held number text step new)
@@ -284,7 +285,7 @@ module _ (is_sealing : List ℕ → List ℕ → List ℕ → List ℕ → List 
 
 -- ---- there and back
 
-module _ (is_sealing : List ℕ → List ℕ → List ℕ → List ℕ → List ℕ → Type 0) (tag : ℕ) (laws : ThroughLaws is_sealing tag)
+module _ (is_sealing : Sealings) (tag : Tags) (laws : ThroughLaws is_sealing tag)
     (client asked : Client) (server : Server) (now : Moment) (draw : Draw) (request : Request) (origin : HostAndPort) (proxy_at : Peer) (context : ClientContextState) (held : Held) (first : Step)
     (lawful : IsLawfulServer server) (ends : MayAsk client server now context held) (short : HasShortContext held.name)
     (is : IsAskedThrough is_sealing client draw request origin proxy_at held.name context.next first asked) where

@@ -16,6 +16,7 @@ use Rattle.osc_dedup.specs.Table.{looked}
 use Rattle.osc_message.specs.Endpoint.{EndpointState, own_id}
 use Rattle.osc_message.specs.Sending.{datagram, empty_acknowledgement}
 use Rattle.osc_context.specs.Nonce.{greatest_number}
+use Rattle.osc_protect.specs.Ciphers.{Sealings}
 use Rattle.osc_protect.specs.Protection.{IsProtectedRequest, plain_bytes}
 use Rattle.osc_authz.specs.Begun.{ClientContextState}
 use Rattle.osc_authz.specs.Held.{Held}
@@ -49,8 +50,8 @@ pub record SendsThrough (client : Client) (draw : Draw) (origin : HostAndPort) (
 
 -- ---- behind
 
--- `is_sealing key nonce aad text sealed` is the cipher's relation
-module _ (is_sealing : List ℕ → List ℕ → List ℕ → List ℕ → List ℕ → Type 0) where
+-- `is_sealing algorithm` is the relation of the algorithm's cipher
+module _ (is_sealing : Sealings) where
   -- This message is that one, protected under this name and number, which is a request for the server, and this is encrypted of it.
   pub record IsForwardedAs (name : ContextName) (number : ℕ) (text : List ℕ) (plain message : Message) : Type 0 where
     pub protected : IsProtectedRequest is_sealing name number plain message

@@ -24,10 +24,12 @@ use Rattle.osc_message.specs.Received.{Receives}
 use Rattle.osc_message.specs.declared.heard.Heard.TheVariants as heard_as
 use Rattle.osc_message.specs.declared.received.Received.{Received}
 use Rattle.osc_message.specs.declared.received.Received.TheVariants as received
+use Rattle.osc_context.specs.Algorithm.{algorithm_of}
 use Rattle.osc_context.specs.Derivation.{key_of}
 use Rattle.osc_context.specs.Nonce.{greatest_number, longest_id}
 use Rattle.osc_window.specs.Window.{IsFresh}
 use Rattle.osc_protect.specs.Aad.{aad_of}
+use Rattle.osc_protect.specs.Ciphers.{Sealings}
 use Rattle.osc_protect.specs.Protection.{HasShortContext, IsFor, IsProtectedRequest, IsProtectedResponse, IsRequest, SealedRequest, plain_bytes, request_nonce, request_value}
 use Rattle.osc_protect.specs.Value.{Compressed, SpellsValue}
 use Rattle.osc_authz.specs.Held.{Held}
@@ -48,7 +50,7 @@ use Rattle.osc_client.specs.Way.{IsHost}
 
 -- ---- what the floors below say
 
-module _ (is_sealing : List ℕ → List ℕ → List ℕ → List ℕ → List ℕ → Type 0) where
+module _ (is_sealing : Sealings) where
   pub record RequestLaws : Type 0 where
     pub one_reception : (bytes : List ℕ) (a b : Received) → Receives bytes a → Receives bytes b → a ≡ b
     pub one_value : (bytes : List ℕ) (c d : Compressed) → SpellsValue bytes c → SpellsValue bytes d → c ≡ d
@@ -57,8 +59,8 @@ module _ (is_sealing : List ℕ → List ℕ → List ℕ → List ℕ → List 
     pub says : (name : ContextName) (number : ℕ) (m p : Message) → HasShortContext name → number ≤ greatest_number
         → IsProtectedRequest is_sealing name number m p
         → (request : SealedRequest) × IsRequest p request × (request.number ≡ number) × IsFor name request
-        × is_sealing (key_of name side.Client) (request_nonce name number) (aad_of name number) (plain_bytes m) request.sealed
-        × ((text : List ℕ) → is_sealing (key_of name side.Client) (request_nonce name number) (aad_of name number) text request.sealed → text ≡ plain_bytes m)
+        × is_sealing (algorithm_of name) (key_of name side.Client) (request_nonce name number) (aad_of name number) (plain_bytes m) request.sealed
+        × ((text : List ℕ) → is_sealing (algorithm_of name) (key_of name side.Client) (request_nonce name number) (aad_of name number) text request.sealed → text ≡ plain_bytes m)
 
 -- ---- what is received
 
@@ -113,7 +115,7 @@ pub payload_is : (sealed bytes : List ℕ) → payload_of sealed ≡ Some bytes 
 payload_is [] bytes e = absurd (cc)
 payload_is (b ∷ sealed) bytes e = sym (same_Some (b ∷ sealed) bytes e)
 
-module _ (is_sealing : List ℕ → List ℕ → List ℕ → List ℕ → List ℕ → Type 0) (laws : RequestLaws is_sealing)
+module _ (is_sealing : Sealings) (laws : RequestLaws is_sealing)
     (name : ContextName) (number : ℕ) (m p : Message) (short : HasShortContext name) (few : length name.client_id ≤ longest_id) (lawful : number ≤ greatest_number)
     (made : IsProtectedRequest is_sealing name number m p) where
   -- all that it says
@@ -158,19 +160,19 @@ module _ (is_sealing : List ℕ → List ℕ → List ℕ → List ℕ → List 
       subst (IsRequest p) (reads_as it.0 it.1) it.1
 
   -- it opens to the plaintext of the message in whose place it is
-  pub opens : is_sealing (key_of name side.Client) (request_nonce name number) (aad_of name number) (plain_bytes m) made.sealed
+  pub opens : is_sealing (algorithm_of name) (key_of name side.Client) (request_nonce name number) (aad_of name number) (plain_bytes m) made.sealed
   opens = made.is_sealed
 
   -- and to nothing else
-  pub opens_once : (text : List ℕ) → is_sealing (key_of name side.Client) (request_nonce name number) (aad_of name number) text made.sealed → text ≡ plain_bytes m
+  pub opens_once : (text : List ℕ) → is_sealing (algorithm_of name) (key_of name side.Client) (request_nonce name number) (aad_of name number) text made.sealed → text ≡ plain_bytes m
   opens_once text is =
       let it = laws.says name number m p short lawful made in
       let same : it.0.sealed ≡ made.sealed = ap (λ (r : SealedRequest). r.sealed) (reads_as it.0 it.1) in
-      it.5 text (subst (λ (s : List ℕ). is_sealing (key_of name side.Client) (request_nonce name number) (aad_of name number) text s) (sym same) is)
+      it.5 text (subst (λ (s : List ℕ). is_sealing (algorithm_of name) (key_of name side.Client) (request_nonce name number) (aad_of name number) text s) (sym same) is)
 
 -- ---- it is served
 
-module _ (is_sealing : List ℕ → List ℕ → List ℕ → List ℕ → List ℕ → Type 0) (laws : RequestLaws is_sealing)
+module _ (is_sealing : Sealings) (laws : RequestLaws is_sealing)
     (old : Server) (now : Moment) (from : Peer) (draw : Draw) (held : Held) (number : ℕ) (m p : Message) (step : Step) (new : Server)
     (awaits : AwaitsRequest old now from held number m.id) (for_server : IsForServer m)
     (made : IsProtectedRequest is_sealing held.name number m p) where
@@ -186,7 +188,7 @@ module _ (is_sealing : List ℕ → List ℕ → List ℕ → List ℕ → List 
   is_read : IsRequest p what
   is_read = reads is_sealing laws name number m p awaits.lawful.context awaits.lawful.client_id awaits.number_lawful made
 
-  once : (text : List ℕ) → is_sealing (key_of name side.Client) (request_nonce name number) (aad_of name number) text made.sealed → text ≡ plain_bytes m
+  once : (text : List ℕ) → is_sealing (algorithm_of name) (key_of name side.Client) (request_nonce name number) (aad_of name number) text made.sealed → text ≡ plain_bytes m
   once = opens_once is_sealing laws name number m p awaits.lawful.context awaits.lawful.client_id awaits.number_lawful made
 
   -- which context it means

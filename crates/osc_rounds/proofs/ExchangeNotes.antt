@@ -4,6 +4,7 @@ use Rattle.std.specs.Prelude.{◌≢◌}
 use Rattle.std.proofs.lemmas.List.{length-take}
 use Rattle.osc_model.specs.Draw.{nonce_drawn, token_drawn}
 use Rattle.osc_model.specs.StepNotes.{StepNotes, quiet}
+use Rattle.osc_model.specs.declared.algorithm.Algorithm.TheVariants.{EightByteTag}
 use Rattle.osc_model.specs.declared.node.Draw.{Draw}
 use Rattle.osc_model.specs.declared.node.Moment.{Moment}
 use Rattle.osc_model.specs.declared.node.Peer.{Peer}
@@ -22,6 +23,7 @@ use Rattle.osc_message.specs.Received.{Receives}
 use Rattle.osc_message.specs.Sending.{datagram}
 use Rattle.osc_message.specs.declared.received.Received.{Received}
 use Rattle.osc_message.specs.declared.received.Received.TheVariants as received
+use Rattle.osc_protect.specs.Ciphers.{Sealings}
 use Rattle.osc_protect.specs.Protection.{longest_message}
 use Rattle.osc_scope.specs.Entries.{Entry}
 use Rattle.osc_token.specs.Token.{IsToken, algorithm_header, claims_item, token_note, token_object}
@@ -55,38 +57,38 @@ use Rattle.osc_rounds.proofs.Asking.{received_as}
 use Rattle.osc_rounds.proofs.ExchangeRound.{drawn_size}
 use Rattle.osc_rounds.proofs.Unheard.{still_unheard}
 
-module _ (is_sealing : List ℕ → List ℕ → List ℕ → List ℕ → List ℕ → Type 0) where
+module _ (is_sealing : Sealings) where
   pub record TokenLaws : Type 0 where
     pub welcome : (before after : DeskState) (now : Moment) (draw : Draw) (post : Post) (claims : Claims) (entries : List Entry) (holder : ClientDesk) (nonce1 : List ℕ) (id : ℕ)
-        → IsWelcome is_sealing before now claims entries holder → length nonce1 ≡ 8
-        → Posts is_sealing before now (item_spelling (post_item holder.token nonce1 (id ∷ []))) draw post after
+        → IsWelcome (is_sealing EightByteTag) before now claims entries holder → length nonce1 ≡ 8
+        → Posts (is_sealing EightByteTag) before now (item_spelling (post_item holder.token nonce1 (id ∷ []))) draw post after
         → (answer : PostAnswer) × (post.answer ≡ Ok answer) × (answer.nonce2 ≡ nonce_drawn draw)
     pub agreed : (before after : DeskState) (now : Moment) (body : List ℕ) (draw : Draw) (post : Post) (answer : PostAnswer)
-        → Posts is_sealing before now body draw post after → post.answer ≡ Ok answer → IsAgreed is_sealing before now body draw post answer after
+        → Posts (is_sealing EightByteTag) before now body draw post after → post.answer ≡ Ok answer → IsAgreed (is_sealing EightByteTag) before now body draw post answer after
     pub written : (token nonce1 client_id : List ℕ) → length token < 2 ^ 64 → 1 ≤ length nonce1 → length nonce1 ≤ 64 → length client_id ≤ 7
         → IsPost (item_spelling (post_item token nonce1 client_id)) token nonce1 client_id
     pub one_post : (body token nonce1 client_id others nonces ids : List ℕ) → IsPost body token nonce1 client_id → IsPost body others nonces ids
         → (token ≡ others) × (nonce1 ≡ nonces) × (client_id ≡ ids)
     pub minted : (key iv text ciphertext : List ℕ) → length iv ≡ 13 → length ciphertext < 2 ^ 64
-        → is_sealing key iv (enc_structure algorithm_header []) text ciphertext
-        → IsToken is_sealing key (item_spelling (object_item (token_object iv ciphertext))) algorithm_header iv text
+        → is_sealing EightByteTag key iv (enc_structure algorithm_header []) text ciphertext
+        → IsToken (is_sealing EightByteTag) key (item_spelling (object_item (token_object iv ciphertext))) algorithm_header iv text
     pub one_token : (key bytes protected iv text others ivs other : List ℕ)
-        → IsToken is_sealing key bytes protected iv text → IsToken is_sealing key bytes others ivs other
+        → IsToken (is_sealing EightByteTag) key bytes protected iv text → IsToken (is_sealing EightByteTag) key bytes others ivs other
         → (protected ≡ others) × (iv ≡ ivs) × (text ≡ other)
 
 -- ---- a post with a welcome token
 
-module _ (is_sealing : List ℕ → List ℕ → List ℕ → List ℕ → List ℕ → Type 0) (laws : TokenLaws is_sealing)
+module _ (is_sealing : Sealings) (laws : TokenLaws is_sealing)
     (before after : DeskState) (now : Moment) (draw : Draw) (post : Post) (claims : Claims) (entries : List Entry) (holder : ClientDesk) (nonce1 : List ℕ) (client_id : ℕ)
-    (welcome : IsWelcome is_sealing before now claims entries holder) (size : length nonce1 ≡ 8)
-    (posts : Posts is_sealing before now (item_spelling (post_item holder.token nonce1 (client_id ∷ []))) draw post after) where
+    (welcome : IsWelcome (is_sealing EightByteTag) before now claims entries holder) (size : length nonce1 ≡ 8)
+    (posts : Posts (is_sealing EightByteTag) before now (item_spelling (post_item holder.token nonce1 (client_id ∷ []))) draw post after) where
   abbrev text : List ℕ
   text = item_spelling (claims_item claims)
 
   answer : (answer : PostAnswer) × (post.answer ≡ Ok answer) × (answer.nonce2 ≡ nonce_drawn draw)
   answer = laws.welcome before after now draw post claims entries holder nonce1 client_id welcome size posts
 
-  is_agreed : IsAgreed is_sealing before now (item_spelling (post_item holder.token nonce1 (client_id ∷ []))) draw post answer.0 after
+  is_agreed : IsAgreed (is_sealing EightByteTag) before now (item_spelling (post_item holder.token nonce1 (client_id ∷ []))) draw post answer.0 after
   is_agreed = laws.agreed before after now (item_spelling (post_item holder.token nonce1 (client_id ∷ []))) draw post answer.0 posts answer.1
 
   its_token : is_agreed.opened.token ≡ holder.token
@@ -99,8 +101,8 @@ module _ (is_sealing : List ℕ → List ℕ → List ℕ → List ℕ → List 
   its_text =
       let holds = welcome.holds in
       let bytes : List ℕ = item_spelling (object_item (token_object holds.iv holds.ciphertext)) in
-      let opened : IsToken is_sealing before.key bytes is_agreed.protected is_agreed.iv is_agreed.text =
-      subst (λ (b : List ℕ). IsToken is_sealing before.key b is_agreed.protected is_agreed.iv is_agreed.text) (its_token ∙ holds.token) is_agreed.opened.is_token in
+      let opened : IsToken (is_sealing EightByteTag) before.key bytes is_agreed.protected is_agreed.iv is_agreed.text =
+      subst (λ (b : List ℕ). IsToken (is_sealing EightByteTag) before.key b is_agreed.protected is_agreed.iv is_agreed.text) (its_token ∙ holds.token) is_agreed.opened.is_token in
       let same = laws.one_token before.key bytes is_agreed.protected is_agreed.iv is_agreed.text algorithm_header holds.iv text opened
       (laws.minted before.key holds.iv text holds.ciphertext holds.iv_size holds.short holds.sealed) in
       same.2
@@ -117,10 +119,10 @@ module _ (is_sealing : List ℕ → List ℕ → List ℕ → List ℕ → List 
   )
 
 -- what a server notes of it, whichever way the post came
-pub answer_notes : (is_sealing : List ℕ → List ℕ → List ℕ → List ℕ → List ℕ → Type 0) (laws : TokenLaws is_sealing)
+pub answer_notes : (is_sealing : Sealings) (laws : TokenLaws is_sealing)
     (server agreed : Server) (now : Moment) (from : Peer) (draw : Draw) (message : Message) (step : Step)
     (claims : Claims) (entries : List Entry) (holder : ClientDesk) (nonce1 : List ℕ) (client_id : ℕ)
-    → IsWelcome is_sealing server.desk now claims entries holder → length nonce1 ≡ 8
+    → IsWelcome (is_sealing EightByteTag) server.desk now claims entries holder → length nonce1 ≡ 8
     → message.payload ≡ payload_of (item_spelling (post_item holder.token nonce1 (client_id ∷ [])))
     → AnswersPost is_sealing server now from draw message step agreed
     → (protected : List ℕ) × (iv : List ℕ)
@@ -128,8 +130,8 @@ pub answer_notes : (is_sealing : List ℕ → List ℕ → List ℕ → List ℕ
 answer_notes is_sealing laws server agreed now from draw message step claims entries holder nonce1 client_id welcome size payload it =
     let body : List ℕ = item_spelling (post_item holder.token nonce1 (client_id ∷ [])) in
     let bytes : unwrap_or message.payload [] ≡ body = ap (λ (p : Option (List ℕ)). unwrap_or p []) payload ∙ payload_again body in
-    let posts : Posts is_sealing server.desk now body draw it.post agreed.desk =
-    subst (λ (b : List ℕ). Posts is_sealing server.desk now b draw it.post agreed.desk) bytes it.posts in
+    let posts : Posts (is_sealing EightByteTag) server.desk now body draw it.post agreed.desk =
+    subst (λ (b : List ℕ). Posts (is_sealing EightByteTag) server.desk now b draw it.post agreed.desk) bytes it.posts in
     let notes = post_notes is_sealing laws server.desk agreed.desk now draw it.post claims entries holder nonce1 client_id welcome size posts in
     (notes.0, notes.1, ap (λ (s : Step). s.notes) it.sent.sent ∙ notes.2)
 
@@ -144,7 +146,7 @@ sends_one to message e = cc
 
 -- ---- client and server
 
-module _ (is_sealing : List ℕ → List ℕ → List ℕ → List ℕ → List ℕ → Type 0)
+module _ (is_sealing : Sealings)
     (one_reception : (bytes : List ℕ) (a b : Received) → Receives bytes a → Receives bytes b → a ≡ b)
     (client begun : Client) (server agreed : Server) (asked_at now : Moment) (draw server_draw : Draw) (at server_at : Peer) (sent : Message) (first second : Step)
     (lawful : IsLawfulClient begun) (straight : IsStraight client server now draw at server_at)

@@ -4,6 +4,7 @@ use Rattle.std.specs.Prelude.{◌≢◌, IfSome, drop}
 use Rattle.std.proofs.lemmas.List.{length-drop, length-take}
 use Rattle.osc_model.specs.Draw.{nonce_drawn, token_drawn}
 use Rattle.osc_model.specs.StepNotes.{quiet}
+use Rattle.osc_model.specs.declared.algorithm.Algorithm.TheVariants.{EightByteTag}
 use Rattle.osc_model.specs.declared.node.Draw.{Draw}
 use Rattle.osc_model.specs.declared.node.Moment.{Moment}
 use Rattle.osc_model.specs.declared.node.Peer.{Peer}
@@ -15,6 +16,7 @@ use Rattle.osc_dedup.specs.Table.{looked}
 use Rattle.osc_message.specs.Confirmables.{same_peer}
 use Rattle.osc_message.specs.Endpoint.{own_id}
 use Rattle.osc_message.specs.Sending.{datagram}
+use Rattle.osc_protect.specs.Ciphers.{Sealings}
 use Rattle.osc_protect.specs.Protection.{longest_message}
 use Rattle.osc_scope.specs.Entries.{Entry}
 use Rattle.osc_token.specs.declared.claims.Claims.{Claims}
@@ -46,13 +48,13 @@ drawn_size client begun at draw message what lawful kept =
     subst (λ (w : Option Waiting). IfSome w (λ waiting. length waiting.token ≡ 8)) (ap (λ (c : Client). c.waiting) kept) lawful.token in
     omega (arith, length-take 8 (drop 8 draw.0), length-drop 8 draw.0, token)
 
-module _ (is_sealing : List ℕ → List ℕ → List ℕ → List ℕ → List ℕ → Type 0) where
+module _ (is_sealing : Sealings) where
   -- how both ends stand where the client begins an exchange that goes straight to the server
   pub record MayPost (client : Client) (server : Server) (now : Moment) (draw : Draw) (at server_at : Peer) (claims : Claims) (entries : List Entry) : Type 0 where
     pub direct : client.origin ≡ None
     pub next_hop : client.next_hop ≡ server_at
     pub unheard : looked now at (own_id draw client.endpoint.next_id) server.endpoint.seen ≡ None
-    pub welcome : IsWelcome is_sealing server.desk now claims entries client.desk
+    pub welcome : IsWelcome (is_sealing EightByteTag) server.desk now claims entries client.desk
     pub id : own_id draw client.endpoint.next_id < 2 ^ 16
     pub draw_size : 16 ≤ length draw.0
 
@@ -73,7 +75,7 @@ module _ (is_sealing : List ℕ → List ℕ → List ℕ → List ℕ → List 
         draw_size = drawn_size client begun asked_at draw (post_by client draw) (Exchange (begun_by client draw)) lawful kept;
       }
 
-module _ (is_sealing : List ℕ → List ℕ → List ℕ → List ℕ → List ℕ → Type 0) (laws : ExchangeLaws is_sealing)
+module _ (is_sealing : Sealings) (laws : ExchangeLaws is_sealing)
     (client : Client) (server : Server) (asked_at now : Moment) (draw : Draw) (at server_at : Peer) (claims : Claims) (entries : List Entry) (first : Step) (begun : Client)
     (may : MayPost is_sealing client server now draw at server_at claims entries) where
   abbrev its : Begun
@@ -160,7 +162,7 @@ module _ (is_sealing : List ℕ → List ℕ → List ℕ → List ℕ → List 
       agreed = agreed_so;
     }
 
-module _ (is_sealing : List ℕ → List ℕ → List ℕ → List ℕ → List ℕ → Type 0) (laws : ExchangeLaws is_sealing)
+module _ (is_sealing : Sealings) (laws : ExchangeLaws is_sealing)
     (client begun : Client) (server : Server) (asked_at now : Moment) (draw : Draw) (at server_at : Peer) (claims : Claims) (entries : List Entry) (first : Step)
     (lawful : IsLawfulClient begun) (straight : IsStraight client server now draw at server_at) (may : MayExchange is_sealing client server now claims entries) where
   pub is_begun : first.notes.result ≢ Some (result.Refused 14) → Exchanges client asked_at draw first begun

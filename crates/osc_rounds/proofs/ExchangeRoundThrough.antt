@@ -12,6 +12,7 @@ use Rattle.osc_message.specs.Confirmables.{acknowledged}
 use Rattle.osc_message.specs.Endpoint.{EndpointState}
 use Rattle.osc_scope.specs.Entries.{Entry}
 use Rattle.osc_token.specs.declared.claims.Claims.{Claims}
+use Rattle.osc_protect.specs.Ciphers.{Sealings}
 use Rattle.osc_server.specs.Hearing.{Hears as ServerHears}
 use Rattle.osc_server.specs.State.{State as Server}
 use Rattle.osc_client.specs.Hearing.{Hears as ClientHears}
@@ -32,7 +33,7 @@ use Rattle.osc_rounds.specs.Ready.{IsThrough, MayExchange}
 use Rattle.osc_rounds.proofs.ExchangeRound.{drawn_size}
 use Rattle.osc_rounds.proofs.PassedOn.{PassesLaw, can_send, takes_up, token_size}
 
-module _ (is_sealing : List ℕ → List ℕ → List ℕ → List ℕ → List ℕ → Type 0)
+module _ (is_sealing : Sealings)
     (client begun : Client) (proxy : Proxy) (server : Server) (now : Moment) (draw proxy_draw : Draw)
     (at proxy_at server_at : Peer) (claims : Claims) (entries : List Entry) (posts : Step)
     (through : IsThrough client proxy server now draw proxy_draw at proxy_at server_at) where

@@ -12,8 +12,10 @@ use Rattle.osc_coap.specs.declared.kind.Kind.{Kind}
 use Rattle.osc_options.specs.Split.{AreInOrder, inner_options, insert, merge, outer_options, plaintext_of, protected, same_class}
 use Rattle.osc_options.specs.Table.{class_of}
 use Rattle.osc_options.specs.declared.table.Class.TheVariants.{E, U}
+use Rattle.osc_context.specs.Algorithm.{algorithm_of}
 use Rattle.osc_context.specs.Derivation.{key_of}
 use Rattle.osc_protect.specs.Aad.{aad_of}
+use Rattle.osc_protect.specs.Ciphers.{Sealings}
 use Rattle.osc_protect.specs.Protection.{IsProtectedRequest, IsProtectedResponse, plain_bytes, request_nonce, request_value}
 use Rattle.osc_proxy.specs.Forwarding.{answer, forwarded, forwarded_options, has_proxy_uri, is_taken_out}
 
@@ -189,14 +191,14 @@ whole_forwarded : (id : ℕ) (token : List ℕ) (m : Message) (value sealed : Li
 whole_forwarded id token m value sealed order none =
     ap (λ (options : List NumberAndValue). record m { code = 2; id = id; token = token; options = options; payload = payload_of sealed }) (protected_forwarded m.options value order none)
 
-module _ (is_sealing : List ℕ → List ℕ → List ℕ → List ℕ → List ℕ → Type 0) where
+module _ (is_sealing : Sealings) where
   -- a protected request is forwarded as the forwarded one, protected
   pub request_forwarded : (name : ContextName) (number : ℕ) (m p : Message) (id : ℕ) (token : List ℕ) → AreInOrder 0 (outer_options m.options) → has_proxy_uri m.options ≡ false
       → IsProtectedRequest is_sealing name number m p → IsProtectedRequest is_sealing name number (forwarded id token m) (forwarded id token p)
   request_forwarded name number m p id token order none made = record {
     sealed = made.sealed;
     is_sealed =
-        subst (λ (text : List ℕ). is_sealing (key_of name Client) (request_nonce name number) (aad_of name number) text made.sealed)
+        subst (λ (text : List ℕ). is_sealing (algorithm_of name) (key_of name Client) (request_nonce name number) (aad_of name number) text made.sealed)
         (sym (text_forwarded id token m none)) made.is_sealed;
     whole = ap (forwarded id token) made.whole ∙ whole_forwarded id token m (request_value name number) made.sealed order none;
   }

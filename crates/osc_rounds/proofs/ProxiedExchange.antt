@@ -22,6 +22,7 @@ use Rattle.osc_message.specs.Received.{Receives}
 use Rattle.osc_message.specs.Sending.{datagram, empty_acknowledgement}
 use Rattle.osc_message.specs.declared.received.Received.{Received}
 use Rattle.osc_message.specs.declared.received.Received.TheVariants as received
+use Rattle.osc_protect.specs.Ciphers.{Sealings}
 use Rattle.osc_protect.specs.Protection.{longest_message}
 use Rattle.osc_scope.specs.Entries.{Entry}
 use Rattle.osc_token.specs.Token.{claims_item, token_note}
@@ -109,7 +110,7 @@ abbrev pub NothingAdded : Type 0
 NothingAdded = (id : ℕ) (token : List ℕ) (message : Message) → HasSpelling message → length token ≤ length message.token
     → length (spelling (forwarded id token message)) ≤ length (spelling message)
 
-module _ (is_sealing : List ℕ → List ℕ → List ℕ → List ℕ → List ℕ → Type 0) (laws : ExchangeLaws is_sealing) (nothing_added : NothingAdded) where
+module _ (is_sealing : Sealings) (laws : ExchangeLaws is_sealing) (nothing_added : NothingAdded) where
   pub forwarded_agreed : (old new : Server) (now : Moment) (from : Peer) (draw : Draw) (claims : Claims) (entries : List Entry) (holder : ClientDesk) (its : Begun)
       (origin : HostAndPort) (its_id id : ℕ) (its_token token : List ℕ) (step : Step)
       → AwaitsPost is_sealing old now from id claims entries holder its → IsLawfulOrigin origin → IsForProxy origin (post_through origin holder its its_id its_token)
@@ -131,7 +132,7 @@ module _ (is_sealing : List ℕ → List ℕ → List ℕ → List ℕ → List 
 
 -- ---- the answer in a confirmable message
 
-module _ (is_sealing : List ℕ → List ℕ → List ℕ → List ℕ → List ℕ → Type 0) (laws : ExchangeLaws is_sealing) where
+module _ (is_sealing : Sealings) (laws : ExchangeLaws is_sealing) where
   pub confirmable_makes : (server agreed : Server) (now : Moment) (from : Peer) (draw : Draw) (claims : Claims) (entries : List Entry) (holder : ClientDesk) (its : Begun)
       (id : ℕ) (token : List ℕ) (second : Step) (client after : Client) (later : Moment) (hop : Peer) (back : ℕ) (its_token : List ℕ) (third : Step)
       → AwaitsPost is_sealing server now from id claims entries holder its → length draw.0 ≡ 32
@@ -160,7 +161,7 @@ case_empty : (next_hop from : Peer) (waiting : Option Waiting) (seen : List Note
     → client_case next_hop from waiting (heard seen now from (received.Message (empty_acknowledgement id))) ≡ Empty Acknowledgement id
 case_empty next_hop from waiting seen now id = refl
 
-module _ (is_sealing : List ℕ → List ℕ → List ℕ → List ℕ → List ℕ → Type 0)
+module _ (is_sealing : Sealings)
     (one_reception : (bytes : List ℕ) (a b : Received) → Receives bytes a → Receives bytes b → a ≡ b) (empty : EmptyLaws) where
   pub acknowledgement_kept : (old new : Client) (now : Moment) (from : Peer) (id : ℕ) (step : Step) → id < 2 ^ 16
       → ClientHears is_sealing old now from (spelling (empty_acknowledgement id)) step new
@@ -176,7 +177,7 @@ module _ (is_sealing : List ℕ → List ℕ → List ℕ → List ℕ → List 
 
 -- ---- the whole
 
-module _ (is_sealing : List ℕ → List ℕ → List ℕ → List ℕ → List ℕ → Type 0) (laws : ExchangeLaws is_sealing) (tokens : TokenLaws is_sealing) (nothing_added : NothingAdded) (empty : EmptyLaws)
+module _ (is_sealing : Sealings) (laws : ExchangeLaws is_sealing) (tokens : TokenLaws is_sealing) (nothing_added : NothingAdded) (empty : EmptyLaws)
     (client : Client) (server : Server) (asked_at now : Moment) (draw : Draw) (origin : HostAndPort) (proxy_at : Peer) (claims : Claims) (entries : List Entry) (first : Step) (begun : Client)
     (may : MayExchangeThrough is_sealing client server now draw origin proxy_at claims entries) where
   abbrev its : Begun

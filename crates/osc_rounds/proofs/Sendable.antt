@@ -3,17 +3,21 @@ use Rattle.std.proofs.Common.{◌≡◌, ◌∙◌, sym, ap, subst, refl, true, 
 use Rattle.std.specs.Prelude.{IfSome}
 use Rattle.std.specs.Option.{ForSome}
 use Rattle.std.proofs.lemmas.List.{length-replicate}
+use Rattle.osc_model.specs.declared.algorithm.Algorithm.{Algorithm}
 use Rattle.osc_model.specs.declared.context.ContextName.{ContextName}
 use Rattle.osc_model.specs.declared.context.Side.TheVariants as side
 use Rattle.osc_model.specs.declared.reply.Reply.{Reply}
+use Rattle.osc_ccm.specs.Limits.{most_tag}
 use Rattle.osc_coap.specs.Building.{payload_of}
 use Rattle.osc_coap.specs.Length.{datagram_limit, extension_length, payload_length, spelled_length}
 use Rattle.osc_coap.specs.Message.{HasSpelling, Message, NumberAndValue, spelling}
 use Rattle.osc_coap.specs.Plaintext.{Plaintext, plaintext_spelling}
 use Rattle.osc_options.specs.PlaintextReplies.{reply_plaintext}
 use Rattle.osc_options.specs.Split.{merge, outer_options, plaintext_of, protected}
+use Rattle.osc_context.specs.Algorithm.{algorithm_of}
 use Rattle.osc_context.specs.Derivation.{key_of}
 use Rattle.osc_protect.specs.Aad.{aad_of}
+use Rattle.osc_protect.specs.Ciphers.{Sealings, Tags, IsLongerBy}
 use Rattle.osc_protect.specs.Protection.{request_nonce, response_nonce, IsProtectedRequest, IsProtectedResponse, longest_message, plain_bytes, request_length, request_value, response_value}
 use Rattle.osc_run.specs.Texts.{reply_text}
 use Rattle.osc_proxy.specs.ThereAndBack.{IsCarried}
@@ -84,15 +88,15 @@ unfolding reply_text
 text_length law m reply same is =
     subst (λ (p : Plaintext). length (plaintext_spelling p) ≤ 526) (sym same) (law reply is.code is.etag is.payload)
 
-module _ (is_sealing : List ℕ → List ℕ → List ℕ → List ℕ → List ℕ → Type 0) (tag : ℕ) (exact : LengthLaw)
-    (sealed_length : (key nonce aad text sealed : List ℕ) → is_sealing key nonce aad text sealed → length sealed ≡ length text + tag) where
+module _ (is_sealing : Sealings) (tag : Tags) (exact : LengthLaw)
+    (sealed_length : (algorithm : Algorithm) → IsLongerBy (tag algorithm) (is_sealing algorithm)) where
   pub request_short : (name : ContextName) (number : ℕ) (m p : Message) → IsProtectedRequest is_sealing name number m p
       → request_length tag name number m ≤ longest_message → length (spelling p) ≤ datagram_limit
   request_short name number m p made fits =
       let v = request_value name number in
-      let size = length (plain_bytes m) + tag in
+      let size = length (plain_bytes m) + tag (algorithm_of name) in
       let zeros : List ℕ = replicate size 0 in
-      let long : length made.sealed ≡ length zeros = (sealed_length (key_of name side.Client) (request_nonce name number) (aad_of name number) (plain_bytes m) made.sealed made.is_sealed) ∙ sym (length-replicate {A = ℕ} size 0) in
+      let long : length made.sealed ≡ length zeros = (sealed_length (algorithm_of name) (key_of name side.Client) (request_nonce name number) (aad_of name number) (plain_bytes m) made.sealed made.is_sealed) ∙ sym (length-replicate {A = ℕ} size 0) in
       subst (λ (q : Message). length (spelling q) ≤ datagram_limit) (sym made.whole)
       (omega (arith, fits, same_length exact m 2 v made.sealed zeros long))
 
@@ -112,14 +116,14 @@ module _ (is_sealing : List ℕ → List ℕ → List ℕ → List ℕ → List 
 
   pub response_sendable : TextLaw → (name : ContextName) (number : ℕ) (m p : Message) (reply : Reply)
       → IsProtectedResponse is_sealing name number None m p
-      → outer_options m.options ≡ [] → m.id < 2 ^ 16 → length m.token ≤ 8 → length (response_value None) ≤ 255 → tag ≤ 16
+      → outer_options m.options ≡ [] → m.id < 2 ^ 16 → length m.token ≤ 8 → length (response_value None) ≤ 255 → ((algorithm : Algorithm) → tag algorithm ≤ most_tag)
       → plaintext_of m ≡ reply_plaintext reply → IsShortReply reply → IsCarried p
   response_sendable text_law name number m p reply made inside id token short few plaintext is =
       let v = response_value None in
       let text : length (plain_bytes m) ≤ 526 = text_length text_law m reply plaintext is in
-      let long : length made.sealed ≡ length (plain_bytes m) + tag = sealed_length (key_of name side.Server) (response_nonce name number None) (aad_of name number) (plain_bytes m) made.sealed made.is_sealed in
+      let long : length made.sealed ≡ length (plain_bytes m) + tag (algorithm_of name) = sealed_length (algorithm_of name) (key_of name side.Server) (response_nonce name number None) (aad_of name number) (plain_bytes m) made.sealed made.is_sealed in
       let whole : length (spelling (protected m 68 v made.sealed)) ≤ 271 + length made.sealed = response_length m v made.sealed inside token short in
       subst IsCarried (sym made.whole) (record {
         lawful = protected_lawful m 68 v made.sealed inside (omega arith) id token short;
-        short = omega (arith, text, long, whole, few);
+        short = omega (arith, text, long, whole, few (algorithm_of name));
       })

@@ -13,6 +13,7 @@ use Rattle.osc_coap.specs.Message.{Message, Spells, spelling}
 use Rattle.osc_message.specs.Endpoint.{own_id}
 use Rattle.osc_message.specs.Sending.{datagram}
 use Rattle.osc_context.specs.Nonce.{greatest_number}
+use Rattle.osc_protect.specs.Ciphers.{Sealings, Tags}
 use Rattle.osc_protect.specs.Protection.{HasShortContext, IsProtectedRequest, plain_bytes}
 use Rattle.osc_authz.specs.Begun.{ClientContextState}
 use Rattle.osc_run.specs.ClientKinds.{request_note}
@@ -23,7 +24,7 @@ use Rattle.osc_client.specs.Way.{HostAndPort, IsLawfulOrigin, through}
 use Rattle.osc_client.specs.declared.waiting.Awaited.TheVariants.{Ask}
 use Rattle.osc_client.specs.declared.waiting.Waiting.{Waiting}
 
-module _ (is_sealing : List ℕ → List ℕ → List ℕ → List ℕ → List ℕ → Type 0) (tag : ℕ)
+module _ (is_sealing : Sealings) (tag : Tags)
     (client asked : Client) (asked_at : Moment) (draw : Draw) (request : Request) (first : Step) where
   -- what is known of one that went out under this context
   pub record IsSent (context : ClientContextState) : Type 0 where

@@ -3,6 +3,7 @@
 use Rattle.std.specs.Prelude.{◌≡◌, ℕ, true, List, [], ◌∷◌, length, Some, None, Ok}
 use Rattle.osc_model.specs.Code.{code}
 use Rattle.osc_model.specs.Draw.{nonce_drawn}
+use Rattle.osc_model.specs.declared.algorithm.Algorithm.TheVariants.{EightByteTag}
 use Rattle.osc_model.specs.declared.node.Draw.{Draw}
 use Rattle.osc_model.specs.declared.node.Moment.{Moment}
 use Rattle.osc_model.specs.declared.node.Peer.{Peer}
@@ -18,6 +19,7 @@ use Rattle.osc_message.specs.Confirmables.{same_peer}
 use Rattle.osc_message.specs.Sending.{datagram}
 use Rattle.osc_scope.specs.Entries.{Entry}
 use Rattle.osc_token.specs.declared.claims.Claims.{Claims}
+use Rattle.osc_protect.specs.Ciphers.{Sealings}
 use Rattle.osc_authz.specs.Begun.{Begun}
 use Rattle.osc_authz.specs.Exchange.{post_item}
 use Rattle.osc_authz.specs.Post.{Posts}
@@ -39,12 +41,12 @@ body_of holder begun = item_spelling (post_item holder.token begun.nonce1 (begun
 abbrev pub agreement : Kind → ℕ → List ℕ → PostAnswer → Message
 agreement kind id token answer = with_reply (bare kind (code 2 1).0 id token) (post_reply (Ok answer))
 
--- `is_sealing key nonce aad text sealed` is the cipher's relation
-module _ (is_sealing : List ℕ → List ℕ → List ℕ → List ℕ → List ℕ → Type 0) where
+-- `is_sealing algorithm` is the relation of the algorithm's cipher
+module _ (is_sealing : Sealings) where
   -- The token of this client is welcome at the server, the client's nonce is one of 8 bytes, and no message of this ID was heard from
   -- there.
   pub record AwaitsPost (server : Server) (now : Moment) (from : Peer) (id : ℕ) (claims : Claims) (entries : List Entry) (holder : ClientDesk) (begun : Begun) : Type 0 where
-    pub welcome : IsWelcome is_sealing server.desk now claims entries holder
+    pub welcome : IsWelcome (is_sealing EightByteTag) server.desk now claims entries holder
     pub nonce : length begun.nonce1 ≡ 8
     pub unheard : looked now from id server.endpoint.seen ≡ None
 
@@ -53,7 +55,7 @@ module _ (is_sealing : List ℕ → List ℕ → List ℕ → List ℕ → List 
   pub record IsAgreedTo (old : Server) (now : Moment) (from : Peer) (draw : Draw) (holder : ClientDesk) (begun : Begun) (id : ℕ) (token : List ℕ) (step : Step) (new : Server) : Type 0 where
     pub answer : PostAnswer
     pub post : Post
-    pub posts : Posts is_sealing old.desk now (body_of holder begun) draw post new.desk
+    pub posts : Posts (is_sealing EightByteTag) old.desk now (body_of holder begun) draw post new.desk
     pub agrees : post.answer ≡ Ok answer
     pub nonce : answer.nonce2 ≡ nonce_drawn draw
     pub out : step.out ≡ datagram from (agreement Acknowledgement id token answer) ∷ []

@@ -12,6 +12,7 @@ use Rattle.osc_coap.specs.Message.{Message, spelling}
 use Rattle.osc_dedup.specs.Table.{looked}
 use Rattle.osc_message.specs.Endpoint.{own_id}
 use Rattle.osc_message.specs.Sending.{datagram}
+use Rattle.osc_protect.specs.Ciphers.{Sealings}
 use Rattle.osc_protect.specs.Protection.{plain_bytes}
 use Rattle.osc_authz.specs.Held.{Held}
 use Rattle.osc_authz.specs.Table.{IsTable, accepted}
@@ -34,8 +35,8 @@ pub record IsLawfulServer (server : Server) : Type 0 where
 abbrev pub asked_text : Client → Draw → Request → List ℕ
 asked_text client draw request = plain_bytes (plain_of client draw request)
 
--- `is_sealing key nonce aad text sealed` is the cipher's relation
-module _ (is_sealing : List ℕ → List ℕ → List ℕ → List ℕ → List ℕ → Type 0) where
+-- `is_sealing algorithm` is the relation of the algorithm's cipher
+module _ (is_sealing : Sealings) where
   -- The server serves this text as one entry, under its context's scope, whose window takes the number, and sends one datagram, which
   -- the client takes for the answer, with that reply.
   pub record IsServedAndAnswered (asked : Client) (server : Server) (now : Moment) (at server_at : Peer) (held : Held) (number : ℕ) (text : List ℕ) (second : Step) (served : Server) : Type 0 where

@@ -11,6 +11,7 @@ use Rattle.osc_model.specs.declared.request.Request.{Request}
 use Rattle.osc_model.specs.declared.step.Step.{Step}
 use Rattle.osc_coap.specs.Message.{Message, spelling}
 use Rattle.osc_message.specs.Sending.{datagram, empty_acknowledgement}
+use Rattle.osc_protect.specs.Ciphers.{Sealings}
 use Rattle.osc_authz.specs.Held.{Held}
 use Rattle.osc_authz.specs.Table.{accepted}
 use Rattle.osc_run.specs.ClientKinds.{request_note}
@@ -52,8 +53,8 @@ forwarded_on way = forwarded_by way.proxy way.proxy_draw way.key way.message
 abbrev pub id_back : OnItsWay → ℕ
 id_back way = answer_id way.proxy way.proxy_draw
 
--- `is_sealing key nonce aad text sealed` is the cipher's relation
-module _ (is_sealing : List ℕ → List ℕ → List ℕ → List ℕ → List ℕ → Type 0) where
+-- `is_sealing algorithm` is the relation of the algorithm's cipher
+module _ (is_sealing : Sealings) where
   -- sixth: the client acknowledged the answer, and has its reply; and where that comes to the proxy, nothing goes out
   pub record IsAnsweredAndEnds (way : OnItsWay) (brought : Proxy) (reply : Reply) (fifth : Step) (answered : Client) : Type 0 where
     pub is_answered : IsAnsweredWith (datagram way.proxy_at (empty_acknowledgement (id_back way)) ∷ []) way.asked way.held.name way.number reply fifth answered

@@ -9,6 +9,7 @@ use Rattle.osc_model.specs.declared.step.ClientResult.TheVariants as result
 use Rattle.osc_model.specs.declared.step.Step.{Step}
 use Rattle.osc_coap.specs.Message.{Message, spelling}
 use Rattle.osc_message.specs.Sending.{datagram}
+use Rattle.osc_protect.specs.Ciphers.{Sealings}
 use Rattle.osc_protect.specs.Protection.{HasShortContext}
 use Rattle.osc_scope.specs.Entries.{Entry, scope_of}
 use Rattle.osc_authz.specs.Contexts.{IsLive}
@@ -34,8 +35,8 @@ pub record IsHeld (server : Server) (now : Moment) (entries : List Entry) (held 
   pub window : held.window ≡ []
   pub short : HasShortContext held.name
 
--- `is_sealing key nonce aad text sealed` is the cipher's relation
-module _ (is_sealing : List ℕ → List ℕ → List ℕ → List ℕ → List ℕ → Type 0) where
+-- `is_sealing algorithm` is the relation of the algorithm's cipher
+module _ (is_sealing : Sealings) where
   -- The server sends one datagram; and where that comes to the client, both have a context of one name, the server's with the scope
   -- of these entries.
   pub record IsAgreedAndMade (begun : Client) (now : Moment) (at server_at : Peer) (entries : List Entry) (second : Step) (agreed : Server) : Type 0 where

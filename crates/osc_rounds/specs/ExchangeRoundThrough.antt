@@ -13,6 +13,7 @@ use Rattle.osc_message.specs.Sending.{datagram, empty_acknowledgement}
 use Rattle.osc_scope.specs.Entries.{Entry}
 use Rattle.osc_token.specs.Token.{claims_item, token_note}
 use Rattle.osc_token.specs.declared.claims.Claims.{Claims}
+use Rattle.osc_protect.specs.Ciphers.{Sealings}
 use Rattle.osc_authz.specs.Held.{Held}
 use Rattle.osc_server.specs.Hearing.{Hears as ServerHears}
 use Rattle.osc_server.specs.State.{State as Server}
@@ -49,8 +50,8 @@ forwarded_post post = forwarded_by post.proxy post.proxy_draw post.key post.mess
 abbrev pub post_id_back : PostOnItsWay → ℕ
 post_id_back post = answer_id post.proxy post.proxy_draw
 
--- `is_sealing key nonce aad text sealed` is the cipher's relation
-module _ (is_sealing : List ℕ → List ℕ → List ℕ → List ℕ → List ℕ → Type 0) where
+-- `is_sealing algorithm` is the relation of the algorithm's cipher
+module _ (is_sealing : Sealings) where
   -- sixth: client and server have a context of one name, the server's with the scope of these entries, and the client acknowledged the
   -- answer; and where that comes to the proxy, nothing goes out
   pub record IsMadeAndEnds (post : PostOnItsWay) (agreed : Server) (brought : Proxy) (fifth : Step) (made : Client) : Type 0 where

@@ -4,6 +4,7 @@ use Rattle.std.specs.Prelude.{◌≡◌, ℕ, ◌<◌, ◌≤◌, ◌^◌, List,
 use Rattle.osc_model.specs.Draw.{nonce_drawn}
 use Rattle.osc_model.specs.Step.{sends}
 use Rattle.osc_model.specs.StepNotes.{quiet}
+use Rattle.osc_model.specs.declared.algorithm.Algorithm.TheVariants.{EightByteTag}
 use Rattle.osc_model.specs.declared.node.Draw.{Draw}
 use Rattle.osc_model.specs.declared.node.Moment.{Moment}
 use Rattle.osc_model.specs.declared.node.Peer.{Peer}
@@ -19,6 +20,7 @@ use Rattle.osc_message.specs.Sending.{datagram, empty_acknowledgement}
 use Rattle.osc_scope.specs.Entries.{Entry}
 use Rattle.osc_token.specs.Token.{claims_item, token_note}
 use Rattle.osc_token.specs.declared.claims.Claims.{Claims}
+use Rattle.osc_protect.specs.Ciphers.{Sealings}
 use Rattle.osc_authz.specs.Held.{Held}
 use Rattle.osc_authz.specs.Welcome.{IsWelcome}
 use Rattle.osc_server.specs.Hearing.{Hears as ServerHears}
@@ -43,15 +45,15 @@ pub record IsMadeThrough (old : Client) (from : Peer) (id : ℕ) (held : Held) (
   pub told : step ≡ record { out = datagram from (empty_acknowledgement id) ∷ []; notes = record quiet { result = Some result.Made } }
   pub kept : new ≡ record old { context = Some (record { name = held.name; next = 0 }); waiting = None; endpoint = new.endpoint }
 
--- `is_sealing key nonce aad text sealed` is the cipher's relation
-module _ (is_sealing : List ℕ → List ℕ → List ℕ → List ℕ → List ℕ → Type 0) where
+-- `is_sealing algorithm` is the relation of the algorithm's cipher
+module _ (is_sealing : Sealings) where
   -- The client waits for nothing, sends through the proxy, which has this address, to the server, which that one knows by this host and
   -- port, and holds a token that is welcome there.
   pub record MayExchangeThrough (client : Client) (server : Server) (now : Moment) (draw : Draw) (origin : HostAndPort) (proxy_at : Peer) (claims : Claims) (entries : List Entry) : Type 0 where
     pub through : client.origin ≡ Some origin
     pub next_hop : client.next_hop ≡ proxy_at
     pub idle : client.waiting ≡ None
-    pub welcome : IsWelcome is_sealing server.desk now claims entries client.desk
+    pub welcome : IsWelcome (is_sealing EightByteTag) server.desk now claims entries client.desk
     -- what the type of an origin says; and a draw has a nonce and a token, of 8 bytes each
     pub origin_lawful : IsLawfulOrigin origin
     pub draw_size : 16 ≤ length draw.0

@@ -1,6 +1,7 @@
 -- How a client, the server and the proxy between them stand before a round that ends well: the way, which is straight or through a proxy,
 -- and what the two ends have.
 use Rattle.std.specs.Prelude.{◌≡◌, ℕ, ◌≤◌, ◌<◌, false, List, length, Some, None}
+use Rattle.osc_model.specs.declared.algorithm.Algorithm.TheVariants.{EightByteTag}
 use Rattle.osc_model.specs.declared.node.Draw.{Draw}
 use Rattle.osc_model.specs.declared.node.Moment.{Moment}
 use Rattle.osc_model.specs.declared.node.Peer.{Peer}
@@ -11,6 +12,7 @@ use Rattle.osc_context.specs.Nonce.{greatest_number}
 use Rattle.osc_window.specs.Window.{IsFresh}
 use Rattle.osc_scope.specs.Entries.{Entry}
 use Rattle.osc_token.specs.declared.claims.Claims.{Claims}
+use Rattle.osc_protect.specs.Ciphers.{Sealings}
 use Rattle.osc_authz.specs.Begun.{ClientContextState}
 use Rattle.osc_authz.specs.Contexts.{IsLive}
 use Rattle.osc_authz.specs.Held.{Held}
@@ -66,9 +68,9 @@ pub record MayAsk (client : Client) (server : Server) (now : Moment) (context : 
   pub number : context.next ≤ greatest_number
   pub fresh : IsFresh held.window context.next
 
--- `is_sealing key nonce aad text sealed` is the cipher's relation
-module _ (is_sealing : List ℕ → List ℕ → List ℕ → List ℕ → List ℕ → Type 0) where
+-- `is_sealing algorithm` is the relation of the algorithm's cipher
+module _ (is_sealing : Sealings) where
   -- The client waits for nothing, and holds a token of these claims, with this scope, that is welcome at the server.
   pub record MayExchange (client : Client) (server : Server) (now : Moment) (claims : Claims) (entries : List Entry) : Type 0 where
     pub idle : client.waiting ≡ None
-    pub welcome : IsWelcome is_sealing server.desk now claims entries client.desk
+    pub welcome : IsWelcome (is_sealing EightByteTag) server.desk now claims entries client.desk

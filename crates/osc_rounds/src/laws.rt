@@ -58,7 +58,6 @@ use osc_authz::laws::{
     held_contexts_are_meant, lengths_of_answers, one_name, one_payload, posts_that_agree,
     welcome_posts, what_is_written,
 };
-use osc_ccm::Aead;
 use osc_coap::laws::{fewer_options, length_of_spelling, one_plaintext};
 use osc_message::laws::{one_peer, one_reception, what_nodes_send};
 use osc_options::laws::{
@@ -68,6 +67,7 @@ use osc_protect::laws::{
     lengths_of_values, one_value, unprotecting_a_protected_request,
     unprotecting_a_protected_response,
 };
+use osc_protect::{Ciphers, TokenCipher};
 use osc_proxy::laws::{a_request_goes_there_and_back, forwarding_adds_nothing};
 use osc_run::laws::codes_of_replies;
 use osc_server::laws::lengths_of_replies;
@@ -76,7 +76,7 @@ use osc_token::laws::{minted_tokens, one_token};
 /// A protected request that comes to a server that has its context, live, and its number fresh, straight or with the Uri-Host that a
 /// proxy leaves, is served: its plaintext is applied to the resources under the context's scope, one entry is served, and one protected
 /// reply goes out.
-pub fn a_request_is_served<A: Aead>()
+pub fn a_request_is_served<A: Ciphers>()
     ensures { (old new : Server) (now : AnyMoment) (from : AnyPeer) (draw : AnyDraw) (held : Held) (number : ℕ) (plain protected : Message) (step : AnyStep)
         → AwaitsRequest old now from held number plain.id → IsForServer plain
         → IsProtectedRequest A.is_sealing held.name number plain protected → IsCarried protected
@@ -92,7 +92,7 @@ pub fn a_request_is_served<A: Aead>()
 
 /// A protected reply to what a client asked, which comes in the acknowledgement, or in a confirmable message that it hasn't heard
 /// before, is its answer: the reply that was encrypted is the result, a confirmable message is acknowledged, and nothing waits.
-pub fn a_reply_is_accepted<A: Aead>()
+pub fn a_reply_is_accepted<A: Ciphers>()
     ensures { (old new : Client) (now : AnyMoment) (from : AnyPeer) (name : AnyName) (number : ℕ) (request plain protected : Message) (reply : AnyReply) (step : AnyStep)
         → AwaitsReply old from name number request → CarriesReply old now from request reply plain
         → IsProtectedResponse A.is_sealing name number None plain protected → IsCarried protected
@@ -112,7 +112,7 @@ pub fn a_reply_is_accepted<A: Aead>()
 /// A request that goes straight to the server, from a client that may ask, and isn't too long for a datagram: it goes out in one
 /// datagram; where that comes to the server, its plaintext is served as one entry, and one datagram goes back; and where that comes
 /// to the client, the request is answered by the reply that was served.
-pub fn a_request_is_answered<A: Aead>()
+pub fn a_request_is_answered<A: Ciphers>()
     ensures { (client asked : Client) (server : Server) (asked_at now : AnyMoment) (draw : AnyDraw) (request : AnyRequest) (at server_at : AnyPeer)
         (context : ClientContextState) (held : Held) (first : AnyStep)
         → IsLawfulServer server → IsLawfulClient asked
@@ -141,7 +141,7 @@ pub fn a_request_is_answered<A: Aead>()
 /// An exchange that goes straight to the server, of a client that may begin one, and whose post isn't too long for a datagram: it goes
 /// out in one datagram; where that comes to the server, a context is added and one datagram goes back; and where that comes to the
 /// client, both ends have a context of one name, which is live at the server, with the token's scope.
-pub fn an_exchange_is_made<A: Aead>()
+pub fn an_exchange_is_made<A: Ciphers>()
     ensures { (client begun : Client) (server : Server) (asked_at now : AnyMoment) (draw : AnyDraw) (at server_at : AnyPeer)
         (claims : AnyClaims) (entries : List Entry) (first : AnyStep)
         → IsLawfulClient begun → IsStraight client server now draw at server_at → MayExchange A.is_sealing client server now claims entries
@@ -153,13 +153,13 @@ pub fn an_exchange_is_made<A: Aead>()
     one_reception();
     length_of_spelling();
     lengths_of_answers();
-    welcome_posts::<A>();
-    one_name::<A>();
+    welcome_posts::<TokenCipher<A>>();
+    one_name::<TokenCipher<A>>();
 }
 
 /// What a proxy makes of a protected message is protected as it was: of a request without a Proxy-Uri it forwards the same, protected
 /// under the same name and number, with the same bytes inside and, outside, the options that it forwards; and so of a response.
-pub fn forwarding_keeps_the_protection<A: Aead>()
+pub fn forwarding_keeps_the_protection<A: Ciphers>()
     ensures request { (name : AnyName) (number : ℕ) (plain protected : Message) (id : ℕ) (token : List ℕ)
         → AreInOrder 0 plain.options → has_proxy_uri plain.options ≡ false → IsProtectedRequest A.is_sealing name number plain protected
         → IsProtectedRequest A.is_sealing name number (forwarded id token plain) (forwarded id token protected) }
@@ -174,7 +174,7 @@ pub fn forwarding_keeps_the_protection<A: Aead>()
 
 /// An empty acknowledgement that comes to a client acknowledges the confirmable message that it names: nothing goes out, and nothing
 /// else changes.
-pub fn an_acknowledgement_is_heard<A: Aead>()
+pub fn an_acknowledgement_is_heard<A: Ciphers>()
     ensures { (old new : Client) (now : AnyMoment) (from : AnyPeer) (id : ℕ) (step : AnyStep) → id < 2 ^ 16
         → ClientHears A.is_sealing old now from (spelling (empty_acknowledgement id)) step new
         → (step ≡ sends []) × (new ≡ record old { endpoint = record old.endpoint { sending = acknowledged from id old.endpoint.sending } }) }
@@ -194,7 +194,7 @@ pub fn what_is_posted_through_a_proxy()
 
 /// A post that a proxy forwards is agreed to, where its token is welcome at the server and its message ID is new there: the answer goes
 /// back in the acknowledgement, under the forwarded token.
-pub fn a_forwarded_post_is_agreed_to<A: Aead>()
+pub fn a_forwarded_post_is_agreed_to<A: Ciphers>()
     ensures { (old new : Server) (now : AnyMoment) (from : AnyPeer) (draw : AnyDraw) (claims : AnyClaims) (entries : List Entry)
         (holder : Holder) (begun : Begun) (origin : HostAndPort) (its_id id : ℕ) (its_token token : List ℕ) (step : AnyStep)
         → AwaitsPost A.is_sealing old now from id claims entries holder begun → IsLawfulOrigin origin
@@ -207,14 +207,14 @@ pub fn a_forwarded_post_is_agreed_to<A: Aead>()
     one_reception();
     length_of_spelling();
     lengths_of_answers();
-    welcome_posts::<A>();
-    one_name::<A>();
+    welcome_posts::<TokenCipher<A>>();
+    one_name::<TokenCipher<A>>();
     forwarding_adds_nothing();
 }
 
 /// What the server agreed to makes the client's context, where a proxy sends the answer back in a confirmable message that is new to the
 /// client, and the client waits for it: server and client have a context of one name, and the message is acknowledged.
-pub fn an_answer_sent_back_makes_a_context<A: Aead>()
+pub fn an_answer_sent_back_makes_a_context<A: Ciphers>()
     ensures { (server agreed : Server) (now : AnyMoment) (from : AnyPeer) (draw : AnyDraw) (claims : AnyClaims) (entries : List Entry)
         (holder : Holder) (begun : Begun) (id : ℕ) (token : List ℕ) (second : AnyStep)
         (client after : Client) (later : AnyMoment) (hop : AnyPeer) (back : ℕ) (its_token : List ℕ) (third : AnyStep)
@@ -229,15 +229,15 @@ pub fn an_answer_sent_back_makes_a_context<A: Aead>()
     one_reception();
     length_of_spelling();
     lengths_of_answers();
-    welcome_posts::<A>();
-    one_name::<A>();
+    welcome_posts::<TokenCipher<A>>();
+    one_name::<TokenCipher<A>>();
 }
 
 /// An exchange through a forward proxy, of a client that may begin one, and whose post isn't too long for a datagram: it goes out in one
 /// datagram, which a proxy can take up; where what a proxy forwards of it comes to the server, the token is opened, a context is added, and
 /// one datagram goes back, which a proxy can send back; and where that comes to the client, both ends have a context of one name, which is live at the
 /// server, with the token's scope.
-pub fn an_exchange_is_made_through_a_proxy<A: Aead>()
+pub fn an_exchange_is_made_through_a_proxy<A: Ciphers>()
     ensures { (client begun : Client) (server : Server) (asked_at now : AnyMoment) (draw : AnyDraw) (origin : HostAndPort) (proxy_at : AnyPeer)
         (claims : AnyClaims) (entries : List Entry) (first : AnyStep)
         → MayExchangeThrough A.is_sealing client server now draw origin proxy_at claims entries
@@ -250,20 +250,20 @@ pub fn an_exchange_is_made_through_a_proxy<A: Aead>()
     what_nodes_send();
     length_of_spelling();
     lengths_of_answers();
-    welcome_posts::<A>();
-    one_name::<A>();
+    welcome_posts::<TokenCipher<A>>();
+    one_name::<TokenCipher<A>>();
     forwarding_adds_nothing();
     what_is_written();
     one_payload();
-    posts_that_agree::<A>();
-    minted_tokens::<A>();
-    one_token::<A>();
+    posts_that_agree::<TokenCipher<A>>();
+    minted_tokens::<TokenCipher<A>>();
+    one_token::<TokenCipher<A>>();
 }
 
 /// A request that goes through a forward proxy, and its answer, where nothing is lost: six datagrams in all. The proxy acknowledges the
 /// request and forwards it; the server serves it as one entry, and answers in the acknowledgement; the proxy sends the answer back; the
 /// client takes it for the answer, with the reply that was served, and acknowledges it; and the proxy is at rest again.
-pub fn a_request_goes_through_a_proxy<A: Aead>()
+pub fn a_request_goes_through_a_proxy<A: Ciphers>()
     ensures { (client asked : Client) (proxy : Proxy) (server : Server) (asked_at now : AnyMoment) (draw proxy_draw : AnyDraw) (request : AnyRequest)
         (at proxy_at server_at : AnyPeer) (context : ClientContextState) (held : Held) (asks : AnyStep)
         → IsLawfulServer server → IsLawfulProxy proxy → IsLawfulClient asked → length proxy_draw.0 ≡ 32
@@ -311,7 +311,7 @@ pub fn a_request_goes_through_a_proxy<A: Aead>()
 /// An exchange that goes through a forward proxy, where nothing is lost: six datagrams in all. The proxy acknowledges the post and forwards
 /// it; the server agrees, and answers in the acknowledgement; the proxy sends the answer back; the client makes its context of it, and
 /// acknowledges it; and the proxy is at rest again.
-pub fn an_exchange_goes_through_a_proxy<A: Aead>()
+pub fn an_exchange_goes_through_a_proxy<A: Ciphers>()
     ensures { (client begun : Client) (proxy : Proxy) (server : Server) (begun_at now : AnyMoment) (draw proxy_draw : AnyDraw)
         (at proxy_at server_at : AnyPeer) (claims : AnyClaims) (entries : List Entry) (posts : AnyStep)
         → IsLawfulProxy proxy → IsLawfulClient begun → length proxy_draw.0 ≡ 32
@@ -361,7 +361,7 @@ pub fn an_exchange_keeps_the_premise()
 /// Of an exchange that goes straight to the server, with a token that is welcome there: once it is made, client and server have drawn a
 /// nonce each, and the server has opened the token, to the text of its claims. Of the client's other message IDs the server has heard none
 /// that it hadn't heard before.
-pub fn what_an_exchange_notes<A: Aead>()
+pub fn what_an_exchange_notes<A: Ciphers>()
     ensures notes { (client begun : Client) (server agreed : Server) (asked_at now : AnyMoment) (draw server_draw : AnyDraw) (at server_at : AnyPeer)
         (claims : AnyClaims) (entries : List Entry) (message : Message) (first second : AnyStep) (made : StepNotes)
         → IsLawfulClient begun → IsStraight client server now draw at server_at → MayExchange A.is_sealing client server now claims entries
@@ -380,8 +380,8 @@ pub fn what_an_exchange_notes<A: Aead>()
     one_reception();
     what_is_written();
     one_payload();
-    posts_that_agree::<A>();
-    welcome_posts::<A>();
-    minted_tokens::<A>();
-    one_token::<A>();
+    posts_that_agree::<TokenCipher<A>>();
+    welcome_posts::<TokenCipher<A>>();
+    minted_tokens::<TokenCipher<A>>();
+    one_token::<TokenCipher<A>>();
 }

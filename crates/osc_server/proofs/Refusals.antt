@@ -1,19 +1,22 @@
 -- A protected request is refused for one reason, or opened, and opened to one text.
 use Rattle.std.proofs.Common.{◌≡◌, ℕ, List, None, Some, subst, sym, ap, refl, ◌∙◌}
 use Rattle.std.proofs.lemmas.Option.{same_Some}
+use Rattle.osc_model.specs.declared.algorithm.Algorithm.{Algorithm}
 use Rattle.osc_model.specs.declared.node.Moment.{Moment}
 use Rattle.osc_coap.specs.Message.{Message}
+use Rattle.osc_context.specs.Algorithm.{algorithm_of}
 use Rattle.osc_authz.specs.Desk.{DeskState}
 use Rattle.osc_authz.specs.Held.{Held}
 use Rattle.osc_authz.specs.Table.{meant}
+use Rattle.osc_protect.specs.Ciphers.{Sealings, SealsOneText}
 use Rattle.osc_protect.specs.Protection.{SealedRequest, IsRequest}
 use Rattle.osc_window.specs.Window.{IsFresh}
 use Rattle.osc_server.specs.Table.{IsMeant, IsOpened, IsRefused, IsSealed}
 use Rattle.osc_server.specs.declared.refusal.Refusal.{Refusal}
 use Rattle.osc_server.specs.declared.refusal.Refusal.TheVariants.{Malformed, NoContext, Replayed, NotGenuine}
 
-module _ (is_sealing : List ℕ → List ℕ → List ℕ → List ℕ → List ℕ → Type 0)
-    (one_text : (key nonce aad text other sealed : List ℕ) → is_sealing key nonce aad text sealed → is_sealing key nonce aad other sealed → text ≡ other)
+module _ (is_sealing : Sealings)
+    (one_text : (algorithm : Algorithm) → SealsOneText (is_sealing algorithm))
     (one_request : (m : Message) (a b : SealedRequest) → IsRequest m a → IsRequest m b → a ≡ b)
     (desk : DeskState) (now : Moment) (message : Message) where
   -- the request, and the context that it means
@@ -72,4 +75,4 @@ module _ (is_sealing : List ℕ → List ℕ → List ℕ → List ℕ → List 
       → (request ≡ other) × (held ≡ holder) × (text ≡ said)
   opened_once request other held holder text said a b =
       let same = one_meant request other held holder a.meant b.meant in
-      (same.0, same.1, one_text _ _ _ text said other.sealed (same_sealed request other held holder text same a.opens) b.opens)
+      (same.0, same.1, one_text (algorithm_of holder.name) _ _ _ text said other.sealed (same_sealed request other held holder text same a.opens) b.opens)

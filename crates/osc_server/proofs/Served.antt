@@ -11,6 +11,7 @@ use Rattle.osc_coap.specs.Message.{Message, Spells, spelling}
 use Rattle.osc_authz.specs.Desk.{DeskState}
 use Rattle.osc_authz.specs.Held.{Held}
 use Rattle.osc_authz.specs.Table.{accepted, taking}
+use Rattle.osc_protect.specs.Ciphers.{Sealings}
 use Rattle.osc_protect.specs.Protection.{SealedRequest}
 use Rattle.osc_run.specs.ServerKinds.{opening_note, Replies as AppliesTo}
 use Rattle.osc_run.specs.Texts.{read_request}
@@ -21,7 +22,7 @@ use Rattle.osc_server.specs.State.{State}
 use Rattle.osc_server.specs.Table.{IsOpened, Serves, answered}
 use Rattle.osc_server.specs.declared.serving.Served.{Served}
 
-pub serves : (is_sealing : List ℕ → List ℕ → List ℕ → List ℕ → List ℕ → Type 0)
+pub serves : (is_sealing : Sealings)
     (old : State) (now : Moment) (from : Peer) (draw : Draw) (message : Message) (request : SealedRequest) (served : Served) (tree : Tree) (step : Step) (new : State)
     → IsServedAs is_sealing old.tree old.desk old.endpoint now draw message request served tree
     → step ≡ record { out = datagram from served.answer ∷ []; notes = served.notes }
@@ -58,7 +59,7 @@ serves is_sealing old now from draw message request served tree step new is sent
     }
 
 -- what becomes of it under the context as it is once it took the number
-pub served_as : (is_sealing : List ℕ → List ℕ → List ℕ → List ℕ → List ℕ → Type 0)
+pub served_as : (is_sealing : Sealings)
     (old : Tree) (desk : DeskState) (endpoint : EndpointState) (now : Moment) (draw : Draw) (message : Message) (request : SealedRequest)
     (held context : Held) (taken number : ℕ) (text : List ℕ) (served : Served) (new : Tree)
     → IsOpened is_sealing desk now message request held text → context ≡ taking taken held → number ≡ request.number
@@ -84,7 +85,7 @@ served_as is_sealing old desk endpoint now draw message request held context tak
     }
 
 -- what is noted of the opening, with the memory beside it
-pub opened_note : (is_sealing : List ℕ → List ℕ → List ℕ → List ℕ → List ℕ → Type 0) (desk : DeskState) (now : Moment) (message : Message) (request : SealedRequest) (note taken : Note)
+pub opened_note : (is_sealing : Sealings) (desk : DeskState) (now : Moment) (message : Message) (request : SealedRequest) (note taken : Note)
     → taken ≡ note
     → (held : Held) × IsOpened is_sealing desk now message request held note.plaintext × (note ≡ opening_note held.name request.number note.plaintext)
     → (held : Held) × IsOpened is_sealing desk now message request held taken.plaintext × (taken ≡ opening_note held.name request.number taken.plaintext)

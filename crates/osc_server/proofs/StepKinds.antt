@@ -4,6 +4,7 @@ use Rattle.std.specs.Prelude.{unwrap_or, []}
 use Rattle.osc_model.specs.Apply.{apply_read}
 use Rattle.osc_model.specs.StepNotes.{StepNotes, quiet}
 use Rattle.osc_model.specs.Tree.{Tree}
+use Rattle.osc_model.specs.declared.algorithm.Algorithm.TheVariants.{EightByteTag}
 use Rattle.osc_model.specs.declared.node.Draw.{Draw}
 use Rattle.osc_model.specs.declared.node.Moment.{Moment}
 use Rattle.osc_model.specs.declared.node.Peer.{Peer}
@@ -14,6 +15,7 @@ use Rattle.osc_coap.specs.Message.{Message}
 use Rattle.osc_message.specs.Endpoint.{fresh}
 use Rattle.osc_context.specs.Nonce.{greatest_number}
 use Rattle.osc_window.specs.Window.{IsFresh}
+use Rattle.osc_protect.specs.Ciphers.{Sealings}
 use Rattle.osc_authz.specs.Contexts.{of_tokens}
 use Rattle.osc_authz.specs.Desk.{DeskState}
 use Rattle.osc_authz.specs.Held.{Held}
@@ -32,14 +34,14 @@ use Rattle.osc_server.specs.declared.case.Case.TheVariants as case
 
 -- ---- what the crates below know of the kinds
 
-pub record Laws (is_sealing : List ℕ → List ℕ → List ℕ → List ℕ → List ℕ → Type 0) : Type 0 where
+pub record Laws (is_sealing : Sealings) : Type 0 where
   pub agrees : (before after : DeskState) (now : Moment) (body : List ℕ) (draw : Draw) (post : Post) (answer : PostAnswer) (tree : Tree)
-      → length draw.0 ≡ 32 → Posts is_sealing before now body draw post after → post.answer ≡ Ok answer → IsTable after.table
+      → length draw.0 ≡ 32 → Posts (is_sealing EightByteTag) before now body draw post after → post.answer ≡ Ok answer → IsTable after.table
       → IsPosted (record { contexts = of_tokens before.table; tree = tree }) now
       (record quiet { opens = post.opened; drawn = Some answer.nonce2 })
       (record { contexts = of_tokens after.table; tree = tree })
   pub refuses : (before after : DeskState) (now : Moment) (body : List ℕ) (draw : Draw) (post : Post) (error : PostError) (why : Option RefusedRequest) (tree : Tree)
-      → Posts is_sealing before now body draw post after → post.answer ≡ Err error
+      → Posts (is_sealing EightByteTag) before now body draw post after → post.answer ≡ Err error
       → IsServerIdle (record { contexts = of_tokens before.table; tree = tree }) now
       (record quiet { opens = post.opened; refused = why })
       (record { contexts = of_tokens after.table; tree = tree })
@@ -85,8 +87,8 @@ sends_idly old now from draw request answer why step new it =
 
 -- ---- the kinds
 
-module _ (is_sealing : List ℕ → List ℕ → List ℕ → List ℕ → List ℕ → Type 0) (laws : Laws is_sealing) (old : State) (now : Moment) (from : Peer) (draw : Draw) (step : Step) (new : State) (drawn : length draw.0 ≡ 32) (before : IsTable old.desk.table) (after : IsTable new.desk.table) where
-  post_kind : (message : Message) (post : Post) (answer : Result PostAnswer PostError) → post.answer ≡ answer → Posts is_sealing old.desk now (unwrap_or message.payload []) draw post new.desk
+module _ (is_sealing : Sealings) (laws : Laws is_sealing) (old : State) (now : Moment) (from : Peer) (draw : Draw) (step : Step) (new : State) (drawn : length draw.0 ≡ 32) (before : IsTable old.desk.table) (after : IsTable new.desk.table) where
+  post_kind : (message : Message) (post : Post) (answer : Result PostAnswer PostError) → post.answer ≡ answer → Posts (is_sealing EightByteTag) old.desk now (unwrap_or message.payload []) draw post new.desk
       → ServerStep (core old) now (record quiet { opens = post.opened; drawn = nonce_of_post answer; refused = refusal_of_post answer }) (record { contexts = of_tokens new.desk.table; tree = old.tree })
   post_kind message post (Ok answer) e posts = Posted (laws.agrees old.desk new.desk now _ draw post answer old.tree drawn posts e after)
   post_kind message post (Err error) e posts = ServerIdle (laws.refuses old.desk new.desk now _ draw post error (refusal_of_post (Err error)) old.tree posts e)

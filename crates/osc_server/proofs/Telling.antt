@@ -7,6 +7,7 @@ use Rattle.std.proofs.lemmas.Option.{same_Some}
 use Rattle.osc_model.specs.Code.{code}
 use Rattle.osc_model.specs.Reply.{bare}
 use Rattle.osc_model.specs.StepNotes.{StepNotes, quiet}
+use Rattle.osc_model.specs.declared.algorithm.Algorithm.TheVariants.{EightByteTag}
 use Rattle.osc_model.specs.declared.bytes.Bytes.{Bytes}
 use Rattle.osc_model.specs.declared.context.Side.TheVariants.{Server}
 use Rattle.osc_model.specs.declared.node.Draw.{Draw}
@@ -20,12 +21,14 @@ use Rattle.osc_authz.specs.Desk.{DeskState}
 use Rattle.osc_authz.specs.Post.{Posts, no_post, not_genuine, opened}
 use Rattle.osc_authz.specs.declared.post.Post.{Post}
 use Rattle.osc_coap.specs.Message.{Message, Spells}
+use Rattle.osc_context.specs.Algorithm.{algorithm_of}
 use Rattle.osc_context.specs.Derivation.{key_of}
 use Rattle.osc_message.specs.Heard.{noted_reply}
 use Rattle.osc_message.specs.Sending.{reply_start, reset, again, datagram}
 use Rattle.osc_options.specs.Replies.{etag_option, format_option, max_age_option, with_reply}
 use Rattle.osc_options.specs.Split.{has_oscore}
 use Rattle.osc_protect.specs.Aad.{aad_of}
+use Rattle.osc_protect.specs.Ciphers.{Sealings}
 use Rattle.osc_protect.specs.Protection.{plain_bytes, request_nonce}
 use Rattle.osc_run.specs.Seals.{IsOpenOf, IsSealOf}
 use Rattle.osc_run.specs.ServerKinds.{opening_note, reply_note}
@@ -50,7 +53,7 @@ no_oscore_aged : (age : Option ℕ) → has_oscore (max_age_option age) ≡ fals
 no_oscore_aged None = refl
 no_oscore_aged (Some seconds) = refl
 
-module _ (is_sealing : List ℕ → List ℕ → List ℕ → List ℕ → List ℕ → Type 0)
+module _ (is_sealing : Sealings)
     (law : (message : Message) (reply : Reply) → plain_bytes (with_reply message reply) ≡ reply_text reply)
     (old : State) (now : Moment) (from : Peer) (draw : Draw) (bytes : List ℕ) where
   one_told : (sent : Datagram) (notes : StepNotes) → IsToldOf is_sealing old now from notes sent → All (λ it. IsToldOf is_sealing old now from notes it) (sent ∷ [])
@@ -96,7 +99,7 @@ module _ (is_sealing : List ℕ → List ℕ → List ℕ → List ℕ → List 
         is_sealed = it.opened.opens;
       } in
       let note = reply_note it.held.name it.request.number it.reply in
-      let sealing = subst (λ text. is_sealing (key_of it.held.name Server) (request_nonce it.held.name it.request.number) (aad_of it.held.name it.request.number) text it.protected.sealed)
+      let sealing = subst (λ text. is_sealing (algorithm_of it.held.name) (key_of it.held.name Server) (request_nonce it.held.name it.request.number) (aad_of it.held.name it.request.number) text it.protected.sealed)
       (law (reply_start draw old.endpoint.next_id message it.reply.code.0) it.reply) it.protected.is_sealed in
       let seal : IsSealOf is_sealing note (datagram from it.answer) = record {
         message = it.answer;
@@ -121,7 +124,7 @@ module _ (is_sealing : List ℕ → List ℕ → List ℕ → List ℕ → List 
 
   -- a token that was opened came in the post
   posted_opens : (message : Message) (post : Post) (after : DeskState) → Spells bytes message
-      → Posts is_sealing old.desk now (unwrap_or message.payload []) draw post after → OpensCame (notes_of_post post)
+      → Posts (is_sealing EightByteTag) old.desk now (unwrap_or message.payload []) draw post after → OpensCame (notes_of_post post)
   posted_opens message post after spelled (no_post none is same) = λ note e. let nothing : post.opened ≡ None = ap (λ (p : Post). p.opened) is in absurd (cc)
   posted_opens message post after spelled (not_genuine token nonce1 client_id is_post none is same) = λ note e.
       let nothing : post.opened ≡ None = ap (λ (p : Post). p.opened) is in absurd (cc)

@@ -10,6 +10,7 @@ use Rattle.osc_message.specs.Heard.{heard}
 use Rattle.osc_message.specs.Received.{Receives}
 use Rattle.osc_message.specs.Sending.{AreSendable}
 use Rattle.osc_message.specs.declared.received.Received.{Received}
+use Rattle.osc_protect.specs.Ciphers.{Sealings}
 use Rattle.osc_server.specs.Case.{case_of}
 use Rattle.osc_server.specs.State.{State}
 use Rattle.osc_server.specs.Table.{Answers}
@@ -20,8 +21,8 @@ pub record Ticks (old : State) (now : Moment) (step : Step) (new : State) : Type
   pub sent : step ≡ sends []
   pub kept : new ≡ record old { endpoint = after_tick now old.endpoint }
 
--- `is_sealing key nonce aad text sealed` is the cipher's relation
-module _ (is_sealing : List ℕ → List ℕ → List ℕ → List ℕ → List ℕ → Type 0) where
+-- `is_sealing algorithm` is the relation of the algorithm's cipher
+module _ (is_sealing : Sealings) where
   -- these bytes come from this address: what they are received as, what the table makes of that, what the notes tell of the
   -- datagrams, and that what is sent can be
   pub record Hears (old : State) (now : Moment) (draw : Draw) (from : Peer) (bytes : List ℕ) (step : Step) (new : State) : Type 0 where

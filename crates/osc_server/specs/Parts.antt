@@ -15,10 +15,12 @@ use Rattle.osc_model.specs.declared.node.Peer.{Peer}
 use Rattle.osc_model.specs.declared.reply.Reply.{Reply}
 use Rattle.osc_model.specs.declared.request.Request.{Request}
 use Rattle.osc_model.specs.declared.step.Datagram.{Datagram}
+use Rattle.osc_context.specs.Algorithm.{algorithm_of}
 use Rattle.osc_authz.specs.Desk.{DeskState}
 use Rattle.osc_authz.specs.Held.{Held}
 use Rattle.osc_message.specs.Endpoint.{EndpointState}
 use Rattle.osc_message.specs.Sending.{AreSendable}
+use Rattle.osc_protect.specs.Ciphers.{Sealings, Tags}
 use Rattle.osc_protect.specs.Protection.{SealedRequest, IsProtectedResponse}
 use Rattle.osc_run.specs.ServerKinds.{Replies as AppliesTo}
 use Rattle.osc_run.specs.Texts.{read_request, IsWithinRanges}
@@ -50,15 +52,15 @@ abbrev pub reply_length : Tree → Result Request Code → ℕ
 reply_length tree (Err code) = 0
 reply_length tree (Ok request) = request_reply_length tree request
 
--- What was taken once a request had opened, beside the note of its opening: what it asks, what its entry says, and, with tags of so many
--- bytes, room for the longest reply that it may get of this tree.
-pub record IsTakenFor (tag : ℕ) (tree : Tree) (taken : Taken) : Type 0 where
+-- What was taken once a request had opened, beside the note of its opening: what it asks, what its entry says, and, with these
+-- tags, room for the longest reply that it may get of this tree.
+pub record IsTakenFor (tag : Tags) (tree : Tree) (taken : Taken) : Type 0 where
   pub read : taken.read ≡ read_request taken.note.plaintext
   pub error : IfErr taken.read (λ code. 0 < code.0)
   pub context : taken.context ≡ taken.note.context
   pub plaintext : taken.plaintext ≡ taken.note.plaintext
   pub room : taken.room ≡ record { name = taken.note.context; number = taken.note.number; most = 14 + reply_length tree taken.read }
-  pub reply : taken.reply ≡ 28 + reply_length tree taken.read + tag
+  pub reply : taken.reply ≡ 28 + reply_length tree taken.read + tag (algorithm_of taken.note.context)
   pub limit : reply_length tree taken.read ≤ 512
 
 -- these bytes are a message
@@ -88,7 +90,7 @@ pub record SendsTo (peer : Peer) (out : List Datagram) : Type 0 where
 
 -- What becomes of a request of this number that was opened to this text under a context: the tree, and the protected reply, for
 -- which there is room.
-pub record IsReplied (is_sealing : List ℕ → List ℕ → List ℕ → List ℕ → List ℕ → Type 0) (old : Tree) (endpoint : EndpointState) (now : Moment) (draw : Draw) (message : Message) (held : Held) (number : ℕ) (text : List ℕ) (served : Served) (new : Tree) : Type 0 where
+pub record IsReplied (is_sealing : Sealings) (old : Tree) (endpoint : EndpointState) (now : Moment) (draw : Draw) (message : Message) (held : Held) (number : ℕ) (text : List ℕ) (served : Served) (new : Tree) : Type 0 where
   pub reply : Reply
   pub within : IsWithinRanges reply
   pub applied : AppliesTo old (apply_read old held.scope (read_request text)) reply new
@@ -97,7 +99,7 @@ pub record IsReplied (is_sealing : List ℕ → List ℕ → List ℕ → List �
   pub room : length (spelling served.answer) ≤ served.room
 
 -- the same of a request that came protected
-pub record IsServedAs (is_sealing : List ℕ → List ℕ → List ℕ → List ℕ → List ℕ → Type 0) (old : Tree) (desk : DeskState) (endpoint : EndpointState) (now : Moment) (draw : Draw) (message : Message) (request : SealedRequest) (served : Served) (new : Tree) : Type 0 where
+pub record IsServedAs (is_sealing : Sealings) (old : Tree) (desk : DeskState) (endpoint : EndpointState) (now : Moment) (draw : Draw) (message : Message) (request : SealedRequest) (served : Served) (new : Tree) : Type 0 where
   pub held : Held
   pub text : List ℕ
   pub opened : IsOpened is_sealing desk now message request held text

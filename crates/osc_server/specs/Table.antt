@@ -6,6 +6,7 @@ use Rattle.osc_model.specs.Reply.{bare}
 use Rattle.osc_model.specs.Step.{sends}
 use Rattle.osc_model.specs.StepNotes.{StepNotes, quiet}
 use Rattle.osc_model.specs.Tree.{Tree}
+use Rattle.osc_model.specs.declared.algorithm.Algorithm.TheVariants.{EightByteTag}
 use Rattle.osc_model.specs.declared.code.Code.{Code}
 use Rattle.osc_model.specs.declared.context.Side.TheVariants.{Client}
 use Rattle.osc_model.specs.declared.node.Draw.{Draw}
@@ -23,9 +24,11 @@ use Rattle.osc_message.specs.declared.handling.Handling.TheVariants.{Dropped, An
 use Rattle.osc_message.specs.Heard.{noted_reply}
 use Rattle.osc_message.specs.Endpoint.{EndpointState, settled}
 use Rattle.osc_message.specs.Sending.{reset, reply_start, replied, again, datagram}
+use Rattle.osc_context.specs.Algorithm.{algorithm_of}
 use Rattle.osc_context.specs.Derivation.{key_of}
 use Rattle.osc_window.specs.Window.{IsFresh}
 use Rattle.osc_protect.specs.Aad.{aad_of}
+use Rattle.osc_protect.specs.Ciphers.{Sealings}
 use Rattle.osc_protect.specs.Errors.{malformed, not_genuine}
 use Rattle.osc_protect.specs.Protection.{SealedRequest, IsRequest, IsProtectedResponse, request_nonce}
 use Rattle.osc_authz.specs.Desk.{DeskState}
@@ -157,12 +160,12 @@ notes_of_request now held number text reply = record quiet {
   served = Some (record { context = held.name; number = number; plaintext = text; moment = now; reply = reply });
 }
 
--- `is_sealing key nonce aad text sealed` is the cipher's relation
-module _ (is_sealing : List ℕ → List ℕ → List ℕ → List ℕ → List ℕ → Type 0) where
+-- `is_sealing algorithm` is the relation of the algorithm's cipher
+module _ (is_sealing : Sealings) where
   -- this text is sealed in it
   abbrev pub IsSealed : Held → SealedRequest → List ℕ → Type 0
   IsSealed held request text =
-      is_sealing (key_of held.name Client) (request_nonce held.name request.number) (aad_of held.name request.number) text request.sealed
+      is_sealing (algorithm_of held.name) (key_of held.name Client) (request_nonce held.name request.number) (aad_of held.name request.number) text request.sealed
 
   -- why a protected request isn't served: the first of these that stands (RFC 8613 section 8.2)
   abbrev pub IsRefused : DeskState → Moment → Message → Refusal → Type 0
@@ -203,10 +206,10 @@ module _ (is_sealing : List ℕ → List ℕ → List ℕ → List ℕ → List 
         → AnswersProtected old now from draw message step new
     served : Serves old now from draw message step new → AnswersProtected old now from draw message step new
 
-  -- a post is judged by the desk, whose answer goes out
+  -- a post is judged by the desk, whose answer goes out; tokens are sealed under the algorithm whose tag has 8 bytes
   pub record AnswersPost (old : State) (now : Moment) (from : Peer) (draw : Draw) (message : Message) (step : Step) (new : State) : Type 0 where
     pub post : Post
-    pub posts : Posts is_sealing old.desk now (unwrap_or message.payload []) draw post new.desk
+    pub posts : Posts (is_sealing EightByteTag) old.desk now (unwrap_or message.payload []) draw post new.desk
     pub sent : Sends old now from draw message (reply_to old.endpoint draw message (post_reply post.answer)) (notes_of_post post) old.tree new.desk step new
 
   -- ---- the table

@@ -2,6 +2,7 @@
 use Rattle.std.specs.Prelude.{◌≡◌, ℕ, false, List, [], ◌∷◌, Some, unwrap_or}
 use Rattle.std.specs.List.{All}
 use Rattle.osc_model.specs.StepNotes.{StepNotes}
+use Rattle.osc_model.specs.declared.algorithm.Algorithm.TheVariants.{EightByteTag}
 use Rattle.osc_model.specs.declared.node.Moment.{Moment}
 use Rattle.osc_model.specs.declared.node.Peer.{Peer}
 use Rattle.osc_model.specs.declared.step.Datagram.{Datagram}
@@ -13,10 +14,11 @@ use Rattle.osc_authz.specs.Post.{IsOpened as OpensToken}
 use Rattle.osc_message.specs.Heard.{noted_reply}
 use Rattle.osc_run.specs.Seals.{IsOpenOf, IsSealOf}
 use Rattle.osc_token.specs.Token.{token_note}
+use Rattle.osc_protect.specs.Ciphers.{Sealings}
 use Rattle.osc_server.specs.State.{State}
 
--- `is_sealing key nonce aad text sealed` is the cipher's relation
-module _ (is_sealing : List ℕ → List ℕ → List ℕ → List ℕ → List ℕ → Type 0) where
+-- `is_sealing algorithm` is the relation of the algorithm's cipher
+module _ (is_sealing : Sealings) where
   -- A datagram's message has no OSCORE option; or it was sealed in this step, as noted; or it answered a message before, which
   -- is repeated.
   pub data IsToldOf (old : State) (now : Moment) (from : Peer) (notes : StepNotes) (sent : Datagram) : Type 0 where
@@ -28,7 +30,7 @@ module _ (is_sealing : List ℕ → List ℕ → List ℕ → List ℕ → List 
   pub data IsOpenedOf (old : State) (note : Note) (bytes : List ℕ) : Type 0 where
     request_came : IsOpenOf is_sealing note bytes → IsOpenedOf old note bytes
     token_came : (message : Message) (nonce1 client_id protected iv text : List ℕ) → Spells bytes message
-        → OpensToken is_sealing old.desk.key (unwrap_or message.payload []) nonce1 client_id protected iv text
+        → OpensToken (is_sealing EightByteTag) old.desk.key (unwrap_or message.payload []) nonce1 client_id protected iv text
         → note ≡ token_note old.desk.key protected iv text → IsOpenedOf old note bytes
 
   -- Each datagram is told of so; what is noted as sealed is the one that is sent; and what is noted as opened is the one that came.

@@ -15,8 +15,8 @@ ghost use Rattle.osc_run.specs.Texts.{read_request, reply_text};
 ghost use Rattle.osc_server.specs.Table.{IsOpened, IsRefused};
 ghost use Rattle.osc_server.specs.declared.refusal.Refusal.{Refusal as AnyRefusal};
 
-use osc_ccm::Aead;
 use osc_coap::laws::length_of_plaintext;
+use osc_protect::Ciphers;
 use osc_protect::laws::one_request;
 
 /// What answers a protected request has at most 512 bytes of payload, and a reply that does has a plaintext of at most 526 bytes.
@@ -30,7 +30,7 @@ pub fn lengths_of_replies()
 }
 
 /// A protected request is refused for one reason, or it opens: as one request, under one context, and to one text.
-pub fn one_refusal<A: Aead>()
+pub fn one_refusal<A: Ciphers>()
     ensures refused { (desk : DeskState) (now : AnyMoment) (message : Message) (a b : AnyRefusal)
         → IsRefused A.is_sealing desk now message a → IsRefused A.is_sealing desk now message b → a ≡ b }
     ensures opened { (desk : DeskState) (now : AnyMoment) (message : Message) (request : SealedRequest) (held : Held) (text : List ℕ) (refusal : AnyRefusal)

@@ -29,12 +29,11 @@ use crate::posting::{POST_ANSWER, POST_PAYLOAD, notes_of, post_answer};
 use crate::refusal::{Refusal, refused_for};
 use crate::serving::{ProtectedRequest, Served, serve};
 use osc_authz::{Post, ServerDesk};
-use osc_ccm::Aead;
 use osc_coap::MessageBuilder;
 use osc_message::laws::what_is_heard;
 use osc_message::{Arrival, Buffer, Handling, Heard, ReplyRoom, reset, sending_message};
 use osc_model::{Code, Datagrams, Draw, Moment, Peer, Reply, Request, Step, StepNotes};
-use osc_protect::read_request;
+use osc_protect::{Ciphers, TokenCipher, read_request};
 use osc_run::kinds;
 use osc_scope::Scope;
 use osc_tree::Tree;
@@ -121,7 +120,7 @@ impl Server {
     ///
     /// Without memory for it an `AllocError`; then nothing has changed. What the resources themselves lack of memory is answered,
     /// by 5.00, to a GET on an open path and to a request that opened.
-    pub fn on_datagram<A: Aead>(
+    pub fn on_datagram<A: Ciphers>(
         &mut self,
         alloc: Global,
         now: Moment,
@@ -142,8 +141,8 @@ impl Server {
             × IsAnswered self.old.endpoint.seen now from (case_in self.old.open_scope (heard_as self.old.endpoint.seen now from received))) }
     {
         what_is_heard();
-        kinds::posts_that_agree::<A>();
-        kinds::posts_that_are_refused::<A>();
+        kinds::posts_that_agree::<TokenCipher<A>>();
+        kinds::posts_that_are_refused::<TokenCipher<A>>();
         kinds::requests_that_open();
         kinds::what_is_sealed();
         drawn(draw);
@@ -156,7 +155,7 @@ impl Server {
     }
 
     /// What is sent in this case.
-    fn answer<A: Aead>(
+    fn answer<A: Ciphers>(
         &mut self,
         alloc: Global,
         now: Moment,
@@ -309,7 +308,7 @@ impl Server {
 
     /// Judges a post to authz-info, and answers it. All memory is taken before the desk changes.
     #[inline(never)]
-    fn posted<A: Aead>(&mut self, alloc: Global, came: Arrival<'_>) -> Result<Step, AllocError>
+    fn posted<A: Ciphers>(&mut self, alloc: Global, came: Arrival<'_>) -> Result<Step, AllocError>
         ensures answered { IfOk result (λ step. AnswersPost A.is_sealing self.old came.entry.at came.entry.from came.entry.draw.now came.entry.message step self.new) }
         ensures sent { IfOk result (λ step. SendsTo came.entry.from step.out) }
         ensures same { self.new.open_scope ≡ self.old.open_scope }
@@ -318,14 +317,20 @@ impl Server {
         let payload = Buffer::new(alloc, POST_PAYLOAD)?;
         let room = ReplyRoom::new(alloc, POST_ANSWER)?;
         let body = came.message.payload().unwrap_or(&[]);
-        let Post { opened, answer } = self.desk.post::<A>(alloc, came.at, body, came.draw)?;
+        let Post { opened, answer } = self
+            .desk
+            .post::<TokenCipher<A>>(alloc, came.at, body, came.draw)?;
         let message = post_answer(alloc, payload, &self.endpoint, &came, answer);
         Ok(self.send(room, came, &message, notes_of(opened, answer)))
     }
 
     /// Answers a protected request. Its number is accepted once nothing can fail.
     #[inline(never)]
-    fn protected<A: Aead>(&mut self, alloc: Global, came: Arrival<'_>) -> Result<Step, AllocError>
+    fn protected<A: Ciphers>(
+        &mut self,
+        alloc: Global,
+        came: Arrival<'_>,
+    ) -> Result<Step, AllocError>
         ensures answered { IfOk result (λ step. AnswersProtected A.is_sealing self.old came.entry.at came.entry.from came.entry.draw.now came.entry.message step self.new) }
         ensures sent { IfOk result (λ step. SendsTo came.entry.from step.out) }
         ensures same { self.new.open_scope ≡ self.old.open_scope }

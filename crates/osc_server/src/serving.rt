@@ -4,6 +4,7 @@ ghost use Rattle.std.specs.Prelude.{◌≡◌, ◌<◌, ◌≤◌, ◌+◌, ℕ,
 ghost use Rattle.osc_coap.specs.Message.{spelling};
 ghost use Rattle.osc_authz.specs.Held.{Held};
 ghost use Rattle.osc_authz.specs.Table.{accepted, meant};
+ghost use Rattle.osc_context.specs.Algorithm.{algorithm_of};
 ghost use Rattle.osc_context.specs.Derivation.{accepted_of};
 ghost use Rattle.osc_model.specs.declared.context.Side.TheVariants.{Server};
 ghost use Rattle.osc_model.specs.Apply.{apply_read};
@@ -22,13 +23,14 @@ use crate::case::GET;
 use crate::refusal::Refusal;
 use osc_authz::laws::meant_contexts;
 use osc_authz::{ServerContext, ServerDesk};
-use osc_ccm::Aead;
 use osc_coap::MessageBuilder;
 use osc_coap::laws::{length_of_plaintext, length_of_spelling};
 use osc_context::AcceptedNumber;
 use osc_message::{Arrival, ReplyRoom};
 use osc_model::{Bytes, Code, Entry, Note, Path, Reply, Request, SharedName, StepNotes};
-use osc_protect::{ProtectedResponse, Room, SealedRequestRef, open_request, protect_reply};
+use osc_protect::{
+    Ciphers, ProtectedResponse, Room, SealedRequestRef, open_request, protect_reply,
+};
 use osc_run::{kinds, request_in};
 use osc_scope::Scope;
 use osc_tree::Tree;
@@ -74,7 +76,7 @@ fn meant_context<'a>(
 }
 
 /// The same, where the request's number is fresh.
-fn fresh_context<'a, A: Aead>(
+fn fresh_context<'a, A: Ciphers>(
     desk: &'a ServerDesk,
     request: &ProtectedRequest<'_>,
 ) -> Result<&'a ServerContext, Refusal>
@@ -151,7 +153,7 @@ struct Taken {
 
 /// The reply to a request that was opened, protected under its nonce: it fits, since no reply has more than 512 bytes. Takes no
 /// memory.
-fn protected<A: Aead>(
+fn protected<A: Ciphers>(
     room: Room,
     number: AcceptedNumber,
     context: &ServerContext,
@@ -167,7 +169,7 @@ fn protected<A: Aead>(
     ensures protected { IsProtectedResponse A.is_sealing context.now.name number.number None
         (reply_to_of endpoint.now came.now.draw.now came.now.message reply.now) result.message }
     ensures noted { result.note ≡ reply_note context.now.name number.number reply.now }
-    ensures short { length (spelling result.message) ≤ 28 + length reply.now.payload + A.TAG }
+    ensures short { length (spelling result.message) ≤ 28 + length reply.now.payload + A.TAG (algorithm_of context.now.name) }
 {
     kinds::what_is_sealed();
     length_of_spelling();
@@ -181,13 +183,14 @@ fn protected<A: Aead>(
 impl Taken {
     /// Reads what was opened, and takes the memory of all that follows.
     #[inline(never)]
-    fn new<A: Aead>(alloc: Global, tree: &Tree, note: Note) -> Result<Taken, AllocError>
+    fn new<A: Ciphers>(alloc: Global, tree: &Tree, note: Note) -> Result<Taken, AllocError>
         requires { note.aad ≡ aad_of note.context note.number }
         ensures note { IfOk result (λ taken. taken.note ≡ note) }
         ensures taken { IfOk result (λ taken. IsTakenFor A.TAG tree.now taken) }
     {
         let read = request_in(alloc, note.plaintext.as_slice())?;
         let most = PLAINTEXT_BESIDE_PAYLOAD + most_payload(tree, &read);
+        let tag = A::tag(osc_context::algorithm_of(&note.context));
         let context = note.context.clone()?;
         let plaintext = note.plaintext.clone()?;
         let room = Room::answering(alloc, &note, most)?;
@@ -197,12 +200,12 @@ impl Taken {
             context,
             plaintext,
             room,
-            reply: ReplyRoom::new(alloc, MESSAGE_BESIDE_SEALED + most + A::TAG)?,
+            reply: ReplyRoom::new(alloc, MESSAGE_BESIDE_SEALED + most + tag)?,
         })
     }
 
     /// What the request comes to with this reply, which is protected under the number that the context accepted; takes no memory.
-    fn answered<A: Aead>(
+    fn answered<A: Ciphers>(
         self,
         context: &ServerContext,
         number: AcceptedNumber,
@@ -248,7 +251,7 @@ impl Taken {
 
 /// Accepts the number of a request that was opened, and serves the request; takes no memory but the tree's.
 #[inline(never)]
-fn serve_opened<A: Aead>(
+fn serve_opened<A: Ciphers>(
     alloc: Global,
     desk: &mut ServerDesk,
     tree: &mut Tree,
@@ -270,7 +273,7 @@ fn serve_opened<A: Aead>(
 }
 
 /// Opens a protected request, if it is genuine.
-fn open<A: Aead>(
+fn open<A: Ciphers>(
     alloc: Global,
     context: &ServerContext,
     request: &SealedRequestRef<'_>,
@@ -286,7 +289,7 @@ fn open<A: Aead>(
 
 /// Opens a protected request under the context that it means, at a fresh number, or says why it isn't served.
 #[inline(never)]
-fn opened<A: Aead>(
+fn opened<A: Ciphers>(
     alloc: Global,
     desk: &ServerDesk,
     request: &ProtectedRequest<'_>,
@@ -310,7 +313,7 @@ fn opened<A: Aead>(
 
 /// Serves a protected request, as far as the contexts, the tree and the reply go, or says why it isn't served. Without memory all
 /// is as before, as it is where the request isn't served.
-pub fn serve<A: Aead>(
+pub fn serve<A: Ciphers>(
     alloc: Global,
     desk: &mut ServerDesk,
     tree: &mut Tree,

@@ -10,6 +10,7 @@ use Rattle.osc_ccm.specs.Ccm.{IsSealing}
 use Rattle.osc_client.specs.Way.{HostAndPort}
 use Rattle.osc_client.specs.declared.way.Way.{Way}
 use Rattle.osc_proxy.specs.declared.targets.Target.{Target}
+use Rattle.osc_protect.specs.Ciphers.{Sealing, Sealings, Tags, chosen_sealing, chosen_tag}
 use Rattle.osc_run.specs.History.{history}
 use Rattle.osc_run.specs.Premise.{Premise}
 use Rattle.osc_run.specs.States.{grants_of}
@@ -57,9 +58,15 @@ abbrev pub scope_from : Scope → List Line → Scope
 scope_from scope [] = scope
 scope_from scope (line ∷ lines) = scope_from (scope_after scope line) lines
 
--- it seals and opens by AES-CCM with tags of 8 bytes
-abbrev pub is_sealing : List ℕ → List ℕ → List ℕ → List ℕ → List ℕ → Type 0
-is_sealing key nonce aad text sealed = IsSealing key 8 nonce aad text sealed
+-- it seals and opens by AES-CCM with tags of 8 bytes or of 16, by the algorithm
+abbrev pub sealing_of : ℕ → Sealing
+sealing_of size key nonce aad text sealed = IsSealing key size nonce aad text sealed
+
+abbrev pub is_sealing : Sealings
+is_sealing = chosen_sealing (sealing_of 8) (sealing_of 16)
+
+abbrev pub tag_of : Tags
+tag_of = chosen_tag 8 16
 
 -- the server, as proxies know it: by the host `s` and its port
 abbrev pub server_origin : HostAndPort
@@ -143,7 +150,7 @@ quiet_limit = 1000
 -- this happens, at the moment and with the draw of the event
 abbrev pub Comes : Stage → What → Stage → Type 0
 Comes old what new =
-    (world : State) × Happens is_sealing 8 old.world (record { moment = old.moment; draw = drawn old.draws (length old.world.records); what = what }) world
+    (world : State) × Happens is_sealing tag_of old.world (record { moment = old.moment; draw = drawn old.draws (length old.world.records); what = what }) world
     × (new ≡ record old { world = world })
 
 -- nothing happens by a line that is no event
@@ -154,7 +161,7 @@ ComesOf old (Some what) new = Comes old what new
 -- what waits is delivered, and whether nothing waits then
 abbrev pub Quiets : Stage → Bool → Stage → Type 0
 Quiets old quiet new =
-    (world : State) × Rounds is_sealing 8 (drawn old.draws) old.moment quiet_limit old.world quiet world × (new ≡ record old { world = world })
+    (world : State) × Rounds is_sealing tag_of (drawn old.draws) old.moment quiet_limit old.world quiet world × (new ≡ record old { world = world })
 
 -- what a line does, and whether a quiet round left nothing that waits
 abbrev pub Does : Names → Stage → Line → Bool → Stage → Type 0

@@ -270,7 +270,7 @@ fn holder(number: u8, client: ClientName, way: Way, claims: Claims) -> Holder
 fn admit(alloc: Global, start: &mut Start, holder: Holder) -> Result<(), AllocError>
     ensures { OnOk result (Enrols spec.is_sealing start.old holder start.new) }
 {
-    match start.enroll::<Ccm<8>>(alloc, holder) {
+    match start.enroll::<(Ccm<8>, Ccm<16>)>(alloc, holder) {
         Ok(()) => Ok(()),
         Err(_) => Err(AllocError),
     }

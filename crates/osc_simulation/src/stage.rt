@@ -100,7 +100,7 @@ impl Stage {
     {
         let draws = ScriptDraws(self.draws);
         self.world
-            .quiet::<Ccm<8>, ScriptDraws>(alloc, self.moment, &draws, QUIET_LIMIT)
+            .quiet::<(Ccm<8>, Ccm<16>), ScriptDraws>(alloc, self.moment, &draws, QUIET_LIMIT)
     }
 
     // The event that the line is, if it is one.
@@ -122,7 +122,7 @@ impl Stage {
             draw: self.draw(),
             what,
         };
-        let happened = self.world.step::<Ccm<8>>(alloc, &event);
+        let happened = self.world.step::<(Ccm<8>, Ccm<16>)>(alloc, &event);
         drop(event);
         happened
     }

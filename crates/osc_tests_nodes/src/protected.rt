@@ -68,7 +68,7 @@ fn protect_in(
     requires short { HasShortContext room.name }
     requires room { 1152 ≤ room.most }
 {
-    match protect_request::<Ccm<8>>(room, number, message) {
+    match protect_request::<(Ccm<8>, Ccm<16>)>(room, number, message) {
         Ok(made) => Ok(made),
         Err(MessageTooLong { room: _, number }) => {
             number.spend();
@@ -140,7 +140,7 @@ fn opened(alloc: Global, exchanged: Exchanged, number: u64, reply: &[u8]) -> Res
     let response = read_response(&message)?;
     let name = name(alloc, exchanged)?;
     let (_, recipient) = derive(alloc, &name, Side::Client)?;
-    match open_response::<Ccm<8>>(alloc, &name, &recipient, number, &response)? {
+    match open_response::<(Ccm<8>, Ccm<16>)>(alloc, &name, &recipient, number, &response)? {
         Ok(note) => Ok(Vec::from_slice(alloc, note.plaintext.as_slice())?),
         Err(_) => Err("not genuine")?,
     }
@@ -165,7 +165,7 @@ fn hears(
 ) -> Result<Step, AllocError> {
     let mut drawn = [0; 32];
     drawn[7] = nonce;
-    server.on_datagram::<Ccm<8>>(alloc, Moment::START, CLIENT, datagram, &Draw(drawn))
+    server.on_datagram::<(Ccm<8>, Ccm<16>)>(alloc, Moment::START, CLIENT, datagram, &Draw(drawn))
 }
 
 /// The server answers the datagram so.

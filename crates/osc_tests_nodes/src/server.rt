@@ -41,7 +41,7 @@ fn answer(
     datagram: &[u8],
     draw: &Draw,
 ) -> Result<Vec<u8>, AllocError> {
-    let step = server.on_datagram::<Ccm<8>>(alloc, now, from, datagram, draw)?;
+    let step = server.on_datagram::<(Ccm<8>, Ccm<16>)>(alloc, now, from, datagram, draw)?;
     Vec::from_slice(alloc, sent(&step))
 }
 

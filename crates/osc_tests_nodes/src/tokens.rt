@@ -27,7 +27,7 @@ fn post(alloc: Global, id: u8, expires: Option<u64>) -> Result<Vec<u8>, AllocErr
 
 /// The code that answers the datagram at this moment in ms; 0 where nothing does.
 fn code(alloc: Global, server: &mut Server, ms: u64, datagram: &[u8]) -> u8 {
-    match server.on_datagram::<Ccm<8>>(alloc, at(ms), CLIENT, datagram, &drawn(0)) {
+    match server.on_datagram::<(Ccm<8>, Ccm<16>)>(alloc, at(ms), CLIENT, datagram, &drawn(0)) {
         Ok(step) => {
             let code = sent(&step).get(1).copied().unwrap_or(0);
             drop(step);

@@ -46,7 +46,14 @@ fn takes_turns(alloc: Global, flood: &mut Flood, proxy: &mut Proxy, turns: u64) 
     let mut whole = true;
     for turn in 0..turns {
         let now = at(turn.saturating_mul(5));
-        match paced_turn::<Ccm<8>, _, _>(alloc, flood, proxy, &mut pace, now, &drawn(1)) {
+        match paced_turn::<(Ccm<8>, Ccm<16>), _, _>(
+            alloc,
+            flood,
+            proxy,
+            &mut pace,
+            now,
+            &drawn(1),
+        ) {
             Ok(turned) => drop(turned),
             Err(_) => whole = false,
         }

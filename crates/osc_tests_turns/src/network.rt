@@ -85,7 +85,7 @@ impl<'a, R: Abort> Network<'a, R> {
     pub fn asks(&mut self, client: &mut Client, request: &Request, ms: u64)
         requires { 0 < request.now.code.0 }
     {
-        let step = client.ask::<Ccm<8>>(self.alloc, at(ms), request, &drawn(2));
+        let step = client.ask::<(Ccm<8>, Ccm<16>)>(self.alloc, at(ms), request, &drawn(2));
         self.client.failing = self.failing;
         sends(self.rt, &mut self.client, step);
         self.deliver_from_client();

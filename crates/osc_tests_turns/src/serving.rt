@@ -33,7 +33,7 @@ fn turns<R: Abort>(
     port: &mut Queues<'_, R>,
     server: &mut Server,
 ) -> Option<(bool, usize, bool)> {
-    told(turn::<Ccm<8>, _, _>(alloc, port, server, at(0), &drawn(0)))
+    told(turn::<(Ccm<8>, Ccm<16>), _, _>(alloc, port, server, at(0), &drawn(0)))
 }
 
 /// The bytes of the only datagram that the port was asked to send.

@@ -63,7 +63,7 @@ fn learnt(turned: Turned) -> u8 {
 }
 
 /// One turn at this moment, each second with bytes of its own: what a client learnt, or `None` where the receive failed.
-pub(crate) fn takes<R: Abort, N: Node<Ccm<8>>>(
+pub(crate) fn takes<R: Abort, N: Node<(Ccm<8>, Ccm<16>)>>(
     rt: &R,
     alloc: Global,
     port: &mut Queues<'_, R>,
@@ -71,7 +71,13 @@ pub(crate) fn takes<R: Abort, N: Node<Ccm<8>>>(
     ms: u64,
 ) -> Option<u8> {
     let before = counts(port);
-    match turn::<Ccm<8>, _, _>(alloc, port, node, at(ms), &drawn((ms / 1_000 % 256) as u8)) {
+    match turn::<(Ccm<8>, Ccm<16>), _, _>(
+        alloc,
+        port,
+        node,
+        at(ms),
+        &drawn((ms / 1_000 % 256) as u8),
+    ) {
         Ok(turned) => {
             assert!(rt; is_told(port, before, &turned));
             Some(learnt(turned))

@@ -47,7 +47,7 @@ pub(crate) fn is_enrolled(
     way: Result<Way, AllocError>,
 ) -> bool {
     match holder(alloc, right, way) {
-        Ok(holder) => start.enroll::<Ccm<8>>(alloc, holder).is_ok(),
+        Ok(holder) => start.enroll::<(Ccm<8>, Ccm<16>)>(alloc, holder).is_ok(),
         Err(_) => false,
     }
 }
@@ -106,7 +106,7 @@ pub(crate) fn event(number: u8, what: What) -> Event {
 
 /// Whether there was memory for the event.
 pub(crate) fn takes_place(alloc: Global, world: &mut World, event: Event) -> bool {
-    let done = world.step::<Ccm<8>>(alloc, &event).is_ok();
+    let done = world.step::<(Ccm<8>, Ccm<16>)>(alloc, &event).is_ok();
     drop(event);
     done
 }

@@ -80,7 +80,7 @@ fn refusal(alloc: Global, start: &mut Start, at: Peer, row: Row) -> Option<Enrol
                 claims,
                 iv: [1; 13],
             };
-            start.enroll::<Ccm<8>>(alloc, holder).err()
+            start.enroll::<(Ccm<8>, Ccm<16>)>(alloc, holder).err()
         }
         Err(_) => Some(EnrollError::Memory),
     }

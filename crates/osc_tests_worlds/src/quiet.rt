@@ -27,7 +27,7 @@ impl Draws for Numbered {
 /// A quiet round at this moment; none where there was no memory for it.
 pub(crate) fn is_quiet(alloc: Global, world: &mut World, ms: u64, limit: usize) -> Option<bool> {
     world
-        .quiet::<Ccm<8>, Numbered>(alloc, at(ms), &Numbered, limit)
+        .quiet::<(Ccm<8>, Ccm<16>), Numbered>(alloc, at(ms), &Numbered, limit)
         .ok()
 }
 

@@ -25,7 +25,7 @@ fn events(alloc: Global) -> Result<Vec<Event>, AllocError> {
 }
 
 fn runs(rt: &impl Abort, alloc: Global, world: &mut World, events: &[Event]) {
-    assert!(rt; world.run::<Ccm<8>>(alloc, events).is_ok());
+    assert!(rt; world.run::<(Ccm<8>, Ccm<16>)>(alloc, events).is_ok());
     assert!(rt; world.sent().len() == 4);
     assert!(rt; world.records().len() == 6);
     assert!(rt; counts(alloc, world) == (1, 1, 1));

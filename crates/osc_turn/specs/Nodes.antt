@@ -4,6 +4,7 @@ use Rattle.std.specs.Prelude.{ℕ, false, List, Option, Some, None}
 use Rattle.osc_model.specs.declared.node.Draw.{Draw}
 use Rattle.osc_model.specs.declared.node.Moment.{Moment}
 use Rattle.osc_model.specs.declared.step.Step.{Step}
+use Rattle.osc_protect.specs.Ciphers.{Sealings}
 use Rattle.osc_run.specs.ClientKinds.{ClientStep}
 use Rattle.osc_run.specs.ServerKinds.{ServerStep}
 use Rattle.osc_server.specs.Hearing.{Hears as ServerHears, Ticks as ServerTicks}
@@ -24,8 +25,8 @@ ProxySteps old now draw (Some came) step new = HeardByProxy old now draw came.0 
 
 -- ---- a server and a client
 
--- `is_sealing key nonce aad text sealed` is the cipher's relation
-module _ (is_sealing : List ℕ → List ℕ → List ℕ → List ℕ → List ℕ → Type 0) where
+-- `is_sealing algorithm` is the relation of the algorithm's cipher
+module _ (is_sealing : Sealings) where
   abbrev pub ServerMakes : Server → Moment → Draw → Option Arrival → Step → Server → Type 0
   ServerMakes old now draw None step new = ServerTicks old now step new
   ServerMakes old now draw (Some came) step new = ServerHears is_sealing old now draw came.0 came.1 step new

@@ -6,15 +6,15 @@ ghost use Rattle.osc_model.specs.declared.step.Step.{Step as AnyStep};
 ghost use Rattle.osc_turn.specs.Nodes.{ClientSteps, ProxySteps, ServerSteps};
 ghost use Rattle.osc_turn.specs.Ports.{Arrival};
 
-use osc_ccm::Aead;
 use osc_client::Client;
 use osc_model::{Draw, Moment, Peer, Step};
+use osc_protect::Ciphers;
 use osc_proxy::Proxy;
 use osc_server::Server;
 use std::alloc::{AllocError, Global};
 
 /// A node that runs by itself, once it is told what comes and when: protected messages are sealed and opened by the cipher `A`.
-pub trait Node<A: Aead> {
+pub trait Node<A: Ciphers> {
     // The node made this step of what came (nothing: a tick), at this moment and with this draw, and is as the last of these after it.
     ghost is_step: { Self → AnyMoment → AnyDraw → Option Arrival → AnyStep → Self → Type 0 };
 
@@ -37,7 +37,7 @@ pub trait Node<A: Aead> {
         ensures err { OnErr result (self.new ≡ self.old) };
 }
 
-impl<A: Aead> Node<A> for Server {
+impl<A: Ciphers> Node<A> for Server {
     ghost is_step = { λ old now draw came step new. ServerSteps A.is_sealing old now draw came step new };
 
     fn hear(
@@ -56,7 +56,7 @@ impl<A: Aead> Node<A> for Server {
     }
 }
 
-impl<A: Aead> Node<A> for Client {
+impl<A: Ciphers> Node<A> for Client {
     ghost is_step = { λ old now draw came step new. ClientSteps A.is_sealing old now came step new };
 
     fn hear(
@@ -75,7 +75,7 @@ impl<A: Aead> Node<A> for Client {
     }
 }
 
-impl<A: Aead> Node<A> for Proxy {
+impl<A: Ciphers> Node<A> for Proxy {
     ghost is_step = { λ old now draw came step new. ProxySteps old now draw came step new };
 
     fn hear(

@@ -7,8 +7,8 @@ use crate::error::TurnError;
 use crate::node::Node;
 use crate::port::Port;
 use crate::turning::{Turned, send_all, turn};
-use osc_ccm::Aead;
 use osc_model::{Draw, Moment};
+use osc_protect::Ciphers;
 use std::alloc::{AllocError, Global};
 
 // How long a node takes what comes without a tick between, in milliseconds.
@@ -54,7 +54,7 @@ impl Pace {
 /// # Errors
 ///
 /// As of [`turn`]; where the node ticks without asking the port, `Memory` alone, and nothing is lost.
-pub fn paced_turn<A: Aead, P: Port, N: Node<A>>(
+pub fn paced_turn<A: Ciphers, P: Port, N: Node<A>>(
     alloc: Global,
     port: &mut P,
     node: &mut N,
@@ -81,7 +81,7 @@ pub fn paced_turn<A: Aead, P: Port, N: Node<A>>(
 }
 
 // A turn that is a tick, or that takes what came.
-fn turn_by<A: Aead, P: Port, N: Node<A>>(
+fn turn_by<A: Ciphers, P: Port, N: Node<A>>(
     alloc: Global,
     port: &mut P,
     node: &mut N,
@@ -108,7 +108,7 @@ fn turn_by<A: Aead, P: Port, N: Node<A>>(
 }
 
 // A turn that is a tick: the port isn't asked for what came.
-fn ticked<A: Aead, P: Port, N: Node<A>>(
+fn ticked<A: Ciphers, P: Port, N: Node<A>>(
     alloc: Global,
     port: &mut P,
     node: &mut N,

@@ -6,8 +6,8 @@ ghost use Rattle.osc_turn.specs.Turns.{IsRefusedBy};
 use crate::error::TurnError;
 use crate::node::Node;
 use crate::port::{Port, PortFault};
-use osc_ccm::Aead;
 use osc_model::{Datagram, Draw, Moment, Peer, Step};
+use osc_protect::Ciphers;
 use std::alloc::{AllocError, Global};
 
 /// A turn that made a step.
@@ -27,7 +27,7 @@ pub struct Turned {
 ///
 /// `Port` where the receive failed. `Memory` where there was no memory for the step; then the datagram that came is lost. The node is as
 /// before, and nothing was sent.
-pub fn turn<A: Aead, P: Port, N: Node<A>>(
+pub fn turn<A: Ciphers, P: Port, N: Node<A>>(
     alloc: Global,
     port: &mut P,
     node: &mut N,
@@ -56,7 +56,7 @@ pub fn turn<A: Aead, P: Port, N: Node<A>>(
 }
 
 /// The step that the node makes of what was received.
-fn step_of<A: Aead, N: Node<A>>(
+fn step_of<A: Ciphers, N: Node<A>>(
     alloc: Global,
     node: &mut N,
     now: Moment,

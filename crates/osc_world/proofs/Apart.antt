@@ -7,6 +7,7 @@ use Rattle.std.proofs.lemmas.List.Folds.{list_any-append}
 use Rattle.std.proofs.lemmas.Option.{same_Some, slice_get_within}
 use Rattle.osc_model.specs.declared.node.Peer.{Peer}
 use Rattle.osc_message.specs.Confirmables.{same_peer}
+use Rattle.osc_protect.specs.Ciphers.{Sealings, Tags}
 use Rattle.osc_client.specs.State.{skipped_to}
 use Rattle.osc_world.specs.Nodes.{NodeStates, StandApart, client_at, is_among, node_at, places, proxy_at, skipped, skipped_at}
 use Rattle.osc_world.specs.Steps.{Takes, TakesOf, TakesOfProxy}
@@ -42,7 +43,7 @@ proxy_stays nodes number before after there same apart =
     subst (λ (all : List Peer). IsDistinct same_peer (nodes.server_at ∷ (map of_client nodes.clients ++ all))) (sym (same_places of_proxy nodes.proxies number before after there same)) apart
 
 -- a step moves no node
-pub apart_after : (is_sealing : List ℕ → List ℕ → List ℕ → List ℕ → List ℕ → Type 0) (tag : ℕ) (old new : NodeStates) (who : Whose) (sent : List SentDatagram) (event : Event) (taken : Option Taken)
+pub apart_after : (is_sealing : Sealings) (tag : Tags) (old new : NodeStates) (who : Whose) (sent : List SentDatagram) (event : Event) (taken : Option Taken)
     → Takes is_sealing tag old who sent event taken new → StandApart old → StandApart new
 apart_after is_sealing tag old new whose.Server sent event taken takes apart = subst StandApart (sym takes.is) apart
 apart_after is_sealing tag old new (whose.Client number) sent event taken takes apart = by (slice_get old.clients number) refl takes

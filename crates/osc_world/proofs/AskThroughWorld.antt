@@ -16,6 +16,7 @@ use Rattle.osc_model.specs.declared.step.Step.{Step}
 use Rattle.osc_coap.specs.Message.{Message, spelling}
 use Rattle.osc_message.specs.Confirmables.{same_peer}
 use Rattle.osc_message.specs.Sending.{datagram, empty_acknowledgement}
+use Rattle.osc_protect.specs.Ciphers.{Sealings, Tags}
 use Rattle.osc_authz.specs.Begun.{ClientContextState}
 use Rattle.osc_authz.specs.Held.{Held}
 use Rattle.osc_authz.specs.Table.{taking}
@@ -57,7 +58,7 @@ use Rattle.osc_world.proofs.Way.{asks_same}
 
 -- ---- what each delivery sends, as the law of the round has it
 
-module _ (is_sealing : List ℕ → List ℕ → List ℕ → List ℕ → List ℕ → Type 0) (drawn : ℕ → Draw) (first : ℕ) (way : OnItsWay) where
+module _ (is_sealing : Sealings) (drawn : ℕ → Draw) (first : ℕ) (way : OnItsWay) where
   abbrev takes : (brought : Proxy) (reply : Reply) (fifth : Step) (answered : Client) → IsAnsweredAndEnds is_sealing way brought reply fifth answered
       → IsTaken is_sealing drawn first way.now way.at way.proxy_at way.server_at brought fifth
   takes brought reply fifth answered is = record {
@@ -122,7 +123,7 @@ entry_of_seven asks first settles serves brings takes last old entry none quiet_
 
 -- ---- the round
 
-module _ (is_sealing : List ℕ → List ℕ → List ℕ → List ℕ → List ℕ → Type 0) (tag : ℕ) where
+module _ (is_sealing : Sealings) (tag : Tags) where
   -- a request that goes through a proxy is answered
   abbrev pub AnswersThrough : Type 0
   AnswersThrough = (client asked : Client) (proxy : Proxy) (server : Server) (asked_at now : Moment) (draw proxy_draw : Draw) (request : Request)
@@ -382,7 +383,7 @@ module _ (is_sealing : List ℕ → List ℕ → List ℕ → List ℕ → List 
 
 -- ---- whichever way it goes
 
-module _ (is_sealing : List ℕ → List ℕ → List ℕ → List ℕ → List ℕ → Type 0) (tag : ℕ) (itself : (a : Peer) → same_peer a a ≡ true)
+module _ (is_sealing : Sealings) (tag : Tags) (itself : (a : Peer) → same_peer a a ≡ true)
     (straight_law : AnswersStraight is_sealing tag) (premises : KeepsByNotes) (takes_numbers : TakesNumbers)
     (drawn : ℕ → Draw) (asked_at now : Moment) (draw : Draw) (number : ℕ) (request : Request) (placed : Placed) (context : ClientContextState) (held : Held)
     (old w1 new : State) (limit : ℕ) (is_quiet : Bool)

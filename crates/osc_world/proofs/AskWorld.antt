@@ -17,6 +17,7 @@ use Rattle.osc_dedup.specs.Table.{looked}
 use Rattle.osc_message.specs.Confirmables.{same_peer}
 use Rattle.osc_message.specs.Endpoint.{own_id}
 use Rattle.osc_message.specs.Sending.{datagram}
+use Rattle.osc_protect.specs.Ciphers.{Sealings, Tags}
 use Rattle.osc_authz.specs.Begun.{ClientContextState}
 use Rattle.osc_authz.specs.Held.{Held}
 use Rattle.osc_authz.specs.Members.{In}
@@ -60,7 +61,7 @@ KeepsByNotes = (minted : List Minted) (old all : List Noted) (table : List Holdi
     → IsTable table → In held (contexts table) → AreNotesOfRequest now held number text reply asked.notes served.notes answered.notes
     → AreAmongQuiet (answered ∷ served ∷ asked ∷ []) all → Premise minted old → Premise minted (all ++ old)
 
-module _ (is_sealing : List ℕ → List ℕ → List ℕ → List ℕ → List ℕ → Type 0) (tag : ℕ) where
+module _ (is_sealing : Sealings) (tag : Tags) where
   -- a request that goes straight to the server is answered
   abbrev pub AnswersStraight : Type 0
   AnswersStraight = (client asked : Client) (server : Server) (asked_at now : Moment) (draw : Draw) (request : Request) (at server_at : Peer) (context : ClientContextState) (held : Held) (first : Step)

@@ -11,6 +11,7 @@ use Rattle.osc_coap.specs.Message.{Message, spelling}
 use Rattle.osc_message.specs.Sending.{datagram}
 use Rattle.osc_authz.specs.Begun.{ClientContextState}
 use Rattle.osc_context.specs.Nonce.{greatest_number}
+use Rattle.osc_protect.specs.Ciphers.{Sealings, Tags}
 use Rattle.osc_run.specs.Notes.{Noted, by_client}
 use Rattle.osc_client.specs.Lawful.{IsLawfulClient}
 use Rattle.osc_client.specs.Sending.{Asks, IsHindered, asks, hindered}
@@ -34,7 +35,7 @@ use Rattle.osc_world.specs.declared.nodes.Whose.TheVariants as whose
 use Rattle.osc_world.proofs.Deliveries.{at_rest, sent_behind}
 use Rattle.osc_world.proofs.Slots.{got_back}
 
-module _ (is_sealing : List ℕ → List ℕ → List ℕ → List ℕ → List ℕ → Type 0) (tag : ℕ) where
+module _ (is_sealing : Sealings) (tag : Tags) where
   -- the client's step, and what is so behind it
   pub record IsAsked (asked_at : Moment) (draw : Draw) (number : ℕ) (request : Request) (placed : Placed) (old asked : State) : Type 0 where
     pub step : Step

@@ -2,9 +2,11 @@
 use Rattle.std.proofs.Common.{◌≡◌, ◌∙◌, sym, ap, subst, refl, ℕ, ◌+◌, ◌^◌, ◌<◌, ◌≤◌, List, [], length, None, Some, arith}
 use Rattle.std.specs.Prelude.{slice_get}
 use Rattle.osc_model.specs.Grant.{HasBegun, IsNotOver}
+use Rattle.osc_model.specs.declared.algorithm.Algorithm.TheVariants.{EightByteTag}
 use Rattle.osc_model.specs.declared.node.Draw.{Draw}
 use Rattle.osc_model.specs.declared.node.Moment.{Moment}
 use Rattle.osc_model.specs.declared.node.Peer.{Peer}
+use Rattle.osc_ccm.specs.Limits.{most_tag}
 use Rattle.osc_cbor.specs.Spelling.{spelling}
 use Rattle.osc_cose.specs.Encrypt0.{enc_structure}
 use Rattle.osc_authz.specs.HoldsToken.{HoldsToken}
@@ -19,6 +21,7 @@ use Rattle.osc_rounds.specs.Ready.{MayExchange}
 use Rattle.osc_token.specs.Minted.{FitTheirTypes, HasLawfulParts}
 use Rattle.osc_token.specs.Token.{algorithm_header, claims_item}
 use Rattle.osc_token.specs.declared.claims.Claims.{Claims}
+use Rattle.osc_protect.specs.Ciphers.{Sealings, IsLongerBy}
 use Rattle.osc_world.specs.Ready.{IsReady}
 use Rattle.osc_world.specs.Ready as ready_as
 use Rattle.osc_world.specs.Refusals.{FitAToken}
@@ -38,15 +41,15 @@ fit claims lawful = record {
   scope = lawful.scope;
 }
 
-module _ (is_sealing : List ℕ → List ℕ → List ℕ → List ℕ → List ℕ → Type 0) (tag : ℕ)
-    (sealed_length : (key nonce aad text sealed : List ℕ) → is_sealing key nonce aad text sealed → length sealed ≡ length text + tag)
-    (short_tag : tag ≤ 16)
+module _ (is_sealing : Sealings) (tag : ℕ)
+    (sealed_length : IsLongerBy tag (is_sealing EightByteTag))
+    (short_tag : tag ≤ most_tag)
     (before after start : Beginning) (holder : Holder) (now : Moment) (enrols : Enrols is_sealing before holder after)
     (key : start.key ≡ before.key)
     (lawful : HasLawfulParts holder.claims) (fits : FitAToken holder.claims) (audience : holder.claims.audience ≡ start.audience)
     (begins : HasBegun holder.claims.not_before now) (ends : IsNotOver holder.claims.expires now)
     (iv_size : length holder.iv ≡ 13) (token_size : length enrols.placed.client.desk.token < 2 ^ 64) where
-  holds : HoldsToken is_sealing start.key holder.claims enrols.enrolled.entries enrols.placed.client.desk
+  holds : HoldsToken (is_sealing EightByteTag) start.key holder.claims enrols.enrolled.entries enrols.placed.client.desk
   holds =
       let is = enrols.enrolled in record {
         iv = holder.iv;
@@ -58,7 +61,7 @@ module _ (is_sealing : List ℕ → List ℕ → List ℕ → List ℕ → List 
           fits,
           sealed_length before.key holder.iv (enc_structure algorithm_header []) (spelling (claims_item holder.claims)) is.ciphertext is.sealed,
         );
-        sealed = subst (λ (k : List ℕ). is_sealing k holder.iv (enc_structure algorithm_header []) (spelling (claims_item holder.claims)) is.ciphertext) (sym key) is.sealed;
+        sealed = subst (λ (k : List ℕ). is_sealing EightByteTag k holder.iv (enc_structure algorithm_header []) (spelling (claims_item holder.claims)) is.ciphertext) (sym key) is.sealed;
         fit = fit holder.claims lawful;
         is_scope = is.scope;
         token = is.client.desk.token_is;
@@ -68,7 +71,7 @@ module _ (is_sealing : List ℕ → List ℕ → List ℕ → List ℕ → List 
         id_context = is.client.desk.id_context;
       }
 
-  welcome : IsWelcome is_sealing (begun start).nodes.server.desk now holder.claims enrols.enrolled.entries enrols.placed.client.desk
+  welcome : IsWelcome (is_sealing EightByteTag) (begun start).nodes.server.desk now holder.claims enrols.enrolled.entries enrols.placed.client.desk
   welcome = record {
     holds = holds;
     lawful = lawful;
@@ -81,7 +84,7 @@ module _ (is_sealing : List ℕ → List ℕ → List ℕ → List ℕ → List 
   pub may_exchange : MayExchange is_sealing enrols.placed.client (begun start).nodes.server now holder.claims enrols.enrolled.entries
   may_exchange = record { idle = enrols.enrolled.client.waiting; welcome = welcome }
 
-module _ (is_sealing : List ℕ → List ℕ → List ℕ → List ℕ → List ℕ → Type 0)
+module _ (is_sealing : Sealings)
     (before after start : Beginning) (holder : Holder) (now : Moment) (draw first : Draw) (enrols : Enrols is_sealing before holder after) where
   pub ready_straight : slice_get start.clients (length before.clients) ≡ Some enrols.placed
       → holder.way.origin ≡ None → holder.way.next_hop ≡ start.server_at

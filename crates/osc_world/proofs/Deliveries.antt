@@ -7,6 +7,7 @@ use Rattle.osc_model.specs.declared.node.Draw.{Draw}
 use Rattle.osc_model.specs.declared.node.Moment.{Moment}
 use Rattle.osc_model.specs.declared.node.Peer.{Peer}
 use Rattle.osc_message.specs.Confirmables.{same_peer}
+use Rattle.osc_protect.specs.Ciphers.{Sealings, Tags}
 use Rattle.osc_world.specs.Log.{delivered, sent_by, sent_from, settled, settled_at, steps_with}
 use Rattle.osc_world.specs.Nodes.{StandApart, hearer, node_at, whose_step}
 use Rattle.osc_world.specs.Queue.{IsHeardByClient, IsHeardByProxy, IsHeardByServer, queue}
@@ -25,7 +26,7 @@ use Rattle.osc_world.proofs.Queue.{IsFirst, all_wait, done, first_of, first_plac
 
 -- ---- one delivery
 
-module _ (is_sealing : List ℕ → List ℕ → List ℕ → List ℕ → List ℕ → Type 0) (tag : ℕ) (now : Moment) (draw : Draw)
+module _ (is_sealing : Sealings) (tag : Tags) (now : Moment) (draw : Draw)
     (old : State) (first : SentDatagram) (later : List SentDatagram) (it : IsFirst old.sent first later) (next : State) (apart : StandApart old.nodes)
     (happens : Happens is_sealing tag old (delivery now draw it.number) next) where
   abbrev arriving : Event
@@ -114,7 +115,7 @@ at_rest world none = none_waits world.sent none
 pub still : (world : State) → queue world ≡ [] → waiting_first world ≡ None
 still world none = none_first world.sent none
 
-module _ (is_sealing : List ℕ → List ℕ → List ℕ → List ℕ → List ℕ → Type 0) (tag : ℕ) (drawn : ℕ → Draw) (now : Moment) where
+module _ (is_sealing : Sealings) (tag : Tags) (drawn : ℕ → Draw) (now : Moment) where
   -- where nothing waits it is over
   over_by : (limit : ℕ) (old : State) (is_quiet : Bool) (new : State) → waiting_first old ≡ None → Rounds is_sealing tag drawn now limit old is_quiet new → (is_quiet ≡ true) × (new ≡ old)
   over_by zero old is_quiet new none rounds = (rounds.0 ∙ ap (λ (o : Option ℕ). is_none o) none, rounds.1)
@@ -162,7 +163,7 @@ sent_wait : (taken : Option Taken) → filter waits (sent_by taken) ≡ sent_by 
 sent_wait None = refl
 sent_wait (Some taken) = all_wait taken.at taken.out
 
-pub sent_behind : (is_sealing : List ℕ → List ℕ → List ℕ → List ℕ → List ℕ → Type 0) (tag : ℕ) (old new : State) (event : Event) (happens : Happens is_sealing tag old event new)
+pub sent_behind : (is_sealing : Sealings) (tag : Tags) (old new : State) (event : Event) (happens : Happens is_sealing tag old event new)
     → delivered event.what old.sent ≡ old.sent → queue new ≡ queue old ++ sent_by happens.taken
 sent_behind is_sealing tag old new event happens stays =
     ap queue happens.is
@@ -172,11 +173,11 @@ sent_behind is_sealing tag old new event happens stays =
 
 -- ---- what was minted stays
 
-happens_minted : (is_sealing : List ℕ → List ℕ → List ℕ → List ℕ → List ℕ → Type 0) (tag : ℕ) (old new : State) (event : Event)
+happens_minted : (is_sealing : Sealings) (tag : Tags) (old new : State) (event : Event)
     → Happens is_sealing tag old event new → new.minted ≡ old.minted
 happens_minted is_sealing tag old new event happens = ap (λ (w : State). w.minted) happens.is
 
-rounds_minted : (is_sealing : List ℕ → List ℕ → List ℕ → List ℕ → List ℕ → Type 0) (tag : ℕ) (drawn : ℕ → Draw) (now : Moment) (left : ℕ) (old : State) (is_quiet : Bool) (new : State)
+rounds_minted : (is_sealing : Sealings) (tag : Tags) (drawn : ℕ → Draw) (now : Moment) (left : ℕ) (old : State) (is_quiet : Bool) (new : State)
     → Rounds is_sealing tag drawn now left old is_quiet new → new.minted ≡ old.minted
 rounds_minted is_sealing tag drawn now zero old is_quiet new rounds = ap (λ (w : State). w.minted) rounds.1
 rounds_minted is_sealing tag drawn now (suc left) old is_quiet new rounds =
@@ -190,7 +191,7 @@ rounds_minted is_sealing tag drawn now (suc left) old is_quiet new rounds =
         later it.0 it.2 ∙ happens_minted is_sealing tag old it.0 (delivery now (drawn (length old.records)) datagram) it.1
 
 -- behind an event and a quiet round
-pub still_minted : (is_sealing : List ℕ → List ℕ → List ℕ → List ℕ → List ℕ → Type 0) (tag : ℕ) (drawn : ℕ → Draw) (now : Moment) (left : ℕ) (old begun : State) (is_quiet : Bool) (new : State) (event : Event)
+pub still_minted : (is_sealing : Sealings) (tag : Tags) (drawn : ℕ → Draw) (now : Moment) (left : ℕ) (old begun : State) (is_quiet : Bool) (new : State) (event : Event)
     → Happens is_sealing tag old event begun → Rounds is_sealing tag drawn now left begun is_quiet new → new.minted ≡ old.minted
 still_minted is_sealing tag drawn now left old begun is_quiet new event happens rounds =
     rounds_minted is_sealing tag drawn now left begun is_quiet new rounds ∙ happens_minted is_sealing tag old begun event happens

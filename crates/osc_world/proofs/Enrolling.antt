@@ -7,6 +7,7 @@ use Rattle.osc_authz.specs.Contexts.{of_tokens}
 use Rattle.osc_model.specs.Scope.{Scope}
 use Rattle.osc_model.specs.Tree.{Tree}
 use Rattle.osc_model.specs.declared.node.Peer.{Peer}
+use Rattle.osc_protect.specs.Ciphers.{Sealings}
 use Rattle.osc_run.specs.Runs.{Holds, IsNewClient, IsStart, IsTextOf}
 use Rattle.osc_run.specs.States.{ClientState, Minted}
 use Rattle.osc_client.specs.State.{core, outstanding}
@@ -49,7 +50,7 @@ holds_more : (minted : List Minted) (one : Minted) (number : ℕ) (secret : List
 holds_more minted one number secret h =
     record { held = h.held; granted = in_front h.held minted (one ∷ []) h.granted; holder = h.holder; secret = h.secret }
 
-pub enrolled_more : (is_sealing : List ℕ → List ℕ → List ℕ → List ℕ → List ℕ → Type 0) (key : List ℕ) (holder : Holder) (minted : List Minted) (clients : List Placed) (one : Minted) (placed : Placed)
+pub enrolled_more : (is_sealing : Sealings) (key : List ℕ) (holder : Holder) (minted : List Minted) (clients : List Placed) (one : Minted) (placed : Placed)
     → AreEnrolled minted clients → IsEnrolled is_sealing key (length clients) holder one placed → IsTextOf one.grant one.text
     → AreEnrolled (minted ++ one ∷ []) (clients ++ placed ∷ [])
 enrolled_more is_sealing key holder minted clients one placed old is text = record { texts = texts; holders = holders }
@@ -83,7 +84,7 @@ enrolled_more is_sealing key holder minted clients one placed old is text = reco
         (subst (λ q. IsNewClient (minted ++ one ∷ []) (length clients) (core q.client)) (sym h.1) new))
         (at_end clients placed p number there)
 
-pub enrols : (is_sealing : List ℕ → List ℕ → List ℕ → List ℕ → List ℕ → Type 0) (self : Beginning) (first : Tree) (open_scope : Scope) (key audience : List ℕ) (server_at : Peer)
+pub enrols : (is_sealing : Sealings) (self : Beginning) (first : Tree) (open_scope : Scope) (key audience : List ℕ) (server_at : Peer)
     (minted minted' : List Minted) (clients clients' : List Placed) (proxies : List PlacedProxy) (holder : Holder) (one : Minted) (placed : Placed)
     → record { first = first; open_scope = open_scope; key = key; audience = audience; server_at = server_at; minted = minted; clients = clients; proxies = proxies } ≡ self
     → IsEnrolled is_sealing key (length clients) holder one placed

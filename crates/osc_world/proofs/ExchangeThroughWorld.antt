@@ -29,6 +29,7 @@ use Rattle.osc_rounds.specs.RoundNotes.{AreAmongQuiet, AreNotesOfExchange}
 use Rattle.osc_scope.specs.Entries.{Entry}
 use Rattle.osc_token.specs.Token.{claims_item}
 use Rattle.osc_token.specs.declared.claims.Claims.{Claims}
+use Rattle.osc_protect.specs.Ciphers.{Sealings, Tags}
 use Rattle.osc_world.specs.Lawful.{AreLawfulClients, AreLawfulProxies}
 use Rattle.osc_world.specs.Log.{sent_from}
 use Rattle.osc_world.specs.Nodes.{NodeStates, StandApart}
@@ -50,7 +51,7 @@ use Rattle.osc_world.proofs.Way.{exchanges_same}
 
 -- ---- what each delivery sends, as the law of the round has it
 
-module _ (is_sealing : List ℕ → List ℕ → List ℕ → List ℕ → List ℕ → Type 0) (drawn : ℕ → Draw) (first : ℕ) (post : PostOnItsWay) where
+module _ (is_sealing : Sealings) (drawn : ℕ → Draw) (first : ℕ) (post : PostOnItsWay) where
   abbrev takes : (agreed : Server) (brought : Proxy) (fifth : Step) (made : Client) → IsMadeAndEnds is_sealing post agreed brought fifth made
       → IsTaken is_sealing drawn first post.now post.at post.proxy_at post.server_at brought fifth
   takes agreed brought fifth made is = record {
@@ -93,7 +94,7 @@ module _ (is_sealing : List ℕ → List ℕ → List ℕ → List ℕ → List 
 
 -- ---- the round
 
-module _ (is_sealing : List ℕ → List ℕ → List ℕ → List ℕ → List ℕ → Type 0) (tag : ℕ) where
+module _ (is_sealing : Sealings) (tag : Tags) where
   -- an exchange that goes through a proxy is made
   abbrev pub MakesThrough : Type 0
   MakesThrough = (client begun : Client) (proxy : Proxy) (server : Server) (begun_at now : Moment) (draw proxy_draw : Draw)
@@ -322,7 +323,7 @@ module _ (is_sealing : List ℕ → List ℕ → List ℕ → List ℕ → List 
 
 -- ---- whichever way it goes
 
-module _ (is_sealing : List ℕ → List ℕ → List ℕ → List ℕ → List ℕ → Type 0) (tag : ℕ) (itself : (a : Peer) → same_peer a a ≡ true)
+module _ (is_sealing : Sealings) (tag : Tags) (itself : (a : Peer) → same_peer a a ≡ true)
     (straight_law : MakesStraight is_sealing tag)
     (drawn : ℕ → Draw) (begun_at now : Moment) (draw : Draw) (number : ℕ) (placed : Placed) (claims : Claims) (entries : List Entry)
     (old w1 new : State) (limit : ℕ) (is_quiet : Bool)

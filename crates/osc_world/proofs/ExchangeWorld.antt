@@ -30,6 +30,7 @@ use Rattle.osc_rounds.specs.RoundNotes.{AreAmongQuiet, AreNotesOfExchange}
 use Rattle.osc_scope.specs.Entries.{Entry}
 use Rattle.osc_token.specs.Token.{claims_item}
 use Rattle.osc_token.specs.declared.claims.Claims.{Claims}
+use Rattle.osc_protect.specs.Ciphers.{Sealings, Tags}
 use Rattle.osc_world.specs.Lawful.{AreLawfulClients}
 use Rattle.osc_world.specs.Log.{sent_from}
 use Rattle.osc_world.specs.Nodes.{NodeStates, StandApart}
@@ -61,7 +62,7 @@ exchange_goes_on law old new all claims key draw server_draw begun agreed made n
     keeps old new (all ++ old.steps) minted steps
     (law old.minted old.steps all key (item_spelling (claims_item claims)) draw server_draw begun agreed made are_minted notes among (fresh_as new (all ++ old.steps) steps fresh))
 
-module _ (is_sealing : List ℕ → List ℕ → List ℕ → List ℕ → List ℕ → Type 0) (tag : ℕ) where
+module _ (is_sealing : Sealings) (tag : Tags) where
   -- an exchange that goes straight to the server is made
   abbrev pub MakesStraight : Type 0
   MakesStraight = (client begun : Client) (server : Server) (begun_at now : Moment) (draw : Draw) (at server_at : Peer) (claims : Claims) (entries : List Entry) (first : Step)

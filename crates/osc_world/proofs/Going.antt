@@ -5,6 +5,7 @@ use Rattle.std.proofs.lemmas.List.{map-set}
 use Rattle.std.proofs.lemmas.Option.{slice_get-map}
 use Rattle.osc_model.specs.Tree.{Tree}
 use Rattle.osc_model.specs.declared.node.Moment.{Moment}
+use Rattle.osc_protect.specs.Ciphers.{Sealings, Tags}
 use Rattle.osc_run.specs.Notes.{Noted, by_server, by_client, by_proxy}
 use Rattle.osc_run.specs.Runs.{IsReached, WorldStep, OfServer as ByTheServer, OfClient as ByTheClient, OfProxy as ByTheProxy, Skipped}
 use Rattle.osc_run.specs.States.{ClientState, Minted, WorldState}
@@ -69,7 +70,7 @@ skips_on minted first old new steps number (Skips before after there kind is) re
     (λ j. record (run_with minted first old steps) { clients = map-set core_of old.clients number after j }))
     reached)
 
-pub happened : (is_sealing : List ℕ → List ℕ → List ℕ → List ℕ → List ℕ → Type 0) (tag : ℕ) (self : State) (minted : List Minted) (first : Tree) (old new : NodeStates)
+pub happened : (is_sealing : Sealings) (tag : Tags) (self : State) (minted : List Minted) (first : Tree) (old new : NodeStates)
     (log same later : LogState) (event : Event) (taken : Option Taken)
     → world_of minted first old log ≡ self
     → same.sent ≡ log.sent → same.steps ≡ log.steps → same.records ≡ log.records
@@ -98,7 +99,7 @@ happened is_sealing tag self minted first old new log same later event taken is 
     recorded_same sent sent' steps steps' records records' taken s t r = λ j. r j ++ recorded (s j) (t j) taken ∷ []
 
 -- one event more
-pub happen_more : (is_sealing : List ℕ → List ℕ → List ℕ → List ℕ → List ℕ → Type 0) (tag : ℕ) (old mid new : State) (events : List Event) (event : Event)
+pub happen_more : (is_sealing : Sealings) (tag : Tags) (old mid new : State) (events : List Event) (event : Event)
     → Happen is_sealing tag old events mid → Happens is_sealing tag mid event new → Happen is_sealing tag old (events ++ event ∷ []) new
 happen_more is_sealing tag old mid new [] event is happens = (new, subst (λ m. Happens is_sealing tag m event new) is happens, refl)
 happen_more is_sealing tag old mid new (first ∷ events) event h happens = (h.0, h.1, happen_more is_sealing tag h.0 mid new events event h.2 happens)

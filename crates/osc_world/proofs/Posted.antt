@@ -6,6 +6,7 @@ use Rattle.osc_model.specs.declared.node.Moment.{Moment}
 use Rattle.osc_model.specs.declared.step.ClientResult.TheVariants as result
 use Rattle.osc_model.specs.declared.step.Step.{Step}
 use Rattle.osc_message.specs.Sending.{datagram}
+use Rattle.osc_protect.specs.Ciphers.{Sealings, Tags}
 use Rattle.osc_run.specs.Notes.{by_client}
 use Rattle.osc_client.specs.Sending.{Exchanges, begins, busy, post_by}
 use Rattle.osc_client.specs.Sending as sending
@@ -32,7 +33,7 @@ pub record IsPosted (begun_at : Moment) (draw : Draw) (number : ℕ) (placed : P
   pub waits : queue begun ≡ map (sent_from placed.at) step.out
   pub fits : step.notes.result ≢ Some (result.Refused 14)
 
-module _ (is_sealing : List ℕ → List ℕ → List ℕ → List ℕ → List ℕ → Type 0) (tag : ℕ) (begun_at : Moment) (draw : Draw) (number : ℕ) (placed : Placed) (old begun : State)
+module _ (is_sealing : Sealings) (tag : Tags) (begun_at : Moment) (draw : Draw) (number : ℕ) (placed : Placed) (old begun : State)
     (still : waiting_first old ≡ None)
     (here : slice_get old.nodes.clients number ≡ Some placed)
     (happens : Happens is_sealing tag old (beginning begun_at draw number) begun)

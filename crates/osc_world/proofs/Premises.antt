@@ -6,6 +6,7 @@ use Rattle.osc_model.specs.declared.node.Moment.{Moment}
 use Rattle.osc_model.specs.declared.request.Request.{Request}
 use Rattle.osc_model.specs.declared.step.Note.{Note}
 use Rattle.osc_model.specs.declared.step.Step.{Step}
+use Rattle.osc_protect.specs.Ciphers.{Sealings, Tags}
 use Rattle.osc_client.specs.Sending.{Asks, asks, hindered}
 use Rattle.osc_client.specs.State.{State as Client}
 use Rattle.osc_rounds.specs.RoundNotes.{AreAmongQuiet}
@@ -29,7 +30,7 @@ pub fresh_as : (new : State) (steps : List Noted) → new.steps ≡ steps → Ha
 fresh_as new steps is fresh = subst HasFreshDraws is fresh
 
 -- what asks and seals notes nothing else
-pub asks_notes : (is_sealing : List ℕ → List ℕ → List ℕ → List ℕ → List ℕ → Type 0) (tag : ℕ) (client asked : Client) (now : Moment) (request : Request) (draw : Draw) (step : Step) (note : Note)
+pub asks_notes : (is_sealing : Sealings) (tag : Tags) (client asked : Client) (now : Moment) (request : Request) (draw : Draw) (step : Step) (note : Note)
     → Asks is_sealing tag client now request draw step asked → step.notes.seals ≡ Some note → step.notes ≡ record quiet { seals = Some note }
 asks_notes is_sealing tag client asked now request draw step note (hindered number is refused) seals =
     let none : None ≡ Some note = sym (ap (λ (s : Step). s.notes.seals) refused.told) ∙ seals in absurd (wrong none)

@@ -4,16 +4,17 @@ use Rattle.std.specs.Prelude.{OnErr, is_none, is_some}
 use Rattle.std.proofs.lemmas.List.{length-append}
 use Rattle.osc_model.specs.declared.node.Draw.{Draw}
 use Rattle.osc_model.specs.declared.node.Moment.{Moment}
+use Rattle.osc_protect.specs.Ciphers.{Sealings, Tags}
 use Rattle.osc_world.specs.Quiet.{OneMore, Rounds, delivery, waiting_first}
 use Rattle.osc_world.specs.Worlds.{State, Happens}
 use Rattle.osc_world.specs.declared.event.Event.{Event}
 
 -- an event leaves one
-pub one_record : (is_sealing : List ℕ → List ℕ → List ℕ → List ℕ → List ℕ → Type 0) (tag : ℕ) (old new : State) (event : Event)
+pub one_record : (is_sealing : Sealings) (tag : Tags) (old new : State) (event : Event)
     → Happens is_sealing tag old event new → length new.records ≡ length old.records + 1
 one_record is_sealing tag old new event happens = ap (λ (w : State). length w.records) happens.is ∙ length-append old.records _
 
-module _ (is_sealing : List ℕ → List ℕ → List ℕ → List ℕ → List ℕ → Type 0) (tag : ℕ) (drawn : ℕ → Draw) (now : Moment) where
+module _ (is_sealing : Sealings) (tag : Tags) (drawn : ℕ → Draw) (now : Moment) where
   pub one_more : (old next new : State) (quiet : Bool) (n left datagram : ℕ) → n ≡ suc left → waiting_first old ≡ Some datagram
       → Happens is_sealing tag old (delivery now (drawn (length old.records)) datagram) next
       → Rounds is_sealing tag drawn now left next quiet new → Rounds is_sealing tag drawn now n old quiet new
@@ -34,7 +35,7 @@ on_err (Ok a) P p = tt
 on_err (Err e) P p = p
 
 -- no record is lost
-pub none_lost : (is_sealing : List ℕ → List ℕ → List ℕ → List ℕ → List ℕ → Type 0) (tag : ℕ) (drawn : ℕ → Draw) (now : Moment) (left : ℕ) (old : State) (quiet : Bool) (new : State)
+pub none_lost : (is_sealing : Sealings) (tag : Tags) (drawn : ℕ → Draw) (now : Moment) (left : ℕ) (old : State) (quiet : Bool) (new : State)
     → Rounds is_sealing tag drawn now left old quiet new → length old.records ≤ length new.records
 none_lost is_sealing tag drawn now zero old quiet new rounds = omega (arith, ap (λ (w : State). length w.records) rounds.1)
 none_lost is_sealing tag drawn now (suc left) old quiet new rounds =

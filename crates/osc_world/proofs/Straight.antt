@@ -7,6 +7,7 @@ use Rattle.osc_model.specs.declared.node.Peer.{Peer}
 use Rattle.osc_model.specs.declared.step.Datagram.{Datagram}
 use Rattle.osc_model.specs.declared.step.Step.{Step}
 use Rattle.osc_message.specs.Confirmables.{same_peer}
+use Rattle.osc_protect.specs.Ciphers.{Sealings, Tags}
 use Rattle.osc_run.specs.Notes.{Noted, by_client, by_server}
 use Rattle.osc_server.specs.Hearing.{Hears as ServerHears}
 use Rattle.osc_server.specs.State.{State as Server}
@@ -32,12 +33,12 @@ abbrev pub IsWhole : Draw → Type 0
 IsWhole draw = length draw.0 ≡ 32
 
 -- the server's step sends one datagram to the client, which sends nothing when that comes
-pub record IsAnsweredBack (is_sealing : List ℕ → List ℕ → List ℕ → List ℕ → List ℕ → Type 0) (now : Moment) (client : Client) (at server_at : Peer) (step : Step) : Type 0 where
+pub record IsAnsweredBack (is_sealing : Sealings) (now : Moment) (client : Client) (at server_at : Peer) (step : Step) : Type 0 where
   pub answer : List ℕ
   pub out : step.out ≡ record { to = at; bytes = answer } ∷ []
   pub silent : (last : Step) (after : Client) → ClientHears is_sealing client now server_at answer last after → last.out ≡ []
 
-module _ (is_sealing : List ℕ → List ℕ → List ℕ → List ℕ → List ℕ → Type 0) (IsGood : Draw → Type 0) (now : Moment) (number : ℕ) (placed : Placed) (nodes : NodeStates) (bytes : List ℕ)
+module _ (is_sealing : Sealings) (IsGood : Draw → Type 0) (now : Moment) (number : ℕ) (placed : Placed) (nodes : NodeStates) (bytes : List ℕ)
     (law : (draw : Draw) (step : Step) (after : Server) → IsGood draw → ServerHears is_sealing nodes.server now draw placed.at bytes step after
     → IsAnsweredBack is_sealing now placed.client placed.at nodes.server_at step) where
   -- the two steps, and what is left of them
@@ -54,7 +55,7 @@ module _ (is_sealing : List ℕ → List ℕ → List ℕ → List ℕ → List 
     pub steps : new.steps ≡ by_client number false taking.notes ∷ by_server serving.notes ∷ begun.steps
     pub round : IsRound 2 begun is_quiet new
 
-  module _ (tag : ℕ) (itself : (a : Peer) → same_peer a a ≡ true) (drawn : ℕ → Draw) (left : ℕ) (begun new : State) (is_quiet : Bool)
+  module _ (tag : Tags) (itself : (a : Peer) → same_peer a a ≡ true) (drawn : ℕ → Draw) (left : ℕ) (begun new : State) (is_quiet : Bool)
       (good : (event : ℕ) → length begun.records ≤ event → event < length new.records → IsGood (drawn event))
       (nodes_is : begun.nodes ≡ nodes)
       (apart : StandApart begun.nodes)

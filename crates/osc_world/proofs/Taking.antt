@@ -6,6 +6,7 @@ use Rattle.osc_model.specs.declared.node.Moment.{Moment}
 use Rattle.osc_model.specs.declared.node.Peer.{Peer}
 use Rattle.osc_model.specs.declared.step.Datagram.{Datagram}
 use Rattle.osc_model.specs.declared.step.Step.{Step}
+use Rattle.osc_protect.specs.Ciphers.{Sealings, Tags}
 use Rattle.osc_run.specs.ProxyKinds.{ProxyStep}
 use Rattle.osc_run.specs.ClientKinds.{ClientStep, IsSkipped}
 use Rattle.osc_run.specs.Notes.{Noted, by_server, by_client, by_proxy}
@@ -24,7 +25,7 @@ use Rattle.osc_world.specs.declared.nodes.PlacedProxy.{PlacedProxy}
 abbrev nodes_of : Peer → Server → List Placed → List PlacedProxy → NodeStates
 nodes_of at server clients proxies = record { server_at = at; server = server; clients = clients; proxies = proxies }
 
-pub server_took : (is_sealing : List ℕ → List ℕ → List ℕ → List ℕ → List ℕ → Type 0) (tag : ℕ) (self : NodeStates) (at : Peer) (old server : Server) (clients : List Placed) (proxies : List PlacedProxy)
+pub server_took : (is_sealing : Sealings) (tag : Tags) (self : NodeStates) (at : Peer) (old server : Server) (clients : List Placed) (proxies : List PlacedProxy)
     (sent : List SentDatagram) (event : Event) (noted : Noted) (step : Step)
     → nodes_of at old clients proxies ≡ self
     → ServerDoes is_sealing tag old event.moment event.draw sent event.what step server
@@ -43,7 +44,7 @@ server_stepped now self at old server clients proxies noted step is kind told =
     subst (λ s. IsStep now s (Some (record { at = at; noted = noted; out = step.out })) (nodes_of at server clients proxies)) is
     (OfServer step server kind (ap (λ n. Some (record { at = at; noted = n; out = step.out })) told) refl)
 
-pub client_took : (is_sealing : List ℕ → List ℕ → List ℕ → List ℕ → List ℕ → Type 0) (tag : ℕ) (self : NodeStates) (at : Peer) (server : Server) (clients : List Placed) (proxies : List PlacedProxy)
+pub client_took : (is_sealing : Sealings) (tag : Tags) (self : NodeStates) (at : Peer) (server : Server) (clients : List Placed) (proxies : List PlacedProxy)
     (number : ℕ) (placed : Placed) (client : Client) (sent : List SentDatagram) (event : Event) (noted : Noted) (step : Step)
     → nodes_of at server clients proxies ≡ self → slice_get clients number ≡ Some placed
     → ClientDoes is_sealing tag placed.client event.moment event.draw sent event.what step client

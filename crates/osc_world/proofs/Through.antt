@@ -9,6 +9,7 @@ use Rattle.osc_model.specs.declared.node.Peer.{Peer}
 use Rattle.osc_model.specs.declared.step.Datagram.{Datagram}
 use Rattle.osc_model.specs.declared.step.Step.{Step}
 use Rattle.osc_message.specs.Confirmables.{same_peer}
+use Rattle.osc_protect.specs.Ciphers.{Sealings, Tags}
 use Rattle.osc_run.specs.Notes.{Noted, by_client, by_proxy, by_server}
 use Rattle.osc_server.specs.Hearing.{Hears as ServerHears}
 use Rattle.osc_server.specs.State.{State as Server}
@@ -33,7 +34,7 @@ use Rattle.osc_world.proofs.Straight.{IsWhole, from_to}
 -- ---- what each step sends, and what comes of it where that comes
 
 -- `drawn` are the draws, and `first` is the number of the event at which the proxy hears what the client sent
-module _ (is_sealing : List ℕ → List ℕ → List ℕ → List ℕ → List ℕ → Type 0) (drawn : ℕ → Draw) (first : ℕ) (now : Moment) (at proxy_at server_at : Peer) where
+module _ (is_sealing : Sealings) (drawn : ℕ → Draw) (first : ℕ) (now : Moment) (at proxy_at server_at : Peer) where
   -- the client took the answer: one datagram goes to the proxy, which sends nothing
   pub record IsTaken (proxy : Proxy) (step : Step) : Type 0 where
     pub taken : List ℕ
@@ -90,7 +91,7 @@ begins_with route =
     ∙ ap (λ (all : List PlacedProxy). record route.nodes { clients = slice_set route.nodes.clients route.number route.placed; proxies = all })
     (sym (set_same route.nodes.proxies route.proxy_number route.proxy route.proxy_there))
 
-module _ (is_sealing : List ℕ → List ℕ → List ℕ → List ℕ → List ℕ → Type 0) (tag : ℕ) (drawn : ℕ → Draw) (now : Moment) (route : Route) (new : State) (is_quiet : Bool) where
+module _ (is_sealing : Sealings) (tag : Tags) (drawn : ℕ → Draw) (now : Moment) (route : Route) (new : State) (is_quiet : Bool) where
   -- how far the round has come: the nodes, what waits, and how many deliveries are left
   pub record Stage (left : ℕ) (world : State) (server : Server) (client : Client) (proxy : Proxy) (waiting : List SentDatagram) : Type 0 where
     pub nodes : world.nodes ≡ nodes_of route server client proxy
@@ -216,7 +217,7 @@ module _ (is_sealing : List ℕ → List ℕ → List ℕ → List ℕ → List 
 
 -- ---- the round
 
-module _ (is_sealing : List ℕ → List ℕ → List ℕ → List ℕ → List ℕ → Type 0) (drawn : ℕ → Draw) (first : ℕ) (now : Moment) (route : Route) (bytes : List ℕ)
+module _ (is_sealing : Sealings) (drawn : ℕ → Draw) (first : ℕ) (now : Moment) (route : Route) (bytes : List ℕ)
     (law : (step : Step) (after : Proxy) → IsWhole (drawn first) → ProxyHears route.proxy.proxy now (drawn first) route.placed.at bytes step after
     → IsForwarded is_sealing drawn first now route.placed.at route.proxy.at route.nodes.server_at route.placed.client route.nodes.server after step) where
   -- the six steps, and what is left of them
@@ -261,7 +262,7 @@ module _ (is_sealing : List ℕ → List ℕ → List ℕ → List ℕ → List 
     pub quiet : is_quiet ≡ true
     pub still : waiting_first new ≡ None
 
-  module _ (tag : ℕ) (itself : (a : Peer) → same_peer a a ≡ true) (left : ℕ) (begun new : State) (is_quiet : Bool)
+  module _ (tag : Tags) (itself : (a : Peer) → same_peer a a ≡ true) (left : ℕ) (begun new : State) (is_quiet : Bool)
       (first_is : first ≡ length begun.records)
       (sizes : AreWhole drawn begun new)
       (nodes_is : begun.nodes ≡ route.nodes)
@@ -439,7 +440,7 @@ module _ (is_sealing : List ℕ → List ℕ → List ℕ → List ℕ → List 
     }
 
 -- the draw of the first delivery has 32 bytes, once something waits for the proxy
-pub first_is_whole : (is_sealing : List ℕ → List ℕ → List ℕ → List ℕ → List ℕ → Type 0) (tag : ℕ) (drawn : ℕ → Draw) (now : Moment) (itself : (a : Peer) → same_peer a a ≡ true) (route : Route)
+pub first_is_whole : (is_sealing : Sealings) (tag : Tags) (drawn : ℕ → Draw) (now : Moment) (itself : (a : Peer) → same_peer a a ≡ true) (route : Route)
     (bytes : List ℕ) (left : ℕ) (begun new : State) (is_quiet : Bool)
     → AreWhole drawn begun new → begun.nodes ≡ route.nodes → StandApart begun.nodes → queue begun ≡ from_to route.placed.at route.proxy.at bytes ∷ []
     → Rounds is_sealing tag drawn now (suc left) begun is_quiet new → IsWhole (drawn (length begun.records))

@@ -9,6 +9,7 @@ use Rattle.osc_model.specs.declared.step.Step.{Step}
 use Rattle.osc_coap.specs.declared.kind.Kind.{Kind}
 use Rattle.osc_message.specs.Endpoint.{own_id}
 use Rattle.osc_message.specs.Heard.{heard}
+use Rattle.osc_protect.specs.Ciphers.{Sealings, Tags}
 use Rattle.osc_client.specs.Case.{case_of, is_ended}
 use Rattle.osc_client.specs.Hearing.{Hears}
 use Rattle.osc_client.specs.Sending.{Asks, Exchanges, asks, begins, busy, hindered}
@@ -35,7 +36,7 @@ settled_id : (ended : Bool) (old : Client) (now : Moment) (from : Peer) (kind : 
 settled_id false old now from kind id step new it = ap (λ (c : Client). c.endpoint.next_id) it.1
 settled_id true old now from kind id step new it = ap (λ (c : Client). c.endpoint.next_id) it.1
 
-module _ (is_sealing : List ℕ → List ℕ → List ℕ → List ℕ → List ℕ → Type 0) where
+module _ (is_sealing : Sealings) where
   answers_id : (case : Case) (old : Client) (now : Moment) (from : Peer) (step : Step) (new : Client)
       → Answers is_sealing old now from case step new → new.endpoint.next_id ≡ old.endpoint.next_id
   answers_id Ignored old now from step new it = ap (λ (c : Client). c.endpoint.next_id) it.1
@@ -85,7 +86,7 @@ exchanges_same old now draw step new (sending.Exchanges.too_long idle long refus
 exchanges_same old now draw step new (begins idle short spelled told kept) = same_way old new _ kept (refl, refl)
 
 -- and so with a request
-module _ (is_sealing : List ℕ → List ℕ → List ℕ → List ℕ → List ℕ → Type 0) (tag : ℕ) where
+module _ (is_sealing : Sealings) (tag : Tags) where
   pub asks_id : (old : Client) (now : Moment) (request : Request) (draw : Draw) (step : Step) (new : Client) (one : Datagram) → Asks is_sealing tag old now request draw step new
       → step.out ≡ one ∷ [] → new.endpoint.next_id ≡ Some ((own_id draw old.endpoint.next_id + 1) % 65536)
   asks_id old now request draw step new one (hindered number hinders refused) out = absurd (no_datagram one (sym (ap (λ (s : Step). s.out) refused.told) ∙ out))

@@ -3,6 +3,7 @@ use Rattle.std.specs.Prelude.{◌≡◌, ℕ, ◌+◌, false, List, ◌∷◌, �
 use Rattle.osc_model.specs.declared.node.Draw.{Draw}
 use Rattle.osc_model.specs.declared.node.Moment.{Moment}
 use Rattle.osc_model.specs.declared.step.Step.{Step}
+use Rattle.osc_protect.specs.Ciphers.{Sealings}
 use Rattle.osc_run.specs.Notes.{by_client, by_proxy, by_server}
 use Rattle.osc_server.specs.Hearing.{Hears as ServerHears}
 use Rattle.osc_server.specs.State.{State as Server}
@@ -34,8 +35,8 @@ pub record IsHeardByProxy (now : Moment) (draw : Draw) (number : ℕ) (placed : 
   pub records : length next.records ≡ length old.records + 1
   pub apart : StandApart next.nodes
 
--- `is_sealing key nonce aad text sealed` is the cipher's relation
-module _ (is_sealing : List ℕ → List ℕ → List ℕ → List ℕ → List ℕ → Type 0) where
+-- `is_sealing algorithm` is the relation of the algorithm's cipher
+module _ (is_sealing : Sealings) where
   -- the server hears it
   pub record IsHeardByServer (now : Moment) (draw : Draw) (old : State) (first : SentDatagram) (later : List SentDatagram) (next : State) : Type 0 where
     pub step : Step

@@ -2,6 +2,7 @@
 use Rattle.std.specs.Prelude.{◌≡◌, ◌≤◌, ◌<◌, ℕ, zero, suc, Bool, true, List, length, Option, Some, None, is_none, position}
 use Rattle.osc_model.specs.declared.node.Draw.{Draw}
 use Rattle.osc_model.specs.declared.node.Moment.{Moment}
+use Rattle.osc_protect.specs.Ciphers.{Sealings, Tags}
 use Rattle.osc_world.specs.Worlds.{State, Happens}
 use Rattle.osc_world.specs.declared.event.Event.{Event}
 use Rattle.osc_world.specs.declared.event.What.TheVariants.{Deliver}
@@ -18,8 +19,8 @@ delivery now draw datagram = record { moment = now; draw = draw; what = Deliver 
 abbrev pub AreWhole : (ℕ → Draw) → State → State → Type 0
 AreWhole drawn old new = (event : ℕ) → length old.records ≤ event → event < length new.records → length (drawn event).0 ≡ 32
 
--- `is_sealing key nonce aad text sealed` is the cipher's relation, and `tag` how long its tag is
-module _ (is_sealing : List ℕ → List ℕ → List ℕ → List ℕ → List ℕ → Type 0) (tag : ℕ) where
+-- `is_sealing algorithm` is the relation of the algorithm's cipher, and `tag algorithm` how long its tag is
+module _ (is_sealing : Sealings) (tag : Tags) where
   -- nothing waits, and all is quiet; or the first that waits is delivered, and so on from there
   abbrev pub OneMore : (State → Type 0) → Moment → Draw → State → Option ℕ → Bool → State → Type 0
   OneMore later now draw old None quiet new = (quiet ≡ true) × (new ≡ old)

@@ -28,6 +28,7 @@ use Rattle.osc_server.specs.State.{State as Server}
 use Rattle.osc_scope.specs.Entries.{Entry}
 use Rattle.osc_token.specs.Token.{claims_item}
 use Rattle.osc_token.specs.declared.claims.Claims.{Claims}
+use Rattle.osc_protect.specs.Ciphers.{Sealings, Tags}
 use Rattle.osc_world.specs.Quiet.{waiting_first}
 use Rattle.osc_world.specs.Worlds.{Happens, State}
 use Rattle.osc_world.specs.declared.event.Event.{Event}
@@ -152,8 +153,8 @@ pub record HasAnswered (old : State) (client : ℕ) (asked_text : List ℕ) (now
 
 -- ---- what a quiet round behind them comes to
 
--- `is_sealing key nonce aad text sealed` is the cipher's relation, and `tag` how long its tag is
-module _ (is_sealing : List ℕ → List ℕ → List ℕ → List ℕ → List ℕ → Type 0) (tag : ℕ) where
+-- `is_sealing algorithm` is the relation of the algorithm's cipher, and `tag algorithm` how long its tag is
+module _ (is_sealing : Sealings) (tag : Tags) where
   -- The exchange that a client began last makes a context, where the world was ready for it, its token is welcome at the server, and the
   -- post wasn't refused as too long (14). What is assumed goes on, if the token was minted and the nonces that were drawn are fresh.
   abbrev pub MakesWhatWasBegun : (ℕ → Draw) → Moment → ℕ → State → Bool → State → Type 0

@@ -2,6 +2,7 @@
 use Rattle.std.specs.Prelude.{◌≡◌, ℕ, List, [], ◌∷◌, ◌++◌, length, Some, None, slice_get}
 use Rattle.osc_model.specs.Scope.{Scope}
 use Rattle.osc_model.specs.Tree.{Tree}
+use Rattle.osc_model.specs.declared.algorithm.Algorithm.TheVariants.{EightByteTag}
 use Rattle.osc_model.specs.declared.node.Peer.{Peer}
 use Rattle.osc_cbor.specs.Spelling.{spelling}
 use Rattle.osc_cose.specs.Encrypt0.{enc_structure, object_item}
@@ -12,6 +13,7 @@ use Rattle.osc_token.specs.declared.claims.InputMaterial.{InputMaterial}
 use Rattle.osc_authz.specs.Members.{In}
 use Rattle.osc_authz.specs.declared.granted.ClientDesk.{ClientDesk}
 use Rattle.osc_message.specs.Endpoint.{fresh}
+use Rattle.osc_protect.specs.Ciphers.{Sealings}
 use Rattle.osc_run.specs.Runs.{IsNewClient, IsTextOf}
 use Rattle.osc_run.specs.States.{Minted}
 use Rattle.osc_client.specs.State.{core}
@@ -79,14 +81,14 @@ pub record IsPlaced (holder : Holder) (token : List ℕ) (placed : Placed) : Typ
   pub waiting : placed.client.waiting ≡ None
   pub endpoint : placed.client.endpoint ≡ fresh
 
--- `is_sealing key nonce aad text sealed` is the cipher's relation
-module _ (is_sealing : List ℕ → List ℕ → List ℕ → List ℕ → List ℕ → Type 0) where
+-- `is_sealing algorithm` is the relation of the algorithm's cipher
+module _ (is_sealing : Sealings) where
   -- The scope of the claims has these entries; the token is the object of the claims' text, sealed under the key (RFC 8392 section 7).
   pub record IsEnrolled (key : List ℕ) (number : ℕ) (holder : Holder) (minted : Minted) (placed : Placed) : Type 0 where
     pub entries : List Entry
     pub scope : IsScope holder.claims.scope entries
     pub ciphertext : List ℕ
-    pub sealed : is_sealing key holder.iv (enc_structure algorithm_header []) (spelling (claims_item holder.claims)) ciphertext
+    pub sealed : is_sealing EightByteTag key holder.iv (enc_structure algorithm_header []) (spelling (claims_item holder.claims)) ciphertext
     pub granted : minted ≡ minted_of number holder.claims entries
     pub client : IsPlaced holder (spelling (object_item (token_object holder.iv ciphertext))) placed
 

@@ -7,6 +7,7 @@ use Rattle.osc_model.specs.declared.request.Request.{Request}
 use Rattle.osc_model.specs.declared.step.Step.{Step}
 use Rattle.osc_context.specs.Nonce.{greatest_number}
 use Rattle.osc_message.specs.Endpoint.{fresh}
+use Rattle.osc_protect.specs.Ciphers.{Sealings, Tags}
 use Rattle.osc_run.specs.ClientKinds.{ClientStep, IsSkipped}
 use Rattle.osc_run.specs.Notes.{by_server, by_client, by_proxy}
 use Rattle.osc_run.specs.ProxyKinds.{ProxyStep}
@@ -112,8 +113,8 @@ TakesOfProxy old number (Some placed) sent event taken new = ProxyTakes old numb
 
 -- ---- what the server and a client do
 
--- `is_sealing key nonce aad text sealed` is the cipher's relation, and `tag` how long its tag is
-module _ (is_sealing : List ℕ → List ℕ → List ℕ → List ℕ → List ℕ → Type 0) (tag : ℕ) where
+-- `is_sealing algorithm` is the relation of the algorithm's cipher, and `tag algorithm` how long its tag is
+module _ (is_sealing : Sealings) (tag : Tags) where
   -- a datagram that was sent comes to the server; what was never sent doesn't come
   abbrev pub ServerGets : Server → Moment → Draw → Option SentDatagram → Step → Server → Type 0
   ServerGets old now draw None step new = Idles old step new

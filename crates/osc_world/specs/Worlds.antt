@@ -1,6 +1,7 @@
 -- What a world is, and how it goes on.
 use Rattle.std.specs.Prelude.{◌≡◌, ℕ, List, [], ◌∷◌, ◌++◌, map, Option}
 use Rattle.osc_model.specs.Tree.{Tree}
+use Rattle.osc_protect.specs.Ciphers.{Sealings, Tags}
 use Rattle.osc_run.specs.Notes.{Noted}
 use Rattle.osc_run.specs.States.{Minted, WorldState}
 use Rattle.osc_server.specs.State.{core as core_of_server}
@@ -50,8 +51,8 @@ after old event taken nodes = record old {
   records = old.records ++ recorded old.sent old.steps taken ∷ [];
 }
 
--- `is_sealing key nonce aad text sealed` is the cipher's relation, and `tag` how long its tag is
-module _ (is_sealing : List ℕ → List ℕ → List ℕ → List ℕ → List ℕ → Type 0) (tag : ℕ) where
+-- `is_sealing algorithm` is the relation of the algorithm's cipher, and `tag algorithm` how long its tag is
+module _ (is_sealing : Sealings) (tag : Tags) where
   -- An event: the node whose step it is takes it, and no other changes; what it sends and notes is kept.
   pub record Happens (old : State) (event : Event) (new : State) : Type 0 where
     pub taken : Option Taken

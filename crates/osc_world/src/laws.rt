@@ -40,8 +40,8 @@ ghost use Rattle.osc_world.specs.declared.nodes.Whose.TheVariants as whose;
 ghost use Rattle.osc_world.specs.declared.start.Holder.{Holder as AnyHolder};
 
 use osc_authz::laws::numbers_taken;
-use osc_ccm::Aead;
 use osc_message::laws::one_peer;
+use osc_protect::Ciphers;
 use osc_rounds::laws::{
     a_request_goes_through_a_proxy, a_request_is_answered, a_request_keeps_the_premise,
     an_exchange_goes_through_a_proxy, an_exchange_is_made, an_exchange_keeps_the_premise,
@@ -62,7 +62,7 @@ pub fn who_stands_there()
 /// What waits, in order of sending, is a queue. What an event sends waits behind the others. A quiet round is over where nothing waits;
 /// else the first datagram that waits is delivered, where no two nodes stand at one address, to the node at the address that it was
 /// sent to, and the round goes on from there.
-pub fn a_round_delivers<A: Aead>()
+pub fn a_round_delivers<A: Ciphers>()
     ensures at_rest { (world : State) → waiting_first world ≡ None → queue world ≡ [] }
     ensures still { (world : State) → queue world ≡ [] → waiting_first world ≡ None }
     ensures sent { (old new : State) (event : AnyEvent) (happens : Happens A.is_sealing A.TAG old event new)
@@ -94,7 +94,7 @@ pub fn a_round_delivers<A: Aead>()
 /// its way has, or more, behind it: both ends have a context of one name, which is live at the server, with the token's scope; the client is
 /// told that it is made; and nothing waits. What is assumed of a run goes on, if the token is one that the world began with and the nonces
 /// that were drawn are fresh. Straight, the server hears one message ID of the client's alone.
-pub fn an_exchanged_round<A: Aead>()
+pub fn an_exchanged_round<A: Ciphers>()
     ensures made { (drawn : ℕ → AnyDraw) (begun_at now : AnyMoment) (draw : AnyDraw) (client deliveries : ℕ) (placed : AnyPlaced) (claims : AnyClaims)
         (entries : List Entry) (old begun new : State) (limit : ℕ) (quiet : Bool)
         → AreWhole drawn begun new → StandApart begun.nodes → AreLawfulProxies begun.nodes.proxies
@@ -125,7 +125,7 @@ pub fn an_exchanged_round<A: Aead>()
 /// behind it: one entry is served, with the plaintext that was asked; tree and reply are those of the machine, or the reply is 5.00 for want
 /// of memory and the tree as before; the client's answer is that reply; and nothing waits. What is assumed of a run goes on. Straight, the
 /// server hears one message ID of the client's alone.
-pub fn an_asked_round<A: Aead>()
+pub fn an_asked_round<A: Ciphers>()
     ensures answered { (drawn : ℕ → AnyDraw) (asked_at now : AnyMoment) (draw : AnyDraw) (client deliveries : ℕ) (request : AnyRequest) (placed : AnyPlaced)
         (context : ClientContextState) (held : Held) (old asked new : State) (limit : ℕ) (quiet : Bool)
         → AreWhole drawn asked new → StandApart asked.nodes → IsLawfulServer asked.nodes.server → AreLawfulProxies asked.nodes.proxies
@@ -187,7 +187,7 @@ pub fn after_an_answer_one_may_ask()
 {}
 
 /// The claims of a client are minted once it is enrolled; what is minted stays so, whoever is enrolled behind it and whatever happens.
-pub fn what_is_minted<A: Aead>()
+pub fn what_is_minted<A: Ciphers>()
     ensures enrolled { (old new : Beginning) (holder : AnyHolder) → Enrols A.is_sealing old holder new
         → IsMinted new.minted (spelling (claims_item holder.claims)) }
     ensures more { (old new : Beginning) (holder : AnyHolder) (text : List ℕ) → Enrols A.is_sealing old holder new
@@ -199,7 +199,7 @@ pub fn what_is_minted<A: Aead>()
 /// moment in the time of its token, if that is for the server's audience and has parts of lawful lengths. The world is ready for it where
 /// the client reaches the server straight, or through a proxy that was added and has the server among its targets, by the host and port
 /// that the client writes.
-pub fn where_a_world_begins<A: Aead>()
+pub fn where_a_world_begins<A: Ciphers>()
     ensures premise { (start : Beginning) → HasOwnSecrets start.minted → Premise (begun start).minted (begun start).steps }
     ensures may_exchange { (before after start : Beginning) (holder : AnyHolder) (now : AnyMoment) (enrols : Enrols A.is_sealing before holder after)
         → start.key ≡ before.key → HasLawfulParts holder.claims → FitAToken holder.claims → holder.claims.audience ≡ start.audience

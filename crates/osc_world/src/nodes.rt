@@ -17,11 +17,11 @@ ghost use Rattle.osc_world.specs.Steps.{AsksFor, ClientDoes, ClientGets, IsStep,
 
 use crate::event::{Event, What};
 use crate::log::SentDatagram;
-use osc_ccm::Aead;
 use osc_client::Client;
 use osc_context::NUMBER_LIMIT;
 use osc_message::laws::ticks_send_few;
 use osc_model::{Datagrams, Draw, Moment, Peer, Request, Step};
+use osc_protect::Ciphers;
 use osc_proxy::Proxy;
 use osc_run::{Actor, Noted};
 use osc_server::Server;
@@ -159,7 +159,7 @@ fn node_of(node: Actor) -> Whose
 }
 
 /// What the server does at an event that is its own.
-fn server_does<A: Aead>(
+fn server_does<A: Ciphers>(
     alloc: Global,
     server: &mut Server,
     event: &Event,
@@ -202,7 +202,7 @@ fn server_does<A: Aead>(
 }
 
 /// A datagram that was sent comes to the server.
-fn server_gets<A: Aead>(
+fn server_gets<A: Ciphers>(
     alloc: Global,
     server: &mut Server,
     now: Moment,
@@ -223,7 +223,7 @@ fn server_gets<A: Aead>(
 }
 
 /// These bytes come to the server from this address.
-fn server_hears<A: Aead>(
+fn server_hears<A: Ciphers>(
     alloc: Global,
     server: &mut Server,
     now: Moment,
@@ -240,7 +240,7 @@ fn server_hears<A: Aead>(
 }
 
 /// What a client does at an event that is its own.
-fn client_does<A: Aead>(
+fn client_does<A: Ciphers>(
     alloc: Global,
     client: &mut Client,
     event: &Event,
@@ -467,7 +467,7 @@ impl Nodes {
     }
 
     /// The step of the node whose step it is. Without memory an `AllocError`; then nothing has changed.
-    pub fn take<A: Aead>(
+    pub fn take<A: Ciphers>(
         &mut self,
         alloc: Global,
         whose: Whose,
@@ -500,7 +500,7 @@ impl Nodes {
     }
 
     /// The server's step.
-    fn server_takes<A: Aead>(
+    fn server_takes<A: Ciphers>(
         &mut self,
         alloc: Global,
         event: &Event,
@@ -520,7 +520,7 @@ impl Nodes {
     }
 
     /// The step of the client of this number, if there is one.
-    fn client_takes<A: Aead>(
+    fn client_takes<A: Ciphers>(
         &mut self,
         alloc: Global,
         number: usize,
@@ -607,7 +607,7 @@ fn one_or(open_messages: usize) -> usize
 }
 
 /// The client is to send this request; one with the code 0.00 is none.
-fn client_asks<A: Aead>(
+fn client_asks<A: Ciphers>(
     alloc: Global,
     client: &mut Client,
     event: &Event,
@@ -636,7 +636,7 @@ fn client_ticks(alloc: Global, client: &mut Client, now: Moment) -> Result<Step,
 }
 
 /// A datagram that was sent comes to the client.
-fn client_gets<A: Aead>(
+fn client_gets<A: Ciphers>(
     alloc: Global,
     client: &mut Client,
     now: Moment,
@@ -654,7 +654,7 @@ fn client_gets<A: Aead>(
 }
 
 /// These bytes come to the client from this address.
-fn client_hears<A: Aead>(
+fn client_hears<A: Ciphers>(
     alloc: Global,
     client: &mut Client,
     now: Moment,
@@ -670,7 +670,7 @@ fn client_hears<A: Aead>(
 }
 
 /// The client's holder seals this text at this number; one that none may have is none.
-fn client_lies<A: Aead>(
+fn client_lies<A: Ciphers>(
     alloc: Global,
     client: &mut Client,
     number: u64,

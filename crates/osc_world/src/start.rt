@@ -5,6 +5,7 @@ ghost use Rattle.std.specs.Option.{ForSome};
 ghost use Rattle.osc_cbor.specs.Spelling.{spelling};
 ghost use Rattle.osc_cose.specs.Encrypt0.{enc_structure, object_item};
 ghost use Rattle.osc_message.specs.Confirmables.{same_peer};
+ghost use Rattle.osc_model.specs.declared.algorithm.Algorithm.TheVariants.{EightByteTag};
 ghost use Rattle.osc_run.specs.Runs.{IsReached, IsTextOf};
 ghost use Rattle.osc_scope.specs.Entries.{Entry, IsScope, scope_of};
 ghost use Rattle.osc_token.specs.Minted.{FitTheirTypes};
@@ -19,10 +20,10 @@ use crate::error::{EnrollError, PlaceError};
 use crate::nodes::{Nodes, Placed, PlacedProxy};
 use crate::world::World;
 use osc_authz::{ClientDesk, ServerDesk};
-use osc_ccm::Aead;
 use osc_client::{Client, Way};
 use osc_message::laws::one_peer;
 use osc_model::{Bytes, Peer};
+use osc_protect::{Ciphers, TokenCipher};
 use osc_proxy::{Proxy, Targets};
 use osc_run::{Grant, Minted, kinds};
 use osc_scope::Scope;
@@ -79,6 +80,7 @@ impl Model for Start {
     ghost use Rattle.std.specs.Coded.{codes};
     ghost use Rattle.std.specs.List.{IsDistinct};
     ghost use Rattle.osc_message.specs.Confirmables.{same_peer};
+    ghost use Rattle.osc_model.specs.declared.algorithm.Algorithm.TheVariants.{EightByteTag};
     ghost use Rattle.osc_model.specs.Scope.{coded_scope};
     ghost use Rattle.osc_model.specs.Tree.{coded_tree};
     ghost use Rattle.osc_run.specs.Runs.{IsTextOf};
@@ -142,7 +144,7 @@ impl Start {
     /// The first that stands: `AddressTaken` where a node stands at its address, `BadScope` where the scope of its claims is none,
     /// `TooLong` where its claims have more than 65535 bytes, `Grant` where its input material has a length that no token may have; or,
     /// where its address is free, `Memory`, whatever its claims are. Then nothing has changed.
-    pub fn enroll<A: Aead>(&mut self, alloc: Global, holder: Holder) -> Result<(), EnrollError>
+    pub fn enroll<A: Ciphers>(&mut self, alloc: Global, holder: Holder) -> Result<(), EnrollError>
         ensures enrolled { OnOk result (Enrols A.is_sealing self.old holder self.new) }
         ensures free { OnOk result (IsFree self.old holder.at) }
         ensures lawful { OnOk result (IsLawful holder.claims) }
@@ -156,7 +158,7 @@ impl Start {
     }
 
     /// The same of a client whose address is free.
-    fn admit<A: Aead>(&mut self, alloc: Global, holder: Holder) -> Result<(), EnrollError>
+    fn admit<A: Ciphers>(&mut self, alloc: Global, holder: Holder) -> Result<(), EnrollError>
         requires { IsFree self.old holder.at }
         ensures enrolled { OnOk result (Enrols A.is_sealing self.old holder self.new) }
         ensures lawful { OnOk result (IsLawful holder.claims) }
@@ -266,7 +268,7 @@ fn forwards_at(proxies: &[PlacedProxy], at: Peer) -> bool
 }
 
 /// The grant of the claims, and the client that holds it.
-fn enrolled<A: Aead>(
+fn enrolled<A: Ciphers>(
     alloc: Global,
     key: &[u8; 16],
     number: usize,
@@ -315,7 +317,7 @@ fn scope_in(alloc: Global, claims: &Claims) -> Result<Scope, EnrollError>
 }
 
 /// The token of claims that have a scope.
-fn token_of<A: Aead>(
+fn token_of<A: Ciphers>(
     alloc: Global,
     claims: &Claims,
     key: &[u8; 16],
@@ -323,13 +325,13 @@ fn token_of<A: Aead>(
 ) -> Result<Bytes, EnrollError>
     requires { HasScope claims.now }
     ensures sealed { IfOk result (λ token. (ciphertext : List ℕ)
-        × A.is_sealing key.now iv.now (enc_structure algorithm_header []) (spelling (claims_item claims.now)) ciphertext
+        × A.is_sealing EightByteTag key.now iv.now (enc_structure algorithm_header []) (spelling (claims_item claims.now)) ciphertext
         × (token ≡ spelling (object_item (token_object iv.now ciphertext)))) }
     ensures fits { OnOk result (FitAToken claims.now) }
     ensures refused { IfErr result (λ error. IsRefusal claims.now error) }
 {
     let mut token = Vec::new(alloc);
-    mint::<A>(alloc, claims, key, iv, &mut token)?;
+    mint::<TokenCipher<A>>(alloc, claims, key, iv, &mut token)?;
     Ok(Bytes::from_vec(token))
 }
 

@@ -22,8 +22,8 @@ use crate::isolation::alone;
 use crate::laws::{an_asked_round, an_exchanged_round};
 use crate::log::{Log, Record, SentDatagram};
 use crate::nodes::{Nodes, Placed, PlacedProxy};
-use osc_ccm::Aead;
 use osc_model::{Draw, Entry, Moment, Reply};
+use osc_protect::Ciphers;
 use osc_run::laws::{one_history, own_answers, own_nonces};
 use osc_run::{Acceptance, Minted, Noted, Question};
 use osc_server::Server;
@@ -92,7 +92,7 @@ impl World {
     }
 
     /// One event. Without memory an `AllocError`; then nothing has changed.
-    pub fn step<A: Aead>(&mut self, alloc: Global, event: &Event) -> Result<(), AllocError>
+    pub fn step<A: Ciphers>(&mut self, alloc: Global, event: &Event) -> Result<(), AllocError>
         ensures happens { OnOk result (Happens A.is_sealing A.TAG self.old event.now self.new) }
         ensures reached { IsReached (run_of self.new) }
         ensures apart { StandApart self.new.nodes }
@@ -111,7 +111,7 @@ impl World {
     }
 
     /// The event's step, and what is kept of it.
-    fn happens<A: Aead>(&mut self, alloc: Global, event: &Event) -> Result<(), AllocError>
+    fn happens<A: Ciphers>(&mut self, alloc: Global, event: &Event) -> Result<(), AllocError>
         ensures happens { OnOk result (Happens A.is_sealing A.TAG self.old event.now self.new) }
         ensures err { OnErr result (self.new ≡ self.old) }
     {
@@ -130,7 +130,7 @@ impl World {
     ///
     /// Where, besides, no two grants name a common path, each client's entries are answered as if they alone followed the first
     /// resources, up to the first that is for want of memory or of room ([`World::alone`]).
-    pub fn run<A: Aead>(&mut self, alloc: Global, events: &[Event]) -> Result<(), AllocError>
+    pub fn run<A: Ciphers>(&mut self, alloc: Global, events: &[Event]) -> Result<(), AllocError>
         ensures happen { (done rest : List AnyEvent) × (events.now ≡ done ++ rest) × Happen A.is_sealing A.TAG self.old done self.new
             × OnOk result (rest ≡ []) × OnErr result (rest ≢ []) }
         ensures reached { IsReached (run_of self.new) }
@@ -148,7 +148,7 @@ impl World {
         done
     }
 
-    fn happen<A: Aead>(&mut self, alloc: Global, events: &[Event]) -> Result<(), AllocError>
+    fn happen<A: Ciphers>(&mut self, alloc: Global, events: &[Event]) -> Result<(), AllocError>
         ensures { (done rest : List AnyEvent) × (events.now ≡ done ++ rest) × Happen A.is_sealing A.TAG self.old done self.new
             × OnOk result (rest ≡ []) × OnErr result (rest ≢ []) }
     {
@@ -167,7 +167,7 @@ impl World {
     /// machine makes of it, or by 5.00 where the server lacks memory for that, and what it is answered is what the client learns.
     /// What is assumed of a run goes on over such a round: over a request always, and over an exchange where its token is one that the
     /// world began with and the nonces that were drawn are fresh.
-    pub fn quiet<A: Aead, D: Draws>(
+    pub fn quiet<A: Ciphers, D: Draws>(
         &mut self,
         alloc: Global,
         now: Moment,
@@ -208,7 +208,7 @@ impl World {
         self.nodes.has_lawful_proxies();
     }
 
-    fn rounds<A: Aead, D: Draws>(
+    fn rounds<A: Ciphers, D: Draws>(
         &mut self,
         alloc: Global,
         now: Moment,
@@ -231,7 +231,7 @@ impl World {
     }
 
     /// The datagram of this number is delivered.
-    fn delivers<A: Aead>(
+    fn delivers<A: Ciphers>(
         &mut self,
         alloc: Global,
         now: Moment,

@@ -12,8 +12,8 @@ use Rattle.osc_client.proofs.asking.fitting.Goals as goal
 pub returns-in_err-plain-clause-fits : goal.returns-in_err-plain-clause-fits
 returns-in_err-plain-clause-fits g c =
     let plain : Message = through c.args.origin.now (plain_request c.args.id c.args.token.now c.args.request.now) in
-    let longer : length (spelling plain) < request_length g.A.Aead.TAG c.args.context.now.name c.args.context.now.next plain =
-    c.protected_messages_are_longer.ensures.request g.A.Aead.TAG c.args.context.now.next c.args.context.now.name plain
+    let longer : length (spelling plain) < request_length g.A.Ciphers.TAG c.args.context.now.name c.args.context.now.next plain =
+    c.protected_messages_are_longer.ensures.request g.A.Ciphers.TAG c.args.context.now.next c.args.context.now.name plain
     (request_through_order c.merged_options.ensures.order c.args.origin.now c.args.id c.args.token.now c.args.request.now)
     (request_unprotected c.args.origin.now c.args.id c.args.token.now c.args.request.now) in
     let not_built : IsOk c.plain_message.result → ⊥ = search rules in

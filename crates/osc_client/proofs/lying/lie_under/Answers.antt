@@ -2,6 +2,7 @@ use Rattle.std.proofs.Common.{◌≡◌, ◌∙◌, ◌≤◌, ◌+◌, length, 
 use Rattle.osc_model.specs.StepNotes.{StepNotes, quiet}
 use Rattle.osc_model.specs.declared.step.Datagram.{Datagram}
 use Rattle.osc_model.specs.declared.step.Note.{Note}
+use Rattle.osc_context.specs.Algorithm.{algorithm_of}
 use Rattle.osc_protect.specs.Protection.{IsRequestOf, RoomOf, length_of_request, longest_message}
 use Rattle.osc_run.specs.ClientKinds.{request_note}
 use Rattle.osc_message.specs.Sending.{datagram}
@@ -12,9 +13,9 @@ pub returns-in-Ok-clause-lied : goal.returns-in-Ok-clause-lied
 returns-in-Ok-clause-lied g c =
     let name : c.in_ok-room.room.name ≡ c.args.context.now.name = ap (λ (r : RoomOf). r.name) c.in_ok-room.ensures ∙ c.name.ensures in
     let outside : c.message.result ≡ c.args.outside.now = c.message.ensures in
-    let sealed : IsRequestOf g.A.Aead.is_sealing c.args.text.now c.args.context.now.name c.args.number c.args.outside.now c.in-Ok.field-0.message =
+    let sealed : IsRequestOf g.A.Ciphers.is_sealing c.args.text.now c.args.context.now.name c.args.number c.args.outside.now c.in-Ok.field-0.message =
     rw (name, outside) at c.in-Ok.ensures.protected in
-    let fits : length_of_request (length c.args.text.now + g.A.Aead.TAG) c.args.context.now.name c.args.number c.args.outside.now ≤ longest_message =
+    let fits : length_of_request (length c.args.text.now + g.A.Ciphers.TAG (algorithm_of c.args.context.now.name)) c.args.context.now.name c.args.number c.args.outside.now ≤ longest_message =
     rw (name, outside) at (c.in-Ok.ensures.fits.0 refl) in
     let note : c.in-Ok.field-0.note ≡ request_note c.args.context.now.name c.args.number c.args.text.now = rw name at c.in-Ok.ensures.noted in
     let out : c.in_ok-message_out-in-Ok.field-0 ≡ datagram c.args.to c.in-Ok.field-0.message ∷ [] = c.in_ok-message_out-in-Ok.ensures.sent in

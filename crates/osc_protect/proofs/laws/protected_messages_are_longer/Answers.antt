@@ -1,5 +1,6 @@
 use Rattle.std.proofs.Common.{ℕ, ◌+◌, ◌≤◌, List, length, arith, replicate}
 use Rattle.std.proofs.lemmas.List.{length-replicate}
+use Rattle.osc_context.specs.Algorithm.{algorithm_of}
 use Rattle.osc_protect.specs.Protection.{plain_bytes, request_value, response_value}
 use Rattle.osc_protect.proofs.laws.protected_messages_are_longer.Goals as goal
 
@@ -9,7 +10,8 @@ with_tag text tag = omega (arith, length-replicate {A = ℕ} (length text + tag)
 
 pub returns-clause-request : goal.returns-clause-request
 returns-clause-request c = λ tag number name m order none.
-    c.protecting_lengthens.ensures m 2 (request_value name number) (replicate (length (plain_bytes m) + tag) 0) order none (with_tag (plain_bytes m) tag)
+    let size = tag (algorithm_of name) in
+    c.protecting_lengthens.ensures m 2 (request_value name number) (replicate (length (plain_bytes m) + size) 0) order none (with_tag (plain_bytes m) size)
 
 pub returns-clause-response : goal.returns-clause-response
 returns-clause-response c = λ tag own m order none.

@@ -7,7 +7,7 @@ use Rattle.osc_protect.proofs.laws.unprotecting_a_protected_request.Goals as goa
 
 pub returns-clause-request : goal.returns-clause-request
 returns-clause-request g c = λ name number m p short fits made.
-    request_says g.A.Aead.is_sealing g.A.Aead.TAG g.met.A.Aead.one_text g.met.A.Aead.sealed_length c.option_of_a_protected_message.ensures name number m p short fits made
+    request_says g.A.Ciphers.is_sealing g.A.Ciphers.TAG g.met.A.Ciphers.one_text g.met.A.Ciphers.sealed_length c.option_of_a_protected_message.ensures name number m p short fits made
 
 pub returns-clause-again : goal.returns-clause-again
 returns-clause-again g c = λ name number m p lawful none made. (

@@ -4,7 +4,7 @@ use Rattle.osc_rounds.proofs.laws.a_forwarded_post_is_agreed_to.Goals as goal
 
 pub returns : goal.returns
 returns g c =
-    let laws : ExchangeLaws g.A.Aead.is_sealing = record {
+    let laws : ExchangeLaws g.A.Ciphers.is_sealing = record {
       itself = c.one_peer.ensures.itself;
       one_reception = c.one_reception.ensures;
       spelled_length = c.length_of_spelling.ensures.exact;
@@ -12,4 +12,4 @@ returns g c =
       welcome = c.welcome_posts.ensures;
       one_name = c.one_name.ensures;
     } in
-    forwarded_agreed g.A.Aead.is_sealing laws c.forwarding_adds_nothing.ensures
+    forwarded_agreed g.A.Ciphers.is_sealing laws c.forwarding_adds_nothing.ensures

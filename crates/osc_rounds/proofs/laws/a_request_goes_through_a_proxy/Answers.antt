@@ -10,7 +10,7 @@ use Rattle.osc_rounds.proofs.laws.a_request_goes_through_a_proxy.Goals as goal
 
 pub returns : goal.returns
 returns g c =
-    let laws : RoundLaws g.A.Aead.is_sealing g.A.Aead.TAG = record {
+    let laws : RoundLaws g.A.Ciphers.is_sealing g.A.Ciphers.TAG = record {
       itself = c.one_peer.ensures.itself;
       meant_is = c.held_contexts_are_meant.ensures;
       request = record {
@@ -32,35 +32,35 @@ returns g c =
       };
       spelled_length = c.length_of_spelling.ensures.exact;
       text_length = c.lengths_of_replies.ensures.text;
-      sealed_length = g.met.A.Aead.sealed_length;
-      short_tag = g.met.A.Aead.short_tag;
+      sealed_length = g.met.A.Ciphers.sealed_length;
+      short_tag = g.met.A.Ciphers.short_tag;
       encrypted = c.requests_are_encrypted.ensures;
       written = c.a_written_reply.ensures.plaintext;
       least = c.codes_of_replies.ensures.least;
       most = c.codes_of_replies.ensures.most;
       short = c.lengths_of_replies.ensures.payload;
     } in
-    let through : ThroughLaws g.A.Aead.is_sealing g.A.Aead.TAG = record {
+    let through : ThroughLaws g.A.Ciphers.is_sealing g.A.Ciphers.TAG = record {
       round = laws;
       fewer = c.fewer_options.ensures.options;
       shorter = c.forwarding_adds_nothing.ensures;
     } in
     λ client asked proxy server asked_at now draw proxy_draw request at proxy_at server_at context held asks lawful lawful_proxy lawful_client size way ends fits is.
-    let sent = goes_out g.A.Aead.is_sealing g.A.Aead.TAG client asked asked_at draw request asks context ends.idle ends.has ends.number fits is in
+    let sent = goes_out g.A.Ciphers.is_sealing g.A.Ciphers.TAG client asked asked_at draw request asks context ends.idle ends.has ends.number fits is in
     let sends : SendsThrough client draw way.origin proxy_at context = record {
       through = way.named;
       next_hop = way.next_hop;
       number = ends.number;
-      origin_lawful = its_origin g.A.Aead.is_sealing g.A.Aead.TAG client asked asked_at draw request asks context sent lawful_client way.origin way.named;
-      token_size = its_token g.A.Aead.is_sealing g.A.Aead.TAG client asked asked_at draw request asks context sent lawful_client;
+      origin_lawful = its_origin g.A.Ciphers.is_sealing g.A.Ciphers.TAG client asked asked_at draw request asks context sent lawful_client way.origin way.named;
+      token_size = its_token g.A.Ciphers.is_sealing g.A.Ciphers.TAG client asked asked_at draw request asks context sent lawful_client;
     } in
     let short : HasShortContext held.name =
-    subst HasShortContext (sym ends.one_name) (its_context g.A.Aead.is_sealing g.A.Aead.TAG client asked asked_at draw request asks context sent lawful_client) in
-    let answered : IsAskedAndAnsweredThrough g.A.Aead.is_sealing client server now draw request way.origin proxy_at held context.next asks asked =
-    answered_through g.A.Aead.is_sealing g.A.Aead.TAG through client asked server now draw request way.origin proxy_at context held asks lawful ends short
-    (subst (λ (n : ContextName). IsAskedThrough g.A.Aead.is_sealing client draw request way.origin proxy_at n context.next asks asked) (sym ends.one_name)
-    (asked_through g.A.Aead.is_sealing g.A.Aead.TAG laws client asked asked_at draw request way.origin proxy_at context asks sends sent)) in (
+    subst HasShortContext (sym ends.one_name) (its_context g.A.Ciphers.is_sealing g.A.Ciphers.TAG client asked asked_at draw request asks context sent lawful_client) in
+    let answered : IsAskedAndAnsweredThrough g.A.Ciphers.is_sealing client server now draw request way.origin proxy_at held context.next asks asked =
+    answered_through g.A.Ciphers.is_sealing g.A.Ciphers.TAG through client asked server now draw request way.origin proxy_at context held asks lawful ends short
+    (subst (λ (n : ContextName). IsAskedThrough g.A.Ciphers.is_sealing client draw request way.origin proxy_at n context.next asks asked) (sym ends.one_name)
+    (asked_through g.A.Ciphers.is_sealing g.A.Ciphers.TAG laws client asked asked_at draw request way.origin proxy_at context asks sends sent)) in (
       answered.message,
-      goes_through g.A.Aead.is_sealing c.a_request_goes_there_and_back.ensures c.an_acknowledgement_is_heard.ensures
+      goes_through g.A.Ciphers.is_sealing c.a_request_goes_there_and_back.ensures c.an_acknowledgement_is_heard.ensures
           client asked proxy server now draw proxy_draw request at proxy_at server_at held context.next asks lawful_proxy size way answered,
     )

@@ -4,7 +4,7 @@ use Rattle.osc_rounds.proofs.laws.a_request_is_answered.Goals as goal
 
 pub returns : goal.returns
 returns g c =
-    let laws : RoundLaws g.A.Aead.is_sealing g.A.Aead.TAG = record {
+    let laws : RoundLaws g.A.Ciphers.is_sealing g.A.Ciphers.TAG = record {
       itself = c.one_peer.ensures.itself;
       meant_is = c.held_contexts_are_meant.ensures;
       request = record {
@@ -26,8 +26,8 @@ returns g c =
       };
       spelled_length = c.length_of_spelling.ensures.exact;
       text_length = c.lengths_of_replies.ensures.text;
-      sealed_length = g.met.A.Aead.sealed_length;
-      short_tag = g.met.A.Aead.short_tag;
+      sealed_length = g.met.A.Ciphers.sealed_length;
+      short_tag = g.met.A.Ciphers.short_tag;
       encrypted = c.requests_are_encrypted.ensures;
       written = c.a_written_reply.ensures.plaintext;
       least = c.codes_of_replies.ensures.least;
@@ -35,5 +35,5 @@ returns g c =
       short = c.lengths_of_replies.ensures.payload;
     } in
     λ client asked server asked_at now draw request at server_at context held first lawful lawful_client way ends fits is.
-    is_asked g.A.Aead.is_sealing g.A.Aead.TAG laws client server asked_at now draw request at server_at context held first asked lawful lawful_client way ends
-    (goes_out g.A.Aead.is_sealing g.A.Aead.TAG client asked asked_at draw request first context ends.idle ends.has ends.number fits is)
+    is_asked g.A.Ciphers.is_sealing g.A.Ciphers.TAG laws client server asked_at now draw request at server_at context held first asked lawful lawful_client way ends
+    (goes_out g.A.Ciphers.is_sealing g.A.Ciphers.TAG client asked asked_at draw request first context ends.idle ends.has ends.number fits is)

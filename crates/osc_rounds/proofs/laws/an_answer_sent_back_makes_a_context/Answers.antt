@@ -4,7 +4,7 @@ use Rattle.osc_rounds.proofs.laws.an_answer_sent_back_makes_a_context.Goals as g
 
 pub returns : goal.returns
 returns g c =
-    let laws : ExchangeLaws g.A.Aead.is_sealing = record {
+    let laws : ExchangeLaws g.A.Ciphers.is_sealing = record {
       itself = c.one_peer.ensures.itself;
       one_reception = c.one_reception.ensures;
       spelled_length = c.length_of_spelling.ensures.exact;
@@ -12,4 +12,4 @@ returns g c =
       welcome = c.welcome_posts.ensures;
       one_name = c.one_name.ensures;
     } in
-    confirmable_makes g.A.Aead.is_sealing laws
+    confirmable_makes g.A.Ciphers.is_sealing laws

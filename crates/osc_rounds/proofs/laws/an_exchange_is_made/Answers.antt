@@ -4,7 +4,7 @@ use Rattle.osc_rounds.proofs.laws.an_exchange_is_made.Goals as goal
 
 pub returns : goal.returns
 returns g c =
-    let laws : ExchangeLaws g.A.Aead.is_sealing = record {
+    let laws : ExchangeLaws g.A.Ciphers.is_sealing = record {
       itself = c.one_peer.ensures.itself;
       one_reception = c.one_reception.ensures;
       spelled_length = c.length_of_spelling.ensures.exact;
@@ -13,4 +13,4 @@ returns g c =
       one_name = c.one_name.ensures;
     } in
     λ client begun server asked_at now draw at server_at claims entries first lawful straight may fits is.
-    is_begun g.A.Aead.is_sealing laws client begun server asked_at now draw at server_at claims entries first lawful straight may fits is
+    is_begun g.A.Ciphers.is_sealing laws client begun server asked_at now draw at server_at claims entries first lawful straight may fits is

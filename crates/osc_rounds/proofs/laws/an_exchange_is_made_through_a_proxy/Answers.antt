@@ -5,7 +5,7 @@ use Rattle.osc_rounds.proofs.laws.an_exchange_is_made_through_a_proxy.Goals as g
 
 pub returns : goal.returns
 returns g c =
-    let laws : ExchangeLaws g.A.Aead.is_sealing = record {
+    let laws : ExchangeLaws g.A.Ciphers.is_sealing = record {
       itself = c.one_peer.ensures.itself;
       one_reception = c.one_reception.ensures;
       spelled_length = c.length_of_spelling.ensures.exact;
@@ -13,7 +13,7 @@ returns g c =
       welcome = c.welcome_posts.ensures;
       one_name = c.one_name.ensures;
     } in
-    let tokens : TokenLaws g.A.Aead.is_sealing = record {
+    let tokens : TokenLaws g.A.Ciphers.is_sealing = record {
       welcome = c.welcome_posts.ensures;
       agreed = c.posts_that_agree.ensures;
       written = c.what_is_written.ensures.post;
@@ -26,4 +26,4 @@ returns g c =
       short = λ id. (c.what_nodes_send.ensures.short id).1;
     } in
     λ client begun server asked_at now draw origin proxy_at claims entries first may fits is.
-    is_begun_through g.A.Aead.is_sealing laws tokens c.forwarding_adds_nothing.ensures empty client server asked_at now draw origin proxy_at claims entries first begun may fits is
+    is_begun_through g.A.Ciphers.is_sealing laws tokens c.forwarding_adds_nothing.ensures empty client server asked_at now draw origin proxy_at claims entries first begun may fits is

@@ -2,6 +2,7 @@ use Rattle.std.proofs.Common.{◌≡◌, ◌≤◌, ◌+◌, length, arith, refl
 use Rattle.std.specs.Prelude.{None}
 use Rattle.std.proofs.lemmas.Result.{IfOk-at_ok}
 use Rattle.osc_model.specs.declared.context.Side.TheVariants.{Server}
+use Rattle.osc_context.specs.Algorithm.{algorithm_of}
 use Rattle.osc_protect.specs.Protection.{IsProtectedResponse, note_of, plain_bytes, request_nonce, response_with}
 use Rattle.osc_run.specs.ServerKinds.{reply_note}
 use Rattle.osc_server.specs.Table.{reply_to}
@@ -15,7 +16,7 @@ unwrap-requires g c =
     in
     c.protect_reply.ensures.fits.1
     (rw (c.message.ensures, c.reply_to-plain.ensures)
-    (reply_fits c.length_of_spelling.ensures.exact c.args.endpoint.now c.args.came.now.draw.now c.args.came.now.message c.args.reply.now g.A.Aead.TAG c.token-token.ensures.lawful.token g.met.A.Aead.short_tag text))
+    (reply_fits c.length_of_spelling.ensures.exact c.args.endpoint.now c.args.came.now.draw.now c.args.came.now.message c.args.reply.now (g.A.Ciphers.TAG (algorithm_of c.args.room.name)) c.token-token.ensures.lawful.token (g.met.A.Ciphers.short_tag (algorithm_of c.args.room.name)) text))
 
 pub returns-clause-noted : goal.returns-clause-noted
 returns-clause-noted g c =
@@ -27,13 +28,13 @@ returns-clause-noted g c =
 
 pub returns-clause-short : goal.returns-clause-short
 returns-clause-short g c =
-    let made = IfOk-at_ok (λ made. IsProtectedResponse g.A.Aead.is_sealing c.args.room.name c.args.number.number None c.message.result made.message) c.unwrap.ensures c.protect_reply.ensures.protected in
+    let made = IfOk-at_ok (λ made. IsProtectedResponse g.A.Ciphers.is_sealing c.args.room.name c.args.number.number None c.message.result made.message) c.unwrap.ensures c.protect_reply.ensures.protected in
     let plain : length (plain_bytes c.message.result) ≤ 14 + length c.args.reply.now.payload =
     rw (c.message.ensures, c.reply_to-plain.ensures, c.what_is_sealed.ensures _ c.args.reply.now)
     (text_short c.length_of_plaintext.ensures (length c.args.reply.now.payload) c.args.reply.now
     (record { code = c.requires.short.code; etag = c.requires.short.etag; payload = omega arith }))
     in
-    let size = g.met.A.Aead.sealed_length _ _ _ _ _ made.is_sealed in
+    let size = g.met.A.Ciphers.sealed_length (algorithm_of c.args.room.name) _ _ _ _ _ made.is_sealed in
     let all = sealed_reply_short c.length_of_spelling.ensures.exact c.args.endpoint.now c.args.came.now.draw.now c.args.came.now.message c.args.reply.now made.sealed c.unwrap.result.message
     c.token-token.ensures.lawful.token
     (made.whole ∙ ap (λ m. response_with None m made.sealed) (c.message.ensures ∙ c.reply_to-plain.ensures))

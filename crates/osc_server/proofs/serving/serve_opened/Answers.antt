@@ -32,7 +32,7 @@ returns-clause-served g c =
     let number : c.accept-number.result.0.number ≡ c.args.request.now.says.number = ap (λ (r : Accepted). r.number) right ∙ c.number.ensures.value in
     let came = c.args.request.now.came.now in
     let text = c.args.taken.note.plaintext in
-    let replied : IsReplied g.A.Aead.is_sealing c.args.tree.now c.args.endpoint.now came.at came.draw.now came.message
+    let replied : IsReplied g.A.Ciphers.is_sealing c.args.tree.now c.args.endpoint.now came.at came.draw.now came.message
     c.unwrap-context.result.now c.accept-number.result.0.number text c.answered.result c.applied-reply.new.tree = record {
       reply = c.applied-reply.result;
       within = c.applied-reply.ensures.within;
@@ -41,7 +41,7 @@ returns-clause-served g c =
       noted = c.answered.ensures.noted;
       room = c.answered.ensures.room;
     } in
-    served_as g.A.Aead.is_sealing c.args.tree.now c.args.desk.now c.args.endpoint.now came.at came.draw.now came.message c.args.request.now.says
+    served_as g.A.Ciphers.is_sealing c.args.tree.now c.args.desk.now c.args.endpoint.now came.at came.draw.now came.message c.args.request.now.says
     held c.unwrap-context.result.now c.number.result c.accept-number.result.0.number text c.answered.result c.applied-reply.new.tree
     opened.1 context number replied
 

@@ -19,11 +19,11 @@ use Rattle.osc_client.proofs.client.Client.ask.Goals as goal
 
 pub returns-in-Err-clause-asked : goal.returns-in-Err-clause-asked
 returns-in-Err-clause-asked g c =
-    let why : IsHindered g.A.Aead.is_sealing g.A.Aead.TAG c.args.self.now c.args.request.now c.args.draw.now c.in-Err.number = rw c.in-Err.is at c.in_ok-prepared.ensures.hindered in
+    let why : IsHindered g.A.Ciphers.is_sealing g.A.Ciphers.TAG c.args.self.now c.args.request.now c.args.draw.now c.in-Err.number = rw c.in-Err.is at c.in_ok-prepared.ensures.hindered in
     let refuses = hindered c.in-Err.number why (record { told = c.refused.ensures; kept = refl }) in
     record {
       asks = refuses;
-      told = ask_told g.A.Aead.is_sealing c.args.self.now c.args.now g.A.Aead.TAG c.args.request.now c.args.draw.now c.refused.result c.args.self.now refuses;
+      told = ask_told g.A.Ciphers.is_sealing c.args.self.now c.args.now g.A.Ciphers.TAG c.args.request.now c.args.draw.now c.refused.result c.args.self.now refuses;
       fits = refusal_fits c.refused.result c.in-Err.number c.refused.ensures;
     }
 
@@ -38,10 +38,10 @@ returns-clause-asked g c =
     let plain : c.in-Ok.prepared.0 ≡ plain_of c.args.self.now c.args.draw.now c.args.request.now = free.2 in
     let asked = plain_of c.args.self.now c.args.draw.now c.args.request.now in
     let message = c.protected-message.result.message in
-    let at_plain : IsProtectedRequest g.A.Aead.is_sealing c.unwrap-context.result.now.name c.unwrap-context.result.now.next asked message =
-    subst (λ m. IsProtectedRequest g.A.Aead.is_sealing c.unwrap-context.result.now.name c.unwrap-context.result.now.next m message) plain c.protected-message.ensures.protected in
-    let protected : IsProtectedRequest g.A.Aead.is_sealing free.0.name free.0.next asked message =
-    subst (λ (x : ClientContextState). IsProtectedRequest g.A.Aead.is_sealing x.name x.next asked message) (sym same) at_plain in
+    let at_plain : IsProtectedRequest g.A.Ciphers.is_sealing c.unwrap-context.result.now.name c.unwrap-context.result.now.next asked message =
+    subst (λ m. IsProtectedRequest g.A.Ciphers.is_sealing c.unwrap-context.result.now.name c.unwrap-context.result.now.next m message) plain c.protected-message.ensures.protected in
+    let protected : IsProtectedRequest g.A.Ciphers.is_sealing free.0.name free.0.next asked message =
+    subst (λ (x : ClientContextState). IsProtectedRequest g.A.Ciphers.is_sealing x.name x.next asked message) (sym same) at_plain in
     let note : c.protected-message.result.note ≡ request_note free.0.name free.0.next (plain_bytes asked) =
     c.protected-message.ensures.note ∙ ap (λ m. request_note c.unwrap-context.result.now.name c.unwrap-context.result.now.next (plain_bytes m)) plain
     ∙ ap (λ (x : ClientContextState). request_note x.name x.next (plain_bytes asked)) (sym same) in
@@ -65,7 +65,7 @@ returns-clause-asked g c =
     let asked_so = asks free.0 message free.1 protected c.open-out.ensures.spelled told kept in
     record {
       asks = asked_so;
-      told = ask_told g.A.Aead.is_sealing c.args.self.now c.args.now g.A.Aead.TAG c.args.request.now c.args.draw.now
+      told = ask_told g.A.Ciphers.is_sealing c.args.self.now c.args.now g.A.Ciphers.TAG c.args.request.now c.args.draw.now
           (record { out = c.open-out.result; notes = c.with_seal.result }) c.open-out.new.self asked_so;
       fits = c.open-out.ensures.fits;
     }

@@ -19,7 +19,7 @@ invariant_of-self g c =
       own_none c.self.inside.next_hop c.outcome_of-outcome.result.waiting c.settle.new.self.sending (ap (λ e. e.sending) c.settle.ensures ∙ none),
       rw (c.learn-notes.ensures.context, (rw c.in-Ok.is at c.outcome_of-outcome.ensures.waits)) has,
       rw c.learn-notes.ensures.context
-          (grant_after g.A.Aead.is_sealing c.self.inside.desk c.args.message c.self.inside.context w.what c.in-Ok.outcome (rw c.in-Ok.is at c.outcome_of-outcome.ensures.comes) c.self.invariant.2),
+          (grant_after g.A.Ciphers.is_sealing c.self.inside.desk c.args.message c.self.inside.context w.what c.in-Ok.outcome (rw c.in-Ok.is at c.outcome_of-outcome.ensures.comes) c.self.invariant.2),
     )
 
 pub returns-in-Err-clause-needs_memory : goal.returns-in-Err-clause-needs_memory

@@ -17,13 +17,13 @@ pub returns-clause-kind : goal.returns-clause-kind
 returns-clause-kind g c =
     let has : HasContext c.args.self.now.context c.args.self.now.waiting = subst (λ s. HasContext s.context s.waiting) c.self.view_is c.self.invariant.1 in
     IfOk-weaker c.answer.result _ _
-    (λ step answers. kind_of g.A.Aead.is_sealing c.args.self.now c.args.now c.args.from c.case_of-case.result step c.answer.new.self has c.exchanges_that_make.ensures answers)
+    (λ step answers. kind_of g.A.Ciphers.is_sealing c.args.self.now c.args.now c.args.from c.case_of-case.result step c.answer.new.self has c.exchanges_that_make.ensures answers)
     c.answer.ensures.answered
 
 pub returns-clause-sent : goal.returns-clause-sent
 returns-clause-sent g c =
     IfOk-weaker c.answer.result _ _
-    (λ step answers. one_is_sent g.A.Aead.is_sealing c.args.self.now c.args.now c.args.from c.case_of-case.result step c.answer.new.self answers)
+    (λ step answers. one_is_sent g.A.Ciphers.is_sealing c.args.self.now c.args.now c.args.from c.case_of-case.result step c.answer.new.self answers)
     c.answer.ensures.answered
 
 pub returns-clause-heard : goal.returns-clause-heard
@@ -32,16 +32,16 @@ returns-clause-heard g c =
     let case : c.case_of-case.result ≡ case_of c.args.self.now.next_hop c.args.from c.args.self.now.waiting (heard c.args.self.now.endpoint.seen c.args.now c.args.from came.0) =
     c.case_of-case.ensures.case ∙ ap (λ h. case_of c.self.inside.next_hop c.args.from c.self.inside.waiting h) came.2
     ∙ ap (λ (s : State). case_of s.next_hop c.args.from s.waiting (heard s.endpoint.seen c.args.now c.args.from came.0)) c.self.view_is in
-    let table = IfOk-weaker c.answer.result _ (λ step. Answers g.A.Aead.is_sealing c.args.self.now c.args.now c.args.from
+    let table = IfOk-weaker c.answer.result _ (λ step. Answers g.A.Ciphers.is_sealing c.args.self.now c.args.now c.args.from
     (case_of c.args.self.now.next_hop c.args.from c.args.self.now.waiting (heard c.args.self.now.endpoint.seen c.args.now c.args.from came.0)) step c.answer.new.self)
-    (λ step answers. subst (λ (x : Case). Answers g.A.Aead.is_sealing c.args.self.now c.args.now c.args.from x step c.answer.new.self) case answers)
+    (λ step answers. subst (λ (x : Case). Answers g.A.Ciphers.is_sealing c.args.self.now c.args.now c.args.from x step c.answer.new.self) case answers)
     c.answer.ensures.answered in
     IfOk-weaker c.answer.result _ _
     (λ step both. record {
       received = came.0;
       receives = came.1;
       answers = both.0;
-      told = datagram_told g.A.Aead.is_sealing c.args.self.now c.args.now c.args.bytes.now c.args.from came.0 step c.answer.new.self came.1 both.0;
+      told = datagram_told g.A.Ciphers.is_sealing c.args.self.now c.args.now c.args.bytes.now c.args.from came.0 step c.answer.new.self came.1 both.0;
       fits = both.1;
     })
     (both_ok c.answer.result _ (λ step. AreSendable step.out) table c.answer.ensures.fits)

@@ -22,7 +22,7 @@ returns-in-None-clause-hindered g c =
     let id : c.own_id-id.result ≡ own_id c.args.draw.now c.args.self.now.endpoint.next_id =
     c.own_id-id.ensures ∙ ap (λ s. own_id c.args.draw.now s.endpoint.next_id) c.self.view_is in
     let origin : c.self.inside.origin ≡ c.args.self.now.origin = ap (λ s. s.origin) c.self.view_is in
-    let size : ℕ = request_length g.A.Aead.TAG c.in-Some.context.name c.in-Some.context.next (plain_of c.args.self.now c.args.draw.now c.args.request.now) in
+    let size : ℕ = request_length g.A.Ciphers.TAG c.in-Some.context.name c.in-Some.context.next (plain_of c.args.self.now c.args.draw.now c.args.request.now) in
     let long : longest_message < size =
     elim (cases_lt longest_message size) [
       | inl lt ↦ lt

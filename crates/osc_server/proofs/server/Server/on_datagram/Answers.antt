@@ -9,7 +9,7 @@ use Rattle.osc_server.proofs.server.Server.on_datagram.Goals as goal
 
 pub returns-clause-kind : goal.returns-clause-kind
 returns-clause-kind g c =
-    kind_of g.A.Aead.is_sealing
+    kind_of g.A.Ciphers.is_sealing
     (record { agrees = c.posts_that_agree.ensures; refuses = c.posts_that_are_refused.ensures; opens = c.requests_that_open.ensures })
     c.args.self.now c.args.now c.args.from c.args.draw.now c.in_ok-step.step c.answer.new.self
     c.drawn.ensures
@@ -31,7 +31,7 @@ returns-clause-heard g c =
       received = came.0;
       receives = came.1;
       answers = search rules;
-      told = told g.A.Aead.is_sealing c.what_is_sealed.ensures c.args.self.now c.args.now c.args.from c.args.draw.now c.args.bytes.now
+      told = told g.A.Ciphers.is_sealing c.what_is_sealed.ensures c.args.self.now c.args.now c.args.from c.args.draw.now c.args.bytes.now
           c.in_ok-case.case c.in_ok-step.step c.answer.new.self spelled answers;
       fits = c.in_ok-step.ensures.sent.fits;
     }

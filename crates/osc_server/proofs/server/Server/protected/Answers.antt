@@ -16,7 +16,7 @@ returns-in_default-clause-answered g c =
 
 pub returns-in-Ok-2-clause-answered : goal.returns-in-Ok-2-clause-answered
 returns-in-Ok-2-clause-answered g c =
-    let as_served = IfOk-at_ok (λ it. IsServedAs g.A.Aead.is_sealing c.self.inside.tree c.self.inside.desk c.self.inside.endpoint c.args.came.at c.args.came.draw.now c.args.came.message c.in-Ok.says it c.serve.new.tree) c.in-Ok-2.is c.in_ok-answer.ensures.served in
+    let as_served = IfOk-at_ok (λ it. IsServedAs g.A.Ciphers.is_sealing c.self.inside.tree c.self.inside.desk c.self.inside.endpoint c.args.came.at c.args.came.draw.now c.args.came.message c.in-Ok.says it c.serve.new.tree) c.in-Ok-2.is c.in_ok-answer.ensures.served in
     let desk : c.serve.new.desk ≡ record c.self.inside.desk { table = accepted c.in-Ok.says.kid c.in-Ok.says.number c.self.inside.desk.table } =
     rw c.in-Ok-2.is at c.in_ok-answer.ensures.accepted
     in
@@ -26,9 +26,9 @@ returns-in-Ok-2-clause-answered g c =
       open_scope = c.self.inside.open_scope;
       endpoint = answered c.self.inside.endpoint c.args.came.at c.args.came.from c.args.came.draw.now c.args.came.message c.in-Ok-2.field-0.answer;
     } = rw (sym desk) c.send.ensures.kept in
-    subst (λ old. AnswersProtected g.A.Aead.is_sealing old c.args.came.at c.args.came.from c.args.came.draw.now c.args.came.message c.send.result c.send.new.self) c.self.view_is
+    subst (λ old. AnswersProtected g.A.Ciphers.is_sealing old c.args.came.at c.args.came.from c.args.came.draw.now c.args.came.message c.send.result c.send.new.self) c.self.view_is
     (served
-    (serves g.A.Aead.is_sealing
+    (serves g.A.Ciphers.is_sealing
     (record { tree = c.self.inside.tree; desk = c.self.inside.desk; open_scope = c.self.inside.open_scope; endpoint = c.self.inside.endpoint })
     c.args.came.at c.args.came.from c.args.came.draw.now c.args.came.message c.in-Ok.says c.in-Ok-2.field-0 c.serve.new.tree c.send.result c.send.new.self
     as_served c.send.ensures.step kept c.send.ensures.spelled))
@@ -36,7 +36,7 @@ returns-in-Ok-2-clause-answered g c =
 pub returns-in-Err-clause-answered : goal.returns-in-Err-clause-answered
 returns-in-Err-clause-answered g c =
     let same : (c.serve.new.desk ≡ c.self.inside.desk) × (c.serve.new.tree ≡ c.self.inside.tree) = rw c.in-Err.is at c.in_ok-answer.ensures.same in
-    let why : IsRefused g.A.Aead.is_sealing c.self.inside.desk c.args.came.at c.args.came.message c.in-Err.refusal = rw c.in-Err.is at c.in_ok-answer.ensures.refused in
+    let why : IsRefused g.A.Ciphers.is_sealing c.self.inside.desk c.args.came.at c.args.came.message c.in-Err.refusal = rw c.in-Err.is at c.in_ok-answer.ensures.refused in
     let sends = rw (same.0, same.1) at c.complain-in-Err.ensures.sends in
-    subst (λ old. IfOk c.complain-in-Err.result (λ step. AnswersProtected g.A.Aead.is_sealing old c.args.came.at c.args.came.from c.args.came.draw.now c.args.came.message step c.complain-in-Err.new.self)) c.self.view_is
+    subst (λ old. IfOk c.complain-in-Err.result (λ step. AnswersProtected g.A.Ciphers.is_sealing old c.args.came.at c.args.came.from c.args.came.draw.now c.args.came.message step c.complain-in-Err.new.self)) c.self.view_is
     (IfOk-weaker c.complain-in-Err.result _ _ (λ step it. refused c.in-Err.refusal why it) sends)

@@ -3,7 +3,7 @@ use Rattle.std.proofs.lemmas.Result.{IfOk-weaker}
 use Rattle.osc_model.specs.declared.node.Draw.{Draw}
 use Rattle.osc_world.specs.Worlds.{Happens}
 use Rattle.osc_world.specs.declared.event.Event.{Event}
-use Rattle.osc_simulation.specs.Simulation.{is_sealing}
+use Rattle.osc_simulation.specs.Simulation.{is_sealing, tag_of}
 use Rattle.osc_simulation.proofs.stage.Stage.comes.Goals as goal
 
 pub returns : goal.returns
@@ -11,4 +11,4 @@ returns c =
     let old = c.args.self.now in
     let new = c.step-happened.new.self in
     let event : Draw → Event = λ draw. record { moment = old.moment; draw = draw; what = c.args.what } in
-    IfOk-weaker c.step-happened.result _ _ (λ _ happens. (new, subst (λ draw. Happens is_sealing 8 old.world (event draw) new) c.draw.ensures happens, refl)) c.step-happened.ensures.happens
+    IfOk-weaker c.step-happened.result _ _ (λ _ happens. (new, subst (λ draw. Happens is_sealing tag_of old.world (event draw) new) c.draw.ensures happens, refl)) c.step-happened.ensures.happens

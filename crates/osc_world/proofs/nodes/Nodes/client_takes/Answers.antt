@@ -11,7 +11,7 @@ returns-clause-takes g c =
     let n = c.self.inside in
     let found : slice_get n.clients.items c.args.number ≡ Some c.in-Some.placed.now = slice_get_read n.clients.items (length n.clients.items) c.args.number _ refl (search rules) c.in-Some.ensures.value in
     let told = c.by_client.ensures ∙ ap (λ lied. by_client c.args.number lied c.in_ok-step.step.notes) c.is_lie.ensures in
-    client_took g.A.Aead.is_sealing g.A.Aead.TAG c.args.self.now n.server_at n.server n.clients.items n.proxies.items c.args.number c.in-Some.placed.now c.client_does.new.client
+    client_took g.A.Ciphers.is_sealing g.A.Ciphers.TAG c.args.self.now n.server_at n.server n.clients.items n.proxies.items c.args.number c.in-Some.placed.now c.client_does.new.client
     c.args.sent.now c.args.event.now c.by_client.result c.in_ok-step.step c.self.view_is found c.in_ok-step.ensures.does told
 
 pub returns-clause-step : goal.returns-clause-step

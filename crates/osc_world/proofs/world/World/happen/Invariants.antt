@@ -3,4 +3,4 @@ use Rattle.osc_world.specs.Worlds.{Happen}
 use Rattle.osc_world.proofs.world.World.happen.Given as goal
 
 abbrev pub invariant-loop-event : goal.invariant-loop-event
-invariant-loop-event g l = Happen g.A.Aead.is_sealing g.A.Aead.TAG l.fn.self (take l.event-index l.fn.events) l.self
+invariant-loop-event g l = Happen g.A.Ciphers.is_sealing g.A.Ciphers.TAG l.fn.self (take l.event-index l.fn.events) l.self

@@ -26,8 +26,8 @@ returns-clause-begun g c =
     let old = c.args.self.now in
     let new = c.rounds-done.new.self in
     both c.rounds-done.result
-    (λ (quiet : Bool). Rounds g.A.Aead.is_sealing g.A.Aead.TAG drawn c.args.now c.args.limit old quiet new)
-    (λ (quiet : Bool). MakesWhatWasBegun g.A.Aead.is_sealing g.A.Aead.TAG drawn c.args.now c.args.limit old quiet new)
+    (λ (quiet : Bool). Rounds g.A.Ciphers.is_sealing g.A.Ciphers.TAG drawn c.args.now c.args.limit old quiet new)
+    (λ (quiet : Bool). MakesWhatWasBegun g.A.Ciphers.is_sealing g.A.Ciphers.TAG drawn c.args.now c.args.limit old quiet new)
     (λ quiet rounds whole before begun_at draw client deliveries placed claims entries enough ready may happens fits.
     c.an_exchanged_round.ensures.made drawn begun_at c.args.now draw client deliveries placed claims entries before old new c.args.limit quiet
     whole c.is_lawful.ensures.apart c.is_lawful.ensures.proxies c.is_lawful.ensures.clients enough ready may happens fits rounds)
@@ -39,8 +39,8 @@ returns-clause-asked g c =
     let old = c.args.self.now in
     let new = c.rounds-done.new.self in
     both c.rounds-done.result
-    (λ (quiet : Bool). Rounds g.A.Aead.is_sealing g.A.Aead.TAG drawn c.args.now c.args.limit old quiet new)
-    (λ (quiet : Bool). AnswersWhatWasAsked g.A.Aead.is_sealing g.A.Aead.TAG drawn c.args.now c.args.limit old quiet new)
+    (λ (quiet : Bool). Rounds g.A.Ciphers.is_sealing g.A.Ciphers.TAG drawn c.args.now c.args.limit old quiet new)
+    (λ (quiet : Bool). AnswersWhatWasAsked g.A.Ciphers.is_sealing g.A.Ciphers.TAG drawn c.args.now c.args.limit old quiet new)
     (λ quiet rounds whole before asked_at draw client deliveries request placed context held enough ready may code happens fits.
     c.an_asked_round.ensures.answered drawn asked_at c.args.now draw client deliveries request placed context held before old new c.args.limit quiet
     whole c.is_lawful.ensures.apart c.is_lawful.ensures.server c.is_lawful.ensures.proxies c.is_lawful.ensures.clients enough ready may code happens fits rounds)

@@ -8,6 +8,6 @@ abbrev pub invariant-loop : goal.invariant-loop
 invariant-loop g l = record {
   within : l.counter ≤ l.fn.limit;
   whole : AreWhole (g.D.Draws.drawn l.fn.draws) l.fn.self l.self;
-  rounds : (left : ℕ) (quiet : Bool) (new : State) → Rounds g.A.Aead.is_sealing g.A.Aead.TAG (g.D.Draws.drawn l.draws) l.now left l.self quiet new
-      → Rounds g.A.Aead.is_sealing g.A.Aead.TAG (g.D.Draws.drawn l.fn.draws) l.fn.now (l.counter + left) l.fn.self quiet new;
+  rounds : (left : ℕ) (quiet : Bool) (new : State) → Rounds g.A.Ciphers.is_sealing g.A.Ciphers.TAG (g.D.Draws.drawn l.draws) l.now left l.self quiet new
+      → Rounds g.A.Ciphers.is_sealing g.A.Ciphers.TAG (g.D.Draws.drawn l.fn.draws) l.fn.now (l.counter + left) l.fn.self quiet new;
 }
