@@ -9,6 +9,8 @@ mod flooded;
 #[cfg(test)]
 mod forwarding;
 #[cfg(test)]
+mod lost_answer;
+#[cfg(test)]
 mod memory;
 #[cfg(test)]
 mod network;

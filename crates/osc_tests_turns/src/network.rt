@@ -6,13 +6,30 @@ use crate::telling::{sends, takes};
 use osc_ccm::Ccm;
 use osc_client::Client;
 use osc_fixtures::{CLIENT, PROXY, SERVER, at, drawn};
-use osc_model::{Datagram, Peer, Request};
+use osc_model::{Bytes, Datagram, Peer, Request};
 use osc_proxy::Proxy;
 use osc_server::Server;
 use std::alloc::Global;
 use std::mem;
 use std::process::Abort;
 use std::test::*;
+
+/// What is done, turn by turn.
+#[derive(Clone, Copy)]
+pub(crate) enum Doing {
+    /// The client begins an exchange.
+    Exchanges,
+    /// The client sends its request.
+    Asks,
+    /// The client's turn, the proxy's, the server's.
+    Client,
+    Proxy,
+    Server,
+    /// What waits for the client is lost.
+    Loses,
+    /// The proxy starts again.
+    Restarts,
+}
 
 /// Three ports, of whose calls one fails.
 #[derive(Drop)]
@@ -46,6 +63,32 @@ impl<'a, R: Abort> Network<'a, R> {
             self.proxy.failures,
             self.server.failures,
         )
+    }
+
+    /// The call that would fail doesn't, if it sends: what it sends is lost on its way, and nobody is told.
+    pub fn fails_silently(&mut self) {
+        self.client.is_silent = true;
+        self.proxy.is_silent = true;
+        self.server.is_silent = true;
+    }
+
+    /// Each datagram that a port was asked to send, port by port, each behind the port to which it goes.
+    pub fn all_sent(&self) -> Vec<u8> {
+        let mut all = Vec::new(self.alloc);
+        for port in [&self.client, &self.proxy, &self.server] {
+            for datagram in &port.sent {
+                all.extend_from_slice(&datagram.to.port.to_be_bytes())
+                    .expect(self.rt, "memory");
+                all.extend_from_slice(datagram.bytes.as_slice())
+                    .expect(self.rt, "memory");
+            }
+        }
+        all
+    }
+
+    /// What each receive of the proxy gave.
+    pub fn came_to_proxy(&self) -> &[Option<(Peer, Bytes)>] {
+        &self.proxy.received
     }
 
     /// What was sent from there comes to whom it was sent.
@@ -91,18 +134,18 @@ impl<'a, R: Abort> Network<'a, R> {
         self.deliver_from_client();
     }
 
-    /// The client's turn, and what it learns. After a failed receive it is as before.
-    fn client_turns(&mut self, client: &mut Client, ms: u64) -> u8 {
+    /// The client's turn, and what it learns; none after a failed receive. It is as before then.
+    fn client_turns(&mut self, client: &mut Client, ms: u64) -> Option<u8> {
         let open = client.open_messages();
         self.client.failing = self.failing;
         let learnt = takes(self.rt, self.alloc, &mut self.client, client, ms);
         assert!(self.rt; learnt.is_some() || client.open_messages() == open);
         self.deliver_from_client();
-        learnt.unwrap_or(0)
+        learnt
     }
 
-    /// The proxy's turn. After a failed receive it is as before.
-    fn proxy_turns(&mut self, proxy: &mut Proxy, ms: u64) {
+    /// The proxy's turn; none after a failed receive. It is as before then.
+    fn proxy_turns(&mut self, proxy: &mut Proxy, ms: u64) -> Option<u8> {
         let open = (proxy.open_messages(), proxy.open_exchanges());
         self.proxy.failing = self.failing;
         let told = takes(self.rt, self.alloc, &mut self.proxy, proxy, ms);
@@ -110,10 +153,11 @@ impl<'a, R: Abort> Network<'a, R> {
         self.failing = self.proxy.failing;
         let gone = mem::replace(&mut self.proxy.gone, Vec::new(self.alloc));
         self.deliver(PROXY, gone);
+        told
     }
 
-    /// The server's turn. After a failed receive it is as before.
-    fn server_turns(&mut self, server: &mut Server, ms: u64) {
+    /// The server's turn; none after a failed receive. It is as before then.
+    fn server_turns(&mut self, server: &mut Server, ms: u64) -> Option<u8> {
         let resources = server.tree().len();
         self.server.failing = self.failing;
         let told = takes(self.rt, self.alloc, &mut self.server, server, ms);
@@ -121,6 +165,31 @@ impl<'a, R: Abort> Network<'a, R> {
         self.failing = self.server.failing;
         let gone = mem::replace(&mut self.server.gone, Vec::new(self.alloc));
         self.deliver(SERVER, gone);
+        told
+    }
+
+    /// This is done at this moment: what the client learnt of it, 0 for nothing; none where a receive failed.
+    pub fn does(
+        &mut self,
+        client: &mut Client,
+        proxy: &mut Proxy,
+        server: &mut Server,
+        request: &Request,
+        ms: u64,
+        doing: Doing,
+    ) -> Option<u8>
+        requires { 0 < request.now.code.0 }
+    {
+        match doing {
+            Doing::Exchanges => self.exchanges(client, ms),
+            Doing::Asks => self.asks(client, request, ms),
+            Doing::Client => return self.client_turns(client, ms),
+            Doing::Proxy => return self.proxy_turns(proxy, ms),
+            Doing::Server => return self.server_turns(server, ms),
+            Doing::Loses => self.client.waiting.clear(),
+            Doing::Restarts => proxy.restart(),
+        }
+        Some(0)
     }
 
     /// The proxy forwards what the client asked at this moment and the server answers it; but whatever came to the client meanwhile is lost,
@@ -143,7 +212,7 @@ impl<'a, R: Abort> Network<'a, R> {
     ) -> u8 {
         let mut last = before;
         for _ in 0..3 {
-            let learnt = self.client_turns(client, ms);
+            let learnt = self.client_turns(client, ms).unwrap_or(0);
             self.proxy_turns(proxy, ms);
             self.server_turns(server, ms);
             if learnt != 0 {

@@ -1,4 +1,4 @@
-//! A port of queues in memory, at which one call fails.
+//! A port of queues in memory, at which one call fails, or loses what it sends.
 ghost use Rattle.std.specs.Prelude.{◌≡◌, ◌≤◌, ◌+◌, Some, IfOk};
 
 use osc_model::{Bytes, Datagram, Peer};
@@ -25,6 +25,10 @@ pub(crate) struct Queues<'a, R: Abort> {
     pub failing: usize,
     /// How many calls failed.
     pub failures: usize,
+    /// A send that would fail doesn't: what it sends is lost on its way, and nobody is told.
+    pub is_silent: bool,
+    /// How many datagrams were lost so.
+    pub lost: usize,
 }
 
 /// Whether this call fails; another one may be the next.
@@ -80,6 +84,8 @@ impl<'a, R: Abort> Queues<'a, R> {
             gone: Vec::new(alloc),
             failing,
             failures: 0,
+            is_silent: false,
+            lost: 0,
         }
     }
 
@@ -119,6 +125,10 @@ impl<R: Abort> Port for Queues<'_, R> {
         let asked = copy(self.alloc, to, bytes).expect(self.rt, "memory");
         self.sent.push(asked).expect(self.rt, "memory");
         if fails_now(&mut self.failing) {
+            if self.is_silent {
+                self.lost = self.lost.saturating_add(1);
+                return Ok(());
+            }
             self.failures = one_more(self.rt, self.failures);
             return Err(PortFault);
         }

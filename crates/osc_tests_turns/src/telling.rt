@@ -15,6 +15,7 @@ struct Before {
     waiting: usize,
     sent: usize,
     failures: usize,
+    lost: usize,
 }
 
 fn counts<R: Abort>(port: &Queues<'_, R>) -> Before {
@@ -22,19 +23,36 @@ fn counts<R: Abort>(port: &Queues<'_, R>) -> Before {
         waiting: port.waiting.len(),
         sent: port.sent.len(),
         failures: port.failures,
+        lost: port.lost,
+    }
+}
+
+/// How many datagrams didn't go: one where a call failed, and what was lost on its way.
+fn missing<R: Abort>(port: &Queues<'_, R>, before: Before) -> usize {
+    let lost = port.lost.saturating_sub(before.lost);
+    if port.failures == before.failures {
+        lost
+    } else {
+        lost.saturating_add(1)
+    }
+}
+
+/// Whether this fault is told by the number 32 where a call failed, and no other is told.
+fn is_fault(fault: Option<PortFault>, failed: bool) -> bool {
+    match fault {
+        Some(fault) => failed && fault.number() == 32,
+        None => !failed,
     }
 }
 
 /// Whether the turn tells if a datagram came and if a send failed, and all of the step was sent but for the datagram of the call that
 /// failed.
 fn is_told<R: Abort>(port: &Queues<'_, R>, before: Before, turned: &Turned) -> bool {
-    let failed = port.failures != before.failures;
-    let lost = if failed { 1 } else { 0 };
     let out = turned.step.out.as_slice();
     turned.received == (port.waiting.len() != before.waiting)
-        && turned.fault.is_some() == failed
+        && is_fault(turned.fault, port.failures != before.failures)
         && port.sent.get(before.sent..) == Some(out)
-        && port.gone.len().checked_add(lost) == Some(out.len())
+        && port.gone.len().checked_add(missing(port, before)) == Some(out.len())
 }
 
 /// Whether the receive failed: what waits is still to be had, and nothing was sent.
