@@ -4,10 +4,11 @@
 use crate::drawing::{Draws, script};
 use crate::traces::{count_lines, trace_of};
 use std::alloc::Global;
+use std::process::Abort;
 use std::test::*;
 
-/// How many scripts are drawn, and how many lines of events each has.
-const SCRIPTS: usize = 400;
+/// How many scripts are drawn from one seed, and how many lines of events each has.
+const SCRIPTS: usize = 100;
 
 const EVENTS: usize = 100;
 
@@ -48,16 +49,36 @@ fn run(alloc: Global, draws: &mut Draws) -> (bool, bool) {
     }
 }
 
-#[test]
-fn no_drawn_script_lacks_memory(rt: HostRuntime) {
-    let mut draws = Draws::from_seed(8613);
+/// Draws scripts from this seed: each goes well, and most of them serve something.
+fn draws(rt: &impl Abort, alloc: Global, seed: u64) {
+    let mut draws = Draws::from_seed(seed);
     let mut serving = 0usize;
     for number in 0..SCRIPTS {
-        let (well, serves) = run(rt.alloc(), &mut draws);
+        let (well, serves) = run(alloc, &mut draws);
         assert!(rt; well, "script {number}");
         if serves {
             serving = serving.saturating_add(1);
         }
     }
     assert!(rt; serving > SCRIPTS / 2, "{serving} of them serve something");
+}
+
+#[test]
+fn the_first_hundred_scripts(rt: HostRuntime) {
+    draws(&rt, rt.alloc(), 1);
+}
+
+#[test]
+fn the_second_hundred_scripts(rt: HostRuntime) {
+    draws(&rt, rt.alloc(), 2);
+}
+
+#[test]
+fn the_third_hundred_scripts(rt: HostRuntime) {
+    draws(&rt, rt.alloc(), 3);
+}
+
+#[test]
+fn the_fourth_hundred_scripts(rt: HostRuntime) {
+    draws(&rt, rt.alloc(), 4);
 }

@@ -51,40 +51,40 @@ enum Fault {
 
 /// What is there of what the request makes.
 #[derive(Clone, Copy, PartialEq, Eq)]
-enum Made {
+enum Effect {
     /// The resource, with the request's payload once.
     Once,
     Nothing,
     SomethingElse,
 }
 
-/// What a run did.
+/// What came of a run.
 #[derive(Drop)]
-struct Run {
+struct Outcome {
     /// How many calls failed at the client, the proxy and the server.
     failures: (usize, usize, usize),
     /// How many turns were taken again, since their receive failed.
     again: usize,
     /// The last that the client learnt.
     learnt: u8,
-    made: Made,
+    effect: Effect,
     /// Each datagram that a port was asked to send, port by port.
     sent: Vec<u8>,
 }
 
-fn made(server: &Server, request: &Request) -> Made {
+fn found(server: &Server, request: &Request) -> Effect {
     let Some(path) = &request.path else {
-        return Made::SomethingElse;
+        return Effect::SomethingElse;
     };
     match server.tree().get(path) {
         Some(resource) => {
             if resource.payload.as_slice() == request.payload.as_slice() {
-                Made::Once
+                Effect::Once
             } else {
-                Made::SomethingElse
+                Effect::SomethingElse
             }
         }
-        None => Made::Nothing,
+        None => Effect::Nothing,
     }
 }
 
@@ -127,7 +127,12 @@ fn network_with<'a, R: Abort>(rt: &'a R, alloc: Global, fault: Fault) -> Network
 }
 
 /// The run in which a call fails so.
-fn run<R: Abort + Drop>(rt: &R, alloc: Global, request: &Request, fault: Fault) -> Result<Run, Fail>
+fn run<R: Abort + Drop>(
+    rt: &R,
+    alloc: Global,
+    request: &Request,
+    fault: Fault,
+) -> Result<Outcome, Fail>
     requires { 0 < request.now.code.0 }
 {
     let mut client = client(alloc)?;
@@ -135,30 +140,30 @@ fn run<R: Abort + Drop>(rt: &R, alloc: Global, request: &Request, fault: Fault) 
     let mut server = server(alloc)?;
     let mut network = network_with(rt, alloc, fault);
     let (again, learnt) = goes(&mut network, &mut client, &mut proxy, &mut server, request);
-    let run = Run {
+    let outcome = Outcome {
         failures: network.failures(),
         again,
         learnt,
-        made: made(&server, request),
+        effect: found(&server, request),
         sent: network.all_sent(),
     };
     drop(network);
     drop(server);
     drop(proxy);
     drop(client);
-    Ok(run)
+    Ok(outcome)
 }
 
 /// Whether both runs sent and made the same, and the client learnt the same.
-fn is_like(one: &Run, other: &Run) -> bool {
+fn is_like(one: &Outcome, other: &Outcome) -> bool {
     one.learnt == other.learnt
-        && one.made == other.made
+        && one.effect == other.effect
         && one.sent.as_slice() == other.sent.as_slice()
 }
 
 /// Whether one call failed, and the request made its resource once, or nothing.
-fn fails_once(run: &Run) -> bool {
-    matches!(run.failures, (1, 0, 0) | (0, 1, 0) | (0, 0, 1)) && run.made != Made::SomethingElse
+fn fails_once(run: &Outcome) -> bool {
+    matches!(run.failures, (1, 0, 0) | (0, 1, 0) | (0, 0, 1)) && run.effect != Effect::SomethingElse
 }
 
 /// Whether the run where a call fails is the one without a fault, where a receive failed and that turn was taken again; and else
@@ -167,7 +172,7 @@ fn is_as_wanted<R: Abort + Drop>(
     rt: &R,
     alloc: Global,
     request: &Request,
-    whole: &Run,
+    whole: &Outcome,
     call: usize,
 ) -> Result<bool, Fail>
     requires { 0 < request.now.code.0 }
@@ -186,7 +191,7 @@ fn is_as_lost<R: Abort + Drop>(
     rt: &R,
     alloc: Global,
     request: &Request,
-    broken: &Run,
+    broken: &Outcome,
     call: usize,
 ) -> Result<bool, Fail>
     requires { 0 < request.now.code.0 }
@@ -198,11 +203,11 @@ fn is_as_lost<R: Abort + Drop>(
 }
 
 /// Whether nothing failed, and the client learnt that an unprotected answer came to what was served.
-fn is_whole(run: &Run) -> bool {
+fn is_whole(run: &Outcome) -> bool {
     run.failures == (0, 0, 0)
         && run.again == 0
         && run.learnt == UNVERIFIED
-        && run.made == Made::Once
+        && run.effect == Effect::Once
 }
 
 /// Each call of the run in turn.
