@@ -18,6 +18,8 @@ mod quiet;
 #[cfg(test)]
 mod ready;
 #[cfg(test)]
+mod refused;
+#[cfg(test)]
 mod through;
 #[cfg(test)]
 mod trees;
