@@ -89,7 +89,7 @@ fn fits(datagram: &[u8]) -> bool
 }
 
 // A server of so many resources, each with four bytes and open.
-fn server_of(alloc: Global, resources: u16) -> Result<Server, AllocError> {
+pub(crate) fn server_of(alloc: Global, resources: u16) -> Result<Server, AllocError> {
     let mut tree = Tree::new(alloc);
     let mut open_scope = Scope::new(alloc);
     fill(alloc, &mut tree, &mut open_scope, resources)?;

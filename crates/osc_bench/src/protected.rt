@@ -111,7 +111,11 @@ fn name_of(alloc: Global, id: u8) -> Result<SharedName, AllocError>
 }
 
 // The requests, protected under the context of this token id.
-fn requests_under(alloc: Global, id: u8, asked: Method) -> Result<Vec<Bytes>, AllocError> {
+pub(crate) fn requests_under(
+    alloc: Global,
+    id: u8,
+    asked: Method,
+) -> Result<Vec<Bytes>, AllocError> {
     let name = name_of(alloc, id)?;
     let requests = requests_of(alloc, &name, asked);
     drop(name);
@@ -327,7 +331,7 @@ fn is_refusal(datagram: &[u8]) -> bool {
 }
 
 // How many bytes the step sends, where that is a protected reply.
-fn length_of_reply(step: Step) -> u64 {
+pub(crate) fn length_of_reply(step: Step) -> u64 {
     let bytes = sent(&step);
     let length = if is_protected(bytes) { bytes.len() } else { 0 };
     drop(step);

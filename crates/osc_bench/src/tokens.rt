@@ -54,7 +54,11 @@ pub(crate) fn post_of(alloc: Global, id: u8) -> Result<Vec<u8>, AllocError> {
 }
 
 // The payload of the client's first post.
-fn first_post(alloc: Global, client: &ClientDesk, id: u8) -> Result<Vec<u8>, AllocError> {
+pub(crate) fn first_post(
+    alloc: Global,
+    client: &ClientDesk,
+    id: u8,
+) -> Result<Vec<u8>, AllocError> {
     let exchange = client.start(None, &drawn(id));
     let mut body = Vec::new(alloc);
     let written = client.write_post(alloc, &exchange, &mut body);
