@@ -139,7 +139,13 @@ fn hear(
         tick(alloc, server, now)?;
     }
     mark(alloc)?;
-    let step = server.on_datagram::<Ccm<8>>(alloc, now, origin(from), datagram, &draw_of(place))?;
+    let step = server.on_datagram::<(Ccm<8>, Ccm<16>)>(
+        alloc,
+        now,
+        origin(from),
+        datagram,
+        &draw_of(place),
+    )?;
     ended(alloc, step)
 }
 
