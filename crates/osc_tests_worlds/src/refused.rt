@@ -147,9 +147,9 @@ fn told(world: &World) -> Told {
 /// Whether the event takes place; where memory was refused, nothing has changed, and it takes place when it comes again.
 fn takes_place_at_last(alloc: Global, world: &mut World, event: &Event) -> bool {
     let before = told(world);
-    match world.step::<Ccm<8>>(alloc, event) {
+    match world.step::<(Ccm<8>, Ccm<16>)>(alloc, event) {
         Ok(()) => true,
-        Err(_) => told(world) == before && world.step::<Ccm<8>>(alloc, event).is_ok(),
+        Err(_) => told(world) == before && world.step::<(Ccm<8>, Ccm<16>)>(alloc, event).is_ok(),
     }
 }
 
