@@ -1,21 +1,26 @@
 -- The keys of a table are those of its members.
-use Rattle.std.proofs.Common.{◌≡◌, ℕ, true, false, List, [], ◌∷◌, ◌&&◌, ◌||◌, map, refl, ap, ap₂, string_bytes, String, Option, Some, None, option_map, Global, Bor}
-use Rattle.std.specs.List.{list_all, list_any}
+use Rattle.std.proofs.Common.{◌≡◌, ℕ, Bool, true, false, not, if◌then◌else◌, List, [], ◌∷◌, refl, ap, string_bytes, String, Option, Some, None, option_map, Global}
+use Rattle.std.specs.List.{find, list_any}
 use Rattle.std.specs.Map.{keys_of}
 use Rattle.std.specs.Option.{is_some}
 use Rattle.std.specs.Str.{bytes_eq}
 use Rattle.toml.specs.View.{members_view}
 use Rattle.toml.specs.declared.value.Value.{Value}
-use Rattle.osc_settings.specs.Document.{has_only}
+use Rattle.osc_settings.specs.Document.{other_key}
+use Rattle.osc_settings.specs.Keys.{name_of}
+use Rattle.osc_settings.specs.declared.key.SettingsKey.{SettingsKey}
 
-any_of : (key : List ℕ) (known : List (Bor (List ℕ))) → list_any (λ k. bytes_eq key k.now) known ≡ list_any (bytes_eq key) (map (λ k. k.now) known)
-any_of key [] = refl
-any_of key (k ∷ known) = ap (λ rest. bytes_eq key k.now || rest) (any_of key known)
-
-pub only_members : (known : List (Bor (List ℕ))) (es : List (String Global × Value))
-    → list_all (λ key. list_any (λ k. bytes_eq (string_bytes key) k.now) known) (keys_of es) ≡ has_only (map (λ k. k.now) known) (members_view es)
-only_members known [] = refl
-only_members known (e ∷ es) = ap₂ (λ here rest. here && rest) (any_of (string_bytes e.0) known) (only_members known es)
+pub first_member : (keys : List SettingsKey) (es : List (String Global × Value))
+    → option_map (λ name. string_bytes name) (find (λ name. not (list_any (λ key. bytes_eq (string_bytes name) (name_of key)) keys)) (keys_of es)) ≡ other_key keys (members_view es)
+first_member keys [] = refl
+first_member keys (e ∷ es) = by (list_any (λ key. bytes_eq (string_bytes e.0) (name_of key)) keys) (first_member keys es)
+  where
+    by : (known : Bool)
+        → option_map (λ name. string_bytes name) (find (λ name. not (list_any (λ key. bytes_eq (string_bytes name) (name_of key)) keys)) (keys_of es)) ≡ other_key keys (members_view es)
+        → option_map (λ name. string_bytes name) (if not known then Some e.0 else find (λ name. not (list_any (λ key. bytes_eq (string_bytes name) (name_of key)) keys)) (keys_of es))
+        ≡ if known then other_key keys (members_view es) else Some (string_bytes e.0)
+    by true rest = rest
+    by false rest = refl
 
 -- something is there by whatever it is seen as
 pub some_alike : {A B : Type 0} (f : A → B) (o : Option A) (p : Option B) → option_map f o ≡ p → is_some o ≡ is_some p

@@ -1,71 +1,121 @@
--- What refuses a part refuses the whole.
-use Rattle.std.proofs.Common.{◌≡◌, ◌⊎◌, ℕ, true, false, List, Option, Some, None, Result, Ok, Err, codes, subst, inl, inr, MatchResult}
+-- What is at fault in a part is at fault in the whole.
+use Rattle.std.proofs.Common.{◌≡◌, ◌≢◌, ◌⊎◌, ℕ, suc, true, false, Option, Some, None, Result, Ok, Err, List, codes, refl, sym, ◌∙◌, subst, inl, inr, IfErr, MatchResult}
 use Rattle.std.specs.Option.{IsSomeAnd, is_some}
-use Rattle.toml.specs.Data.{Data, Members, get_member, string}
+use Rattle.toml.specs.Data.{Members, get_member}
 use Rattle.toml.specs.Parse.{parse_document}
-use Rattle.osc_settings.specs.Document.{MaySpellAt, SpelledAt, StandsFor}
-use Rattle.osc_settings.specs.Settings.{IsOrigin, IsOriginPort}
-use Rattle.osc_settings.specs.Values.{IsHost}
-use Rattle.osc_settings.proofs.Keys.{some_there}
-use Rattle.osc_settings.specs.Reading.{IsRefusal}
+use Rattle.osc_model.specs.declared.node.Peer.{Peer}
+use Rattle.osc_settings.specs.Document.{IsLeftOut, IsPortAt, SpelledAt, StandsFor, other_key}
+use Rattle.osc_settings.specs.Faults.{IsFaultAt, IsFaultOfProxy, IsKeyFault, IsOriginFault, IsProxyFault, IsWrongAt, Lacks}
+use Rattle.osc_settings.specs.Keys.{name_of}
+use Rattle.osc_settings.specs.Reading.{AreTargetsRefused, IsNoDocument}
+use Rattle.osc_settings.specs.Settings.{IsOriginPort, IsSalt, proxy_keys}
+use Rattle.osc_settings.specs.Values.{IsAddress, IsHost, SpellsBytes}
+use Rattle.osc_settings.specs.declared.error.KeyFault.{KeyFault}
 use Rattle.osc_settings.specs.declared.error.SettingsError.{SettingsError}
-use Rattle.osc_settings.specs.declared.error.SettingsError.TheVariants.{Bad, Memory}
+use Rattle.osc_settings.specs.declared.error.SettingsError.TheVariants.{NotToml, Key, Target, Memory}
+use Rattle.osc_settings.specs.declared.key.SettingsKey.{SettingsKey}
+use Rattle.osc_settings.specs.declared.key.SettingsKey.TheVariants as key
+use Rattle.osc_settings.proofs.Keys.{some_there}
 
-pub part_refused : {X S : Type 0} (P : X → Type 0) (Q : S → Type 0) (part : S → X) (error : SettingsError)
-    → ((s : S) → Q s → P (part s)) → IsRefusal P error → IsRefusal Q error
-part_refused P Q part Bad so none = λ s q. none (part s) (so s q)
-part_refused P Q part Memory so none = tt
+pub fault_within : (F G : KeyFault → Type 0) (error : SettingsError) → ((fault : KeyFault) → F fault → G fault) → IsKeyFault F error → IsKeyFault G error
+fault_within F G NotToml so h = absurd h
+fault_within F G (Key fault) so h = so fault h
+fault_within F G (Target number fault) so h = absurd h
+fault_within F G Memory so h = tt
 
 -- ---- what may be left out
 
-pub or_left_out : {X : Type 0} (P Q : X → Type 0) (r : Result X SettingsError) → ((x : X) → ¬ Q x) → MatchResult r P (IsRefusal P)
-    → MatchResult r (λ x. P x ⊎ Q x) (IsRefusal (λ x. P x ⊎ Q x))
-or_left_out P Q (Ok x) there h = inl h
-or_left_out P Q (Err Bad) there h = λ x s. elim s [ inl p ↦ h x p | inr q ↦ there x q ]
-or_left_out P Q (Err Memory) there h = tt
+-- what stands there can't be missing
+wrong_there : {X : Type 0} (key : SettingsKey) (Stands : List ℕ → Members → X → Type 0) (document : Members) (fault : KeyFault)
+    → is_some (get_member (name_of key) document) ≡ true → IsFaultAt key Stands document fault → IsWrongAt key Stands document fault
+wrong_there key Stands document fault there h = elim h [ inl wrong ↦ wrong | inr missing ↦ absurd (some_there (get_member (name_of key) document) there missing.0) ]
 
-pub may_refused : {X : Type 0} (key : List ℕ) (Spells : List ℕ → X → Type 0) (document : Members) (error : SettingsError)
-    → is_some (get_member key document) ≡ true → IsRefusal (SpelledAt key Spells document) error → IsRefusal (MaySpellAt key Spells document) error
-may_refused key Spells document Memory there h = tt
-may_refused {X} key Spells document Bad there h = none
-  where
-    none : (o : Option X) → ¬ MaySpellAt key Spells document o
-    none None s = some_there (get_member key document) there s
-    none (Some x) s = h x s
+pub wrong_at : {X : Type 0} (key : SettingsKey) (Stands : List ℕ → Members → X → Type 0) (document : Members) (error : SettingsError)
+    → is_some (get_member (name_of key) document) ≡ true → IsKeyFault (IsFaultAt key Stands document) error → IsKeyFault (IsWrongAt key Stands document) error
+wrong_at key Stands document error there = fault_within (IsFaultAt key Stands document) (IsWrongAt key Stands document) error (λ fault. wrong_there key Stands document fault there)
+
+pub or_left_out : {X : Type 0} (key : SettingsKey) (Stands : List ℕ → Members → X → Type 0) (document : Members) (Q : X → Type 0) (r : Result X SettingsError)
+    → is_some (get_member (name_of key) document) ≡ true → MatchResult r (Stands (name_of key) document) (IsKeyFault (IsFaultAt key Stands document))
+    → MatchResult r (λ x. Stands (name_of key) document x ⊎ Q x) (IsKeyFault (IsWrongAt key Stands document))
+or_left_out key Stands document Q (Ok x) there h = inl h
+or_left_out key Stands document Q (Err error) there h = wrong_at key Stands document error there h
+
+pub salt_found : (document : Members) (salt : List ℕ) → IsSalt document salt
+    → ((x : List ℕ) × SpelledAt (name_of key.Salt) (SpellsBytes 0 64) document x) ⊎ IsLeftOut (name_of key.Salt) document
+salt_found document salt h = elim h [ inl there ↦ inl (salt, there) | inr out ↦ inr out.0 ]
 
 -- ---- an origin
 
 pub port_refused : (document : Members) (error : SettingsError)
-    → is_some (get_member (codes "host") document) ≡ true → IsRefusal (IsOriginPort document) error → IsRefusal (IsOrigin document) error
-port_refused document Memory there h = tt
-port_refused document Bad there h = none
-  where
-    none : (o : Option (List ℕ × ℕ)) → ¬ IsOrigin document o
-    none None s = some_there (get_member (codes "host") document) there s.0
-    none (Some origin) s = h origin.1 s.1
+    → is_some (get_member (name_of key.Host) document) ≡ true → IsKeyFault (IsWrongAt key.Port IsPortAt document) error → IsKeyFault (IsOriginFault document) error
+port_refused document error there = fault_within (IsWrongAt key.Port IsPortAt document) (IsOriginFault document) error (λ fault h. inl (there, inl h))
 
-pub host_refused : (document : Members) (error : SettingsError)
-    → is_some (get_member (codes "host") document) ≡ true → IsRefusal (SpelledAt (codes "host") IsHost document) error → IsRefusal (IsOrigin document) error
-host_refused document Memory there h = tt
-host_refused document Bad there h = none
-  where
-    none : (o : Option (List ℕ × ℕ)) → ¬ IsOrigin document o
-    none None s = some_there (get_member (codes "host") document) there s.0
-    none (Some origin) s = h origin.0 s.0
+pub host_refused : (document : Members) (error : SettingsError) (port : ℕ)
+    → is_some (get_member (name_of key.Host) document) ≡ true → IsOriginPort document port
+    → IsKeyFault (IsFaultAt key.Host (λ name. SpelledAt name IsHost) document) error → IsKeyFault (IsOriginFault document) error
+host_refused document error port there right =
+    fault_within (IsFaultAt key.Host (λ name. SpelledAt name IsHost) document) (IsOriginFault document) error
+    (λ fault h. inl (there, inr (elim right [ inl at ↦ inl (port, at) | inr out ↦ inr out.0 ], wrong_there key.Host (λ name. SpelledAt name IsHost) document fault there h)))
 
-pub port_alone : (document : Members) → is_some (get_member (codes "host") document) ≡ false → is_some (get_member (codes "port") document) ≡ true
-    → (o : Option (List ℕ × ℕ)) → ¬ IsOrigin document o
-port_alone document no_host there None s = some_there (get_member (codes "port") document) there s.1
-port_alone document no_host there (Some origin) s = nowhere (get_member (codes "host") document) s.0.0 no_host s.0.1
-  where
-    nowhere : (o : Option Data) (text : List ℕ) → is_some o ≡ false → o ≡ Some (string text) → ⊥
-    nowhere None text e h = absurd cc
-    nowhere (Some x) text e h = absurd cc
+-- ---- of a proxy
+
+pub proxy_refused : (F : KeyFault → Type 0) (document : Members) (error : SettingsError) → ((fault : KeyFault) → F fault → IsProxyFault document fault)
+    → IsKeyFault F error → IsFaultOfProxy document error
+proxy_refused F document NotToml so h = absurd h
+proxy_refused F document (Key fault) so h = so fault h
+proxy_refused F document (Target number fault) so h = absurd h
+proxy_refused F document Memory so h = tt
+
+pub targets_refused : (document : Members) (peer : Peer) (error : SettingsError) → other_key proxy_keys document ≡ None → SpelledAt (name_of key.Bind) IsAddress document peer
+    → AreTargetsRefused document error → IsFaultOfProxy document error
+targets_refused document peer NotToml only bind h = absurd h
+targets_refused document peer (Key fault) only bind h = inr (only, inr ((peer, bind), h))
+targets_refused document peer (Target number fault) only bind h = record {
+  keys = only;
+  peer = peer;
+  bind = bind;
+  items = h.0;
+  targets = h.1;
+  before = h.2.0;
+  count = h.2.1;
+  first = h.2.2;
+}
+targets_refused document peer Memory only bind h = tt
 
 -- ---- of a text
 
-pub settings_bad : {S : Type 0} (Are : Members → S → Type 0) (text : List ℕ) (document : Members) (r : Result S SettingsError)
-    → parse_document text ≡ Some document → MatchResult r (Are document) (IsRefusal (Are document)) → r ≡ Err Bad → (s : S) → ¬ StandsFor Are text s
-settings_bad Are text document (Ok x) e h bad s q = absurd cc
-settings_bad Are text document (Err Memory) e h bad s q = absurd cc
-settings_bad Are text document (Err Bad) e h bad s q = h s (subst (λ o. IsSomeAnd o (λ document. Are document s)) e q)
+pub no_document : (Is : Members → SettingsError → Type 0) (text : List ℕ) (error : SettingsError) → IsNoDocument text error → Lacks Is text error
+no_document Is text NotToml h = h
+no_document Is text (Key fault) h = absurd h
+no_document Is text (Target number fault) h = absurd h
+no_document Is text Memory h = tt
+
+pub lacks : {S : Type 0} (Are : Members → S → Type 0) (Is : Members → SettingsError → Type 0) (text : List ℕ) (document : Members) (r : Result S SettingsError)
+    → (¬ Is document NotToml) → parse_document text ≡ Some document → MatchResult r (Are document) (Is document) → IfErr r (Lacks Is text)
+lacks Are Is text document (Ok s) never e h = tt
+lacks Are Is text document (Err NotToml) never e h = absurd (never h)
+lacks Are Is text document (Err (Key fault)) never e h = subst (λ o. IsSomeAnd o (λ document. Is document (Key fault))) (sym e) h
+lacks Are Is text document (Err (Target number fault)) never e h = subst (λ o. IsSomeAnd o (λ document. Is document (Target number fault))) (sym e) h
+lacks Are Is text document (Err Memory) never e h = tt
+
+-- no settings are at fault
+pub bad : {S : Type 0} (Are : Members → S → Type 0) (Is : Members → SettingsError → Type 0) (text : List ℕ) (error : SettingsError)
+    → ((document : Members) (error : SettingsError) (s : S) → error ≢ Memory → Is document error → ¬ Are document s) → Lacks Is text error → error ≢ Memory → (s : S) → ¬ StandsFor Are text s
+bad Are Is text NotToml never h some s = subst (λ o. ¬ IsSomeAnd o (λ document. Are document s)) (sym h) (λ none. none)
+bad Are Is text (Key fault) never h some s = by (parse_document text) h
+  where
+    by : (o : Option Members) → IsSomeAnd o (λ document. Is document (Key fault)) → ¬ IsSomeAnd o (λ document. Are document s)
+    by (Some document) k a = never document (Key fault) s some k a
+    by None k a = k
+bad Are Is text (Target number fault) never h some s = by (parse_document text) h
+  where
+    by : (o : Option Members) → IsSomeAnd o (λ document. Is document (Target number fault)) → ¬ IsSomeAnd o (λ document. Are document s)
+    by (Some document) k a = never document (Target number fault) s some k a
+    by None k a = k
+bad Are Is text Memory never h some s = absurd (some refl)
+
+pub all_bad : {S : Type 0} (Are : Members → S → Type 0) (Is : Members → SettingsError → Type 0) (text : List ℕ) (r : Result S SettingsError)
+    → ((document : Members) (error : SettingsError) (s : S) → error ≢ Memory → Is document error → ¬ Are document s)
+    → IfErr r (Lacks Is text) → IfErr r (λ error. error ≢ Memory → (s : S) → ¬ StandsFor Are text s)
+all_bad Are Is text (Ok s) never h = tt
+all_bad Are Is text (Err error) never h = bad Are Is text error never h

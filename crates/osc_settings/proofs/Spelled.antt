@@ -1,14 +1,20 @@
 -- What stands at a key, and what it spells.
-use Rattle.std.proofs.Common.{◌≡◌, ℕ, ℤ, List, Option, Some, None, Result, Ok, Err, refl, sym, ap, subst, ◌∙◌, MatchResult}
-use Rattle.std.specs.Option.{option_and_then}
+use Rattle.std.proofs.Common.{◌≡◌, ℕ, ℤ, List, Option, Some, None, Result, Ok, Err, refl, sym, ap, subst, ◌∙◌, inl, inr, if◌then◌else◌, MatchResult}
+use Rattle.std.specs.Option.{is_some, option_and_then}
 use Rattle.toml.specs.Data.{Data, Items, Members, string, integer, array, table, as_str, as_integer, as_array, as_table, get_member}
 use Rattle.osc_settings.specs.Document.{SpelledAt, IsPortAt}
-use Rattle.osc_settings.specs.Reading.{IsRefusal, SpellsPath, text_at}
+use Rattle.osc_settings.specs.Reading.{IsRefusal, SpellsPath, read_at, text_at, untyped_at}
 use Rattle.osc_settings.specs.Values.{IsPort}
 use Rattle.osc_settings.specs.Settings.{IsPathText, IsTarget, IsTargetTable}
 use Rattle.osc_settings.specs.declared.proxy.TargetSetting.{TargetSetting}
+use Rattle.osc_settings.specs.Faults.{IsFaultAt, IsItemFault, IsKeyFault, IsTargetFault, IsTextAt}
+use Rattle.osc_settings.specs.Keys.{name_of}
+use Rattle.osc_settings.specs.declared.error.KeyFault.TheVariants.{Missing, Wrong}
 use Rattle.osc_settings.specs.declared.error.SettingsError.{SettingsError}
-use Rattle.osc_settings.specs.declared.error.SettingsError.TheVariants.{Bad, Memory}
+use Rattle.osc_settings.specs.declared.error.ValueError.{ValueError}
+use Rattle.osc_settings.specs.declared.error.ValueError.TheVariants.{Bad, Memory}
+use Rattle.osc_settings.specs.declared.key.SettingsKey.{SettingsKey}
+use Rattle.osc_settings.specs.declared.key.SettingsKey.TheVariants as key
 
 -- ---- values by their types
 
@@ -47,17 +53,45 @@ text_there key text document e = there as_str string (get_member key document) t
 one_text : (found : Option Data) (text other : List ℕ) → found ≡ Some (string text) → found ≡ Some (string other) → other ≡ text
 one_text found text other e f = cc
 
-pub spelled_read : {X : Type 0} (key : List ℕ) (Spells : List ℕ → X → Type 0) (document : Members) (text : List ℕ) (r : Result X SettingsError)
-    → text_at key document ≡ Some text → MatchResult r (Spells text) (IsRefusal (Spells text))
-    → MatchResult r (SpelledAt key Spells document) (IsRefusal (SpelledAt key Spells document))
-spelled_read key Spells document text (Ok x) e h = (text, text_there key text document e, h)
-spelled_read key Spells document text (Err Bad) e h = λ x s.
-    h x (subst (λ t. Spells t x) (one_text (get_member key document) text s.0 (text_there key text document e) s.1) s.2)
-spelled_read key Spells document text (Err Memory) e h = tt
+-- such a value doesn't stand at the key, and what does is of another type, if anything is there
+untyped : {X : Type 0} (key : SettingsKey) (Stands : List ℕ → Members → X → Type 0) (document : Members)
+    → ((x : X) → ¬ Stands (name_of key) document x) → IsKeyFault (IsFaultAt key Stands document) (untyped_at key document)
+untyped key Stands document none = by (get_member (name_of key) document) refl
+  where
+    by : (o : Option Data) → get_member (name_of key) document ≡ o → IsFaultAt key Stands document (if is_some o then Wrong key else Missing key)
+    by None e = inr (e, refl)
+    by (Some d) e = inl (ap is_some e, none, refl)
 
-pub unspelled : {X : Type 0} (key : List ℕ) (Spells : List ℕ → X → Type 0) (document : Members)
-    → text_at key document ≡ None → (x : X) → ¬ SpelledAt key Spells document x
-unspelled key Spells document none x s = not_there as_str string (get_member key document) (λ t. refl) none s.0 s.1
+pub untyped_as : {X : Type 0} (key : SettingsKey) (Stands : List ℕ → Members → X → Type 0) (document : Members) (error : SettingsError) → error ≡ untyped_at key document
+    → ((x : X) → ¬ Stands (name_of key) document x) → IsKeyFault (IsFaultAt key Stands document) error
+untyped_as key Stands document error e none = subst (IsKeyFault (IsFaultAt key Stands document)) (sym e) (untyped key Stands document none)
+
+read : {X : Type 0} (key : SettingsKey) (Spells : List ℕ → X → Type 0) (document : Members) (text : List ℕ) (r : Result X ValueError)
+    → text_at (name_of key) document ≡ Some text → MatchResult r (Spells text) (IsRefusal (Spells text))
+    → MatchResult (read_at key r) (SpelledAt (name_of key) Spells document) (IsKeyFault (IsFaultAt key (λ name. SpelledAt name Spells) document))
+read key Spells document text (Ok x) e h = (text, text_there (name_of key) text document e, h)
+read key Spells document text (Err Bad) e h = inl (
+  ap is_some (text_there (name_of key) text document e),
+  (λ x s. h x (subst (λ t. Spells t x) (one_text (get_member (name_of key) document) text s.0 (text_there (name_of key) text document e) s.1) s.2)),
+  refl,
+)
+read key Spells document text (Err Memory) e h = tt
+
+pub spelled_read : {X : Type 0} (key : SettingsKey) (Spells : List ℕ → X → Type 0) (document : Members) (text : List ℕ) (r : Result X ValueError) (result : Result X SettingsError)
+    → text_at (name_of key) document ≡ Some text → MatchResult r (Spells text) (IsRefusal (Spells text)) → result ≡ read_at key r
+    → MatchResult result (SpelledAt (name_of key) Spells document) (IsKeyFault (IsFaultAt key (λ name. SpelledAt name Spells) document))
+spelled_read key Spells document text r result e h is =
+    subst (λ it. MatchResult it (SpelledAt (name_of key) Spells document) (IsKeyFault (IsFaultAt key (λ name. SpelledAt name Spells) document))) (sym is)
+    (read key Spells document text r e h)
+
+pub unspelled : {X : Type 0} (key : SettingsKey) (Spells : List ℕ → X → Type 0) (document : Members) (error : SettingsError)
+    → text_at (name_of key) document ≡ None → error ≡ untyped_at key document → IsKeyFault (IsFaultAt key (λ name. SpelledAt name Spells) document) error
+unspelled key Spells document error none is =
+    untyped_as key (λ name. SpelledAt name Spells) document error is (λ x s. not_there as_str string (get_member (name_of key) document) (λ t. refl) none s.0 s.1)
+
+pub no_text : (key : SettingsKey) (document : Members) (error : SettingsError)
+    → text_at (name_of key) document ≡ None → error ≡ untyped_at key document → IsKeyFault (IsFaultAt key IsTextAt document) error
+no_text key document error none is = untyped_as key IsTextAt document error is (not_there as_str string (get_member (name_of key) document) (λ t. refl) none)
 
 -- ---- ports
 
@@ -67,16 +101,27 @@ one_number found n m e f = cc
 number_there : (key : List ℕ) (document : Members) (number : ℤ) → option_and_then as_integer (get_member key document) ≡ Some number → get_member key document ≡ Some (integer number)
 number_there key document number e = there as_integer integer (get_member key document) number is_integer e
 
-pub port_read : (key : List ℕ) (document : Members) (number : ℤ) (r : Result ℕ SettingsError)
-    → option_and_then as_integer (get_member key document) ≡ Some number → MatchResult r (IsPort number) (IsRefusal (IsPort number))
-    → MatchResult r (IsPortAt key document) (IsRefusal (IsPortAt key document))
-port_read key document number (Ok port) e h = (number, number_there key document number e, h)
-port_read key document number (Err Bad) e h = λ port s.
-    h port (subst (λ n. IsPort n port) (one_number (get_member key document) number s.0 (number_there key document number e) s.1) s.2)
-port_read key document number (Err Memory) e h = tt
+read_port : (key : SettingsKey) (document : Members) (number : ℤ) (r : Result ℕ ValueError)
+    → option_and_then as_integer (get_member (name_of key) document) ≡ Some number → MatchResult r (IsPort number) (IsRefusal (IsPort number))
+    → MatchResult (read_at key r) (IsPortAt (name_of key) document) (IsKeyFault (IsFaultAt key IsPortAt document))
+read_port key document number (Ok port) e h = (number, number_there (name_of key) document number e, h)
+read_port key document number (Err Bad) e h = inl (
+  ap is_some (number_there (name_of key) document number e),
+  (λ port s. h port (subst (λ n. IsPort n port) (one_number (get_member (name_of key) document) number s.0 (number_there (name_of key) document number e) s.1) s.2)),
+  refl,
+)
+read_port key document number (Err Memory) e h = tt
 
-pub no_port_there : (key : List ℕ) (document : Members) → option_and_then as_integer (get_member key document) ≡ None → (port : ℕ) → ¬ IsPortAt key document port
-no_port_there key document none port s = not_there as_integer integer (get_member key document) (λ n. refl) none s.0 s.1
+pub port_read : (key : SettingsKey) (document : Members) (number : ℤ) (r : Result ℕ ValueError) (result : Result ℕ SettingsError)
+    → option_and_then as_integer (get_member (name_of key) document) ≡ Some number → MatchResult r (IsPort number) (IsRefusal (IsPort number)) → result ≡ read_at key r
+    → MatchResult result (IsPortAt (name_of key) document) (IsKeyFault (IsFaultAt key IsPortAt document))
+port_read key document number r result e h is =
+    subst (λ it. MatchResult it (IsPortAt (name_of key) document) (IsKeyFault (IsFaultAt key IsPortAt document))) (sym is) (read_port key document number r e h)
+
+pub no_port_there : (key : SettingsKey) (document : Members) (error : SettingsError)
+    → option_and_then as_integer (get_member (name_of key) document) ≡ None → error ≡ untyped_at key document → IsKeyFault (IsFaultAt key IsPortAt document) error
+no_port_there key document error none is =
+    untyped_as key IsPortAt document error is (λ port s. not_there as_integer integer (get_member (name_of key) document) (λ n. refl) none s.0 s.1)
 
 -- ---- arrays
 
@@ -88,7 +133,7 @@ no_items_there key document none = not_there as_array array (get_member key docu
 
 -- ---- items of arrays
 
-pub path_read : (value : Data) (text : List ℕ) (r : Result (List ℕ) SettingsError) → as_str value ≡ Some text
+pub path_read : (value : Data) (text : List ℕ) (r : Result (List ℕ) ValueError) → as_str value ≡ Some text
     → MatchResult r (SpellsPath text) (IsRefusal (SpellsPath text)) → MatchResult r (IsPathText value) (IsRefusal (IsPathText value))
 path_read value text (Ok path) e h = (is_text value text e ∙ ap string (sym h.0), h.1)
 path_read value text (Err Bad) e h = λ path s.
@@ -103,15 +148,10 @@ no_path value none path s =
     absurd cc
 
 pub target_read : (value : Data) (document : Members) (r : Result TargetSetting SettingsError) → as_table value ≡ Some document
-    → MatchResult r (IsTarget document) (IsRefusal (IsTarget document)) → MatchResult r (IsTargetTable value) (IsRefusal (IsTargetTable value))
+    → MatchResult r (IsTarget document) (IsKeyFault (IsTargetFault document)) → MatchResult r (IsTargetTable value) (IsKeyFault (IsItemFault value))
 target_read value document (Ok target) e h = (document, is_table value document e, h)
-target_read value document (Err Bad) e h = λ target s.
-    let other : table s.0 ≡ table document = sym s.1 ∙ is_table value document e in
-    let same : s.0 ≡ document = cc in
-    h target (subst (λ members. IsTarget members target) same s.2)
-target_read value document (Err Memory) e h = tt
+target_read value document (Err error) e h = subst (λ it. IsKeyFault (IsItemFault it) error) (sym (is_table value document e)) h
 
-pub no_target : (value : Data) → as_table value ≡ None → (target : TargetSetting) → ¬ IsTargetTable value target
-no_target value none target s =
-    let found : as_table value ≡ Some s.0 = ap as_table s.1 in
-    absurd cc
+pub no_target : (value : Data) → as_table value ≡ None → IsItemFault value (Wrong key.Target)
+no_target (table document) none = absurd cc
+no_target value none = refl

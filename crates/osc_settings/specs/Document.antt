@@ -1,19 +1,21 @@
 -- What stands in a document of TOML, key by key.
-use Rattle.std.specs.Prelude.{◌≡◌, ℕ, ℤ, Bool, true, ◌&&◌, List, [], ◌∷◌, Option, Some, None, IsSomeAnd}
+use Rattle.std.specs.Prelude.{◌≡◌, ℕ, ℤ, if◌then◌else◌, List, [], ◌∷◌, Option, Some, None, IsSomeAnd}
 use Rattle.std.specs.List.{list_any}
 use Rattle.std.specs.Str.{bytes_eq}
 use Rattle.toml.specs.Data.{Data, Items, Members, no_members, member, no_items, item, string, integer, array, get_member}
 use Rattle.toml.specs.Parse.{parse_document}
+use Rattle.osc_settings.specs.Keys.{name_of}
 use Rattle.osc_settings.specs.Values.{IsPort}
+use Rattle.osc_settings.specs.declared.key.SettingsKey.{SettingsKey}
 
 -- the text is a document that stands for these settings
 abbrev pub StandsFor : {S : Type 0} → (Members → S → Type 0) → List ℕ → S → Type 0
 StandsFor Are text settings = IsSomeAnd (parse_document text) (λ document. Are document settings)
 
--- the document has no other keys
-abbrev pub has_only : List (List ℕ) → Members → Bool
-has_only keys no_members = true
-has_only keys (member key value rest) = list_any (bytes_eq key) keys && has_only keys rest
+-- the first key of the document that is none of these, in the order of the bytes of its keys
+abbrev pub other_key : List SettingsKey → Members → Option (List ℕ)
+other_key keys no_members = None
+other_key keys (member name value rest) = if list_any (λ key. bytes_eq name (name_of key)) keys then other_key keys rest else Some name
 
 -- nothing stands at the key
 abbrev pub IsLeftOut : List ℕ → Members → Type 0

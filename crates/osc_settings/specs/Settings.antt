@@ -1,22 +1,27 @@
 -- Which settings a document stands for, program by program. A key that isn't named here is in none of them.
-use Rattle.std.specs.Prelude.{◌≡◌, ◌⊎◌, ℕ, true, List, [], ◌∷◌, Option, Some, None, codes}
+use Rattle.std.specs.Prelude.{◌≡◌, ◌⊎◌, ℕ, List, [], ◌∷◌, Option, Some, None, codes}
 use Rattle.toml.specs.Data.{Data, Members, string, table, get_member}
 use Rattle.osc_model.specs.Path.{IsPath}
-use Rattle.osc_settings.specs.Document.{has_only, IsLeftOut, SpelledAt, MaySpellAt, IsPortAt, ListedAt}
+use Rattle.osc_settings.specs.Document.{other_key, IsLeftOut, SpelledAt, MaySpellAt, IsPortAt, ListedAt}
 use Rattle.osc_settings.specs.Values.{IsAddress, IsHost, SpellsHex, SpellsBytes}
 use Rattle.osc_settings.specs.declared.client.ClientSettings.{ClientSettings}
+use Rattle.osc_settings.specs.declared.key.SettingsKey.{SettingsKey}
+use Rattle.osc_settings.specs.declared.key.SettingsKey.TheVariants as key
 use Rattle.osc_settings.specs.declared.proxy.ProxySettings.{ProxySettings}
 use Rattle.osc_settings.specs.declared.proxy.TargetSetting.{TargetSetting}
 use Rattle.osc_settings.specs.declared.server.ServerSettings.{ServerSettings}
 
 -- ---- of a server
 
+abbrev pub server_keys : List SettingsKey
+server_keys = key.Audience ∷ key.Bind ∷ key.Key ∷ key.Open ∷ []
+
 -- a path, as its text
 abbrev pub IsPathText : Data → List ℕ → Type 0
 IsPathText value path = (value ≡ string path) × IsPath path
 
 pub record AreServerSettings (document : Members) (settings : ServerSettings) : Type 0 where
-  pub keys : has_only (codes "audience" ∷ codes "bind" ∷ codes "key" ∷ codes "open" ∷ []) document ≡ true
+  pub keys : other_key server_keys document ≡ None
   pub bind : SpelledAt (codes "bind") IsAddress document settings.bind
   pub key : SpelledAt (codes "key") (SpellsBytes 16 16) document settings.key
   pub audience : get_member (codes "audience") document ≡ Some (string settings.audience)
@@ -24,8 +29,14 @@ pub record AreServerSettings (document : Members) (settings : ServerSettings) : 
 
 -- ---- of a proxy
 
+abbrev pub proxy_keys : List SettingsKey
+proxy_keys = key.Bind ∷ key.Target ∷ []
+
+abbrev pub target_keys : List SettingsKey
+target_keys = key.Host ∷ key.Port ∷ key.To ∷ []
+
 pub record IsTarget (document : Members) (target : TargetSetting) : Type 0 where
-  pub keys : has_only (codes "host" ∷ codes "port" ∷ codes "to" ∷ []) document ≡ true
+  pub keys : other_key target_keys document ≡ None
   pub host : SpelledAt (codes "host") IsHost document target.host
   pub port : IsPortAt (codes "port") document target.port
   pub to : SpelledAt (codes "to") IsAddress document target.to
@@ -35,11 +46,14 @@ abbrev pub IsTargetTable : Data → TargetSetting → Type 0
 IsTargetTable value target = (document : Members) × (value ≡ table document) × IsTarget document target
 
 pub record AreProxySettings (document : Members) (settings : ProxySettings) : Type 0 where
-  pub keys : has_only (codes "bind" ∷ codes "target" ∷ []) document ≡ true
+  pub keys : other_key proxy_keys document ≡ None
   pub bind : SpelledAt (codes "bind") IsAddress document settings.bind
   pub targets : ListedAt (codes "target") IsTargetTable document settings.targets.items
 
 -- ---- of a client
+
+abbrev pub client_keys : List SettingsKey
+client_keys = key.Bind ∷ key.Context ∷ key.Host ∷ key.Peer ∷ key.Port ∷ key.Salt ∷ key.Secret ∷ key.Token ∷ []
 
 -- a port that is left out is 5683, that of `coap` (RFC 7252 section 6.1)
 abbrev pub IsOriginPort : Members → ℕ → Type 0
@@ -55,7 +69,7 @@ abbrev pub IsSalt : Members → List ℕ → Type 0
 IsSalt document salt = SpelledAt (codes "salt") (SpellsBytes 0 64) document salt ⊎ (IsLeftOut (codes "salt") document × (salt ≡ []))
 
 pub record AreClientSettings (document : Members) (settings : ClientSettings) : Type 0 where
-  pub keys : has_only (codes "bind" ∷ codes "context" ∷ codes "host" ∷ codes "peer" ∷ codes "port" ∷ codes "salt" ∷ codes "secret" ∷ codes "token" ∷ []) document ≡ true
+  pub keys : other_key client_keys document ≡ None
   pub bind : SpelledAt (codes "bind") IsAddress document settings.bind
   pub peer : SpelledAt (codes "peer") IsAddress document settings.peer
   pub origin : IsOrigin document settings.origin

@@ -1,20 +1,34 @@
 //! Settings of a client.
-ghost use Rattle.std.specs.Prelude.{◌≡◌, IfOk, MatchResult, Err, codes};
+ghost use Rattle.std.specs.Prelude.{◌≢◌, IfErr, IfOk, MatchResult, codes};
 ghost use Rattle.toml.specs.View.{table_view};
-ghost use Rattle.osc_settings.specs.Document.{MaySpellAt, StandsFor};
-ghost use Rattle.osc_settings.specs.Reading.{IsRefusal};
+ghost use Rattle.osc_settings.specs.Document.{IsPortAt, MaySpellAt, SpelledAt, StandsFor};
+ghost use Rattle.osc_settings.specs.Faults.{IsClientFault, IsKeyFault, IsOriginFault, IsWrongAt, Lacks};
 ghost use Rattle.osc_settings.specs.Settings.{AreClientSettings, IsOrigin, IsOriginPort, IsSalt};
 ghost use Rattle.osc_settings.specs.Values.{SpellsBytes};
+ghost use Rattle.osc_settings.specs.declared.key.SettingsKey.TheVariants as AnyKey;
 ghost use Rattle.osc_settings.specs.declared.client.ClientSettings.{ClientSettings as AnySettings};
 
 use crate::document::{
-    address_at, bytes_at, bytes_within_at, document, has, has_only, host_at, port_at,
+    address_at, bytes_at, bytes_within_at, document, has, host_at, only, port_at,
 };
-use crate::error::SettingsError;
+use crate::error::{KeyFault, SettingsError};
+use crate::key::SettingsKey;
 use osc_model::{Bytes, Peer};
 use std::alloc::Global;
 use std::fmt;
 use toml::Table;
+
+/// The keys of its settings.
+const KEYS: [SettingsKey; 8] = [
+    SettingsKey::Bind,
+    SettingsKey::Context,
+    SettingsKey::Host,
+    SettingsKey::Peer,
+    SettingsKey::Port,
+    SettingsKey::Salt,
+    SettingsKey::Secret,
+    SettingsKey::Token,
+];
 
 /// The port of the scheme `coap` (RFC 7252 section 6.1).
 const DEFAULT_PORT: u16 = 5683;
@@ -54,65 +68,60 @@ impl fmt::Debug for ClientSettings {
 ///
 /// # Errors
 ///
-/// `Bad` where the text is no such document, and `Memory` for want of memory.
+/// The first fault where the text is no such document, `bind` before `peer`, `port`, `host`, `token`, `secret`, `salt` and `context`, and
+/// `Memory` for want of memory.
 pub fn read_client_settings(alloc: Global, text: &str) -> Result<ClientSettings, SettingsError>
     ensures read { IfOk result (StandsFor AreClientSettings text.now) }
-    ensures bad { result ≡ Err SettingsError.Bad → (settings : AnySettings) → ¬ StandsFor AreClientSettings text.now settings }
+    ensures lacks { IfErr result (Lacks (λ document. IsKeyFault (IsClientFault document)) text.now) }
+    ensures bad { IfErr result (λ error. error ≢ SettingsError.Memory → (settings : AnySettings) → ¬ StandsFor AreClientSettings text.now settings) }
 {
     let table = document(alloc, text)?;
     settings_in(alloc, &table)
 }
 
 fn settings_in(alloc: Global, table: &Table) -> Result<ClientSettings, SettingsError>
-    ensures { MatchResult result (AreClientSettings (table_view table.now)) (IsRefusal (AreClientSettings (table_view table.now))) }
+    ensures { MatchResult result (AreClientSettings (table_view table.now)) (IsKeyFault (IsClientFault (table_view table.now))) }
 {
-    if !has_only(
-        &[
-            "bind", "context", "host", "peer", "port", "salt", "secret", "token",
-        ],
-        table,
-    ) {
-        return Err(SettingsError::Bad);
-    }
+    only(alloc, &KEYS, table)?;
     Ok(ClientSettings {
-        bind: address_at(alloc, "bind", table)?,
-        peer: address_at(alloc, "peer", table)?,
+        bind: address_at(alloc, SettingsKey::Bind, table)?,
+        peer: address_at(alloc, SettingsKey::Peer, table)?,
         origin: origin(alloc, table)?,
-        token: bytes_at(alloc, "token", table)?,
-        secret: bytes_within_at(alloc, "secret", table, 1, LONGEST)?,
+        token: bytes_at(alloc, SettingsKey::Token, table)?,
+        secret: bytes_within_at(alloc, SettingsKey::Secret, table, 1, LONGEST)?,
         salt: salt(alloc, table)?,
         context: context(alloc, table)?,
     })
 }
 
 fn origin(alloc: Global, table: &Table) -> Result<Option<(Bytes, u16)>, SettingsError>
-    ensures { MatchResult result (IsOrigin (table_view table.now)) (IsRefusal (IsOrigin (table_view table.now))) }
+    ensures { MatchResult result (IsOrigin (table_view table.now)) (IsKeyFault (IsOriginFault (table_view table.now))) }
 {
-    if has("host", table) {
+    if has(SettingsKey::Host, table) {
         let port = origin_port(table)?;
-        Ok(Some((host_at(alloc, "host", table)?, port)))
-    } else if has("port", table) {
-        Err(SettingsError::Bad)
+        Ok(Some((host_at(alloc, SettingsKey::Host, table)?, port)))
+    } else if has(SettingsKey::Port, table) {
+        Err(SettingsError::Key(KeyFault::Missing(SettingsKey::Host)))
     } else {
         Ok(None)
     }
 }
 
 fn origin_port(table: &Table) -> Result<u16, SettingsError>
-    ensures { MatchResult result (IsOriginPort (table_view table.now)) (IsRefusal (IsOriginPort (table_view table.now))) }
+    ensures { MatchResult result (IsOriginPort (table_view table.now)) (IsKeyFault (IsWrongAt AnyKey.Port IsPortAt (table_view table.now))) }
 {
-    if has("port", table) {
-        port_at("port", table)
+    if has(SettingsKey::Port, table) {
+        port_at(SettingsKey::Port, table)
     } else {
         Ok(DEFAULT_PORT)
     }
 }
 
 fn salt(alloc: Global, table: &Table) -> Result<Bytes, SettingsError>
-    ensures { MatchResult result (IsSalt (table_view table.now)) (IsRefusal (IsSalt (table_view table.now))) }
+    ensures { MatchResult result (IsSalt (table_view table.now)) (IsKeyFault (IsWrongAt AnyKey.Salt (λ name. SpelledAt name (SpellsBytes 0 64)) (table_view table.now))) }
 {
-    if has("salt", table) {
-        bytes_within_at(alloc, "salt", table, 0, LONGEST)
+    if has(SettingsKey::Salt, table) {
+        bytes_within_at(alloc, SettingsKey::Salt, table, 0, LONGEST)
     } else {
         Ok(Bytes::new(alloc))
     }
@@ -121,10 +130,10 @@ fn salt(alloc: Global, table: &Table) -> Result<Bytes, SettingsError>
 fn context(alloc: Global, table: &Table) -> Result<Option<Bytes>, SettingsError>
     ensures { MatchResult result
         (MaySpellAt (codes "context") (SpellsBytes 0 64) (table_view table.now))
-        (IsRefusal (MaySpellAt (codes "context") (SpellsBytes 0 64) (table_view table.now))) }
+        (IsKeyFault (IsWrongAt AnyKey.Context (λ name. SpelledAt name (SpellsBytes 0 64)) (table_view table.now))) }
 {
-    if has("context", table) {
-        Ok(Some(bytes_within_at(alloc, "context", table, 0, LONGEST)?))
+    if has(SettingsKey::Context, table) {
+        Ok(Some(bytes_within_at(alloc, SettingsKey::Context, table, 0, LONGEST)?))
     } else {
         Ok(None)
     }

@@ -1,58 +1,82 @@
 //! What stands in a document of TOML, key by key.
-ghost use Rattle.std.specs.Prelude.{◌≡◌, IfOk, MatchResult, None, Some, Err, is_some, map, option_and_then, option_map, string_bytes};
-ghost use Rattle.std.specs.List.{list_all, list_any};
+ghost use Rattle.std.specs.Prelude.{◌≡◌, IfOk, MatchResult, None, Some, find, is_some, not, option_and_then, option_map, string_bytes};
 ghost use Rattle.std.specs.BTreeMap.{keys as keys_of};
+ghost use Rattle.std.specs.List.{list_any};
 ghost use Rattle.std.specs.Str.{bytes_eq};
 ghost use Rattle.toml.specs.Data.{as_array, as_integer, get_member};
 ghost use Rattle.toml.specs.Parse.{parse_document};
 ghost use Rattle.toml.specs.View.{items_view, table_view, view};
 ghost use Rattle.osc_settings.specs.Document as spec;
 ghost use Rattle.osc_settings.specs.Document.{IsPortAt, SpelledAt};
-ghost use Rattle.osc_settings.specs.Reading.{IsRefusal, text_at};
+ghost use Rattle.osc_settings.specs.Faults.{IsFaultAt, IsKeyFault, IsOther};
+ghost use Rattle.osc_settings.specs.Keys.{name_of};
+ghost use Rattle.osc_settings.specs.Reading as reading;
+ghost use Rattle.osc_settings.specs.Reading.{IsNoDocument, text_at};
 ghost use Rattle.osc_settings.specs.Values.{IsAddress, IsHost, SpellsBytes, SpellsHex};
 
-use crate::error::SettingsError;
+use crate::error::{KeyFault, SettingsError, ValueError};
+use crate::key::SettingsKey;
 use crate::values;
 use osc_model::{Bytes, Peer};
-use std::alloc::Global;
+use std::alloc::{AllocError, Global};
 use toml::{Table, Value};
 
 /// The document of a text.
 pub(crate) fn document(alloc: Global, text: &str) -> Result<Table, SettingsError>
-    ensures read { IfOk result (λ table. parse_document text.now ≡ Some (table_view table)) }
-    ensures bad { result ≡ Err SettingsError.Bad → parse_document text.now ≡ None }
+    ensures { MatchResult result (λ table. parse_document text.now ≡ Some (table_view table)) (IsNoDocument text.now) }
 {
     match toml::table_from_str(alloc, text) {
         Ok(table) => Ok(table),
         Err(error) if error.is_memory() => Err(SettingsError::Memory),
-        Err(_) => Err(SettingsError::Bad),
+        Err(_) => Err(SettingsError::NotToml),
     }
 }
 
 // ---- keys
 
 /// Whether a table has no other keys.
-pub(crate) fn has_only(keys: &[&str], table: &Table) -> bool
-    ensures { result ≡ spec.has_only (map (λ key. key.now) keys.now) (table_view table.now) }
+pub(crate) fn only(alloc: Global, keys: &[SettingsKey], table: &Table) -> Result<(), SettingsError>
+    ensures { MatchResult result (λ _. spec.other_key keys.now (table_view table.now) ≡ None) (IsKeyFault (IsOther keys.now (table_view table.now))) }
 {
-    are_all_of(keys, table)
+    match other_key(keys, table) {
+        None => Ok(()),
+        Some(name) => Err(unknown(alloc, name)?),
+    }
 }
 
-fn are_all_of(keys: &[&str], table: &Table) -> bool
-    ensures { result ≡ list_all (λ key. list_any (λ known. bytes_eq (string_bytes key) known.now) keys.now) (keys_of table.now) }
+fn unknown(alloc: Global, name: &str) -> Result<SettingsError, AllocError>
+    ensures { IfOk result (λ error. error ≡ SettingsError.Key (KeyFault.Unknown name.now)) }
 {
-    table.keys().all(|key| is_one_of(keys, key.as_str()))
+    let name = Bytes::from_slice(alloc, name.as_bytes())?;
+    Ok(SettingsError::Key(KeyFault::Unknown(name)))
 }
 
-fn is_one_of(keys: &[&str], key: &str) -> bool
-    ensures { result ≡ list_any (λ known. bytes_eq key.now known.now) keys.now }
+// The first other key of a table.
+fn other_key<'a>(keys: &[SettingsKey], table: &'a Table) -> Option<&'a str>
+    ensures { option_map (λ name. name.now) result ≡ spec.other_key keys.now (table_view table.now) }
 {
-    keys.iter().any(|known| key == *known)
+    match first_other(keys, table) {
+        Some(name) => Some(name.as_str()),
+        None => None,
+    }
+}
+
+fn first_other<'a>(keys: &[SettingsKey], table: &'a Table) -> Option<&'a String>
+    ensures { option_map (λ name. name.now) result
+        ≡ find (λ name. not (list_any (λ key. bytes_eq (string_bytes name) (name_of key)) keys.now)) (keys_of table.now) }
+{
+    table.keys().find(|name| !is_one_of(keys, name.as_str()))
+}
+
+fn is_one_of(keys: &[SettingsKey], name: &str) -> bool
+    ensures { result ≡ list_any (λ key. bytes_eq name.now (name_of key)) keys.now }
+{
+    keys.iter().any(|key| name == key.name())
 }
 
 /// Whether something stands at a key.
-pub(crate) fn has(key: &str, table: &Table) -> bool
-    ensures { result ≡ is_some (get_member key.now (table_view table.now)) }
+pub(crate) fn has(key: SettingsKey, table: &Table) -> bool
+    ensures { result ≡ is_some (get_member (name_of key) (table_view table.now)) }
 {
     value_at(key, table).is_some()
 }
@@ -60,97 +84,142 @@ pub(crate) fn has(key: &str, table: &Table) -> bool
 // ---- values
 
 /// The value at a key.
-pub(crate) fn value_at<'a>(key: &str, table: &'a Table) -> Option<&'a Value>
-    ensures { option_map (λ value. view value.now) result ≡ get_member key.now (table_view table.now) }
+pub(crate) fn value_at<'a>(key: SettingsKey, table: &'a Table) -> Option<&'a Value>
+    ensures { option_map (λ value. view value.now) result ≡ get_member (name_of key) (table_view table.now) }
 {
-    table.get(key)
+    value_of(key.name(), table)
+}
+
+fn value_of<'a>(name: &str, table: &'a Table) -> Option<&'a Value>
+    ensures { option_map (λ value. view value.now) result ≡ get_member name.now (table_view table.now) }
+{
+    table.get(name)
 }
 
 // The text at a key.
-pub(crate) fn text_at<'a>(key: &str, table: &'a Table) -> Option<&'a str>
-    ensures { option_map (λ text. text.now) result ≡ text_at key.now (table_view table.now) }
+pub(crate) fn text_at<'a>(key: SettingsKey, table: &'a Table) -> Option<&'a str>
+    ensures { option_map (λ text. text.now) result ≡ text_at (name_of key) (table_view table.now) }
 {
     value_at(key, table)?.as_str()
 }
 
 // The integer at a key.
-fn integer_at(key: &str, table: &Table) -> Option<i64>
-    ensures { result ≡ option_and_then as_integer (get_member key.now (table_view table.now)) }
+fn integer_at(key: SettingsKey, table: &Table) -> Option<i64>
+    ensures { result ≡ option_and_then as_integer (get_member (name_of key) (table_view table.now)) }
 {
     value_at(key, table)?.as_integer()
 }
 
+/// The value that was read of what stands at a key.
+pub(crate) fn read_at<T: Drop>(
+    key: SettingsKey,
+    read: Result<T, ValueError>,
+) -> Result<T, SettingsError>
+    ensures { result ≡ reading.read_at key read }
+{
+    match read {
+        Ok(value) => Ok(value),
+        Err(error) => Err(error.at(key)),
+    }
+}
+
+/// The fault of a key where nothing stands, or nothing of its type.
+pub(crate) fn untyped_at(key: SettingsKey, table: &Table) -> SettingsError
+    ensures { result ≡ reading.untyped_at key (table_view table.now) }
+{
+    if has(key, table) {
+        SettingsError::Key(KeyFault::Wrong(key))
+    } else {
+        SettingsError::Key(KeyFault::Missing(key))
+    }
+}
+
 /// The address at a key.
-pub(crate) fn address_at(alloc: Global, key: &str, table: &Table) -> Result<Peer, SettingsError>
-    ensures { MatchResult result (SpelledAt key.now IsAddress (table_view table.now)) (IsRefusal (SpelledAt key.now IsAddress (table_view table.now))) }
+pub(crate) fn address_at(
+    alloc: Global,
+    key: SettingsKey,
+    table: &Table,
+) -> Result<Peer, SettingsError>
+    ensures { MatchResult result (SpelledAt (name_of key) IsAddress (table_view table.now)) (IsKeyFault (IsFaultAt key (λ name. SpelledAt name IsAddress) (table_view table.now))) }
 {
     match text_at(key, table) {
-        Some(text) => values::address(alloc, text),
-        None => Err(SettingsError::Bad),
+        Some(text) => read_at(key, values::address(alloc, text)),
+        None => Err(untyped_at(key, table)),
     }
 }
 
 /// So many bytes at a key.
-pub(crate) fn array_at<const N: usize>(key: &str, table: &Table) -> Result<[u8; N], SettingsError>
-    ensures { MatchResult result (SpelledAt key.now (SpellsBytes N N) (table_view table.now)) (IsRefusal (SpelledAt key.now (SpellsBytes N N) (table_view table.now))) }
+pub(crate) fn array_at<const N: usize>(
+    key: SettingsKey,
+    table: &Table,
+) -> Result<[u8; N], SettingsError>
+    ensures { MatchResult result (SpelledAt (name_of key) (SpellsBytes N N) (table_view table.now)) (IsKeyFault (IsFaultAt key (λ name. SpelledAt name (SpellsBytes N N)) (table_view table.now))) }
 {
     match text_at(key, table) {
-        Some(text) => values::array(text),
-        None => Err(SettingsError::Bad),
+        Some(text) => read_at(key, values::array(text)),
+        None => Err(untyped_at(key, table)),
     }
 }
 
 /// The bytes at a key.
-pub(crate) fn bytes_at(alloc: Global, key: &str, table: &Table) -> Result<Bytes, SettingsError>
-    ensures { MatchResult result (SpelledAt key.now SpellsHex (table_view table.now)) (IsRefusal (SpelledAt key.now SpellsHex (table_view table.now))) }
+pub(crate) fn bytes_at(
+    alloc: Global,
+    key: SettingsKey,
+    table: &Table,
+) -> Result<Bytes, SettingsError>
+    ensures { MatchResult result (SpelledAt (name_of key) SpellsHex (table_view table.now)) (IsKeyFault (IsFaultAt key (λ name. SpelledAt name SpellsHex) (table_view table.now))) }
 {
     match text_at(key, table) {
-        Some(text) => values::bytes(alloc, text),
-        None => Err(SettingsError::Bad),
+        Some(text) => read_at(key, values::bytes(alloc, text)),
+        None => Err(untyped_at(key, table)),
     }
 }
 
 /// From `least` to `most` bytes at a key.
 pub(crate) fn bytes_within_at(
     alloc: Global,
-    key: &str,
+    key: SettingsKey,
     table: &Table,
     least: usize,
     most: usize,
 ) -> Result<Bytes, SettingsError>
     ensures { MatchResult result
-        (SpelledAt key.now (SpellsBytes least most) (table_view table.now))
-        (IsRefusal (SpelledAt key.now (SpellsBytes least most) (table_view table.now))) }
+        (SpelledAt (name_of key) (SpellsBytes least most) (table_view table.now))
+        (IsKeyFault (IsFaultAt key (λ name. SpelledAt name (SpellsBytes least most)) (table_view table.now))) }
 {
     match text_at(key, table) {
-        Some(text) => values::bytes_within(alloc, text, least, most),
-        None => Err(SettingsError::Bad),
+        Some(text) => read_at(key, values::bytes_within(alloc, text, least, most)),
+        None => Err(untyped_at(key, table)),
     }
 }
 
 /// The host at a key.
-pub(crate) fn host_at(alloc: Global, key: &str, table: &Table) -> Result<Bytes, SettingsError>
-    ensures { MatchResult result (SpelledAt key.now IsHost (table_view table.now)) (IsRefusal (SpelledAt key.now IsHost (table_view table.now))) }
+pub(crate) fn host_at(
+    alloc: Global,
+    key: SettingsKey,
+    table: &Table,
+) -> Result<Bytes, SettingsError>
+    ensures { MatchResult result (SpelledAt (name_of key) IsHost (table_view table.now)) (IsKeyFault (IsFaultAt key (λ name. SpelledAt name IsHost) (table_view table.now))) }
 {
     match text_at(key, table) {
-        Some(text) => values::host(alloc, text),
-        None => Err(SettingsError::Bad),
+        Some(text) => read_at(key, values::host(alloc, text)),
+        None => Err(untyped_at(key, table)),
     }
 }
 
 /// The port at a key.
-pub(crate) fn port_at(key: &str, table: &Table) -> Result<u16, SettingsError>
-    ensures { MatchResult result (IsPortAt key.now (table_view table.now)) (IsRefusal (IsPortAt key.now (table_view table.now))) }
+pub(crate) fn port_at(key: SettingsKey, table: &Table) -> Result<u16, SettingsError>
+    ensures { MatchResult result (IsPortAt (name_of key) (table_view table.now)) (IsKeyFault (IsFaultAt key IsPortAt (table_view table.now))) }
 {
     match integer_at(key, table) {
-        Some(number) => values::port(number),
-        None => Err(SettingsError::Bad),
+        Some(number) => read_at(key, values::port(number)),
+        None => Err(untyped_at(key, table)),
     }
 }
 
 /// The items of the array at a key.
-pub(crate) fn items_at<'a>(key: &str, table: &'a Table) -> Option<&'a [Value]>
-    ensures { option_map (λ items. items_view items.now) result ≡ option_and_then as_array (get_member key.now (table_view table.now)) }
+pub(crate) fn items_at<'a>(key: SettingsKey, table: &'a Table) -> Option<&'a [Value]>
+    ensures { option_map (λ items. items_view items.now) result ≡ option_and_then as_array (get_member (name_of key) (table_view table.now)) }
 {
     match value_at(key, table)?.as_array() {
         Some(items) => Some(items.as_slice()),

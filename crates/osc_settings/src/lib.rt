@@ -4,11 +4,13 @@
 mod client;
 mod document;
 mod error;
+mod key;
 mod proxy;
 mod server;
 mod values;
 
 pub use client::{ClientSettings, read_client_settings};
-pub use error::SettingsError;
+pub use error::{KeyFault, SettingsError};
+pub use key::SettingsKey;
 pub use proxy::{ProxySettings, TargetSetting, read_proxy_settings};
 pub use server::{ServerSettings, read_server_settings};

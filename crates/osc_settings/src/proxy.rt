@@ -1,16 +1,24 @@
 //! Settings of a proxy.
-ghost use Rattle.std.specs.Prelude.{◌≡◌, IfOk, MatchResult, Err, codes};
+ghost use Rattle.std.specs.Prelude.{◌≢◌, IfErr, IfOk, MatchResult, codes};
 ghost use Rattle.toml.specs.View.{items_view, table_view, view};
 ghost use Rattle.osc_settings.specs.Document.{StandsFor};
-ghost use Rattle.osc_settings.specs.Reading.{AllListedAt, IsRefusal, StandForAll};
+ghost use Rattle.osc_settings.specs.Faults.{IsFaultOfProxy, IsItemFault, IsKeyFault, IsTargetFault, Lacks};
+ghost use Rattle.osc_settings.specs.Reading.{AllListedAt, AreTargetsRefused, IsItemRefused, IsRefusedAs, StandForAll};
 ghost use Rattle.osc_settings.specs.Settings.{AreProxySettings, IsTarget, IsTargetTable};
 ghost use Rattle.osc_settings.specs.declared.proxy.ProxySettings.{ProxySettings as AnySettings};
 
-use crate::document::{address_at, document, has_only, host_at, items_at, port_at};
-use crate::error::SettingsError;
+use crate::document::{address_at, document, host_at, items_at, only, port_at, untyped_at};
+use crate::error::{KeyFault, SettingsError};
+use crate::key::SettingsKey;
 use osc_model::{Bytes, Peer};
 use std::alloc::Global;
 use toml::{Table, Value};
+
+/// The keys of its settings.
+const KEYS: [SettingsKey; 2] = [SettingsKey::Bind, SettingsKey::Target];
+
+/// The keys of a target.
+const TARGET_KEYS: [SettingsKey; 3] = [SettingsKey::Host, SettingsKey::Port, SettingsKey::To];
 
 /// What a proxy is told.
 #[derive(Debug, Drop)]
@@ -37,23 +45,23 @@ pub struct TargetSetting {
 ///
 /// # Errors
 ///
-/// `Bad` where the text is no such document, and `Memory` for want of memory.
+/// The first fault where the text is no such document, `bind` before `target`, and of a target `port` before `to` and `host`; and `Memory`
+/// for want of memory.
 pub fn read_proxy_settings(alloc: Global, text: &str) -> Result<ProxySettings, SettingsError>
     ensures read { IfOk result (StandsFor AreProxySettings text.now) }
-    ensures bad { result ≡ Err SettingsError.Bad → (settings : AnySettings) → ¬ StandsFor AreProxySettings text.now settings }
+    ensures lacks { IfErr result (Lacks IsFaultOfProxy text.now) }
+    ensures bad { IfErr result (λ error. error ≢ SettingsError.Memory → (settings : AnySettings) → ¬ StandsFor AreProxySettings text.now settings) }
 {
     let table = document(alloc, text)?;
     settings_in(alloc, &table)
 }
 
 fn settings_in(alloc: Global, table: &Table) -> Result<ProxySettings, SettingsError>
-    ensures { MatchResult result (AreProxySettings (table_view table.now)) (IsRefusal (AreProxySettings (table_view table.now))) }
+    ensures { MatchResult result (AreProxySettings (table_view table.now)) (IsFaultOfProxy (table_view table.now)) }
 {
-    if !has_only(&["bind", "target"], table) {
-        return Err(SettingsError::Bad);
-    }
+    only(alloc, &KEYS, table)?;
     Ok(ProxySettings {
-        bind: address_at(alloc, "bind", table)?,
+        bind: address_at(alloc, SettingsKey::Bind, table)?,
         targets: all_targets(alloc, table)?,
     })
 }
@@ -61,44 +69,53 @@ fn settings_in(alloc: Global, table: &Table) -> Result<ProxySettings, SettingsEr
 fn all_targets(alloc: Global, table: &Table) -> Result<Vec<TargetSetting>, SettingsError>
     ensures { MatchResult result
         (AllListedAt (codes "target") IsTargetTable (table_view table.now))
-        (IsRefusal (AllListedAt (codes "target") IsTargetTable (table_view table.now))) }
+        (AreTargetsRefused (table_view table.now)) }
 {
-    match items_at("target", table) {
+    match items_at(SettingsKey::Target, table) {
         Some(values) => targets(alloc, values),
-        None => Err(SettingsError::Bad),
+        None => Err(untyped_at(SettingsKey::Target, table)),
     }
 }
 
 fn targets(alloc: Global, values: &[Value]) -> Result<Vec<TargetSetting>, SettingsError>
     ensures { MatchResult result
         (StandForAll IsTargetTable (items_view values.now))
-        (IsRefusal (StandForAll IsTargetTable (items_view values.now))) }
+        (IsItemRefused (items_view values.now)) }
 {
     let mut targets = Vec::with_capacity(alloc, values.len())?;
     for value in values {
-        targets.push(target(alloc, value)?)?;
+        let number = targets.as_slice().len() + 1;
+        targets.push(numbered(alloc, number, value)?)?;
     }
     Ok(targets)
 }
 
+// The target of this number, counted from 1.
+fn numbered(alloc: Global, number: usize, value: &Value) -> Result<TargetSetting, SettingsError>
+    ensures { MatchResult result (IsTargetTable (view value.now)) (IsRefusedAs number (IsItemFault (view value.now))) }
+{
+    match target(alloc, value) {
+        Ok(target) => Ok(target),
+        Err(error) => Err(error.in_target(number)),
+    }
+}
+
 fn target(alloc: Global, value: &Value) -> Result<TargetSetting, SettingsError>
-    ensures { MatchResult result (IsTargetTable (view value.now)) (IsRefusal (IsTargetTable (view value.now))) }
+    ensures { MatchResult result (IsTargetTable (view value.now)) (IsKeyFault (IsItemFault (view value.now))) }
 {
     match value.as_table() {
         Some(table) => target_in(alloc, table),
-        None => Err(SettingsError::Bad),
+        None => Err(SettingsError::Key(KeyFault::Wrong(SettingsKey::Target))),
     }
 }
 
 fn target_in(alloc: Global, table: &Table) -> Result<TargetSetting, SettingsError>
-    ensures { MatchResult result (IsTarget (table_view table.now)) (IsRefusal (IsTarget (table_view table.now))) }
+    ensures { MatchResult result (IsTarget (table_view table.now)) (IsKeyFault (IsTargetFault (table_view table.now))) }
 {
-    if !has_only(&["host", "port", "to"], table) {
-        return Err(SettingsError::Bad);
-    }
+    only(alloc, &TARGET_KEYS, table)?;
     Ok(TargetSetting {
-        port: port_at("port", table)?,
-        to: address_at(alloc, "to", table)?,
-        host: host_at(alloc, "host", table)?,
+        port: port_at(SettingsKey::Port, table)?,
+        to: address_at(alloc, SettingsKey::To, table)?,
+        host: host_at(alloc, SettingsKey::Host, table)?,
     })
 }

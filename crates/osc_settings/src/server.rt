@@ -1,20 +1,32 @@
 //! Settings of a server.
-ghost use Rattle.std.specs.Prelude.{◌≡◌, IfOk, MatchResult, Err, Some, codes};
-ghost use Rattle.toml.specs.Data.{get_member, string};
+ghost use Rattle.std.specs.Prelude.{◌≢◌, IfErr, IfOk, MatchResult, codes};
 ghost use Rattle.toml.specs.View.{items_view, table_view, view};
-ghost use Rattle.osc_settings.specs.Document.{StandsFor};
+ghost use Rattle.osc_settings.specs.Document.{ListedAt, StandForEach, StandsFor};
+ghost use Rattle.osc_settings.specs.Faults.{IsFaultAt, IsKeyFault, IsServerFault, IsTextAt, Lacks};
 ghost use Rattle.osc_settings.specs.Reading.{AllListedAt, IsRefusal, StandForAll};
 ghost use Rattle.osc_settings.specs.Settings.{AreServerSettings, IsPathText};
+ghost use Rattle.osc_settings.specs.declared.key.SettingsKey.TheVariants as AnyKey;
 ghost use Rattle.osc_settings.specs.declared.server.ServerSettings.{ServerSettings as AnySettings};
 
-use crate::document::{address_at, array_at, document, has_only, items_at, text_at};
-use crate::error::SettingsError;
+use crate::document::{
+    address_at, array_at, document, items_at, only, read_at, text_at, untyped_at,
+};
+use crate::error::{SettingsError, ValueError};
+use crate::key::SettingsKey;
 use crate::values;
 use osc_model::{Path, Peer};
 use osc_token::Audience;
 use std::alloc::Global;
 use std::fmt;
 use toml::{Table, Value};
+
+/// The keys of its settings.
+const KEYS: [SettingsKey; 4] = [
+    SettingsKey::Audience,
+    SettingsKey::Bind,
+    SettingsKey::Key,
+    SettingsKey::Open,
+];
 
 /// What a server is told.
 #[derive(Drop)]
@@ -40,24 +52,23 @@ impl fmt::Debug for ServerSettings {
 ///
 /// # Errors
 ///
-/// `Bad` where the text is no such document, and `Memory` for want of memory.
+/// The first fault where the text is no such document, `bind` before `key`, `audience` and `open`, and `Memory` for want of memory.
 pub fn read_server_settings(alloc: Global, text: &str) -> Result<ServerSettings, SettingsError>
     ensures read { IfOk result (StandsFor AreServerSettings text.now) }
-    ensures bad { result ≡ Err SettingsError.Bad → (settings : AnySettings) → ¬ StandsFor AreServerSettings text.now settings }
+    ensures lacks { IfErr result (Lacks (λ document. IsKeyFault (IsServerFault document)) text.now) }
+    ensures bad { IfErr result (λ error. error ≢ SettingsError.Memory → (settings : AnySettings) → ¬ StandsFor AreServerSettings text.now settings) }
 {
     let table = document(alloc, text)?;
     settings_in(alloc, &table)
 }
 
 fn settings_in(alloc: Global, table: &Table) -> Result<ServerSettings, SettingsError>
-    ensures { MatchResult result (AreServerSettings (table_view table.now)) (IsRefusal (AreServerSettings (table_view table.now))) }
+    ensures { MatchResult result (AreServerSettings (table_view table.now)) (IsKeyFault (IsServerFault (table_view table.now))) }
 {
-    if !has_only(&["audience", "bind", "key", "open"], table) {
-        return Err(SettingsError::Bad);
-    }
+    only(alloc, &KEYS, table)?;
     Ok(ServerSettings {
-        bind: address_at(alloc, "bind", table)?,
-        key: array_at("key", table)?,
+        bind: address_at(alloc, SettingsKey::Bind, table)?,
+        key: array_at(SettingsKey::Key, table)?,
         audience: audience(alloc, table)?,
         open: open_paths(alloc, table)?,
     })
@@ -65,30 +76,30 @@ fn settings_in(alloc: Global, table: &Table) -> Result<ServerSettings, SettingsE
 
 fn audience(alloc: Global, table: &Table) -> Result<Audience, SettingsError>
     ensures { MatchResult result
-        (λ audience. get_member (codes "audience") (table_view table.now) ≡ Some (string audience))
-        (IsRefusal (λ audience. get_member (codes "audience") (table_view table.now) ≡ Some (string audience))) }
+        (IsTextAt (codes "audience") (table_view table.now))
+        (IsKeyFault (IsFaultAt AnyKey.Audience IsTextAt (table_view table.now))) }
 {
-    match text_at("audience", table) {
+    match text_at(SettingsKey::Audience, table) {
         Some(text) => Ok(Audience::new(alloc, text)?),
-        None => Err(SettingsError::Bad),
+        None => Err(untyped_at(SettingsKey::Audience, table)),
     }
 }
 
 fn open_paths(alloc: Global, table: &Table) -> Result<Vec<Path>, SettingsError>
     ensures { MatchResult result
         (AllListedAt (codes "open") IsPathText (table_view table.now))
-        (IsRefusal (AllListedAt (codes "open") IsPathText (table_view table.now))) }
+        (IsKeyFault (IsFaultAt AnyKey.Open (λ name. ListedAt name IsPathText) (table_view table.now))) }
 {
-    match items_at("open", table) {
-        Some(values) => paths(alloc, values),
-        None => Err(SettingsError::Bad),
+    match items_at(SettingsKey::Open, table) {
+        Some(values) => read_at(SettingsKey::Open, paths(alloc, values)),
+        None => Err(untyped_at(SettingsKey::Open, table)),
     }
 }
 
-fn paths(alloc: Global, values: &[Value]) -> Result<Vec<Path>, SettingsError>
+fn paths(alloc: Global, values: &[Value]) -> Result<Vec<Path>, ValueError>
     ensures { MatchResult result
         (StandForAll IsPathText (items_view values.now))
-        (IsRefusal (StandForAll IsPathText (items_view values.now))) }
+        (IsRefusal (StandForEach IsPathText (items_view values.now))) }
 {
     let mut paths = Vec::with_capacity(alloc, values.len())?;
     for value in values {
@@ -97,11 +108,11 @@ fn paths(alloc: Global, values: &[Value]) -> Result<Vec<Path>, SettingsError>
     Ok(paths)
 }
 
-fn path(alloc: Global, value: &Value) -> Result<Path, SettingsError>
+fn path(alloc: Global, value: &Value) -> Result<Path, ValueError>
     ensures { MatchResult result (IsPathText (view value.now)) (IsRefusal (IsPathText (view value.now))) }
 {
     match value.as_str() {
         Some(text) => values::path(alloc, text),
-        None => Err(SettingsError::Bad),
+        None => Err(ValueError::Bad),
     }
 }

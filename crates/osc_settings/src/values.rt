@@ -5,7 +5,7 @@ ghost use Rattle.std.specs.Net.Text.{socket_v4_text};
 ghost use Rattle.osc_settings.specs.Reading.{IsRefusal, SpellsPath};
 ghost use Rattle.osc_settings.specs.Values.{IsAddress, IsHost, IsPort, SpellsBytes, SpellsHex};
 
-use crate::error::SettingsError;
+use crate::error::ValueError;
 use hex::{FromHex, FromHexError};
 use osc_model::{Bytes, Path, Peer};
 use std::alloc::{AllocError, Global};
@@ -15,22 +15,22 @@ use std::net::SocketAddrV4;
 const LONGEST_HOST: usize = 255;
 
 /// An address and a port, `A.B.C.D:PORT`.
-pub(crate) fn address(alloc: Global, text: &str) -> Result<Peer, SettingsError>
+pub(crate) fn address(alloc: Global, text: &str) -> Result<Peer, ValueError>
     ensures { MatchResult result (IsAddress text.now) (IsRefusal (IsAddress text.now)) }
 {
     match SocketAddrV4::parse_ascii(text.as_bytes()) {
         Ok(address) => plain_address(alloc, address, text),
-        Err(_) => Err(SettingsError::Bad),
+        Err(_) => Err(ValueError::Bad),
     }
 }
 
 // The address, where it has a port and the text is as it is printed: std lets zeros lead a port.
-fn plain_address(alloc: Global, address: SocketAddrV4, text: &str) -> Result<Peer, SettingsError>
+fn plain_address(alloc: Global, address: SocketAddrV4, text: &str) -> Result<Peer, ValueError>
     requires { IsSocketV4Text text.now address }
     ensures { MatchResult result (IsAddress text.now) (IsRefusal (IsAddress text.now)) }
 {
     if address.port() == 0 {
-        return Err(SettingsError::Bad);
+        return Err(ValueError::Bad);
     }
     if is_printed(alloc, address, text)? {
         Ok(Peer {
@@ -38,7 +38,7 @@ fn plain_address(alloc: Global, address: SocketAddrV4, text: &str) -> Result<Pee
             port: address.port(),
         })
     } else {
-        Err(SettingsError::Bad)
+        Err(ValueError::Bad)
     }
 }
 
@@ -51,23 +51,23 @@ fn is_printed(alloc: Global, address: SocketAddrV4, text: &str) -> Result<bool, 
 }
 
 /// So many bytes in hexadecimal.
-pub(crate) fn array<const N: usize>(text: &str) -> Result<[u8; N], SettingsError>
+pub(crate) fn array<const N: usize>(text: &str) -> Result<[u8; N], ValueError>
     ensures { MatchResult result (SpellsBytes N N text.now) (IsRefusal (SpellsBytes N N text.now)) }
 {
     match <[u8; N] as FromHex>::from_hex(text) {
         Ok(bytes) => Ok(bytes),
-        Err(_) => Err(SettingsError::Bad),
+        Err(_) => Err(ValueError::Bad),
     }
 }
 
 /// Bytes in hexadecimal.
-pub(crate) fn bytes(alloc: Global, text: &str) -> Result<Bytes, SettingsError>
+pub(crate) fn bytes(alloc: Global, text: &str) -> Result<Bytes, ValueError>
     ensures { MatchResult result (SpellsHex text.now) (IsRefusal (SpellsHex text.now)) }
 {
     match hex::decode(alloc, text) {
         Ok(bytes) => Ok(Bytes::from_vec(bytes)),
-        Err(FromHexError::OutOfMemory) => Err(SettingsError::Memory),
-        Err(_) => Err(SettingsError::Bad),
+        Err(FromHexError::OutOfMemory) => Err(ValueError::Memory),
+        Err(_) => Err(ValueError::Bad),
     }
 }
 
@@ -77,43 +77,43 @@ pub(crate) fn bytes_within(
     text: &str,
     least: usize,
     most: usize,
-) -> Result<Bytes, SettingsError>
+) -> Result<Bytes, ValueError>
     ensures { MatchResult result (SpellsBytes least most text.now) (IsRefusal (SpellsBytes least most text.now)) }
 {
     let bytes = bytes(alloc, text)?;
     if bytes.len() < least || bytes.len() > most {
-        return Err(SettingsError::Bad);
+        return Err(ValueError::Bad);
     }
     Ok(bytes)
 }
 
 /// A host, by the bytes of its text.
-pub(crate) fn host(alloc: Global, text: &str) -> Result<Bytes, SettingsError>
+pub(crate) fn host(alloc: Global, text: &str) -> Result<Bytes, ValueError>
     ensures { MatchResult result (IsHost text.now) (IsRefusal (IsHost text.now)) }
 {
     if text.is_empty() || text.len() > LONGEST_HOST {
-        return Err(SettingsError::Bad);
+        return Err(ValueError::Bad);
     }
     Ok(Bytes::from_slice(alloc, text.as_bytes())?)
 }
 
 /// The path of a text.
-pub(crate) fn path(alloc: Global, text: &str) -> Result<Path, SettingsError>
+pub(crate) fn path(alloc: Global, text: &str) -> Result<Path, ValueError>
     ensures { MatchResult result (SpellsPath text.now) (IsRefusal (SpellsPath text.now)) }
 {
     match Path::from_text(alloc, text.as_bytes())? {
         Some(path) => Ok(path),
-        None => Err(SettingsError::Bad),
+        None => Err(ValueError::Bad),
     }
 }
 
 /// The port of a number.
-pub(crate) fn port(number: i64) -> Result<u16, SettingsError>
+pub(crate) fn port(number: i64) -> Result<u16, ValueError>
     ensures { MatchResult result (IsPort number) (IsRefusal (IsPort number)) }
 {
     if 1 <= number && number <= 65535 {
         Ok(number as u16)
     } else {
-        Err(SettingsError::Bad)
+        Err(ValueError::Bad)
     }
 }

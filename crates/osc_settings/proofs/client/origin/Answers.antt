@@ -12,4 +12,4 @@ returns-in_err-port c =
 pub returns-in_err-host_at : goal.returns-in_err-host_at
 returns-in_err-host_at c =
     let p = err_from_is_err_and c.from_residual-in_err-host_at.result c.from_residual-in_err-host_at.ensures.1 in
-    rw (p.1, p.2) (host_refused (table_view c.args.table.now) c.in_err-host_at.field-0.0 (sym c.has.ensures ∙ c.if-has.true) c.in_err-host_at.ensures)
+    rw (p.1, p.2) (host_refused (table_view c.args.table.now) c.in_err-host_at.field-0.0 c.in_ok-port.port (sym c.has.ensures ∙ c.if-has.true) c.in_ok-port.ensures c.in_err-host_at.ensures)

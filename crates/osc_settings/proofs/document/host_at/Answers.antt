@@ -8,9 +8,9 @@ use Rattle.osc_settings.proofs.document.host_at.Goals as goal
 pub returns-in-Some : goal.returns-in-Some
 returns-in-Some c =
     let there = seen_some (λ (text : Bor (List ℕ)). text.now) c.text_at.result _ c.in-Some.text c.text_at.ensures c.in-Some.is in
-    spelled_read c.args.key.now IsHost (table_view c.args.table.now) c.in-Some.text.now c.host.result there c.host.ensures
+    spelled_read c.args.key IsHost (table_view c.args.table.now) c.in-Some.text.now c.host.result c.read_at.result there c.host.ensures c.read_at.ensures
 
 pub returns-in-None : goal.returns-in-None
 returns-in-None c =
     let none = seen_none (λ (text : Bor (List ℕ)). text.now) c.text_at.result _ c.text_at.ensures c.in-None.is in
-    unspelled c.args.key.now IsHost (table_view c.args.table.now) none
+    unspelled c.args.key IsHost (table_view c.args.table.now) c.untyped_at.result none c.untyped_at.ensures

@@ -8,7 +8,7 @@ use Rattle.osc_settings.proofs.document.port_at.Goals as goal
 pub returns-in-Some : goal.returns-in-Some
 returns-in-Some c =
     let read : MatchResult c.port.result (IsPort c.in-Some.number) (IsRefusal (IsPort c.in-Some.number)) = search (rules, c.port.ensures) in
-    port_read c.args.key.now (table_view c.args.table.now) c.in-Some.number c.port.result (sym c.integer_at.ensures ∙ c.in-Some.is) read
+    port_read c.args.key (table_view c.args.table.now) c.in-Some.number c.port.result c.read_at.result (sym c.integer_at.ensures ∙ c.in-Some.is) read c.read_at.ensures
 
 pub returns-in-None : goal.returns-in-None
-returns-in-None c = no_port_there c.args.key.now (table_view c.args.table.now) (sym c.integer_at.ensures ∙ c.in-None.is)
+returns-in-None c = no_port_there c.args.key (table_view c.args.table.now) c.untyped_at.result (sym c.integer_at.ensures ∙ c.in-None.is) c.untyped_at.ensures

@@ -1,7 +1,8 @@
-use Rattle.std.proofs.Common.{List, Bor, codes}
+use Rattle.std.proofs.Common.{List, Bor}
 use Rattle.toml.specs.View.{items_view, table_view}
 use Rattle.toml.specs.declared.value.Value.{Value}
 use Rattle.osc_settings.specs.Settings.{IsPathText}
+use Rattle.osc_settings.specs.declared.key.SettingsKey.TheVariants as key
 use Rattle.osc_settings.proofs.Keys.{seen_some, seen_none}
 use Rattle.osc_settings.proofs.Listed.{listed_read, unlisted}
 use Rattle.osc_settings.proofs.server.open_paths.Goals as goal
@@ -9,9 +10,9 @@ use Rattle.osc_settings.proofs.server.open_paths.Goals as goal
 pub returns-in-Some : goal.returns-in-Some
 returns-in-Some c =
     let there = seen_some (λ (items : Bor (List Value)). items_view items.now) c.items_at.result _ c.in-Some.values c.items_at.ensures c.in-Some.is in
-    listed_read (codes "open") IsPathText (λ xs. xs.items) (table_view c.args.table.now) (items_view c.in-Some.values.now) c.paths.result there c.paths.ensures
+    listed_read key.Open IsPathText (λ xs. xs.items) (table_view c.args.table.now) (items_view c.in-Some.values.now) c.paths.result c.read_at.result there c.paths.ensures c.read_at.ensures
 
 pub returns-in-None : goal.returns-in-None
 returns-in-None c =
     let none = seen_none (λ (items : Bor (List Value)). items_view items.now) c.items_at.result _ c.items_at.ensures c.in-None.is in
-    λ xs. unlisted (codes "open") IsPathText (table_view c.args.table.now) none xs.items
+    unlisted key.Open IsPathText (table_view c.args.table.now) c.untyped_at.result none c.untyped_at.ensures

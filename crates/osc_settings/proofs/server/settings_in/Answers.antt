@@ -1,24 +1,40 @@
-use Rattle.std.proofs.Common.{codes}
+use Rattle.std.proofs.Common.{inl, inr}
 use Rattle.std.proofs.lemmas.Result.{err_from_is_err_and}
 use Rattle.toml.specs.View.{table_view}
-use Rattle.osc_settings.specs.Document.{SpelledAt}
-use Rattle.osc_settings.specs.Reading.{AllListedAt}
-use Rattle.osc_settings.specs.Settings.{AreServerSettings, IsPathText}
+use Rattle.osc_settings.specs.Document.{ListedAt, SpelledAt}
+use Rattle.osc_settings.specs.Faults.{IsFaultAt, IsOther, IsServerFault, IsTextAt}
+use Rattle.osc_settings.specs.Settings.{IsPathText, server_keys}
 use Rattle.osc_settings.specs.Values.{IsAddress, SpellsBytes}
-use Rattle.osc_settings.proofs.Parts.{part_refused}
+use Rattle.osc_settings.specs.declared.key.SettingsKey.TheVariants as key
+use Rattle.osc_settings.proofs.Parts.{fault_within}
 use Rattle.osc_settings.proofs.server.settings_in.Goals as goal
+
+pub returns-in_err-only : goal.returns-in_err-only
+returns-in_err-only c =
+    let p = err_from_is_err_and c.from_residual.result c.from_residual.ensures.1 in
+    let document = table_view c.args.table.now in
+    rw (p.1, p.2) (fault_within (IsOther server_keys document) (IsServerFault document) c.in_err-only.field-0.0 (λ fault h. inl h) c.in_err-only.ensures)
 
 pub returns-in_err-address_at : goal.returns-in_err-address_at
 returns-in_err-address_at c =
-    let p = err_from_is_err_and c.from_residual.result c.from_residual.ensures.1 in
-    rw (p.1, p.2) (part_refused (SpelledAt (codes "bind") IsAddress (table_view c.args.table.now)) (AreServerSettings (table_view c.args.table.now)) (λ s. s.bind) c.in_err-address_at.field-0.0 (λ s h. h.bind) c.in_err-address_at.ensures)
+    let p = err_from_is_err_and c.from_residual-in_err-address_at.result c.from_residual-in_err-address_at.ensures.1 in
+    let document = table_view c.args.table.now in
+    rw (p.1, p.2) (fault_within (IsFaultAt key.Bind (λ name. SpelledAt name IsAddress) document) (IsServerFault document) c.in_err-address_at.field-0.0 (λ fault h. inr (c.in_ok-only.ensures, inl h)) c.in_err-address_at.ensures)
 
 pub returns-in_err-array_at : goal.returns-in_err-array_at
 returns-in_err-array_at c =
     let p = err_from_is_err_and c.from_residual-in_err-array_at.result c.from_residual-in_err-array_at.ensures.1 in
-    rw (p.1, p.2) (part_refused (SpelledAt (codes "key") (SpellsBytes 16 16) (table_view c.args.table.now)) (AreServerSettings (table_view c.args.table.now)) (λ s. s.key) c.in_err-array_at.field-0.0 (λ s h. h.key) c.in_err-array_at.ensures)
+    let document = table_view c.args.table.now in
+    rw (p.1, p.2) (fault_within (IsFaultAt key.Key (λ name. SpelledAt name (SpellsBytes 16 16)) document) (IsServerFault document) c.in_err-array_at.field-0.0 (λ fault h. inr (c.in_ok-only.ensures, inr ((c.in_ok-address_at.field-0, c.in_ok-address_at.ensures), inl h))) c.in_err-array_at.ensures)
+
+pub returns-in_err-audience : goal.returns-in_err-audience
+returns-in_err-audience c =
+    let p = err_from_is_err_and c.from_residual-in_err-audience.result c.from_residual-in_err-audience.ensures.1 in
+    let document = table_view c.args.table.now in
+    rw (p.1, p.2) (fault_within (IsFaultAt key.Audience IsTextAt document) (IsServerFault document) c.in_err-audience.field-0.0 (λ fault h. inr (c.in_ok-only.ensures, inr ((c.in_ok-address_at.field-0, c.in_ok-address_at.ensures), inr ((c.in_ok-array_at.field-0, c.in_ok-array_at.ensures), inl h)))) c.in_err-audience.ensures)
 
 pub returns-in_err-open_paths : goal.returns-in_err-open_paths
 returns-in_err-open_paths c =
     let p = err_from_is_err_and c.from_residual-in_err-open_paths.result c.from_residual-in_err-open_paths.ensures.1 in
-    rw (p.1, p.2) (part_refused (AllListedAt (codes "open") IsPathText (table_view c.args.table.now)) (AreServerSettings (table_view c.args.table.now)) (λ s. s.open) c.in_err-open_paths.field-0.0 (λ s h. h.open_paths) c.in_err-open_paths.ensures)
+    let document = table_view c.args.table.now in
+    rw (p.1, p.2) (fault_within (IsFaultAt key.Open (λ name. ListedAt name IsPathText) document) (IsServerFault document) c.in_err-open_paths.field-0.0 (λ fault h. inr (c.in_ok-only.ensures, inr ((c.in_ok-address_at.field-0, c.in_ok-address_at.ensures), inr ((c.in_ok-array_at.field-0, c.in_ok-array_at.ensures), inr ((c.in_ok-audience.field-0, c.in_ok-audience.ensures), h))))) c.in_err-open_paths.ensures)

@@ -1,0 +1,66 @@
+//! The keys of settings.
+ghost use Rattle.std.specs.Prelude.{◌≡◌};
+ghost use Rattle.osc_settings.specs.Keys.{form_of, name_of};
+
+/// A key of settings.
+#[derive(Clone, Copy, Debug, PartialEq, Eq)]
+pub enum SettingsKey {
+    Audience,
+    Bind,
+    Context,
+    Host,
+    Key,
+    Open,
+    Peer,
+    Port,
+    Salt,
+    Secret,
+    Target,
+    To,
+    Token,
+}
+
+impl SettingsKey {
+    /// Its name in a document.
+    pub fn name(self) -> &'static str
+        ensures { result.now ≡ name_of self }
+    {
+        match self {
+            SettingsKey::Audience => "audience",
+            SettingsKey::Bind => "bind",
+            SettingsKey::Context => "context",
+            SettingsKey::Host => "host",
+            SettingsKey::Key => "key",
+            SettingsKey::Open => "open",
+            SettingsKey::Peer => "peer",
+            SettingsKey::Port => "port",
+            SettingsKey::Salt => "salt",
+            SettingsKey::Secret => "secret",
+            SettingsKey::Target => "target",
+            SettingsKey::To => "to",
+            SettingsKey::Token => "token",
+        }
+    }
+
+    /// What should stand at it, in words.
+    pub fn form(self) -> &'static str
+        ensures { result.now ≡ form_of self }
+    {
+        match self {
+            SettingsKey::Audience => "a text",
+            SettingsKey::Bind | SettingsKey::Peer | SettingsKey::To => {
+                "a text of an address and a port, as 127.0.0.1:5683"
+            }
+            SettingsKey::Context | SettingsKey::Salt => {
+                "a text of at most 64 bytes in hexadecimal"
+            }
+            SettingsKey::Host => "a text of 1 to 255 bytes",
+            SettingsKey::Key => "a text of 16 bytes in hexadecimal",
+            SettingsKey::Open => "an array of paths, as ['/e', '/log']",
+            SettingsKey::Port => "a number from 1 to 65535",
+            SettingsKey::Secret => "a text of 1 to 64 bytes in hexadecimal",
+            SettingsKey::Target => "tables [[target]] of host, port and to",
+            SettingsKey::Token => "a text of bytes in hexadecimal",
+        }
+    }
+}
