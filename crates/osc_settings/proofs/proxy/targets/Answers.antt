@@ -15,4 +15,4 @@ returns-in_err-numbered c =
     let p = err_from_is_err_and c.from_residual-in_err-numbered.result c.from_residual-in_err-numbered.ensures.1 in
     rw (p.1, p.2)
     (item_refused c.args.values.now c.loop-value.value-index c.value-item.result c.loop-value.targets.items (length c.as_slice.result.now + 1) c.in_err-numbered.field-0.0
-    c.loop-value-test.true c.value-item.is c.loop-value.invariant (ap (λ (xs : List TargetSetting). length xs + 1) c.as_slice.ensures) c.in_err-numbered.ensures)
+    c.loop-value-test.true c.value-item.is c.loop-value.invariant (ap (λ (xs : List TargetSetting). length xs + 1) c.as_slice.ensures.value) c.in_err-numbered.ensures)
