@@ -61,6 +61,11 @@ abbrev pub EndsLab : Ended → Type 0
 EndsLab Done = Unit {0}
 EndsLab other = CannotLab other
 
+-- a node's turns
+abbrev pub EndsTurns : Ended → Type 0
+EndsTurns Done = Unit {0}
+EndsTurns other = IsFault other
+
 -- `osc server` and `osc proxy`
 abbrev pub EndsNode : Ended → Type 0
 EndsNode Done = Unit {0}

@@ -16,14 +16,16 @@ ghost use Rattle.osc_programs.specs.declared.asking.Outcome.{Outcome as AnyOutco
 
 use crate::ended::Ended;
 use crate::issue::written;
-use crate::running::{bound, copy_of, ended_by_settings, send, text_of};
+use crate::log::Silent;
+use crate::reading::client_settings;
+use crate::running::{bound, copy_of, send};
 use crate::supply::{Supply, Watch, moment_and_draw, supply_of};
 use crate::turns::take_turn;
 use osc_authz::ClientDesk;
 use osc_ccm::Ccm;
 use osc_client::{Client, Origin, Way};
 use osc_model::{Bytes, ClientResult, Peer, Request, Step};
-use osc_settings::{ClientSettings, read_client_settings};
+use osc_settings::ClientSettings;
 use osc_simulation::learnt_text;
 use osc_turn::{Pace, Port, Turned};
 use osc_words::ClientWords;
@@ -114,23 +116,12 @@ fn outcome_of<R: Clock + Net + RandomSource, I: Read>(
         × spec.Talks words.now.turns words.now.request first outcome last) }
     ensures ends { IfErr result (ends.CannotAsk words.now.request) }
 {
-    let settings = client_settings(alloc, reader)?;
+    let settings = client_settings(alloc, reader, &mut Silent)?;
     let bind = settings.bind;
     let mut client = client_of(alloc, settings)?;
     let outcome = run_at(alloc, runtime, bind, &mut client, words);
     drop(client);
     outcome
-}
-
-fn client_settings<I: Read>(alloc: Global, reader: &mut I) -> Result<ClientSettings, Ended>
-    ensures settings { IfOk result (λ settings. IfSome (I.remaining reader.old) (λ text. StandsFor AreClientSettings text settings)) }
-    ensures ends { IfErr result ends.NoSettings }
-{
-    let text = text_of(alloc, reader)?;
-    match read_client_settings(alloc, text.as_str()) {
-        Ok(settings) => Ok(settings),
-        Err(error) => Err(ended_by_settings(error)),
-    }
 }
 
 // A client with this grant. Settings have the lengths that a grant and an origin need.

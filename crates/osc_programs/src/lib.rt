@@ -11,11 +11,13 @@ mod lab_run;
 mod lab_telling;
 pub mod laws;
 mod log;
+mod reading;
 mod running;
 mod simulate;
 mod supply;
 mod turns;
 mod udp;
+mod unread;
 
 pub use asking::ask;
 pub use ended::{Ended, ended_by, ended_by_io, running_fault, started_by_io, status, token_fault};
@@ -25,3 +27,4 @@ pub use log::{Lines, Log, Silent, step_text};
 pub use running::{forward, serve};
 pub use simulate::{run_script, sim};
 pub use udp::UdpPort;
+pub use unread::unread_text;

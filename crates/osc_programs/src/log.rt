@@ -1,21 +1,24 @@
-//! The lines by which a node tells what its steps did.
+//! The lines by which a node tells what its steps did, or why it has no settings.
 ghost use Rattle.std.specs.Prelude.{◌≡◌, IfOk, List, None, Ok, ℕ, false, map, option_map, string_bytes};
 ghost use Rattle.std.specs.Io.KnownBytes.{Appends};
 ghost use Rattle.osc_model.specs.Code.{method_of};
 ghost use Rattle.osc_scope.specs.Text.{name_of};
 ghost use Rattle.osc_run.specs.Texts.{read_request};
 ghost use Rattle.osc_programs.specs.Log as spec;
+ghost use Rattle.osc_programs.specs.Unread as unread;
 
+use crate::unread::unread_text;
 use osc_model::{
     Code, Datagram, Entry, Method, Moment, Path, Peer, RefusedRequest, Request, Step, StepNotes,
 };
 use osc_run::request_in;
+use osc_settings::SettingsError;
 use osc_simulation::CodeText;
 use std::alloc::{AllocError, Global};
 use std::io::Write;
 use std::net::{Ipv4Addr, SocketAddrV4};
 
-/// Where a node tells what its steps did.
+/// Where a node tells what its steps did, and before them why it has no settings.
 pub trait Log {
     ghost use Rattle.osc_programs.specs.Log.{Told};
 
@@ -30,6 +33,10 @@ pub trait Log {
     /// Tells that there was no memory for a step.
     fn lost(&mut self)
         ensures { spec.Tells (told self.old) (told self.new) spec.lost_text };
+
+    /// Tells by one line why settings are none.
+    fn no_settings(&mut self, alloc: Global, why: &SettingsError)
+        ensures { (text : List ℕ) × unread.IsUnreadText why.now text × spec.Tells (told self.old) (told self.new) text };
 }
 
 /// Tells nothing.
@@ -42,6 +49,8 @@ impl Log for Silent {
     fn step(&mut self, _alloc: Global, _now: Moment, _step: &Step) {}
 
     fn lost(&mut self) {}
+
+    fn no_settings(&mut self, _alloc: Global, _why: &SettingsError) {}
 }
 
 /// Tells by lines.
@@ -91,6 +100,13 @@ impl<W: Write + Drop> Log for Lines<W> {
 
     fn lost(&mut self) {
         self.write(b"out of memory: what came is lost\n");
+    }
+
+    fn no_settings(&mut self, alloc: Global, why: &SettingsError) {
+        match unread_text(alloc, why) {
+            Ok(text) => self.write(&text),
+            Err(_) => self.write(b"out of memory: why the settings are bad is not told\n"),
+        }
     }
 }
 
@@ -218,7 +234,8 @@ fn path_text(alloc: Global, path: Option<&Path>) -> Result<Vec<u8>, AllocError>
     }
 }
 
-fn shown(alloc: Global, bytes: &[u8]) -> Result<Vec<u8>, AllocError>
+/// Bytes, of which each that isn't printable ASCII shows as `?`.
+pub(crate) fn shown(alloc: Global, bytes: &[u8]) -> Result<Vec<u8>, AllocError>
     ensures { IfOk result (λ text. text.items ≡ map spec.shown_byte bytes.now) }
 {
     let mut text = Vec::new(alloc);

@@ -1,6 +1,6 @@
 //! Nodes that run on a socket: a server, and a proxy.
 ghost use Rattle.std.specs.FinSet as set;
-ghost use Rattle.std.specs.Prelude.{◌≡◌, ℕ, List, IfErr, IfOk, IfSome, map, option_map, string_bytes};
+ghost use Rattle.std.specs.Prelude.{◌≡◌, ℕ, List, IfErr, IfOk, IfSome, map, option_map};
 ghost use Rattle.osc_model.specs.Scope.{exactly};
 ghost use Rattle.osc_model.specs.declared.code.Method.TheVariants as AnyMethod;
 ghost use Rattle.osc_turn.specs.Ports.{grown};
@@ -8,13 +8,16 @@ ghost use Rattle.osc_programs.specs.Ended as ends;
 ghost use Rattle.osc_programs.specs.Log.{Tells};
 ghost use Rattle.osc_programs.specs.Serving as spec;
 ghost use Rattle.osc_programs.specs.Turning as turning;
+ghost use Rattle.osc_programs.specs.Unread.{TellsWhy};
 ghost use Rattle.osc_settings.specs.Document.{StandsFor};
+ghost use Rattle.osc_settings.specs.Faults.{IsFaultOfProxy, IsKeyFault, IsServerFault};
 ghost use Rattle.osc_settings.specs.Settings.{AreProxySettings, AreServerSettings};
 ghost use Rattle.osc_settings.specs.declared.proxy.ProxySettings.{ProxySettings as ForwardedBy};
 ghost use Rattle.osc_settings.specs.declared.server.ServerSettings.{ServerSettings as ServedBy};
 
 use crate::ended::{Ended, ended_by_io};
 use crate::log::Log;
+use crate::reading::{proxy_settings, server_settings};
 use crate::supply::supply_of;
 use crate::turns::take_turns;
 use crate::udp::UdpPort;
@@ -25,21 +28,18 @@ use osc_model::{ClientResult, Datagrams, Method, Path, Peer};
 use osc_proxy::{Proxy, Target, Targets};
 use osc_scope::Scope;
 use osc_server::Server;
-use osc_settings::{
-    ProxySettings, ServerSettings, SettingsError, TargetSetting, read_proxy_settings,
-    read_server_settings,
-};
+use osc_settings::{ProxySettings, ServerSettings, TargetSetting};
 use osc_tree::Tree;
 use osc_turn::{Node, Port, send_all};
 use std::alloc::{AllocError, Global};
-use std::io::{self, Eprint, Read};
+use std::io::{Eprint, Read};
 use std::net::Net;
 use std::random::RandomSource;
 use std::time::Clock;
 
 /// Runs a server with the settings that the reader gives, for so many turns. It tells once, on the standard error, where it
 /// listens, if that can be written, and the log tells of each turn. A datagram that can't be sent is lost, as on the way, and so is one
-/// for whose step there is no memory; a receive that fails ends it.
+/// for whose step there is no memory; a receive that fails ends it. Where there are no settings, the log tells why.
 pub fn serve<R: Clock + Eprint + Net + RandomSource, I: Read, L: Log>(
     alloc: Global,
     runtime: &R,
@@ -49,9 +49,10 @@ pub fn serve<R: Clock + Eprint + Net + RandomSource, I: Read, L: Log>(
 ) -> Ended
     ensures done { result ≡ Ended.Done → (settings : ServedBy) × (text : List ℕ) × IfSome (I.remaining reader.old) (λ bytes. StandsFor AreServerSettings bytes settings)
         × spec.Serves settings turns text × Tells (L.told log.old) (L.told log.new) text }
+    ensures bad { result ≡ Ended.BadSettings → TellsWhy (λ document. IsKeyFault (IsServerFault document)) (I.remaining reader.old) (L.told log.old) (L.told log.new) }
     ensures ends { ends.EndsNode result }
 {
-    match server_settings(alloc, reader) {
+    match server_settings(alloc, reader, log) {
         Ok(settings) => serve_by(alloc, runtime, settings, log, turns),
         Err(ended) => ended,
     }
@@ -67,59 +68,12 @@ pub fn forward<R: Clock + Eprint + Net + RandomSource, I: Read, L: Log>(
 ) -> Ended
     ensures done { result ≡ Ended.Done → (settings : ForwardedBy) × (text : List ℕ) × IfSome (I.remaining reader.old) (λ bytes. StandsFor AreProxySettings bytes settings)
         × spec.Forwards settings turns text × Tells (L.told log.old) (L.told log.new) text }
+    ensures bad { result ≡ Ended.BadSettings → TellsWhy IsFaultOfProxy (I.remaining reader.old) (L.told log.old) (L.told log.new) }
     ensures ends { ends.EndsNode result }
 {
-    match proxy_settings(alloc, reader) {
+    match proxy_settings(alloc, reader, log) {
         Ok(settings) => forward_by(alloc, runtime, settings, log, turns),
         Err(ended) => ended,
-    }
-}
-
-// ---- settings
-
-/// The text that the reader gives; one that isn't UTF-8 is no settings.
-pub(crate) fn text_of<I: Read>(alloc: Global, reader: &mut I) -> Result<String, Ended>
-    ensures text { IfOk result (λ text. IfSome (I.remaining reader.old) (λ bytes. string_bytes text ≡ bytes)) }
-    ensures ends { IfErr result ends.NoSettings }
-{
-    match io::read_to_string(alloc, reader) {
-        Ok(text) => Ok(text),
-        Err(error) => match error.kind() {
-            io::ErrorKind::InvalidData => Err(Ended::BadSettings),
-            _ => Err(ended_by_io(&error)),
-        },
-    }
-}
-
-/// How a program ends without settings.
-pub(crate) fn ended_by_settings(error: SettingsError) -> Ended
-    ensures { ends.NoSettings result }
-{
-    match error {
-        SettingsError::Bad => Ended::BadSettings,
-        SettingsError::Memory => Ended::OutOfMemory,
-    }
-}
-
-fn server_settings<I: Read>(alloc: Global, reader: &mut I) -> Result<ServerSettings, Ended>
-    ensures settings { IfOk result (λ settings. IfSome (I.remaining reader.old) (λ text. StandsFor AreServerSettings text settings)) }
-    ensures ends { IfErr result ends.NoSettings }
-{
-    let text = text_of(alloc, reader)?;
-    match read_server_settings(alloc, text.as_str()) {
-        Ok(settings) => Ok(settings),
-        Err(error) => Err(ended_by_settings(error)),
-    }
-}
-
-fn proxy_settings<I: Read>(alloc: Global, reader: &mut I) -> Result<ProxySettings, Ended>
-    ensures settings { IfOk result (λ settings. IfSome (I.remaining reader.old) (λ text. StandsFor AreProxySettings text settings)) }
-    ensures ends { IfErr result ends.NoSettings }
-{
-    let text = text_of(alloc, reader)?;
-    match read_proxy_settings(alloc, text.as_str()) {
-        Ok(settings) => Ok(settings),
-        Err(error) => Err(ended_by_settings(error)),
     }
 }
 
@@ -133,7 +87,7 @@ fn serve_by<R: Clock + Eprint + Net + RandomSource, L: Log>(
     turns: u64,
 ) -> Ended
     ensures done { result ≡ Ended.Done → (text : List ℕ) × spec.Serves settings turns text × Tells (L.told log.old) (L.told log.new) text }
-    ensures ends { ends.EndsNode result }
+    ensures ends { ends.EndsTurns result }
 {
     let bind = settings.bind;
     match server_of(alloc, settings) {
@@ -150,7 +104,7 @@ fn forward_by<R: Clock + Eprint + Net + RandomSource, L: Log>(
     turns: u64,
 ) -> Ended
     ensures done { result ≡ Ended.Done → (text : List ℕ) × spec.Forwards settings turns text × Tells (L.told log.old) (L.told log.new) text }
-    ensures ends { ends.EndsNode result }
+    ensures ends { ends.EndsTurns result }
 {
     let bind = settings.bind;
     match proxy_of(alloc, settings) {
@@ -227,7 +181,7 @@ fn run<R: Clock + Eprint + Net + RandomSource, N: Node<(Ccm<8>, Ccm<16>)>, L: Lo
 ) -> Ended
     ensures done { result ≡ Ended.Done
         → (text : List ℕ) × turning.Runs N.is_step turns text node.old node.new × Tells (L.told log.old) (L.told log.new) text }
-    ensures ends { ends.EndsNode result }
+    ensures ends { ends.EndsTurns result }
 {
     match bound(runtime, bind) {
         Ok(mut port) => started(alloc, runtime, &mut port, node, log, turns),
@@ -258,7 +212,7 @@ fn started<R: Clock + Eprint + RandomSource, N: Node<(Ccm<8>, Ccm<16>)>, L: Log>
 ) -> Ended
     ensures done { result ≡ Ended.Done
         → (text : List ℕ) × turning.Runs N.is_step turns text node.old node.new × Tells (L.told log.old) (L.told log.new) text }
-    ensures ends { ends.EndsNode result }
+    ensures ends { ends.EndsTurns result }
 {
     tell_address(alloc, runtime, port);
     match supply_of(runtime) {

@@ -28,7 +28,7 @@ pub(crate) fn take_turns<W: Watch + Drop, P: Port, N: Node<(Ccm<8>, Ccm<16>)>, L
         (record { node = node.old; busy = None; supply = supply.old }) out text last
         × (node.new ≡ last.node) × (P.sent port.new ≡ grown (P.sent port.old) out) × Tells (L.told log.old) (L.told log.new) text
         × (((result ≡ Ended.Done) × (taken ≡ turns)) ⊎ ((result ≢ Ended.Done) × (taken < turns))) }
-    ensures ends { ends.EndsNode result }
+    ensures ends { ends.EndsTurns result }
 {
     let mut pace = Pace::START;
     for _ in 0..turns {

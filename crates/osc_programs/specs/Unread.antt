@@ -1,0 +1,53 @@
+-- Why settings are none, as `osc server --log` and `osc proxy --log` tell it before `settings: bad`: the key and what should stand there,
+-- never what stands there.
+use Rattle.std.specs.Prelude.{◌≡◌, ◌≢◌, ◌⊎◌, ℕ, List, ◌++◌, map, Option, IfSome, codes, decimal}
+use Rattle.std.specs.Str.{IsUtf8}
+use Rattle.toml.specs.Data.{Members}
+use Rattle.osc_settings.specs.Faults.{Lacks}
+use Rattle.osc_settings.specs.Keys.{form_of, name_of}
+use Rattle.osc_settings.specs.declared.error.KeyFault.{KeyFault}
+use Rattle.osc_settings.specs.declared.error.KeyFault.TheVariants.{Unknown, Missing, Wrong}
+use Rattle.osc_settings.specs.declared.error.SettingsError.{SettingsError}
+use Rattle.osc_settings.specs.declared.error.SettingsError.TheVariants.{NotToml, Key, Target, Memory}
+use Rattle.osc_simulation.specs.Text.{line}
+use Rattle.osc_programs.specs.Log.{Tells, Told, shown_byte}
+
+-- ---- the line
+
+-- the name of a key that should not be there shows as a path does
+abbrev pub key_text : KeyFault → List ℕ
+key_text (Unknown name) = codes "key " ++ map shown_byte name ++ codes " should not be there"
+key_text (Missing key) = codes "key " ++ name_of key ++ codes " is missing, and should be " ++ form_of key
+key_text (Wrong key) = codes "key " ++ name_of key ++ codes " should be " ++ form_of key
+
+abbrev pub why_text : SettingsError → List ℕ
+why_text NotToml = codes "the text is no TOML"
+why_text (Key fault) = key_text fault
+why_text (Target number fault) = codes "target " ++ decimal number ++ codes ": " ++ key_text fault
+why_text Memory = codes "out of memory"
+
+-- settings: WHY
+abbrev pub unread_text : SettingsError → List ℕ
+unread_text why = line (codes "settings: " ++ why_text why)
+
+-- what is told where there was no memory for that line
+abbrev pub unsaid_text : List ℕ
+unsaid_text = line (codes "out of memory: why the settings are bad is not told")
+
+abbrev pub IsUnreadText : SettingsError → List ℕ → Type 0
+IsUnreadText why text = (text ≡ unread_text why) ⊎ (text ≡ unsaid_text)
+
+-- ---- of which bytes
+
+-- want of memory apart, the bytes are no UTF-8, and so no TOML, or their text is at fault so
+abbrev pub IsWhy : (Members → SettingsError → Type 0) → List ℕ → SettingsError → Type 0
+IsWhy Is bytes why = ((¬ IsUtf8 bytes) × (why ≡ NotToml)) ⊎ Lacks Is bytes why
+
+-- the log told why these bytes, where they are known, are no settings
+pub record TellsWhy (Is : Members → SettingsError → Type 0) (bytes : Option (List ℕ)) (old new : Told) : Type 0 where
+  pub why : SettingsError
+  pub is_why : IfSome bytes (λ known. IsWhy Is known why)
+  pub no_want : why ≢ Memory
+  pub text : List ℕ
+  pub is_text : IsUnreadText why text
+  pub tells : Tells old new text

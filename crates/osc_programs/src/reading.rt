@@ -1,0 +1,128 @@
+//! Settings that a reader gives, and what is told where they are none.
+ghost use Rattle.std.specs.Prelude.{◌≡◌, ◌≢◌, List, ℕ, IfErr, IfOk, IfSome, MatchResult, OnOk};
+ghost use Rattle.osc_programs.specs.Ended as ends;
+ghost use Rattle.osc_programs.specs.Log.{Tells};
+ghost use Rattle.osc_programs.specs.Unread as spec;
+ghost use Rattle.osc_settings.specs.Document.{StandsFor};
+ghost use Rattle.osc_settings.specs.Faults.{IsClientFault, IsFaultOfProxy, IsKeyFault, IsServerFault};
+ghost use Rattle.osc_settings.specs.Settings.{AreClientSettings, AreProxySettings, AreServerSettings};
+
+use crate::ended::{Ended, ended_by_io};
+use crate::log::Log;
+use osc_settings::{
+    ClientSettings, ProxySettings, ServerSettings, SettingsError, read_client_settings,
+    read_proxy_settings, read_server_settings,
+};
+use std::alloc::Global;
+use std::io::Read;
+use std::str;
+
+/// The settings of a server that the reader gives. Where they are none, the log tells why.
+pub(crate) fn server_settings<I: Read, L: Log>(
+    alloc: Global,
+    reader: &mut I,
+    log: &mut L,
+) -> Result<ServerSettings, Ended>
+    ensures settings { IfOk result (λ settings. IfSome (I.remaining reader.old) (λ text. StandsFor AreServerSettings text settings)) }
+    ensures silent { OnOk result (log.new ≡ log.old) }
+    ensures bad { IfErr result (λ ended. ended ≡ Ended.BadSettings → spec.TellsWhy (λ document. IsKeyFault (IsServerFault document)) (I.remaining reader.old) (L.told log.old) (L.told log.new)) }
+    ensures ends { IfErr result ends.NoSettings }
+{
+    let bytes = bytes_of(alloc, reader)?;
+    match server_settings_in(alloc, &bytes) {
+        Ok(settings) => Ok(settings),
+        Err(why) => Err(ended_without(alloc, log, &why)),
+    }
+}
+
+fn server_settings_in(alloc: Global, bytes: &[u8]) -> Result<ServerSettings, SettingsError>
+    ensures { MatchResult result (StandsFor AreServerSettings bytes.now) (spec.IsWhy (λ document. IsKeyFault (IsServerFault document)) bytes.now) }
+{
+    match str::from_utf8(bytes) {
+        Ok(text) => read_server_settings(alloc, text),
+        Err(_) => Err(SettingsError::NotToml),
+    }
+}
+
+/// The settings of a proxy that the reader gives. Where they are none, the log tells why.
+pub(crate) fn proxy_settings<I: Read, L: Log>(
+    alloc: Global,
+    reader: &mut I,
+    log: &mut L,
+) -> Result<ProxySettings, Ended>
+    ensures settings { IfOk result (λ settings. IfSome (I.remaining reader.old) (λ text. StandsFor AreProxySettings text settings)) }
+    ensures silent { OnOk result (log.new ≡ log.old) }
+    ensures bad { IfErr result (λ ended. ended ≡ Ended.BadSettings → spec.TellsWhy IsFaultOfProxy (I.remaining reader.old) (L.told log.old) (L.told log.new)) }
+    ensures ends { IfErr result ends.NoSettings }
+{
+    let bytes = bytes_of(alloc, reader)?;
+    match proxy_settings_in(alloc, &bytes) {
+        Ok(settings) => Ok(settings),
+        Err(why) => Err(ended_without(alloc, log, &why)),
+    }
+}
+
+fn proxy_settings_in(alloc: Global, bytes: &[u8]) -> Result<ProxySettings, SettingsError>
+    ensures { MatchResult result (StandsFor AreProxySettings bytes.now) (spec.IsWhy IsFaultOfProxy bytes.now) }
+{
+    match str::from_utf8(bytes) {
+        Ok(text) => read_proxy_settings(alloc, text),
+        Err(_) => Err(SettingsError::NotToml),
+    }
+}
+
+/// The settings of a client that the reader gives. Where they are none, the log tells why.
+pub(crate) fn client_settings<I: Read, L: Log>(
+    alloc: Global,
+    reader: &mut I,
+    log: &mut L,
+) -> Result<ClientSettings, Ended>
+    ensures settings { IfOk result (λ settings. IfSome (I.remaining reader.old) (λ text. StandsFor AreClientSettings text settings)) }
+    ensures silent { OnOk result (log.new ≡ log.old) }
+    ensures bad { IfErr result (λ ended. ended ≡ Ended.BadSettings → spec.TellsWhy (λ document. IsKeyFault (IsClientFault document)) (I.remaining reader.old) (L.told log.old) (L.told log.new)) }
+    ensures ends { IfErr result ends.NoSettings }
+{
+    let bytes = bytes_of(alloc, reader)?;
+    match client_settings_in(alloc, &bytes) {
+        Ok(settings) => Ok(settings),
+        Err(why) => Err(ended_without(alloc, log, &why)),
+    }
+}
+
+fn client_settings_in(alloc: Global, bytes: &[u8]) -> Result<ClientSettings, SettingsError>
+    ensures { MatchResult result (StandsFor AreClientSettings bytes.now) (spec.IsWhy (λ document. IsKeyFault (IsClientFault document)) bytes.now) }
+{
+    match str::from_utf8(bytes) {
+        Ok(text) => read_client_settings(alloc, text),
+        Err(_) => Err(SettingsError::NotToml),
+    }
+}
+
+// ---- what they share
+
+// All that the reader gives.
+fn bytes_of<I: Read>(alloc: Global, reader: &mut I) -> Result<Vec<u8>, Ended>
+    ensures bytes { IfOk result (λ bytes. IfSome (I.remaining reader.old) (λ known. bytes.items ≡ known)) }
+    ensures fault { IfErr result ends.IsFault }
+{
+    let mut bytes = Vec::new(alloc);
+    match reader.read_to_end(&mut bytes) {
+        Ok(_) => Ok(bytes),
+        Err(error) => Err(ended_by_io(&error)),
+    }
+}
+
+// How a program ends without settings. The log tells why, but for want of memory.
+fn ended_without<L: Log>(alloc: Global, log: &mut L, why: &SettingsError) -> Ended
+    ensures memory { why.now ≡ SettingsError.Memory → result ≡ Ended.OutOfMemory }
+    ensures told { result ≡ Ended.BadSettings → (text : List ℕ) × spec.IsUnreadText why.now text × Tells (L.told log.old) (L.told log.new) text }
+    ensures ends { ends.NoSettings result }
+{
+    match why {
+        SettingsError::Memory => Ended::OutOfMemory,
+        _ => {
+            log.no_settings(alloc, why);
+            Ended::BadSettings
+        }
+    }
+}
