@@ -1,5 +1,5 @@
 -- From the lines of a script to the lines of its trace.
-use Rattle.std.specs.Prelude.{◌≡◌, ◌↔◌, ℕ, ◌+◌, ◌==◌, if◌then◌else◌, Bool, true, false, IsTrue, List, [], ◌∷◌, ◌++◌, drop, length, Option, Some, None, codes}
+use Rattle.std.specs.Prelude.{◌≡◌, ◌⊎◌, ◌↔◌, ℕ, ◌+◌, ◌==◌, if◌then◌else◌, Bool, true, false, IsTrue, List, [], ◌∷◌, ◌++◌, drop, length, Option, Some, None, codes}
 use Rattle.std.specs.FinMap as map
 use Rattle.std.specs.FinSet as set
 use Rattle.osc_model.specs.Isolation.{Answer, alone}
@@ -29,6 +29,8 @@ use Rattle.osc_script.specs.declared.client_name.ClientName.{ClientName}
 use Rattle.osc_script.specs.declared.line.Line.{Line}
 use Rattle.osc_script.specs.declared.line.Line.TheVariants.{Put, Open, Grant, Via, At, Draw, Drop, Skip, Quiet}
 use Rattle.osc_script.specs.declared.node.Node.TheVariants.{Server, Client, Proxy}
+use Rattle.osc_script.specs.declared.read.ScriptError.{ScriptError}
+use Rattle.osc_script.specs.declared.read.ScriptError.TheVariants.{BadLine, OutOfMemory}
 use Rattle.osc_script.specs.declared.proxy_name.ProxyName.{ProxyName}
 use Rattle.osc_simulation.specs.Draw.{drawn}
 use Rattle.osc_simulation.specs.Events.{datagram_number, what_of}
@@ -36,6 +38,8 @@ use Rattle.osc_simulation.specs.Names.{Names, made, names_in, number_of}
 use Rattle.osc_simulation.specs.Records.{PrintAllRecords}
 use Rattle.osc_simulation.specs.Text.{line as line_text}
 use Rattle.osc_simulation.specs.Trace.{alone_text, end_text}
+use Rattle.osc_simulation.specs.declared.error.TraceError.{TraceError}
+use Rattle.osc_simulation.specs.declared.error.TraceError.TheVariants as trace_error
 use Rattle.osc_simulation.specs.declared.stage.Stage.{Stage}
 
 -- ---- the world before the first event
@@ -222,3 +226,25 @@ IsTrace with_bytes only lines text =
 -- what a script's text prints
 abbrev pub Simulates : Bool → Option ClientName → List ℕ → List ℕ → Type 0
 Simulates with_bytes only script text = (lines : List Line) × IsScript script lines × IsTrace with_bytes only lines text
+
+-- ---- a trace that ends early
+
+-- why there is no trace of a text that is no script
+abbrev pub untraced : ScriptError → TraceError
+untraced (BadLine n) = trace_error.BadLine n
+untraced OutOfMemory = trace_error.OutOfMemory
+
+-- What a run from this stage printed of its trace: what the lines before some place did, or that of all and the end lines.
+pub data IsFront (with_bytes : Bool) (names : Names) (first : Stage) (lines : List Line) (text : List ℕ) : Type 0 where
+  in_lines : (before after : List Line) (last : Stage) → lines ≡ before ++ after → Prints with_bytes names first before text last → IsFront with_bytes names first lines text
+  at_end : (events end : List ℕ) (last : Stage) → Prints with_bytes names first lines events last → IsEnd last.world end → text ≡ events ++ end
+      → IsFront with_bytes names first lines text
+
+-- What a trace of these lines printed that ends for want of memory: nothing, where there was none for the world, or a front.
+pub data IsCut (with_bytes : Bool) (lines : List Line) (text : List ℕ) : Type 0 where
+  unbegun : text ≡ [] → IsCut with_bytes lines text
+  begun : (first : Stage) → Begins lines first.world → IsFirst first → IsFront with_bytes (names_in lines) first lines text → IsCut with_bytes lines text
+
+-- the same of a script's text, for whose lines there may have been none
+abbrev pub CutShort : Bool → List ℕ → List ℕ → Type 0
+CutShort with_bytes script text = (text ≡ []) ⊎ ((lines : List Line) × IsScript script lines × IsCut with_bytes lines text)

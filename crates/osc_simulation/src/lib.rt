@@ -1,9 +1,10 @@
-//! The simulation: a script's world, what each line does to it, and the trace that it prints. Nothing here reads, writes or draws:
-//! a script is bytes, and so is its trace.
+//! The simulation: a script's world, what each line does to it, and the trace that it prints, line by line. Nothing here reads or draws:
+//! a script is bytes, and its trace goes to a writer.
 #![tactic(auto)]
 
 mod copies;
 mod draw;
+mod error;
 mod happening;
 pub mod laws;
 mod lying;
@@ -14,6 +15,7 @@ mod simulate;
 mod stage;
 mod trace;
 
+pub use error::TraceError;
 pub use names::{Names, name_of_number, number_of};
 pub use record::learnt_text;
 pub use set_up::start_of;

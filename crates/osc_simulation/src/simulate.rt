@@ -1,110 +1,128 @@
 //! A script's trace.
-ghost use Rattle.std.specs.Prelude.{◌≡◌, ◌≢◌, ◌++◌, ℕ, List, IfOk, OnOk, Err, drop, length};
+ghost use Rattle.std.specs.Prelude.{◌≡◌, ◌≢◌, ◌++◌, [], ℕ, List, IfErr, IfOk, OnOk, Err, drop, length};
+ghost use Rattle.std.specs.Io.KnownBytes.{Appends};
 ghost use Rattle.std.specs.FinMap as map;
 ghost use Rattle.osc_run.specs.History.{history};
 ghost use Rattle.osc_script.specs.Script.{IsFirstBad};
 ghost use Rattle.osc_simulation.specs.SetUp.{CanPutAll};
 ghost use Rattle.osc_simulation.specs.Records.{PrintAllRecords};
 ghost use Rattle.osc_simulation.specs.Simulation as spec;
-ghost use Rattle.osc_simulation.specs.Simulation.{Simulates};
+ghost use Rattle.osc_simulation.specs.Simulation.{CutShort, IsCut, Simulates};
+ghost use Rattle.osc_simulation.specs.declared.stage.Stage.{Stage as AnyStage};
+ghost use Rattle.osc_script.specs.declared.line.Line.{Line as AnyLine};
 
+use crate::error::TraceError;
 use crate::names::{Names, number_of};
 use crate::record::records_text;
 use crate::set_up::first_world;
 use crate::stage::Stage;
 use crate::trace::{alone_text, end_text};
-use osc_script::{ClientName, Line, ScriptError, read_script};
+use osc_script::{ClientName, Line, read_script};
 use osc_world::{Record, World};
 use std::alloc::{AllocError, Global};
 use std::cmp::min;
+use std::io::Write;
 
-/// Puts the trace of the script of these bytes behind what `text` has: each event's lines, with the bytes of its datagrams where
-/// `with_bytes` says so, then the end lines, and then what the entries of the client of `only` are answered alone, if there is one.
+/// Writes the trace of the script of these bytes: each line's events as it is done, with the bytes of their datagrams where
+/// `with_bytes` says so, then the end lines, and then what the entries of the client of `only` are answered alone, if there is one. What
+/// a line prints is flushed before the next is done.
 ///
 /// # Errors
 ///
-/// `BadLine` has the number of the first line that stands for nothing; `text` is as before then. For want of memory the lines so far
-/// stand there.
-pub fn trace_script(
+/// `BadLine` has the number of the first line that stands for nothing; nothing is written then. For want of memory the lines so far are
+/// written.
+pub fn trace_script<W: Write>(
     alloc: Global,
     script: &[u8],
     with_bytes: bool,
     only: Option<ClientName>,
-    text: &mut Vec<u8>,
-) -> Result<(), ScriptError>
-    ensures done { OnOk result ((printed : List ℕ) × Simulates with_bytes only script.now printed × (text.new.items ≡ text.old.items ++ printed)) }
-    ensures bad { (n : ℕ) → result ≡ Err (ScriptError.BadLine n) → IsFirstBad script.now n × (text.new.items ≡ text.old.items) }
+    writer: &mut W,
+) -> Result<(), TraceError>
+    ensures done { OnOk result ((printed : List ℕ) × Simulates with_bytes only script.now printed × Appends (W.contents writer.old) (W.contents writer.new) printed) }
+    ensures bad { (n : ℕ) → result ≡ Err (TraceError.BadLine n) → IsFirstBad script.now n × Appends (W.contents writer.old) (W.contents writer.new) [] }
+    ensures cut { result ≡ Err TraceError.OutOfMemory → (printed : List ℕ) × CutShort with_bytes script.now printed × Appends (W.contents writer.old) (W.contents writer.new) printed }
 {
     let script = read_script(alloc, script)?;
-    trace_said(alloc, script.lines(), with_bytes, only, text)
+    let traced = trace_lines(alloc, script.lines(), with_bytes, only, writer);
+    drop(script);
+    traced
 }
 
 // The trace of these lines.
-fn trace_said(
+fn trace_lines<W: Write>(
     alloc: Global,
     lines: &[Line],
     with_bytes: bool,
     only: Option<ClientName>,
-    text: &mut Vec<u8>,
-) -> Result<(), ScriptError>
+    writer: &mut W,
+) -> Result<(), TraceError>
     requires { CanPutAll map.empty lines.now }
-    ensures done { OnOk result ((printed : List ℕ) × spec.IsTrace with_bytes only lines.now printed × (text.new.items ≡ text.old.items ++ printed)) }
-    ensures bad { (n : ℕ) → result ≢ Err (ScriptError.BadLine n) }
-{
-    Ok(trace_lines(alloc, lines, with_bytes, only, text)?)
-}
-
-fn trace_lines(
-    alloc: Global,
-    lines: &[Line],
-    with_bytes: bool,
-    only: Option<ClientName>,
-    text: &mut Vec<u8>,
-) -> Result<(), AllocError>
-    requires { CanPutAll map.empty lines.now }
-    ensures { OnOk result ((printed : List ℕ) × spec.IsTrace with_bytes only lines.now printed × (text.new.items ≡ text.old.items ++ printed)) }
+    ensures done { OnOk result ((printed : List ℕ) × spec.IsTrace with_bytes only lines.now printed × Appends (W.contents writer.old) (W.contents writer.new) printed) }
+    ensures bad { (n : ℕ) → result ≢ Err (TraceError.BadLine n) }
+    ensures cut { result ≡ Err TraceError.OutOfMemory → (printed : List ℕ) × IsCut with_bytes lines.now printed × Appends (W.contents writer.old) (W.contents writer.new) printed }
 {
     let names = Names::of(alloc, lines)?;
     let world = first_world(alloc, &names, lines)?;
     let mut stage = Stage::first(world);
-    let traced = trace_from(alloc, &mut stage, &names, lines, with_bytes, only, text);
+    let traced = trace_from(alloc, &mut stage, &names, lines, with_bytes, only, writer);
     drop(stage);
     traced
 }
 
 // The events of a run that begins, its end lines, and what is wanted of one client.
-fn trace_from(
+fn trace_from<W: Write>(
     alloc: Global,
     stage: &mut Stage,
     names: &Names,
     lines: &[Line],
     with_bytes: bool,
     only: Option<ClientName>,
-    text: &mut Vec<u8>,
-) -> Result<(), AllocError>
-    ensures { OnOk result ((printed end : List ℕ) × spec.Prints with_bytes names.now stage.old lines.now printed stage.new
+    writer: &mut W,
+) -> Result<(), TraceError>
+    ensures done { OnOk result ((printed end : List ℕ) × spec.Prints with_bytes names.now stage.old lines.now printed stage.new
         × spec.IsEnd stage.new.world end
-        × (text.new.items ≡ text.old.items ++ (printed ++ end ++ spec.only_text names.now stage.new.world only))) }
+        × Appends (W.contents writer.old) (W.contents writer.new) (printed ++ end ++ spec.only_text names.now stage.new.world only)) }
+    ensures bad { (n : ℕ) → result ≢ Err (TraceError.BadLine n) }
+    ensures cut { result ≡ Err TraceError.OutOfMemory
+        → (printed : List ℕ) × spec.IsFront with_bytes names.now stage.old lines.now printed × Appends (W.contents writer.old) (W.contents writer.new) printed }
 {
-    trace_events(alloc, stage, names, lines, with_bytes, text)?;
-    trace_end(alloc, stage.world(), text)?;
-    trace_alone(alloc, stage.world(), names, only, text)
+    trace_events(alloc, stage, names, lines, with_bytes, writer)?;
+    trace_end(alloc, stage.world(), writer)?;
+    trace_alone(alloc, stage.world(), names, only, writer)
 }
 
 // Does what the lines say.
-fn trace_events(
+fn trace_events<W: Write>(
     alloc: Global,
     stage: &mut Stage,
     names: &Names,
     lines: &[Line],
     with_bytes: bool,
-    text: &mut Vec<u8>,
-) -> Result<(), AllocError>
-    ensures { OnOk result ((printed : List ℕ) × spec.Prints with_bytes names.now stage.old lines.now printed stage.new × (text.new.items ≡ text.old.items ++ printed)) }
+    writer: &mut W,
+) -> Result<(), TraceError>
+    ensures done { OnOk result ((printed : List ℕ) × spec.Prints with_bytes names.now stage.old lines.now printed stage.new
+        × Appends (W.contents writer.old) (W.contents writer.new) printed) }
+    ensures bad { (n : ℕ) → result ≢ Err (TraceError.BadLine n) }
+    ensures cut { result ≡ Err TraceError.OutOfMemory → (printed : List ℕ) × (before after : List AnyLine) × (last : AnyStage) × (lines.now ≡ before ++ after)
+        × spec.Prints with_bytes names.now stage.old before printed last × Appends (W.contents writer.old) (W.contents writer.new) printed }
 {
     for line in lines {
         let more = line_text(alloc, stage, names, line, with_bytes)?;
-        text.extend_from_slice(&more)?;
+        put(writer, &more)?;
+    }
+    Ok(())
+}
+
+// Writes and flushes this, if it is anything.
+fn put<W: Write>(writer: &mut W, text: &[u8]) -> Result<(), TraceError>
+    ensures written { OnOk result (Appends (W.contents writer.old) (W.contents writer.new) text.now) }
+    ensures failed { IfErr result (λ error. error ≡ TraceError.Output) }
+{
+    if text.is_empty() {
+        return Ok(());
+    }
+    if writer.write_all(text).is_err() || writer.flush().is_err() {
+        return Err(TraceError::Output);
     }
     Ok(())
 }
@@ -171,31 +189,52 @@ fn add_quiet(text: &mut Vec<u8>, quiet: bool) -> Result<(), AllocError>
 }
 
 // The end lines of a world.
-fn trace_end(alloc: Global, world: &World, text: &mut Vec<u8>) -> Result<(), AllocError>
-    ensures { OnOk result ((end : List ℕ) × spec.IsEnd world.now end × (text.new.items ≡ text.old.items ++ end)) }
+fn trace_end<W: Write>(alloc: Global, world: &World, writer: &mut W) -> Result<(), TraceError>
+    ensures done { OnOk result ((end : List ℕ) × spec.IsEnd world.now end × Appends (W.contents writer.old) (W.contents writer.new) end) }
+    ensures bad { (n : ℕ) → result ≢ Err (TraceError.BadLine n) }
+    ensures cut { result ≡ Err TraceError.OutOfMemory → writer.new ≡ writer.old }
+{
+    let lines = end_lines(alloc, world)?;
+    put(writer, &lines)
+}
+
+fn end_lines(alloc: Global, world: &World) -> Result<Vec<u8>, AllocError>
+    ensures { IfOk result (λ lines. spec.IsEnd world.now lines.items) }
 {
     let entries = count_entries(alloc, world)?;
     let held = world.premise_holds();
-    let lines = end_text(alloc, world.tree(), entries, held)?;
-    Ok(text.extend_from_slice(&lines)?)
+    end_text(alloc, world.tree(), entries, held)
 }
 
 // What the entries of the wanted client are answered alone, if one is wanted.
-fn trace_alone(
+fn trace_alone<W: Write>(
     alloc: Global,
     world: &World,
     names: &Names,
     only: Option<ClientName>,
-    text: &mut Vec<u8>,
-) -> Result<(), AllocError>
-    ensures { OnOk result (text.new.items ≡ text.old.items ++ spec.only_text names.now world.now only) }
+    writer: &mut W,
+) -> Result<(), TraceError>
+    ensures done { OnOk result (Appends (W.contents writer.old) (W.contents writer.new) (spec.only_text names.now world.now only)) }
+    ensures bad { (n : ℕ) → result ≢ Err (TraceError.BadLine n) }
+    ensures cut { result ≡ Err TraceError.OutOfMemory → writer.new ≡ writer.old }
+{
+    let lines = only_lines(alloc, world, names, only)?;
+    put(writer, &lines)
+}
+
+fn only_lines(
+    alloc: Global,
+    world: &World,
+    names: &Names,
+    only: Option<ClientName>,
+) -> Result<Vec<u8>, AllocError>
+    ensures { IfOk result (λ lines. lines.items ≡ spec.only_text names.now world.now only) }
 {
     let Some(client) = only else {
-        return Ok(());
+        return Ok(Vec::new(alloc));
     };
     let answers = world.alone(alloc, number_of(names.clients(), client))?;
-    let lines = alone_text(alloc, client, &answers)?;
-    Ok(text.extend_from_slice(&lines)?)
+    alone_text(alloc, client, &answers)
 }
 
 // How many requests are in the history.

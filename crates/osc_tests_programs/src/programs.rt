@@ -75,7 +75,7 @@ fn scripts_have_their_traces(rt: HostRuntime) -> Result<(), Fail> {
     Ok(())
 }
 
-// Without a reader and a writer, the trace goes behind what is there.
+// Without a reader, the trace goes behind what the writer has.
 #[test]
 fn a_trace_goes_behind_other_bytes(rt: HostRuntime) -> Result<(), Fail> {
     let mut text = Vec::from_slice(rt.alloc(), b"> ")?;
@@ -211,7 +211,8 @@ fn a_broken_input_or_output_fails(rt: HostRuntime) -> Result<(), Fail> {
         Ended::Failed
     );
     assert_eq!(rt; written.len(), 0);
-    for (writes, ended) in [(0, Ended::Failed), (1, Ended::Done)] {
+    // The event is written as it comes, and the end lines behind it.
+    for (writes, ended) in [(0, Ended::Failed), (1, Ended::Failed), (2, Ended::Done)] {
         let mut script = FIRST_RUN.as_bytes();
         let mut writer = BrokenWriter { writes };
         assert_eq!(rt; sim(alloc, &mut script, &mut writer, true, None), ended);
