@@ -5,6 +5,8 @@
 #[cfg(test)]
 mod broken;
 #[cfg(test)]
+mod faults;
+#[cfg(test)]
 mod lab;
 #[cfg(test)]
 mod logs;

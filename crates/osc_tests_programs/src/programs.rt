@@ -3,6 +3,7 @@ use crate::broken::{BrokenReader, BrokenWriter};
 use osc_programs::{Ended, run_script, sim, status};
 use osc_script::ClientName;
 use std::alloc::Global;
+use std::io::{self, ErrorKind, Write};
 use std::test::Fail;
 
 const FIRST_RUN: &str = "put /e none -\nopen /e\ninject x s 40010002b165\n";
@@ -216,6 +217,54 @@ fn a_broken_input_or_output_fails(rt: HostRuntime) -> Result<(), Fail> {
         let mut script = FIRST_RUN.as_bytes();
         let mut writer = BrokenWriter { writes };
         assert_eq!(rt; sim(alloc, &mut script, &mut writer, true, None), ended);
+    }
+    Ok(())
+}
+
+/// Keeps what it takes until it is flushed, and fails at some flush.
+#[derive(Drop)]
+struct FlushedWriter {
+    flushed: Vec<u8>,
+    taken: Vec<u8>,
+    flushes: usize,
+}
+
+impl Write for FlushedWriter {
+    fn write(&mut self, buf: &[u8]) -> io::Result<usize> {
+        self.taken.extend_from_slice(buf)?;
+        Ok(buf.len())
+    }
+
+    fn flush(&mut self) -> io::Result<()> {
+        if self.flushes == 0 {
+            return Err(io::Error::from(ErrorKind::BrokenPipe));
+        }
+        self.flushes -= 1;
+        self.flushed.extend_from_slice(&self.taken)?;
+        self.taken.clear();
+        Ok(())
+    }
+}
+
+// Each line's events are flushed before the next is done.
+#[test]
+fn lines_stand_as_they_are_done(rt: HostRuntime) -> Result<(), Fail> {
+    let alloc = rt.alloc();
+    for (flushes, stands) in [
+        (0, ""),
+        (1, "nothing\n"),
+        (2, "nothing\nnothing\n"),
+        (3, "nothing\nnothing\nsent 1 s>x RST 0.00\n"),
+    ] {
+        let mut script = REJECTED.as_bytes();
+        let mut writer = FlushedWriter {
+            flushed: Vec::new(alloc),
+            taken: Vec::new(alloc),
+            flushes,
+        };
+        let ended = sim(alloc, &mut script, &mut writer, false, None);
+        assert_eq!(rt; ended, Ended::Failed);
+        assert!(rt; writer.flushed.as_slice() == stands.as_bytes(), "{stands}");
     }
     Ok(())
 }

@@ -1,8 +1,8 @@
 //! Settings of the three programs: what a good text gives, and texts that are bad.
 use osc_model::{Path, Peer};
 use osc_settings::{
-    ClientSettings, ProxySettings, ServerSettings, SettingsError, TargetSetting,
-    read_client_settings, read_proxy_settings, read_server_settings,
+    ClientSettings, KeyFault, ProxySettings, ServerSettings, SettingsError, SettingsKey,
+    TargetSetting, read_client_settings, read_proxy_settings, read_server_settings,
 };
 use std::alloc::{AllocError, Global};
 use std::test::Fail;
@@ -40,13 +40,18 @@ fn a_server(rt: HostRuntime) -> Result<(), Fail> {
     Ok(())
 }
 
+/// Whether a text is at fault, and not only memory was wanting.
+fn is_bad<T: Drop>(read: Result<T, SettingsError>) -> bool {
+    match read {
+        Ok(_) => false,
+        Err(error) => !matches!(error, SettingsError::Memory),
+    }
+}
+
 /// Whether these lines give a server no settings.
 fn is_bad_for_a_server(alloc: Global, first: &str, rest: &str) -> Result<bool, AllocError> {
     let text = format!(in alloc; "{first}\n{rest}")?;
-    Ok(matches!(
-        read_server_settings(alloc, text.as_str()),
-        Err(SettingsError::Bad)
-    ))
+    Ok(is_bad(read_server_settings(alloc, text.as_str())))
 }
 
 const NO_BIND: &str = "key = '000102030405060708090a0b0c0d0e0f'\naudience = 's'\nopen = []";
@@ -159,10 +164,7 @@ fn a_proxy(rt: HostRuntime) -> Result<(), Fail> {
 /// Whether these lines give a proxy no settings.
 fn is_bad_for_a_proxy(alloc: Global, first: &str, rest: &str) -> Result<bool, AllocError> {
     let text = format!(in alloc; "{first}\n{rest}")?;
-    Ok(matches!(
-        read_proxy_settings(alloc, text.as_str()),
-        Err(SettingsError::Bad)
-    ))
+    Ok(is_bad(read_proxy_settings(alloc, text.as_str())))
 }
 
 const TARGETS: [&str; 15] = [
@@ -273,7 +275,7 @@ fn the_port_of_coap(rt: HostRuntime) -> Result<(), Fail> {
 
 /// Whether these lines give a client no settings.
 fn is_bad_for_a_client(alloc: Global, lines: &str) -> bool {
-    matches!(client_of(alloc, lines), Err(SettingsError::Bad))
+    is_bad(client_of(alloc, lines))
 }
 
 const CLIENTS: [&str; 17] = [
@@ -342,7 +344,15 @@ fn secrets_are_not_printed(rt: HostRuntime) -> Result<(), Fail> {
 #[test]
 fn errors_are_told(rt: HostRuntime) -> Result<(), Fail> {
     for (error, wanted) in [
-        (SettingsError::Bad, "settings: bad"),
+        (SettingsError::NotToml, "settings: bad"),
+        (
+            SettingsError::Key(KeyFault::Wrong(SettingsKey::Bind)),
+            "settings: bad",
+        ),
+        (
+            SettingsError::Target(1, KeyFault::Missing(SettingsKey::To)),
+            "settings: bad",
+        ),
         (SettingsError::Memory, "out of memory"),
     ] {
         let text = format!(in rt.alloc(); "{error}")?;

@@ -1,0 +1,184 @@
+//! What a server and a proxy tell, with a log, of settings that are none: the first key that is at fault, and nothing of its value.
+use crate::broken::BrokenWriter;
+use osc_programs::{Ended, Lines, Log, Silent, forward, serve, unread_text};
+use osc_settings::{SettingsError, read_client_settings};
+use std::test::Fail;
+
+const KEY: &str = "key = '000102030405060708090a0b0c0d0e0f'\n";
+
+/// How a server with these lines ends, and what its log has.
+fn served(rt: &HostRuntime, bytes: &[u8]) -> Result<(Ended, Vec<u8>), Fail> {
+    let mut reader = bytes;
+    let mut lines = Lines::new(Vec::from_slice(rt.alloc(), b"> ")?);
+    let ended = serve(rt.alloc(), rt, &mut reader, &mut lines, 1);
+    Ok((ended, lines.into_writer()))
+}
+
+fn forwarded(rt: &HostRuntime, bytes: &[u8]) -> Result<(Ended, Vec<u8>), Fail> {
+    let mut reader = bytes;
+    let mut lines = Lines::new(Vec::from_slice(rt.alloc(), b"> ")?);
+    let ended = forward(rt.alloc(), rt, &mut reader, &mut lines, 1);
+    Ok((ended, lines.into_writer()))
+}
+
+/// Whether it ended for bad settings, of which this was told.
+fn is_told(rt: &HostRuntime, run: &(Ended, Vec<u8>), why: &str) -> Result<bool, Fail> {
+    let wanted = format!(in rt.alloc(); "> settings: {why}\n")?;
+    Ok(run.0 == Ended::BadSettings && run.1.as_slice() == wanted.as_bytes())
+}
+
+/// Settings of a server, before which `key` stands, and the first fault.
+const SERVERS: [(&str, &str); 9] = [
+    (
+        "",
+        "key bind is missing, and should be a text of an address and a port, as 127.0.0.1:5683",
+    ),
+    (
+        "bind = 5683",
+        "key bind should be a text of an address and a port, as 127.0.0.1:5683",
+    ),
+    // The first fault is that of a key that should not be there, wherever it stands; of two the first in the order of their bytes.
+    ("port = 1\nbnid = 1", "key bnid should not be there"),
+    (
+        "\"a\\u0000\\n b\" = 1",
+        "key a???b should not be there",
+    ),
+    ("bind = '127.0.0.1:1'", "key audience is missing, and should be a text"),
+    (
+        "bind = '127.0.0.1:1'\naudience = 1\nopen = 1",
+        "key audience should be a text",
+    ),
+    (
+        "bind = '127.0.0.1:1'\naudience = 's'",
+        "key open is missing, and should be an array of paths, as ['/e', '/log']",
+    ),
+    (
+        "bind = '127.0.0.1:1'\naudience = 's'\nopen = ['e']",
+        "key open should be an array of paths, as ['/e', '/log']",
+    ),
+    ("bind = ", "the text is no TOML"),
+];
+
+#[test]
+fn the_key_of_a_server_is_named(rt: HostRuntime) -> Result<(), Fail> {
+    for (lines, why) in SERVERS {
+        let text = format!(in rt.alloc(); "{KEY}{lines}")?;
+        let run = served(&rt, text.as_bytes())?;
+        assert!(rt; is_told(&rt, &run, why)?, "{lines}");
+    }
+    Ok(())
+}
+
+/// A key that is a value is told by its form.
+#[test]
+fn no_secret_is_told(rt: HostRuntime) -> Result<(), Fail> {
+    let run = served(&rt, b"bind = '127.0.0.1:1'\nkey = '0001'\naudience = 's'\nopen = []")?;
+    assert!(rt; is_told(&rt, &run, "key key should be a text of 16 bytes in hexadecimal")?);
+    let other = served(&rt, b"\xff")?;
+    assert!(rt; is_told(&rt, &other, "the text is no TOML")?);
+    Ok(())
+}
+
+/// Settings of a proxy, and the first fault.
+const PROXIES: [(&str, &str); 8] = [
+    ("key = 1", "key key should not be there"),
+    (
+        "bind = '127.0.0.1:1'",
+        "key target is missing, and should be tables [[target]] of host, port and to",
+    ),
+    (
+        "bind = '127.0.0.1:1'\ntarget = 1",
+        "key target should be tables [[target]] of host, port and to",
+    ),
+    (
+        "bind = '127.0.0.1:1'\ntarget = [1]",
+        "target 1: key target should be tables [[target]] of host, port and to",
+    ),
+    (
+        "bind = '127.0.0.1:1'\n[[target]]\nhost = 's'\nport = 1\nto = '127.0.0.1:1'\n[[target]]\nto = 1\nhost = ''",
+        "target 2: key port is missing, and should be a number from 1 to 65535",
+    ),
+    (
+        "bind = '127.0.0.1:1'\n[[target]]\nport = 1\nto = 1",
+        "target 1: key to should be a text of an address and a port, as 127.0.0.1:5683",
+    ),
+    (
+        "bind = '127.0.0.1:1'\n[[target]]\nport = 1\nto = '127.0.0.1:1'\nhost = ''",
+        "target 1: key host should be a text of 1 to 255 bytes",
+    ),
+    (
+        "bind = '127.0.0.1:1'\n[[target]]\nkey = 1",
+        "target 1: key key should not be there",
+    ),
+];
+
+#[test]
+fn the_key_of_a_proxy_is_named(rt: HostRuntime) -> Result<(), Fail> {
+    for (text, why) in PROXIES {
+        let run = forwarded(&rt, text.as_bytes())?;
+        assert!(rt; is_told(&rt, &run, why)?, "{text}");
+    }
+    Ok(())
+}
+
+/// Settings of a client behind `bind` and `peer`, and the first fault.
+const CLIENTS: [(&str, &str); 7] = [
+    (
+        "port = 1",
+        "key host is missing, and should be a text of 1 to 255 bytes",
+    ),
+    (
+        "port = 0\nhost = ''",
+        "key port should be a number from 1 to 65535",
+    ),
+    ("host = ''", "key host should be a text of 1 to 255 bytes"),
+    (
+        "token = '0'",
+        "key token should be a text of bytes in hexadecimal",
+    ),
+    (
+        "token = ''\nsecret = ''",
+        "key secret should be a text of 1 to 64 bytes in hexadecimal",
+    ),
+    (
+        "token = ''\nsecret = '01'\ncontext = 1\nsalt = 1",
+        "key salt should be a text of at most 64 bytes in hexadecimal",
+    ),
+    (
+        "token = ''\nsecret = '01'\ncontext = 1",
+        "key context should be a text of at most 64 bytes in hexadecimal",
+    ),
+];
+
+#[test]
+fn the_key_of_a_client_is_named(rt: HostRuntime) -> Result<(), Fail> {
+    let alloc = rt.alloc();
+    for (lines, why) in CLIENTS {
+        let text = format!(in alloc; "bind = '127.0.0.1:1'\npeer = '127.0.0.1:2'\n{lines}")?;
+        let wanted = format!(in alloc; "settings: {why}\n")?;
+        let told = match read_client_settings(alloc, text.as_str()) {
+            Ok(_) => Vec::new(alloc),
+            Err(error) => unread_text(alloc, &error)?,
+        };
+        assert!(rt; told.as_slice() == wanted.as_bytes(), "{lines}");
+    }
+    Ok(())
+}
+
+/// Without a log nothing is told, and what can't be written is nobody's failure.
+#[test]
+fn settings_end_alike_with_any_log(rt: HostRuntime) -> Result<(), Fail> {
+    let mut reader = b"bind = 1".as_slice();
+    assert_eq!(rt;
+        serve(rt.alloc(), &rt, &mut reader, &mut Silent, 1),
+        Ended::BadSettings
+    );
+    let mut reader = b"bind = 1".as_slice();
+    let mut lines = Lines::new(BrokenWriter { writes: 0 });
+    assert_eq!(rt;
+        forward(rt.alloc(), &rt, &mut reader, &mut lines, 1),
+        Ended::BadSettings
+    );
+    Silent.no_settings(rt.alloc(), &SettingsError::NotToml);
+    Ok(())
+}
