@@ -5,7 +5,7 @@ use Rattle.osc_model.specs.declared.node.Moment.{Moment}
 use Rattle.osc_model.specs.declared.request.Request.{Request}
 use Rattle.osc_model.specs.declared.step.Datagram.{Datagram}
 use Rattle.osc_model.specs.declared.step.Step.{Step}
-use Rattle.osc_programs.specs.Ended.{IsFault, NoSettings, EndsLab, EndsNode, EndsTold, EndsClient, CannotLab, CannotTalk, CannotAsk}
+use Rattle.osc_programs.specs.Ended.{IsFault, NoSettings, EndsLab, EndsNode, EndsTurns, EndsTold, EndsClient, CannotLab, CannotTalk, CannotAsk}
 use Rattle.osc_programs.specs.Log.{Tells, Told}
 use Rattle.osc_programs.specs.Turning.{GoesOn, IsSeeded, Running, Runs, Supply, Turns}
 use Rattle.osc_programs.specs.Turning as turning
@@ -62,15 +62,35 @@ ask_not_done request Failed f e = absurd cc
 ask_not_done request PortFailed f e = absurd cc
 ask_not_done request NotDone f e = f
 
-pub fault_node : (ended : Ended) → IsFault ended → EndsNode ended
-fault_node Done f = absurd f
-fault_node BadCommandLine f = absurd f
-fault_node (BadLine n) f = absurd f
-fault_node BadSettings f = absurd f
-fault_node OutOfMemory f = f
-fault_node Failed f = f
-fault_node PortFailed f = f
-fault_node NotDone f = absurd f
+pub fault_turns : (ended : Ended) → IsFault ended → EndsTurns ended
+fault_turns Done f = absurd f
+fault_turns BadCommandLine f = absurd f
+fault_turns (BadLine n) f = absurd f
+fault_turns BadSettings f = absurd f
+fault_turns OutOfMemory f = f
+fault_turns Failed f = f
+fault_turns PortFailed f = f
+fault_turns NotDone f = absurd f
+
+pub turns_node : (ended : Ended) → EndsTurns ended → EndsNode ended
+turns_node Done f = tt
+turns_node BadCommandLine f = absurd f
+turns_node (BadLine n) f = absurd f
+turns_node BadSettings f = absurd f
+turns_node OutOfMemory f = f
+turns_node Failed f = f
+turns_node PortFailed f = f
+turns_node NotDone f = absurd f
+
+pub turns_not_bad : (ended : Ended) → EndsTurns ended → ended ≢ BadSettings
+turns_not_bad Done f e = absurd cc
+turns_not_bad BadCommandLine f e = absurd cc
+turns_not_bad (BadLine n) f e = absurd cc
+turns_not_bad BadSettings f e = f
+turns_not_bad OutOfMemory f e = absurd cc
+turns_not_bad Failed f e = absurd cc
+turns_not_bad PortFailed f e = absurd cc
+turns_not_bad NotDone f e = absurd cc
 
 pub settings_node : (ended : Ended) → NoSettings ended → EndsNode ended
 settings_node Done f = absurd f

@@ -1,7 +1,7 @@
 use Rattle.std.proofs.Common.{◌∙◌, ap, arith, inl, inr, refl, subst, sym}
 use Rattle.osc_programs.specs.Log.{Tells}
 use Rattle.osc_programs.specs.Turning as spec
-use Rattle.osc_programs.proofs.Taken.{grown_none, grown_more, fault_node, no_end, one_more, tells_more, tells_none}
+use Rattle.osc_programs.proofs.Taken.{grown_none, grown_more, fault_turns, no_end, one_more, tells_more, tells_none}
 use Rattle.osc_programs.proofs.turns.take_turns.Goals as goal
 
 pub loop-init : goal.loop-init
@@ -23,7 +23,7 @@ returns-in-Err g c =
         subst (λ log. Tells (g.L.Log.told c.args.log.now) (g.L.Log.told log) so_far.2) (sym kept.2) so_far.5,
         inr (no_end c.in-Err.ended c.in-Err.ensures.fault, c.loop-test.true),
       );
-      ends = fault_node c.in-Err.ended c.in-Err.ensures.fault;
+      ends = fault_turns c.in-Err.ended c.in-Err.ensures.fault;
     }
 
 pub loop-preserved : goal.loop-preserved

@@ -1,0 +1,6 @@
+use Rattle.std.proofs.Common.{inl, refl}
+use Rattle.osc_programs.specs.Unread.{unread_text}
+use Rattle.osc_programs.proofs.log.SilentLog.no_settings.Goals as goal
+
+pub returns : goal.returns
+returns c = (unread_text c.args._why.now, inl refl, λ unfailed. (refl, tt))
