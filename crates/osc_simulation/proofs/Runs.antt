@@ -1,7 +1,8 @@
 -- Runs that go on: what is left prints behind what was printed.
-use Rattle.std.proofs.Common.{◌≡◌, ◌∙◌, ap, sym, subst, refl, ℕ, ◌+◌, List, [], ◌∷◌, ◌++◌, ◌<◌, drop, get_or, suc, add-one, length, append_assoc, append-nil, Bool, Option, Some, None}
-use Rattle.std.proofs.Math.Seq.{drop-cons}
+use Rattle.std.proofs.Common.{◌≡◌, ◌∙◌, ap, sym, subst, refl, ℕ, ◌+◌, List, [], ◌∷◌, ◌++◌, ◌<◌, ◌≤◌, drop, take, get_or, suc, add-one, length, append_assoc, append-nil, Bool, Option, Some, None, Result, Err}
+use Rattle.std.proofs.Math.Seq.{drop-cons, take-suc}
 use Rattle.std.specs.Io.KnownBytes.{Appends, Keeps}
+use Rattle.std.specs.Result.{IsErrAnd}
 use Rattle.osc_script.specs.declared.line.Line.{Line}
 use Rattle.osc_simulation.specs.Names.{Names}
 use Rattle.osc_simulation.specs.Simulation.{Prints, PrintsLine}
@@ -11,18 +12,34 @@ use Rattle.osc_simulation.specs.declared.stage.Stage.{Stage}
 pub drop_item : {A : Type 0} (xs : List A) (i : ℕ) (x : A) → i < length xs → x ≡ get_or xs i x → drop i xs ≡ x ∷ drop (i + 1) xs
 drop_item xs i x lt e = rw (add-one, drop-cons xs i x lt) (ap (λ y. y ∷ drop (suc i) xs) (sym e))
 
-pub lines_more : (with_bytes : Bool) (names : Names) (before after : Stage) (left left-after : List Line) (l : Line) (text printed : List ℕ) (P : List ℕ → Stage → Type 0)
-    → left ≡ l ∷ left-after → PrintsLine with_bytes names before l printed after
-    → ((rest : List ℕ) (last : Stage) → Prints with_bytes names before left rest last → P (text ++ rest) last)
-    → (rest : List ℕ) (last : Stage) → Prints with_bytes names after left-after rest last → P ((text ++ printed) ++ rest) last
-lines_more with_bytes names before after left left-after l text printed P e prints h rest last more =
-    subst (λ whole. P whole last) (sym (append_assoc text printed rest))
-    (h (printed ++ rest) last (subst (λ ls. Prints with_bytes names before ls (printed ++ rest) last) (sym e) (printed, rest, after, prints, more, refl)))
+-- one line more
+pub one_line_more : (with_bytes : Bool) (names : Names) (lines : List Line) (l : Line) (first between last : Stage) (text more : List ℕ)
+    → Prints with_bytes names first lines text between → PrintsLine with_bytes names between l more last
+    → Prints with_bytes names first (lines ++ l ∷ []) (text ++ more) last
+one_line_more with_bytes names [] l first between last text more so_far line = (
+  more,
+  [],
+  last,
+  subst (λ stage. PrintsLine with_bytes names stage l more last) so_far.1 line,
+  (refl, refl),
+  ap (λ printed. printed ++ more) so_far.0 ∙ sym (append-nil more),
+)
+one_line_more with_bytes names (x ∷ xs) l first between last text more so_far line = (
+  so_far.0,
+  so_far.1 ++ more,
+  so_far.2,
+  so_far.3,
+  one_line_more with_bytes names xs l so_far.2 between last so_far.1 more so_far.4 line,
+  ap (λ printed. printed ++ more) so_far.5 ∙ append_assoc so_far.0 so_far.1 more,
+)
 
-pub lines_end : (with_bytes : Bool) (names : Names) (before : Stage) (left : List Line) (text : List ℕ) (P : List ℕ → Stage → Type 0)
-    → left ≡ [] → ((rest : List ℕ) (last : Stage) → Prints with_bytes names before left rest last → P (text ++ rest) last) → P text before
-lines_end with_bytes names before left text P e h =
-    subst (λ whole. P whole before) (append-nil text) (h [] before (subst (λ ls. Prints with_bytes names before ls [] before) (sym e) (refl, refl)))
+-- up to the next item
+pub take_item : {A : Type 0} (xs : List A) (i : ℕ) (d x : A) → i < length xs → x ≡ get_or xs i d → take (i + 1) xs ≡ take i xs ++ x ∷ []
+take_item xs i d x lt e = rw (add-one i, take-suc xs i d lt, e) refl
+
+-- the error by which a function ends is that of the call
+pub exit_was : {T E : Type 0} (r : Result T E) (error e : E) → IsErrAnd r (λ x. x ≡ error) → r ≡ Err e → e ≡ error
+exit_was r error e is ends = subst (λ q. IsErrAnd q (λ x. x ≡ error)) ends is
 
 -- what a writer got in two parts, and in none
 pub appends_more : (a b c : Option (List ℕ)) (xs ys : List ℕ) → Appends a b xs → Appends b c ys → Appends a c (xs ++ ys)

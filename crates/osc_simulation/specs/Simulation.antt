@@ -242,8 +242,8 @@ pub data IsFront (with_bytes : Bool) (names : Names) (first : Stage) (lines : Li
 
 -- What a trace of these lines printed that ends for want of memory: nothing, where there was none for the world, or a front.
 pub data IsCut (with_bytes : Bool) (lines : List Line) (text : List ℕ) : Type 0 where
-  unbegun : text ≡ [] → IsCut with_bytes lines text
-  begun : (first : Stage) → Begins lines first.world → IsFirst first → IsFront with_bytes (names_in lines) first lines text → IsCut with_bytes lines text
+  at_once : text ≡ [] → IsCut with_bytes lines text
+  later : (first : Stage) → Begins lines first.world → IsFirst first → IsFront with_bytes (names_in lines) first lines text → IsCut with_bytes lines text
 
 -- the same of a script's text, for whose lines there may have been none
 abbrev pub CutShort : Bool → List ℕ → List ℕ → Type 0
