@@ -1,3 +1,4 @@
+pub mod WhyUnread
 pub mod Appended
 pub mod Talking
 pub mod Taken

@@ -1,5 +1,5 @@
 //! Settings that a reader gives, and what is told where they are none.
-ghost use Rattle.std.specs.Prelude.{◌≡◌, ◌≢◌, List, ℕ, IfErr, IfOk, IfSome, MatchResult, OnOk};
+ghost use Rattle.std.specs.Prelude.{◌≡◌, ◌⊎◌, List, ℕ, IfErr, IfOk, IfSome, MatchResult, OnOk};
 ghost use Rattle.osc_programs.specs.Ended as ends;
 ghost use Rattle.osc_programs.specs.Log.{Tells};
 ghost use Rattle.osc_programs.specs.Unread as spec;
@@ -103,6 +103,7 @@ fn client_settings_in(alloc: Global, bytes: &[u8]) -> Result<ClientSettings, Set
 /// All that the reader gives.
 pub(crate) fn bytes_of<I: Read>(alloc: Global, reader: &mut I) -> Result<Vec<u8>, Ended>
     ensures bytes { IfOk result (λ bytes. IfSome (I.remaining reader.old) (λ known. bytes.items ≡ known)) }
+    ensures either { IfErr result (λ ended. (ended ≡ Ended.OutOfMemory) ⊎ (ended ≡ Ended.Failed)) }
     ensures fault { IfErr result ends.IsFault }
 {
     let mut bytes = Vec::new(alloc);
