@@ -78,9 +78,9 @@ agreed_post IsSealing before after now body draw post answer (Posts.opened nonce
 
 -- ---- one name
 
-same_name : (a b : ContextName) → a.secret ≡ b.secret → a.salt ≡ b.salt → a.id_context ≡ b.id_context → a.client_id ≡ b.client_id → a.server_id ≡ b.server_id → a ≡ b
-same_name a b secret salt id_context client_id server_id =
-    λ i. record { secret = secret i; salt = salt i; id_context = id_context i; client_id = client_id i; server_id = server_id i }
+same_name : (a b : ContextName) → a.secret ≡ b.secret → a.salt ≡ b.salt → a.id_context ≡ b.id_context → a.client_id ≡ b.client_id → a.server_id ≡ b.server_id → a.alg ≡ b.alg → a ≡ b
+same_name a b secret salt id_context client_id server_id alg =
+    λ i. record { secret = secret i; salt = salt i; id_context = id_context i; client_id = client_id i; server_id = server_id i; alg = alg i }
 
 if_short : (context : Option (List ℕ)) → ForSome context (λ bytes. length bytes ≤ 64) → IfSome context (λ bytes. length bytes ≤ 64)
 if_short None short = tt
@@ -160,6 +160,7 @@ module _ (IsSealing : List ℕ → List ℕ → List ℕ → List ℕ → List �
       (holds.id_context ∙ sym (ap (λ (c : Claims). c.material.id_context) granted.0))
       id
       (sym posted.2)
+      (holds.alg ∙ sym (ap (λ (c : Claims). c.material.alg) granted.0))
 
   abbrev ok_made : ContextName → Result ClientContextState FinishError
   ok_made n = Ok (record { name = n; next = 0 })

@@ -26,6 +26,7 @@ exchanged_name material nonce1 nonce2 server_recipient_id client_recipient_id = 
   id_context = material.id_context;
   client_id = server_recipient_id;
   server_id = client_recipient_id;
+  alg = material.alg;
 }
 
 -- the context of these claims and both ends' nonces and IDs

@@ -23,6 +23,7 @@ made_name desk begun nonce2 server_id = record {
   id_context = desk.id_context;
   client_id = server_id;
   server_id = begun.recipient_id ∷ [];
+  alg = desk.alg;
 }
 
 -- what an exchange comes to by an answer of this code and payload

@@ -9,7 +9,7 @@ use Rattle.osc_token.specs.declared.claims.Claims.{Claims}
 use Rattle.osc_authz.specs.declared.granted.ClientDesk.{ClientDesk}
 
 -- The token was minted under this key, with these claims and the scope of these entries; the client has the claims' secret,
--- salt and id context.
+-- salt, id context and algorithm.
 pub record HoldsToken (IsSealing : List ℕ → List ℕ → List ℕ → List ℕ → List ℕ → Type 0) (key : List ℕ) (claims : Claims) (entries : List Entry) (client : ClientDesk) : Type 0 where
   pub iv : List ℕ
   pub ciphertext : List ℕ
@@ -23,3 +23,4 @@ pub record HoldsToken (IsSealing : List ℕ → List ℕ → List ℕ → List �
   pub secret : client.secret ≡ claims.material.secret
   pub salt : client.salt ≡ claims.material.salt
   pub id_context : client.id_context ≡ claims.material.id_context
+  pub alg : client.alg ≡ claims.material.alg

@@ -29,6 +29,7 @@ fn name_of(
         secret,
         salt,
         id_context,
+        alg,
     } = material;
     let name = ContextName {
         secret,
@@ -36,6 +37,7 @@ fn name_of(
         id_context,
         client_id: Bytes::from_slice(alloc, &[answer.recipient_id])?,
         server_id: Bytes::from_slice(alloc, fields.client_id)?,
+        alg,
     };
     Ok((id, SharedName::new(alloc, name)?))
 }

@@ -251,6 +251,7 @@ impl ClientDesk {
             id_context: self.id_context.clone()?,
             client_id: Bytes::from_slice(alloc, server_id)?,
             server_id: Bytes::from_slice(alloc, &[exchange.recipient_id])?,
+            alg: self.alg,
         };
         let name = SharedName::new(alloc, name)?;
         let (sender, recipient) = derived(alloc, &name, Side::Client)?;

@@ -240,7 +240,7 @@ impl ServerDesk {
             recipient_id: table::free_id(&self.table, now, token, fields.client_id),
         };
         let (token, context) = context_of(alloc, claims, scope, fields, &answer)?;
-        self.table.reserve(1)?;
+        self.table.reserve_exact(1)?;
         table::add_pending(&mut self.table, now, token, context);
         Ok(answer)
     }

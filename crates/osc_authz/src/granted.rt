@@ -5,7 +5,7 @@ ghost use Rattle.std.specs.Option.{ForSome};
 ghost use Rattle.osc_authz.specs.Granted.{IsSecret, IsShort};
 
 use crate::error::GrantError;
-use osc_model::Bytes;
+use osc_model::{Algorithm, Bytes};
 use std::fmt;
 
 /// The most bytes of a secret, a salt or an id context.
@@ -21,6 +21,8 @@ pub struct ClientDesk {
     pub salt: Bytes,
     /// The id context: 0 to 64 bytes, where there is one.
     pub id_context: Option<Bytes>,
+    /// The AEAD algorithm.
+    pub alg: Algorithm,
     pub ghost secret_size: { IsSecret secret },
     pub ghost salt_size: { IsShort salt },
     pub ghost id_context_size: { ForSome id_context IsShort },
@@ -34,6 +36,7 @@ impl Drop for ClientDesk {
             secret: _,
             salt: _,
             id_context: _,
+            alg: _,
         } = self;
     }
 }
@@ -66,9 +69,10 @@ impl ClientDesk {
         secret: Bytes,
         salt: Bytes,
         id_context: Option<Bytes>,
+        alg: Algorithm,
     ) -> Result<ClientDesk, GrantError>
         ensures granted { IfOk result (λ desk. (desk.token ≡ token) × (desk.secret ≡ secret)
-            × (desk.salt ≡ salt) × (desk.id_context ≡ id_context)) }
+            × (desk.salt ≡ salt) × (desk.id_context ≡ id_context) × (desk.alg ≡ alg)) }
         ensures lawful { IsOk result ↔ (IsSecret secret × IsShort salt × ForSome id_context IsShort) }
         ensures secret { result ≡ Err GrantError.Secret → ¬ IsSecret secret }
         ensures salt { result ≡ Err GrantError.Salt → IsSecret secret × ¬ IsShort salt }
@@ -88,6 +92,7 @@ impl ClientDesk {
             secret,
             salt,
             id_context,
+            alg,
         })
     }
 }

@@ -3,7 +3,7 @@
 use osc_authz::ClientDesk;
 use osc_client::Client;
 use osc_fixtures::{drawn, place, proxy, straight};
-use osc_model::{Bytes, Moment};
+use osc_model::{Algorithm, Bytes, Moment};
 use osc_proxy::Proxy;
 use std::alloc::{AllocError, Global};
 
@@ -43,7 +43,13 @@ fn client_of(alloc: Global) -> Result<Client, AllocError> {
 fn desk_of(alloc: Global) -> Result<ClientDesk, AllocError> {
     let token = Bytes::from_slice(alloc, &[b't'; 73])?;
     let secret = Bytes::from_slice(alloc, &[b's'; 16])?;
-    match ClientDesk::new(token, secret, Bytes::new(alloc), None) {
+    match ClientDesk::new(
+        token,
+        secret,
+        Bytes::new(alloc),
+        None,
+        Algorithm::EightByteTag,
+    ) {
         Ok(desk) => Ok(desk),
         Err(_) => Err(AllocError),
     }

@@ -5,7 +5,7 @@ use crate::tokens::first_post;
 use osc_authz::ClientDesk;
 use osc_ccm::Ccm;
 use osc_fixtures::{KEY, Right, SERVER, claims, drawn, own, place};
-use osc_model::{Bytes, Draw, Method, Moment, Peer, Step};
+use osc_model::{Algorithm, Bytes, Draw, Method, Moment, Peer, Step};
 use osc_token::{Claims, MintError, mint};
 use std::alloc::{AllocError, Global};
 
@@ -148,7 +148,13 @@ fn right_of(number: u16) -> Right {
 fn desk_of(alloc: Global, number: u16) -> Result<ClientDesk, AllocError> {
     let token = token_of(alloc, number)?;
     let secret = Bytes::from_slice(alloc, &[right_of(number).secret; 16])?;
-    match ClientDesk::new(token, secret, Bytes::new(alloc), None) {
+    match ClientDesk::new(
+        token,
+        secret,
+        Bytes::new(alloc),
+        None,
+        Algorithm::EightByteTag,
+    ) {
         Ok(desk) => Ok(desk),
         Err(_) => Err(AllocError),
     }

@@ -1,8 +1,7 @@
 -- The AEAD algorithm of a security context (RFC 8613 section 3.2).
 use Rattle.osc_model.specs.declared.algorithm.Algorithm.{Algorithm}
-use Rattle.osc_model.specs.declared.algorithm.Algorithm.TheVariants.{EightByteTag}
 use Rattle.osc_model.specs.declared.context.ContextName.{ContextName}
 
--- AES-CCM-16-64-128, the mandatory one
+-- the name tells it
 abbrev pub algorithm_of : ContextName → Algorithm
-algorithm_of name = EightByteTag
+algorithm_of name = name.alg

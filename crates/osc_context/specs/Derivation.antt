@@ -1,6 +1,7 @@
 -- The security context of a name (RFC 8613 section 3.2.1).
 use Rattle.std.specs.Prelude.{ℕ, List, [], Option, Some, None, codes}
 use Rattle.osc_model.specs.Algorithm.{algorithm_number}
+use Rattle.osc_model.specs.declared.algorithm.Algorithm.{Algorithm}
 use Rattle.osc_model.specs.declared.context.ContextName.{ContextName}
 use Rattle.osc_model.specs.declared.context.Side.{Side}
 use Rattle.osc_model.specs.declared.context.Side.TheVariants.{Client, Server}
@@ -44,15 +45,16 @@ key_of name side = derived name (id_of name side) (codes "Key") 16
 abbrev pub common_iv_of : ContextName → List ℕ
 common_iv_of name = derived name [] (codes "IV") 13
 
--- what fixes the key of an end: secret, master salt, id context, and the ID under which it seals
+-- what fixes the key of an end: secret, master salt, id context, algorithm, and the ID under which it seals
 pub record KeyName : Type 0 where
   pub secret : List ℕ
   pub salt : List ℕ
   pub id_context : Option (List ℕ)
+  pub alg : Algorithm
   pub id : List ℕ
 
 abbrev pub key_name_of : ContextName → Side → KeyName
-key_name_of name side = record { secret = name.secret; salt = name.salt; id_context = name.id_context; id = id_of name side }
+key_name_of name side = record { secret = name.secret; salt = name.salt; id_context = name.id_context; alg = algorithm_of name; id = id_of name side }
 
 -- ---- contexts of one end
 

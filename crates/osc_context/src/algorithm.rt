@@ -4,10 +4,9 @@ ghost use Rattle.osc_context.specs.Algorithm.{algorithm_of as algorithm_of_name}
 
 use osc_model::{Algorithm, ContextName};
 
-/// The algorithm of the context of this name: the mandatory one for every name.
+/// The algorithm of the context of this name.
 pub fn algorithm_of(name: &ContextName) -> Algorithm
     ensures { result ≡ algorithm_of_name name.now }
 {
-    let _ = name;
-    Algorithm::EightByteTag
+    name.alg
 }

@@ -20,17 +20,17 @@ pub fn distinct_nonces()
         → nonce iv a m ≡ nonce iv b n → (a ≡ b) × (m ≡ n) }
 {}
 
-/// Secret, master salt and id context fix the common IV, and with the ID under which an end seals its key.
+/// Secret, master salt, id context and algorithm fix the common IV, and with the ID under which an end seals its key.
 pub fn one_derivation()
-    ensures common_iv { (a b : AnyName) → a.secret ≡ b.secret → a.salt ≡ b.salt → a.id_context ≡ b.id_context
+    ensures common_iv { (a b : AnyName) → a.secret ≡ b.secret → a.salt ≡ b.salt → a.id_context ≡ b.id_context → a.alg ≡ b.alg
         → common_iv_of a ≡ common_iv_of b }
     ensures key { (a b : AnyName) (x y : AnySide) → key_name_of a x ≡ key_name_of b y → key_of a x ≡ key_of b y }
 {}
 
-/// Under equal secret, master salt and id context a nonce tells the ID and the number that it is made of.
+/// Under equal secret, master salt, id context and algorithm a nonce tells the ID and the number that it is made of.
 pub fn nonces_of_a_key()
     ensures { (a b : AnyName) (x y : List ℕ) (m n : ℕ)
-        → a.secret ≡ b.secret → a.salt ≡ b.salt → a.id_context ≡ b.id_context
+        → a.secret ≡ b.secret → a.salt ≡ b.salt → a.id_context ≡ b.id_context → a.alg ≡ b.alg
         → length x ≤ longest_id → length y ≤ longest_id → m ≤ greatest_number → n ≤ greatest_number
         → nonce_of a x m ≡ nonce_of b y n → (x ≡ y) × (m ≡ n) }
 {

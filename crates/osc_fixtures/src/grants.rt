@@ -2,7 +2,7 @@
 
 use osc_authz::ClientDesk;
 use osc_ccm::Ccm;
-use osc_model::Bytes;
+use osc_model::{Algorithm, Bytes};
 use osc_token::{Audience, Claims, InputMaterial, MintError, mint};
 use std::alloc::{AllocError, Global};
 
@@ -23,19 +23,22 @@ pub struct Right {
     pub salt: &'static [u8],
     /// The id context, if there is one.
     pub id_context: Option<&'static [u8]>,
+    /// The algorithm of the client's contexts.
+    pub alg: Algorithm,
     /// Until which second, if any.
     pub expires: Option<u64>,
     /// The scope, in bytes.
     pub scope: &'static [u8],
 }
 
-/// The right of a client with a secret of its own, for ever.
+/// The right of a client with a secret of its own, under tags of 8 bytes, for ever.
 pub fn own(client: u8, scope: &'static [u8]) -> Right {
     Right {
         client,
         secret: client,
         salt: b"",
         id_context: None,
+        alg: Algorithm::EightByteTag,
         expires: None,
         scope,
     }
@@ -67,6 +70,7 @@ fn material(alloc: Global, right: Right) -> Result<InputMaterial, AllocError> {
         secret,
         salt,
         id_context,
+        alg: right.alg,
     })
 }
 
@@ -100,7 +104,7 @@ pub fn desk(alloc: Global, right: Right) -> Result<ClientDesk, AllocError> {
     let token = token(alloc, right)?;
     let (secret, salt) = keying(alloc, right)?;
     let id_context = id_context(alloc, right)?;
-    match ClientDesk::new(Bytes::from_vec(token), secret, salt, id_context) {
+    match ClientDesk::new(Bytes::from_vec(token), secret, salt, id_context, right.alg) {
         Ok(desk) => Ok(desk),
         Err(_) => Err(AllocError),
     }

@@ -1,7 +1,7 @@
 //! Names of contexts.
 ghost use Rattle.std.specs.Prelude.{◌≡◌, None, IfOk};
 
-use osc_model::{Bytes, ContextName, SharedName};
+use osc_model::{Algorithm, Bytes, ContextName, SharedName};
 use std::alloc::{AllocError, Global};
 
 /// Copies of both.
@@ -10,7 +10,8 @@ fn pair(alloc: Global, one: &[u8], other: &[u8]) -> Result<(Bytes, Bytes), Alloc
     Ok((one, Bytes::from_slice(alloc, other)?))
 }
 
-/// The name of a context of this master secret and this salt, with the client's ID and the server's, and without an id context.
+/// The name of a context of this master secret and this salt, with the client's ID and the server's, without an id context,
+/// under tags of 8 bytes.
 pub fn shared_name(
     alloc: Global,
     secret: &[u8],
@@ -28,6 +29,7 @@ pub fn shared_name(
         id_context: None,
         client_id,
         server_id,
+        alg: Algorithm::EightByteTag,
     };
     SharedName::new(alloc, name)
 }

@@ -3,6 +3,7 @@ use Rattle.std.specs.Prelude.{ℕ, ◌/◌, ◌≤◌, ◌<◌, List, Option, So
 use Rattle.std.specs.Option.{ForSome}
 use Rattle.std.specs.FinSet as set
 use Rattle.osc_model.specs.Scope.{Scope}
+use Rattle.osc_model.specs.declared.algorithm.Algorithm.{Algorithm}
 use Rattle.osc_model.specs.declared.context.ContextName.{ContextName}
 use Rattle.osc_model.specs.declared.node.Moment.{Moment}
 
@@ -12,6 +13,7 @@ pub record Grant : Type 0 where
   pub secret : List ℕ
   pub salt : List ℕ
   pub id_context : Option (List ℕ)
+  pub alg : Algorithm
   pub scope : Scope
   pub not_before : Option ℕ
   pub expires : Option ℕ

@@ -1,5 +1,6 @@
 //! Names of security contexts (RFC 8613 section 3).
 
+use crate::algorithm::Algorithm;
 use crate::bytes::Bytes;
 use std::fmt;
 
@@ -16,6 +17,8 @@ pub struct ContextName {
     pub client_id: Bytes,
     /// The server's sender ID, 0 to 7 bytes.
     pub server_id: Bytes,
+    /// The AEAD algorithm.
+    pub alg: Algorithm,
 }
 
 // Proved once, and not anew at each exit of whoever owns one.
@@ -27,6 +30,7 @@ impl Drop for ContextName {
             id_context: _,
             client_id: _,
             server_id: _,
+            alg: _,
         } = self;
     }
 }

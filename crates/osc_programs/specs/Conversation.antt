@@ -106,6 +106,7 @@ pub record IsClientOf (settings : ClientSettings) (client : Client) : Type 0 whe
   pub secret : client.desk.secret ≡ settings.secret
   pub salt : client.desk.salt ≡ settings.salt
   pub id_context : client.desk.id_context ≡ settings.context
+  pub alg : client.desk.alg ≡ settings.alg
   pub next_hop : client.next_hop ≡ settings.peer
   pub origin : option_map (λ (origin : HostAndPort). (origin.host, origin.port)) client.origin ≡ settings.origin
   pub context : client.context ≡ None

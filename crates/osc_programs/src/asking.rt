@@ -136,13 +136,14 @@ fn client_of(alloc: Global, settings: ClientSettings) -> Result<Client, Ended>
         secret,
         salt,
         context,
+        alg,
         ..
     } = settings;
     let way = Way {
         next_hop: peer,
         origin: origin_of(origin)?,
     };
-    let Ok(desk) = ClientDesk::new(token, secret, salt, context) else {
+    let Ok(desk) = ClientDesk::new(token, secret, salt, context, alg) else {
         return Err(Ended::BadSettings);
     };
     match Client::new(alloc, desk, way) {

@@ -14,10 +14,11 @@ ghost use Rattle.osc_world.specs.Starts.{Beginning};
 ghost use Rattle.osc_programs.specs.Ended as ends;
 ghost use Rattle.osc_programs.specs.Lab as spec;
 
-use crate::ended::{Ended, ended_by_io};
+use crate::ended::Ended;
 use crate::lab_berths::{Berths, bind_all};
 use crate::lab_nodes::LabNodes;
 use crate::lab_telling::{tell, tell_open};
+use crate::reading::bytes_of;
 use crate::supply::{Supply, Watch, supply_of};
 use osc_script::{ClientName, Line, Script, ScriptError, read_script};
 use osc_simulation::laws::a_script_fits;
@@ -81,11 +82,8 @@ fn script_of<I: Read>(alloc: Global, reader: &mut I) -> Result<Script, Ended>
     ensures puts { IfOk result (λ lines. CanPutAll map.empty lines) }
     ensures ends { IfErr result ends.CannotLab }
 {
-    let mut bytes = Vec::new(alloc);
-    match reader.read_to_end(&mut bytes) {
-        Ok(_) => lab_script(alloc, &bytes),
-        Err(error) => Err(ended_by_io(&error)),
-    }
+    let bytes = bytes_of(alloc, reader)?;
+    lab_script(alloc, &bytes)
 }
 
 // The script, if it has no lines but those of a lab.

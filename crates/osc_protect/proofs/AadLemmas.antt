@@ -1,11 +1,15 @@
 -- The associated data, part by part.
-use Rattle.std.proofs.Common.{◌≡◌, ℕ, ◌+◌, ◌*◌, ◌<◌, List, [], ◌∷◌, ◌++◌, length, refl, arith}
+use Rattle.std.proofs.Common.{◌≡◌, ℕ, ◌+◌, ◌*◌, ◌<◌, ◌≤◌, List, [], ◌∷◌, ◌++◌, length, refl, arith}
 use Rattle.std.proofs.lemmas.List.{append-nil, append_assoc, length-append}
+use Rattle.osc_model.specs.Algorithm.{algorithm_number}
+use Rattle.osc_model.specs.declared.algorithm.Algorithm.{Algorithm}
+use Rattle.osc_model.specs.declared.algorithm.Algorithm.TheVariants.{EightByteTag, SixteenByteTag}
 use Rattle.osc_model.specs.declared.context.ContextName.{ContextName}
-use Rattle.osc_cbor.specs.Data.{byte_string}
+use Rattle.osc_cbor.specs.Data.{byte_string, unsigned}
 use Rattle.osc_cbor.specs.Head.{head}
 use Rattle.osc_cbor.specs.Spelling.{spelling}
 use Rattle.osc_cose.specs.Encrypt0.{enc_structure}
+use Rattle.osc_context.specs.Algorithm.{algorithm_of}
 use Rattle.osc_context.specs.Nonce.{partial_iv}
 use Rattle.osc_protect.specs.Aad.{external_aad, aad_of}
 
@@ -22,10 +26,16 @@ short_string_length bytes h =
     let front = short_head_length 2 (length bytes) h in
     simp length-append (omega (arith, front))
 
+-- an algorithm's number takes two bytes at most
+pub algorithm_short : (a : Algorithm) → length (head 0 (algorithm_number a)) ≤ 2
+unfolding head
+algorithm_short EightByteTag = grind arith
+algorithm_short SixteenByteTag = grind arith
+
 -- the parts in the order in which they are written
 pub external_aad_is : (name : ContextName) (number : ℕ)
     → external_aad name number
-    ≡ (133 ∷ 1 ∷ 129 ∷ 10 ∷ []) ++ spelling (byte_string name.client_id) ++ spelling (byte_string (partial_iv number)) ++ spelling (byte_string [])
+    ≡ (133 ∷ 1 ∷ 129 ∷ []) ++ spelling (unsigned (algorithm_number (algorithm_of name))) ++ spelling (byte_string name.client_id) ++ spelling (byte_string (partial_iv number)) ++ spelling (byte_string [])
 unfolding external_aad head
 external_aad_is name number = grind (arith, append_assoc)
 

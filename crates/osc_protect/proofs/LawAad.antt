@@ -3,14 +3,16 @@ use Rattle.std.proofs.Common.{◌≡◌, ℕ, ◌+◌, ◌*◌, ◌<◌, ◌≤�
 use Rattle.std.specs.Prelude.{codes}
 use Rattle.std.proofs.lemmas.Bool.{lt-ltb}
 use Rattle.std.proofs.lemmas.List.{append_cancel_left, append_cancel_right}
+use Rattle.osc_model.specs.Algorithm.{algorithm_number}
 use Rattle.osc_model.specs.declared.context.ContextName.{ContextName}
 use Rattle.osc_cbor.specs.Data.{byte_string}
 use Rattle.osc_cbor.specs.Head.{head}
 use Rattle.osc_cbor.specs.Spelling.{spelling}
 use Rattle.osc_cose.specs.Encrypt0.{enc_structure}
+use Rattle.osc_context.specs.Algorithm.{algorithm_of}
 use Rattle.osc_context.specs.Nonce.{partial_iv}
 use Rattle.osc_protect.specs.Aad.{external_aad, aad_of}
-use Rattle.osc_protect.proofs.AadLemmas.{aad_of_is, short_string_length}
+use Rattle.osc_protect.proofs.AadLemmas.{aad_of_is, algorithm_short, short_string_length}
 use Rattle.osc_protect.proofs.ValuePartialIv.{partial_iv-short, one_number}
 
 head_small : (major n : ℕ) → n < 24 → head major n ≡ (32 * major + n) ∷ []
@@ -36,7 +38,7 @@ unfolding external_aad
 one_external name m n e =
     let a = append_cancel_left (head 4 5) _ _ e in
     let b = append_cancel_left (head 0 1) _ _ a in
-    let c = append_cancel_left (head 4 1 ++ (head 0 10 ++ [])) _ _ b in
+    let c = append_cancel_left (head 4 1 ++ (head 0 (algorithm_number (algorithm_of name)) ++ [])) _ _ b in
     let d = append_cancel_left (head 2 (length name.client_id) ++ name.client_id) _ _ c in
     let same = append_cancel_right (head 2 (length (partial_iv m)) ++ partial_iv m) (head 2 (length (partial_iv n)) ++ partial_iv n) ((head 2 0 ++ []) ++ []) d in
     one_number m n (one_string (partial_iv m) (partial_iv n) (omega (arith, partial_iv-short m)) (omega (arith, partial_iv-short n)) same)
@@ -44,23 +46,23 @@ one_external name m n e =
 length-six : (a b c d e f : List ℕ) → length (a ++ (b ++ (c ++ (d ++ (e ++ f))))) ≡ length a + (length b + (length c + (length d + (length e + length f))))
 length-six a b c d e f = simp length-append
 
-external_short : (name : ContextName) (n : ℕ) → length name.client_id ≤ 7 → length (external_aad name n) ≤ 19
+external_short : (name : ContextName) (n : ℕ) → length name.client_id ≤ 7 → length (external_aad name n) ≤ 20
 unfolding external_aad
 external_short name n id =
     let piv = partial_iv-short n in
-    let total = length-six (head 4 5) (head 0 1) (head 4 1 ++ (head 0 10 ++ [])) (head 2 (length name.client_id) ++ name.client_id) (head 2 (length (partial_iv n)) ++ partial_iv n) ((head 2 0 ++ []) ++ []) in
-    let middle = length-append (head 4 1) (head 0 10 ++ []) in
+    let total = length-six (head 4 5) (head 0 1) (head 4 1 ++ (head 0 (algorithm_number (algorithm_of name)) ++ [])) (head 2 (length name.client_id) ++ name.client_id) (head 2 (length (partial_iv n)) ++ partial_iv n) ((head 2 0 ++ []) ++ []) in
+    let middle = length-append (head 4 1) (head 0 (algorithm_number (algorithm_of name)) ++ []) in
     omega (
       arith,
       total,
       middle,
-      length-append (head 0 10) [],
+      length-append (head 0 (algorithm_number (algorithm_of name))) [],
       length-append (head 2 0 ++ []) [],
       length-append (head 2 0) [],
       head_length 4 5 (omega arith),
       head_length 0 1 (omega arith),
       head_length 4 1 (omega arith),
-      head_length 0 10 (omega arith),
+      algorithm_short (algorithm_of name),
       head_length 2 0 (omega arith),
       string_length name.client_id (omega arith),
       string_length (partial_iv n) (omega arith),
@@ -78,7 +80,7 @@ one_aad name m n id e =
     one_external name m n (one_string (external_aad name m) (external_aad name n) (omega (arith, external_short name m id)) (omega (arith, external_short name n id)) same)
 
 -- how many bytes it has at most
-pub aad_short : (name : ContextName) (n : ℕ) → length name.client_id ≤ 7 → length (aad_of name n) ≤ 31
+pub aad_short : (name : ContextName) (n : ℕ) → length name.client_id ≤ 7 → length (aad_of name n) ≤ 32
 aad_short name n id =
     let external = external_short name n id in
     let string = spelling (byte_string (external_aad name n)) in

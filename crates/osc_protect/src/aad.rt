@@ -2,22 +2,24 @@
 
 ghost use Rattle.std.specs.Prelude.{◌≡◌, ◌+◌, ◌≤◌, ◌<◌, ◌++◌, length};
 ghost use Rattle.arrayvec.specs.ArrayVec.{array_vec_len};
-ghost use Rattle.osc_cbor.specs.Data.{byte_string};
+ghost use Rattle.osc_model.specs.Algorithm.{algorithm_number};
+ghost use Rattle.osc_cbor.specs.Data.{byte_string, unsigned};
 ghost use Rattle.osc_cbor.specs.Spelling.{spelling};
+ghost use Rattle.osc_context.specs.Algorithm.{algorithm_of as algorithm};
 ghost use Rattle.osc_context.specs.Nonce.{longest_id, greatest_number};
 ghost use Rattle.osc_protect.specs.Aad.{external_aad as external, aad_of};
 
 use arrayvec::ArrayVec;
 use osc_cbor::{Major, head};
-use osc_context::partial_iv_of;
+use osc_context::{algorithm_of, partial_iv_of};
 use osc_model::ContextName;
 
-/// The most bytes of the associated data: 11 stand before the external one, which has a head of one byte, and at most 19: 4
+/// The most bytes of the associated data: 11 stand before the external one, which has a head of one byte, and at most 20: 5
 /// for the version and the algorithm, 8 for the ID, 6 for the Partial IV, and one for no options.
-pub(crate) const AAD_LENGTH: usize = 31;
+pub(crate) const AAD_LENGTH: usize = 32;
 
-/// The head of an array of five items, version 1, and an array of one algorithm, number 10.
-const BEGINNING: [u8; 4] = [0x85, 1, 0x81, 10];
+/// The head of an array of five items, version 1, and the head of an array of one algorithm.
+const BEGINNING: [u8; 3] = [0x85, 1, 0x81];
 
 /// The head of an array of three items, the context "Encrypt0", and an empty protected header (RFC 9052 section 5.3).
 const STRUCTURE: [u8; 11] = *b"\x83\x68Encrypt0\x40";
@@ -34,15 +36,26 @@ fn append_string(bytes: &[u8], out: &mut ArrayVec<u8, AAD_LENGTH>)
     out.try_extend_from_slice(bytes).unwrap();
 }
 
+/// Appends the number of the context's algorithm, for which there is room.
+fn append_algorithm(name: &ContextName, out: &mut ArrayVec<u8, AAD_LENGTH>)
+    requires room { length out.old.items + 2 ≤ AAD_LENGTH }
+    ensures value { out.new.items ≡ out.old.items ++ spelling (unsigned (algorithm_number (algorithm name.now))) }
+    ensures length { length out.new.items ≤ length out.old.items + 2 }
+{
+    let head = head(Major::Unsigned, algorithm_of(name).number());
+    out.try_extend_from_slice(head.as_slice()).unwrap();
+}
+
 /// The external associated data.
 pub(crate) fn external_aad(name: &ContextName, number: u64) -> ArrayVec<u8, AAD_LENGTH>
     requires id { length name.now.client_id ≤ longest_id }
     requires number { number ≤ greatest_number }
     ensures value { result.items ≡ external name.now number }
-    ensures short { length result.items ≤ 19 }
+    ensures short { length result.items ≤ 20 }
 {
     let mut out = ArrayVec::new();
     out.try_extend_from_slice(&BEGINNING).unwrap();
+    append_algorithm(name, &mut out);
     append_string(name.client_id.as_slice(), &mut out);
     append_string(partial_iv_of(number).as_slice(), &mut out);
     append_string(&[], &mut out);

@@ -62,6 +62,7 @@ pub(crate) fn outer_message(
 
 /// The message with this code and option value, still without its payload, and what is sealed of it; `None` exactly where the
 /// protected message is longer than a datagram may be, with the tag of this algorithm.
+#[inline(never)]
 pub(crate) fn split<A: Ciphers>(
     algorithm: Algorithm,
     message: &MessageRef<'_>,
@@ -98,7 +99,7 @@ struct Sealing<'a, A> {
 
 impl<A: Ciphers> PayloadWriter for Sealing<'_, A> {
     ghost can_write = { λ sealing size. (size ≡ length sealing.text.now + A.TAG sealing.algorithm) × (size ≤ longest_message)
-        × (length sealing.aad.now ≤ 31) };
+        × (length sealing.aad.now ≤ 32) };
 
     ghost is_written = { λ sealing sealed.
         A.is_sealing sealing.algorithm sealing.key.now sealing.nonce.now sealing.aad.now sealing.text.now sealed };
@@ -128,7 +129,7 @@ fn seal_payload<A: Ciphers>(
     requires code { 0 < message.old.code }
     requires payload { message.old.payload ≡ None }
     requires fits { length (spelling (with_payload message.old (replicate (length text.now + A.TAG algorithm) 0))) ≤ longest_message }
-    requires aad { length aad.now ≤ 31 }
+    requires aad { length aad.now ≤ 32 }
     ensures { (sealed : List ℕ)
         × A.is_sealing algorithm key.now nonce.now aad.now text.now sealed
         × (message.new ≡ with_payload message.old sealed) }

@@ -33,7 +33,7 @@ pub record Laws : Type 0 where
       → IfSome reply.etag (λ tag. length tag ≡ 8) → IfSome reply.format (λ format. format < 65536)
       → reply_in (reply_plaintext reply) ≡ Some reply
   pub nonces_of_a_key : (a b : ContextName) (x y : List ℕ) (m n : ℕ)
-      → a.secret ≡ b.secret → a.salt ≡ b.salt → a.id_context ≡ b.id_context
+      → a.secret ≡ b.secret → a.salt ≡ b.salt → a.id_context ≡ b.id_context → a.alg ≡ b.alg
       → length x ≤ longest_id → length y ≤ longest_id → m ≤ greatest_number → n ≤ greatest_number
       → nonce_of a x m ≡ nonce_of b y n → (x ≡ y) × (m ≡ n)
   pub one_master_salt : (salt nonce1 nonce2 other other1 other2 : List ℕ)

@@ -79,6 +79,7 @@ module _ (key text audience : List ℕ) (now : Moment) (claims : Claims) (lawful
     secret = claims.material.secret;
     salt = claims.material.salt;
     id_context = claims.material.id_context;
+    alg = claims.material.alg;
     scope = scope;
     not_before = claims.not_before;
     expires = claims.expires;
@@ -91,6 +92,7 @@ module _ (key text audience : List ℕ) (now : Moment) (claims : Claims) (lawful
     secret = claims.material.secret;
     salt = claims.material.salt;
     id_context = claims.material.id_context;
+    alg = claims.material.alg;
     secret_size = lawful.secret;
     salt_size = lawful.salt;
     id_context_size = lawful.id_context;

@@ -90,7 +90,7 @@ one_request : Laws → (a b : Note) (m n : ℕ) → IsLawfulName a.context → I
     → a.nonce ≡ request_nonce a.context m → b.nonce ≡ request_nonce b.context n → HasKeyAndNonceOf a b → (a.context.client_id ≡ b.context.client_id) × (m ≡ n)
 one_request laws a b m n short other few less is are same =
     laws.nonces_of_a_key a.context b.context a.context.client_id b.context.client_id m n
-    (ap (λ (k : KeyName). k.secret) same.key) (ap (λ (k : KeyName). k.salt) same.key) (ap (λ (k : KeyName). k.id_context) same.key)
+    (ap (λ (k : KeyName). k.secret) same.key) (ap (λ (k : KeyName). k.salt) same.key) (ap (λ (k : KeyName). k.id_context) same.key) (ap (λ (k : KeyName). k.alg) same.key)
     short.short other.short few less (sym is ∙ same.nonce ∙ are)
 
 -- ---- the server's seals

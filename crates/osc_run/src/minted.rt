@@ -48,6 +48,7 @@ impl Model for Grant {
       secret = g.material.secret;
       salt = g.material.salt;
       id_context = g.material.id_context;
+      alg = g.material.alg;
       scope = g.scope;
       not_before = g.not_before;
       expires = g.expires;

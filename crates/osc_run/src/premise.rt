@@ -10,7 +10,7 @@ ghost use Rattle.osc_run.specs.States.{Minted as MintedGrant};
 
 use crate::minted::Minted;
 use crate::noted::Noted;
-use osc_model::{Bytes, ContextName, Note, Side};
+use osc_model::{Algorithm, Bytes, ContextName, Note, Side};
 
 // ---- genuine
 
@@ -48,14 +48,14 @@ fn is_genuine_opening(minted: &[Minted], earlier: &[Noted], opening: &Note) -> b
     }
 }
 
-/// Whether a token was opened: by the server, under a name with a secret alone.
+/// Whether a token was opened: by the server, under a name with a secret alone and the algorithm of tokens.
 fn is_of_token(opening: &Note) -> bool
     ensures { IsTrue result ↔ IsOfToken opening.now }
 {
     opening.side == Side::Server && has_a_secret_alone(&opening.context)
 }
 
-/// Whether a name has a secret and nothing else.
+/// Whether a name has a secret, the algorithm of tokens and nothing else.
 fn has_a_secret_alone(name: &ContextName) -> bool
     ensures { IsTrue result ↔ name.now ≡ token_name name.now.secret }
 {
@@ -63,6 +63,7 @@ fn has_a_secret_alone(name: &ContextName) -> bool
         && name.id_context.is_none()
         && name.client_id.is_empty()
         && name.server_id.is_empty()
+        && name.alg == Algorithm::EightByteTag
 }
 
 /// Whether the text was sealed into the token of a grant.

@@ -1,9 +1,11 @@
 -- Words say a grant exactly where one is read, and it is that one.
-use Rattle.std.proofs.Common.{◌≡◌, ℕ, ◌≤◌, ◌<◌, true, false, List, [], ◌∷◌, ◌++◌, length, get_or, map, take, drop, Option, Some, None, Bor, codes, refl, sym, ap, subst, ◌∙◌, arith, bytes_eq, nat_le, leb-true, le-leb, take-append-drop}
+use Rattle.std.proofs.Common.{◌≡◌, ℕ, ◌≤◌, ◌<◌, true, false, List, [], ◌∷◌, ◌++◌, length, get_or, map, take, drop, Option, Some, None, Bor, codes, refl, sym, ap, subst, ◌∙◌, arith, bytes_eq, nat_le, leb-true, le-leb, take-append-drop, append-nil}
 use Rattle.std.specs.Prelude.{IsTrue, ◌↔◌}
 use Rattle.std.proofs.lemmas.Slice.Eq.{bytes_eq-Decides}
 use Rattle.osc_cbor.specs.Data.{array}
 use Rattle.osc_cbor.specs.Spelling.{spelling}
+use Rattle.osc_model.specs.declared.algorithm.Algorithm.{Algorithm}
+use Rattle.osc_model.specs.declared.algorithm.Algorithm.TheVariants.{EightByteTag, SixteenByteTag}
 use Rattle.osc_scope.specs.Entries.{entry_items}
 use Rattle.osc_scope.specs.Text.{Written, entry_of}
 use Rattle.osc_token.specs.Minted.{most_claims}
@@ -15,9 +17,10 @@ use Rattle.osc_script.specs.declared.line.Line.TheVariants.{Skipped, Put, Open, 
 use Rattle.osc_script.specs.Grants.{claims_of}
 use Rattle.osc_script.specs.Node.{client_name}
 use Rattle.osc_script.specs.Values.{SpellsNumber, SpellsScope}
-use Rattle.osc_script.specs.Words.{SpellsDate}
+use Rattle.osc_script.specs.Words.{SpellsDate, SpellsAlgorithm}
 use Rattle.osc_script.specs.Line.{Say}
-use Rattle.osc_script.specs.Reading.{◌>>=◌, number_in, date_in, one_date, dates_in, client_in}
+use Rattle.osc_script.specs.Reading.{◌>>=◌, number_in, date_in, one_date, dates_in, algorithm_in, client_in}
+use Rattle.osc_script.proofs.AlgorithmWords.{algorithm_found, algorithm_last}
 use Rattle.osc_script.proofs.Found.{step_found, test_held}
 use Rattle.osc_script.proofs.Numbers.{number_found, number_again}
 use Rattle.osc_script.proofs.Nodes.{client_found, client_again}
@@ -105,10 +108,34 @@ dates_again words (Some n) (Some m) s =
     let is : words ≡ (codes "nbf=" ++ s.3.0) ∷ (codes "exp=" ++ s.4.0) ∷ [] = s.2 ∙ rw (s.3.1, s.4.1) refl in
     ap dates_in is ∙ rw (begins_again s.3.0 n s.3.2, ends_again s.4.0 m s.4.2) refl
 
+-- ---- algorithms
+
+-- dates say none
+no_algorithm : (words : List (List ℕ)) (not_before expires : Option ℕ) → SpellDates words not_before expires → algorithm_in words ≡ (words, EightByteTag)
+unfolding algorithm_in
+no_algorithm words None None s =
+    let is : words ≡ [] = s.2 ∙ rw (s.3, s.4) refl in
+    rw is refl
+no_algorithm words (Some n) None s =
+    let is : words ≡ (codes "nbf=" ++ s.3.0) ∷ [] = s.2 ∙ rw (s.3.1, s.4) refl in
+    rw is refl
+no_algorithm words None (Some m) s =
+    let is : words ≡ (codes "exp=" ++ s.4.0) ∷ [] = s.2 ∙ rw (s.3, s.4.1) refl in
+    rw is refl
+no_algorithm words (Some n) (Some m) s =
+    let is : words ≡ (codes "nbf=" ++ s.3.0) ∷ (codes "exp=" ++ s.4.0) ∷ [] = s.2 ∙ rw (s.3.1, s.4.1) refl in
+    rw is refl
+
+-- what is said behind dates
+algorithm_again : (words last : List (List ℕ)) (not_before expires : Option ℕ) (alg : Algorithm) → SpellDates words not_before expires → SpellsAlgorithm last alg → algorithm_in (words ++ last) ≡ (words, alg)
+algorithm_again words last not_before expires EightByteTag s a =
+    ap (λ (ws : List (List ℕ)). algorithm_in (words ++ ws)) a ∙ ap algorithm_in (append-nil words) ∙ no_algorithm words not_before expires s
+algorithm_again words last not_before expires SixteenByteTag s a = ap (λ (ws : List (List ℕ)). algorithm_in (words ++ ws)) a ∙ algorithm_last words
+
 -- ---- grants
 
-abbrev pub can_be_sealed : List ℕ → Option ℕ → Option ℕ → Type 0
-can_be_sealed scope not_before expires = length (spelling (claims_item (claims_of 1 scope not_before expires))) ≤ most_claims
+abbrev pub can_be_sealed : List ℕ → Option ℕ → Option ℕ → Algorithm → Type 0
+can_be_sealed scope not_before expires alg = length (spelling (claims_item (claims_of 1 scope not_before expires alg))) ≤ most_claims
 
 -- what a grant's words come to
 pub record GrantSaid (args : List (List ℕ)) (line : Line) : Type 0 where
@@ -119,12 +146,15 @@ pub record GrantSaid (args : List (List ℕ)) (line : Line) : Type 0 where
   pub scope : List ℕ
   pub not_before : Option ℕ
   pub expires : Option ℕ
+  pub before : List (List ℕ)
+  pub alg : Algorithm
   pub whole : args ≡ name ∷ text ∷ rest
   pub is_client : client_in name ≡ Some client
   pub is_scope : SpellsScope text scope
-  pub dates : dates_in rest ≡ Some (not_before, expires)
-  pub short : can_be_sealed scope not_before expires
-  pub is : line ≡ Grant client scope not_before expires
+  pub algorithm : algorithm_in rest ≡ (before, alg)
+  pub dates : dates_in before ≡ Some (not_before, expires)
+  pub short : can_be_sealed scope not_before expires alg
+  pub is : line ≡ Grant client scope not_before expires alg
 
 tail_is : (x y : List ℕ) (xs ys : List (List ℕ)) → x ∷ xs ≡ y ∷ ys → xs ≡ ys
 tail_is x y xs ys e = cc
@@ -139,19 +169,22 @@ pub grant_only : (args : List (List ℕ)) (line : Line) → Say (codes "grant" �
 grant_only args Skipped s = absurd s
 grant_only args (Put path resource) s = absurd (differ (codes "grant") (codes "put") refl (head_is _ _ _ _ s.2))
 grant_only args (Open path) s = absurd (differ (codes "grant") (codes "open") refl (head_is _ _ _ _ s.0))
-grant_only args (Grant client scope not_before expires) s = record {
+grant_only args (Grant client scope not_before expires alg) s = record {
   client = client;
   name = client_name client;
   text = s.0;
-  rest = s.1 ++ s.2;
+  rest = s.1 ++ s.2 ++ s.3;
   scope = scope;
   not_before = not_before;
   expires = expires;
-  whole = tail_is _ _ _ _ s.3;
+  before = s.1 ++ s.2;
+  alg = alg;
+  whole = tail_is _ _ _ _ s.4;
   is_client = client_again client;
-  is_scope = s.4;
-  dates = dates_again (s.1 ++ s.2) not_before expires (s.1, s.2, refl, s.5, s.6);
-  short = s.7;
+  is_scope = s.5;
+  algorithm = algorithm_again (s.1 ++ s.2) s.3 not_before expires alg (s.1, s.2, refl, s.6, s.7) s.8;
+  dates = dates_again (s.1 ++ s.2) not_before expires (s.1, s.2, refl, s.6, s.7);
+  short = s.9;
   is = refl;
 }
 grant_only args (Proxy proxy) s = absurd (differ (codes "grant") (codes "proxy") refl (head_is _ _ _ _ s))
@@ -197,10 +230,14 @@ rest_is a b c d xs ys e = cc
 text_is : (a b c d : List ℕ) (xs ys : List (List ℕ)) → a ∷ b ∷ xs ≡ c ∷ d ∷ ys → d ≡ b
 text_is a b c d xs ys e = cc
 
-pub bad_dates : (name text : List ℕ) (rest : List (List ℕ)) (line : Line) → None ≡ dates_in rest → Say (codes "grant" ∷ name ∷ text ∷ rest) line → ⊥
-bad_dates name text rest line none s =
+-- the words before the algorithm, and the algorithm
+parts_are : (name text : List ℕ) (rest before : List (List ℕ)) (alg : Algorithm) (line : Line) (g : GrantSaid (name ∷ text ∷ rest) line) → (before, alg) ≡ algorithm_in rest → ◌≡◌ {A = List (List ℕ) × Algorithm} (before, alg) (g.before, g.alg)
+parts_are name text rest before alg line g is = is ∙ ap algorithm_in (rest_is _ _ _ _ _ _ g.whole) ∙ g.algorithm
+
+pub bad_dates : (name text : List ℕ) (rest before : List (List ℕ)) (alg : Algorithm) (line : Line) → (before, alg) ≡ algorithm_in rest → None ≡ dates_in before → Say (codes "grant" ∷ name ∷ text ∷ rest) line → ⊥
+bad_dates name text rest before alg line is none s =
     let g = grant_only (name ∷ text ∷ rest) line s in
-    let same : rest ≡ g.rest = rest_is _ _ _ _ _ _ g.whole in
+    let same : before ≡ g.before = ap (λ (found : List (List ℕ) × Algorithm). found.0) (parts_are name text rest before alg line g is) in
     let no : None ≡ Some (g.not_before, g.expires) = none ∙ ap dates_in same ∙ g.dates in
     absurd cc
 
@@ -209,21 +246,25 @@ bad_scope name text rest line none s =
     let g = grant_only (name ∷ text ∷ rest) line s in
     none g.scope (subst (λ (t : List ℕ). SpellsScope t g.scope) (text_is _ _ _ _ _ _ g.whole) g.is_scope)
 
-pub too_long : (name text : List ℕ) (rest : List (List ℕ)) (line : Line) (scope : List ℕ) (not_before expires : Option ℕ) → SpellsScope text scope → Some (not_before, expires) ≡ dates_in rest
-    → (can_be_sealed scope not_before expires → ⊥) → Say (codes "grant" ∷ name ∷ text ∷ rest) line → ⊥
-too_long name text rest line scope not_before expires sc dates long s =
+pub too_long : (name text : List ℕ) (rest before : List (List ℕ)) (alg : Algorithm) (line : Line) (scope : List ℕ) (not_before expires : Option ℕ) → SpellsScope text scope → (before, alg) ≡ algorithm_in rest
+    → Some (not_before, expires) ≡ dates_in before → (can_be_sealed scope not_before expires alg → ⊥) → Say (codes "grant" ∷ name ∷ text ∷ rest) line → ⊥
+too_long name text rest before alg line scope not_before expires sc is dates long s =
     let g = grant_only (name ∷ text ∷ rest) line s in
     let same : g.scope ≡ scope = one_scope text g.scope scope (subst (λ (t : List ℕ). SpellsScope t g.scope) (text_is _ _ _ _ _ _ g.whole) g.is_scope) sc in
-    let ds : (g.not_before, g.expires) ≡ (not_before, expires) = dates_is (g.not_before, g.expires) (not_before, expires) (sym g.dates ∙ sym (ap dates_in (rest_is _ _ _ _ _ _ g.whole)) ∙ sym dates) in
-    long (subst (λ (ds : Option ℕ × Option ℕ). can_be_sealed scope ds.0 ds.1) ds (subst (λ (sc : List ℕ). can_be_sealed sc g.not_before g.expires) same g.short))
+    let parts : (g.before, g.alg) ≡ (before, alg) = sym (parts_are name text rest before alg line g is) in
+    let ds : (g.not_before, g.expires) ≡ (not_before, expires) = dates_is (g.not_before, g.expires) (not_before, expires) (sym g.dates ∙ ap (λ (found : List (List ℕ) × Algorithm). dates_in found.0) parts ∙ sym dates) in
+    let short : can_be_sealed scope g.not_before g.expires g.alg = subst (λ (sc : List ℕ). can_be_sealed sc g.not_before g.expires g.alg) same g.short in
+    long (subst (λ (found : List (List ℕ) × Algorithm). can_be_sealed scope not_before expires found.1) parts (subst (λ (ds : Option ℕ × Option ℕ). can_be_sealed scope ds.0 ds.1 g.alg) ds short))
 
-pub grant_says : (name text : List ℕ) (rest : List (List ℕ)) (client : ClientName) (scope : List ℕ) (not_before expires : Option ℕ) → Some client ≡ client_in name → SpellsScope text scope
-    → Some (not_before, expires) ≡ dates_in rest → can_be_sealed scope not_before expires → Say (codes "grant" ∷ name ∷ text ∷ rest) (Grant client scope not_before expires)
-grant_says name text rest client scope not_before expires c sc dates short =
-    let d = dates_found rest (not_before, expires) (sym dates) in
-    let words : codes "grant" ∷ name ∷ text ∷ rest ≡ codes "grant" ∷ client_name client ∷ text ∷ (d.0 ++ d.1) =
-    ap (λ (w : List ℕ). codes "grant" ∷ w ∷ text ∷ rest) (client_found name client (sym c)) ∙ ap (λ (ws : List (List ℕ)). codes "grant" ∷ client_name client ∷ text ∷ ws) d.2 in
-    (text, d.0, d.1, words, sc, d.3, d.4, short)
+pub grant_says : (name text : List ℕ) (rest before : List (List ℕ)) (alg : Algorithm) (client : ClientName) (scope : List ℕ) (not_before expires : Option ℕ) → Some client ≡ client_in name → SpellsScope text scope
+    → (before, alg) ≡ algorithm_in rest → Some (not_before, expires) ≡ dates_in before → can_be_sealed scope not_before expires alg → Say (codes "grant" ∷ name ∷ text ∷ rest) (Grant client scope not_before expires alg)
+grant_says name text rest before alg client scope not_before expires c sc is dates short =
+    let a = algorithm_found rest before alg is in
+    let d = dates_found before (not_before, expires) (sym dates) in
+    let behind : rest ≡ d.0 ++ d.1 ++ a.0 = a.1 ∙ ap (λ (ws : List (List ℕ)). ws ++ a.0) d.2 in
+    let words : codes "grant" ∷ name ∷ text ∷ rest ≡ codes "grant" ∷ client_name client ∷ text ∷ (d.0 ++ d.1 ++ a.0) =
+    ap (λ (w : List ℕ). codes "grant" ∷ w ∷ text ∷ rest) (client_found name client (sym c)) ∙ ap (λ (ws : List (List ℕ)). codes "grant" ∷ client_name client ∷ text ∷ ws) behind in
+    (text, d.0, d.1, a.0, words, sc, d.3, d.4, a.2, short)
 
 -- words say one grant
 pub one_grant : (args : List (List ℕ)) (line other : Line) → Say (codes "grant" ∷ args) line → Say (codes "grant" ∷ args) other → line ≡ other
@@ -234,19 +275,22 @@ one_grant args line other s t =
     let name : g.name ≡ h.name = head_is _ _ _ _ whole in
     let client : Some g.client ≡ Some h.client = sym g.is_client ∙ ap client_in name ∙ h.is_client in
     let scope : g.scope ≡ h.scope = one_scope g.text g.scope h.scope g.is_scope (subst (λ (t : List ℕ). SpellsScope t h.scope) (text_is _ _ _ _ _ _ whole) h.is_scope) in
-    let dates : (g.not_before, g.expires) ≡ (h.not_before, h.expires) = dates_is (g.not_before, g.expires) (h.not_before, h.expires) (sym g.dates ∙ ap dates_in (rest_is _ _ _ _ _ _ whole) ∙ h.dates) in
+    let parts : (g.before, g.alg) ≡ (h.before, h.alg) = sym g.algorithm ∙ ap algorithm_in (rest_is _ _ _ _ _ _ whole) ∙ h.algorithm in
+    let dates : (g.not_before, g.expires) ≡ (h.not_before, h.expires) =
+    dates_is (g.not_before, g.expires) (h.not_before, h.expires) (sym g.dates ∙ ap (λ (found : List (List ℕ) × Algorithm). dates_in found.0) parts ∙ h.dates) in
     let begins : g.not_before ≡ h.not_before = ap (λ (ds : Option ℕ × Option ℕ). ds.0) dates in
     let ends : g.expires ≡ h.expires = ap (λ (ds : Option ℕ × Option ℕ). ds.1) dates in
+    let algs : g.alg ≡ h.alg = ap (λ (found : List (List ℕ) × Algorithm). found.1) parts in
     let clients : g.client ≡ h.client = client_is g.client h.client client in
-    g.is ∙ ap (λ (c : ClientName). Grant c g.scope g.not_before g.expires) clients ∙ ap (λ (sc : List ℕ). Grant h.client sc g.not_before g.expires) scope
-    ∙ ap (λ (b : Option ℕ). Grant h.client h.scope b g.expires) begins ∙ ap (λ (e : Option ℕ). Grant h.client h.scope h.not_before e) ends ∙ sym h.is
+    g.is ∙ ap (λ (c : ClientName). Grant c g.scope g.not_before g.expires g.alg) clients ∙ ap (λ (sc : List ℕ). Grant h.client sc g.not_before g.expires g.alg) scope
+    ∙ ap (λ (b : Option ℕ). Grant h.client h.scope b g.expires g.alg) begins ∙ ap (λ (e : Option ℕ). Grant h.client h.scope h.not_before e g.alg) ends ∙ ap (Grant h.client h.scope h.not_before h.expires) algs ∙ sym h.is
   where
     client_is : (x y : ClientName) → Some x ≡ Some y → x ≡ y
     client_is x y e = cc
 
 -- the test of their length
-pub sealed_by : (len : ℕ) (text scope : List ℕ) (not_before expires : Option ℕ) (claims : Claims) → len ≡ length text → text ≡ spelling (claims_item claims) → claims ≡ claims_of 1 scope not_before expires
-    → (IsTrue (nat_le len 65535) ↔ can_be_sealed scope not_before expires)
-sealed_by len text scope not_before expires claims l t c =
-    let same : len ≡ length (spelling (claims_item (claims_of 1 scope not_before expires))) = l ∙ ap length t ∙ ap (λ (cs : Claims). length (spelling (claims_item cs))) c in
+pub sealed_by : (len : ℕ) (text scope : List ℕ) (not_before expires : Option ℕ) (alg : Algorithm) (claims : Claims) → len ≡ length text → text ≡ spelling (claims_item claims) → claims ≡ claims_of 1 scope not_before expires alg
+    → (IsTrue (nat_le len 65535) ↔ can_be_sealed scope not_before expires alg)
+sealed_by len text scope not_before expires alg claims l t c =
+    let same : len ≡ length (spelling (claims_item (claims_of 1 scope not_before expires alg))) = l ∙ ap length t ∙ ap (λ (cs : Claims). length (spelling (claims_item cs))) c in
     (λ yes_. subst (λ (n : ℕ). n ≤ 65535) same (leb-true len 65535 yes_), λ le. le-leb len 65535 (subst (λ (n : ℕ). n ≤ 65535) (sym same) le))

@@ -4,6 +4,7 @@ pub mod Hexadecimal
 pub mod Payloads
 pub mod Nodes
 pub mod Requests
+pub mod AlgorithmWords
 pub mod ChangeWords
 pub mod ScopeTexts
 pub mod GrantWords

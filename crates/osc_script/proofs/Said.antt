@@ -188,7 +188,7 @@ say_found (verb ∷ args) line e has = line_said verb args line e has
 
 -- a line that is no grant
 abbrev pub IsPlain : Line → Type 0
-IsPlain (Grant client scope not_before expires) = ⊥
+IsPlain (Grant client scope not_before expires alg) = ⊥
 IsPlain line = Unit {0}
 
 pub say_again : (words : List (List ℕ)) (line : Line) → IsPlain line → Say words line → (read_of words ≡ Some line) × HasPath line
@@ -198,7 +198,7 @@ say_again words (Put path resource) p s =
     let short = short_again longest_payload s.1 resource.payload (bytes_again s.1 resource.payload s.5) s.6 in
     (ap read_of s.2 ∙ rw (format_again s.0 resource.format s.4, short) refl, s.3)
 say_again words (Open path) p s = (ap read_of s.0, s.1)
-say_again words (Grant client scope not_before expires) p s = absurd p
+say_again words (Grant client scope not_before expires alg) p s = absurd p
 say_again words (Proxy proxy) p s = (ap read_of s ∙ rw (proxy_again proxy) refl, tt)
 say_again words (Via client proxy) p s = (ap read_of s ∙ rw (client_again client, proxy_again proxy) refl, tt)
 say_again words (At moment) p s = (ap read_of s.1 ∙ rw (number_again s.0 moment.ms s.2, moment_again moment) refl, tt)
@@ -269,7 +269,7 @@ pub plain : (verb : List ℕ) (args : List (List ℕ)) → (verb ≡ codes "gran
 plain verb args other Skipped s = tt
 plain verb args other (Put path resource) s = tt
 plain verb args other (Open path) s = tt
-plain verb args other (Grant client scope not_before expires) s = other (verb_is verb (codes "grant") args _ s.3)
+plain verb args other (Grant client scope not_before expires alg) s = other (verb_is verb (codes "grant") args _ s.4)
   where
     verb_is : (x y : List ℕ) (xs ys : List (List ℕ)) → x ∷ xs ≡ y ∷ ys → x ≡ y
     verb_is x y xs ys e = cc
@@ -298,7 +298,7 @@ no_words line s = let read = say_again [] line (no_grant line s) s in let no : N
     no_grant Skipped s = tt
     no_grant (Put path resource) s = tt
     no_grant (Open path) s = tt
-    no_grant (Grant client scope not_before expires) s = let no : [] ≡ codes "grant" ∷ _ = s.3 in absurd cc
+    no_grant (Grant client scope not_before expires alg) s = let no : [] ≡ codes "grant" ∷ _ = s.4 in absurd cc
     no_grant (Proxy proxy) s = tt
     no_grant (Via client proxy) s = tt
     no_grant (At moment) s = tt

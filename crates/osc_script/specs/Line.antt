@@ -14,7 +14,7 @@ use Rattle.osc_token.specs.Token.{claims_item}
 use Rattle.osc_script.specs.Grants.{claims_of}
 use Rattle.osc_script.specs.Node.{client_name, proxy_name, name_of}
 use Rattle.osc_script.specs.Values.{SpellsNumber, SpellsScope}
-use Rattle.osc_script.specs.Words.{words_of, SpellsFormat, SpellsBytes, SpellsPairs, SpellsDate, SpellChanges}
+use Rattle.osc_script.specs.Words.{words_of, SpellsFormat, SpellsBytes, SpellsPairs, SpellsDate, SpellsAlgorithm, SpellChanges}
 use Rattle.osc_script.specs.declared.line.Line.{Line}
 use Rattle.osc_script.specs.declared.line.Line.TheVariants.{Skipped, Put, Open, Grant, Proxy, Via, At, Draw, Drop, Skip, Exchange, Ask, Tick, Restart, Deliver, Alter, Graft, Inject, Lie, Quiet}
 use Rattle.osc_script.specs.declared.client_name.ClientName.{ClientName}
@@ -48,10 +48,10 @@ Say words (Put path resource) = (format bytes : List ℕ) × (words ≡ codes "p
     × SpellsFormat format resource.format × SpellsBytes bytes resource.payload × (length resource.payload ≤ longest_payload)
 -- open PATH: a GET on the path needs no protection
 Say words (Open path) = (words ≡ codes "open" ∷ path ∷ []) × IsPath path
--- grant CLIENT SCOPE [nbf=N] [exp=N]: it has a token with this scope and these dates, whose claims can be sealed
-Say words (Grant client scope not_before expires) = (text : List ℕ) × (begins ends : List (List ℕ)) × (words ≡ codes "grant" ∷ client_name client ∷ text ∷ (begins ++ ends))
-    × SpellsScope text scope × SpellsDate (codes "nbf=") begins not_before × SpellsDate (codes "exp=") ends expires
-    × (length (spelling (claims_item (claims_of 1 scope not_before expires))) ≤ most_claims)
+-- grant CLIENT SCOPE [nbf=N] [exp=N] [alg=30]: it has a token with this scope, these dates and this algorithm, whose claims can be sealed
+Say words (Grant client scope not_before expires alg) = (text : List ℕ) × (begins ends last : List (List ℕ)) × (words ≡ codes "grant" ∷ client_name client ∷ text ∷ (begins ++ ends ++ last))
+    × SpellsScope text scope × SpellsDate (codes "nbf=") begins not_before × SpellsDate (codes "exp=") ends expires × SpellsAlgorithm last alg
+    × (length (spelling (claims_item (claims_of 1 scope not_before expires alg))) ≤ most_claims)
 -- proxy PROXY: there is this proxy
 Say words (Proxy proxy) = words ≡ codes "proxy" ∷ proxy_name proxy ∷ []
 -- via CLIENT PROXY: it sends what is for the server to this proxy, which there is
@@ -98,7 +98,7 @@ abbrev pub is_event : Line → Bool
 is_event Skipped = false
 is_event (Put path resource) = false
 is_event (Open path) = false
-is_event (Grant client scope not_before expires) = false
+is_event (Grant client scope not_before expires alg) = false
 is_event (Proxy proxy) = false
 is_event (Via client proxy) = false
 is_event (At moment) = false
@@ -116,7 +116,7 @@ is_put (Put path resource) = true
 is_put line = false
 
 abbrev pub grants : ClientName → Line → Bool
-grants client (Grant other scope not_before expires) = other.digit == client.digit
+grants client (Grant other scope not_before expires alg) = other.digit == client.digit
 grants client line = false
 
 -- a line that says that there is this proxy
@@ -158,7 +158,7 @@ IsKnown above node.Stranger = Unit {0}
 abbrev pub MayFollow : List Line → Line → Type 0
 MayFollow above (Put path resource) = (list_any is_event above ≡ false) × (list_any (puts path) above ≡ false) × (count_by is_put above < most_resources)
 MayFollow above (Open path) = list_any is_event above ≡ false
-MayFollow above (Grant client scope not_before expires) = (list_any is_event above ≡ false) × (list_any (grants client) above ≡ false)
+MayFollow above (Grant client scope not_before expires alg) = (list_any is_event above ≡ false) × (list_any (grants client) above ≡ false)
 MayFollow above (Proxy proxy) = list_any is_event above ≡ false
 MayFollow above (Via client proxy) = (list_any is_event above ≡ false) × IsGranted above client × (list_any (routes client) above ≡ false)
 MayFollow above (At moment) = moment_after 0 above ≤ moment.ms

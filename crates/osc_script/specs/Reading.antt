@@ -7,6 +7,8 @@ use Rattle.std.specs.Str.Parse.{digits_value}
 use Rattle.std.proofs.lemmas.Bool.{ltb-true, leb-true, and_parts}
 use Rattle.osc_model.specs.Path.{IsPath}
 use Rattle.osc_model.specs.Tree.{longest_payload}
+use Rattle.osc_model.specs.declared.algorithm.Algorithm.{Algorithm}
+use Rattle.osc_model.specs.declared.algorithm.Algorithm.TheVariants.{EightByteTag, SixteenByteTag}
 use Rattle.osc_model.specs.declared.code.Method.{Method}
 use Rattle.osc_model.specs.declared.code.Method.TheVariants as method
 use Rattle.osc_model.specs.declared.node.Moment.{Moment}
@@ -188,6 +190,12 @@ dates_in (first ∷ second ∷ []) = do
   ends ← date_in (codes "exp=") second
   Some (Some begins, Some ends)
 dates_in words = None
+
+-- the words before a last word `alg=30`, and the algorithm
+unfoldable pub algorithm_in : List (List ℕ) → List (List ℕ) × Algorithm
+algorithm_in [] = ([], EightByteTag)
+algorithm_in (word ∷ []) = if bytes_eq word (codes "alg=30") then ([], SixteenByteTag) else (word ∷ [], EightByteTag)
+algorithm_in (word ∷ words) = (word ∷ (algorithm_in words).0, (algorithm_in words).1)
 
 -- METHOD PATH BYTES, whatever stands for the path
 unfoldable pub request_in : List (List ℕ) → Option Request

@@ -1,6 +1,8 @@
 -- What single words of a script spell.
 use Rattle.std.specs.Prelude.{◌≡◌, ℕ, ◌<◌, ◌==◌, ◌⊎◌, List, [], ◌∷◌, ◌++◌, length, replicate, codes, Option, Some, None}
 use Rattle.std.specs.List.{slice_split}
+use Rattle.osc_model.specs.declared.algorithm.Algorithm.{Algorithm}
+use Rattle.osc_model.specs.declared.algorithm.Algorithm.TheVariants.{EightByteTag, SixteenByteTag}
 use Rattle.osc_script.specs.Values.{SpellsHex, SpellsNumber, SpellsShortNumber}
 use Rattle.osc_script.specs.declared.line.Change.{Change}
 
@@ -43,6 +45,11 @@ SpellsBytes word bytes = ((word ≡ codes "-") × (bytes ≡ [])) ⊎ SpellParts
 abbrev pub SpellsDate : List ℕ → List (List ℕ) → Option ℕ → Type 0
 SpellsDate name words None = words ≡ []
 SpellsDate name words (Some seconds) = (number : List ℕ) × (words ≡ (name ++ number) ∷ []) × SpellsNumber number seconds
+
+-- alg=30, or no word at all
+abbrev pub SpellsAlgorithm : List (List ℕ) → Algorithm → Type 0
+SpellsAlgorithm words EightByteTag = words ≡ []
+SpellsAlgorithm words SixteenByteTag = words ≡ codes "alg=30" ∷ []
 
 -- OFFSET HEX for each change, HEX a pair of hexadecimal digits
 abbrev pub SpellChanges : List (List ℕ) → List Change → Type 0

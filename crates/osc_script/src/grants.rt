@@ -3,7 +3,7 @@
 ghost use Rattle.std.specs.Prelude.{◌≡◌, IfOk};
 ghost use Rattle.osc_script.specs.Grants.{claims_of, iv_of, material_of};
 
-use osc_model::Bytes;
+use osc_model::{Algorithm, Bytes};
 use osc_token::{Audience, Claims, InputMaterial};
 use std::alloc::{AllocError, Global};
 
@@ -11,21 +11,22 @@ use std::alloc::{AllocError, Global};
 pub const TOKEN_KEY: [u8; 16] = *b"@ABCDEFGHIJKLMNO";
 
 /// The claims of the grant of this number, counted from 1 over the lines that grant: for the audience `s`, with the number
-/// as the id, and with 15 zero bytes and the number as the secret.
+/// as the id, with 15 zero bytes and the number as the secret, and with this algorithm.
 pub fn grant_claims(
     alloc: Global,
     number: u8,
     scope: &Bytes,
     not_before: Option<u64>,
     expires: Option<u64>,
+    alg: Algorithm,
 ) -> Result<Claims, AllocError>
-    ensures { IfOk result (λ claims. claims ≡ claims_of number scope.now not_before expires) }
+    ensures { IfOk result (λ claims. claims ≡ claims_of number scope.now not_before expires alg) }
 {
     Ok(Claims {
         audience: Audience::new(alloc, "s")?,
         not_before,
         expires,
-        material: material(alloc, number)?,
+        material: material(alloc, number, alg)?,
         scope: scope.clone()?,
     })
 }
@@ -37,8 +38,8 @@ pub fn token_iv(number: u8) -> [u8; 13]
     [0, 0, 0, 0, 0, 0, 0, 0, 0, 0, 0, 0, number]
 }
 
-fn material(alloc: Global, number: u8) -> Result<InputMaterial, AllocError>
-    ensures { IfOk result (λ material. material ≡ material_of number) }
+fn material(alloc: Global, number: u8, alg: Algorithm) -> Result<InputMaterial, AllocError>
+    ensures { IfOk result (λ material. material ≡ material_of number alg) }
 {
     let secret = [0, 0, 0, 0, 0, 0, 0, 0, 0, 0, 0, 0, 0, 0, 0, number];
     Ok(InputMaterial {
@@ -46,5 +47,6 @@ fn material(alloc: Global, number: u8) -> Result<InputMaterial, AllocError>
         secret: Bytes::from_slice(alloc, &secret)?,
         salt: Bytes::new(alloc),
         id_context: None,
+        alg,
     })
 }

@@ -5,7 +5,7 @@ ghost use Rattle.std.specs.Prelude.{◌≡◌};
 use crate::client_name::ClientName;
 use crate::node::Node;
 use crate::proxy_name::ProxyName;
-use osc_model::{Bytes, Moment, Path, Request, Resource};
+use osc_model::{Algorithm, Bytes, Moment, Path, Request, Resource};
 use std::marker::Model;
 
 /// A change of one byte of a datagram.
@@ -64,13 +64,15 @@ pub enum Line {
     Open {
         path: Path,
     },
-    /// `grant CLIENT SCOPE [nbf=N] [exp=N]`: the client has a token of this scope, such as `/log:GET+POST,/t:GET`, which counts
-    /// from the second `nbf` on and from the second `exp` on no more. The scope stands here as its bytes.
+    /// `grant CLIENT SCOPE [nbf=N] [exp=N] [alg=30]`: the client has a token of this scope, such as `/log:GET+POST,/t:GET`, which counts
+    /// from the second `nbf` on and from the second `exp` on no more, and whose contexts have the algorithm AES-CCM-16-128-128, or
+    /// without `alg=30` AES-CCM-16-64-128. The scope stands here as its bytes.
     Grant {
         client: ClientName,
         scope: Bytes,
         not_before: Option<u64>,
         expires: Option<u64>,
+        alg: Algorithm,
     },
     /// `proxy PROXY`: there is this forward proxy, to the server alone.
     Proxy {

@@ -13,8 +13,8 @@ ghost use Rattle.osc_script.specs.Values.{Reads};
 use crate::grants::grant_claims;
 use crate::line::Line;
 use crate::values::scope;
-use crate::words::{client, dates, format, proxy, short_bytes};
-use osc_model::{Bytes, Path, Resource};
+use crate::words::{algorithm, client, dates, format, proxy, short_bytes};
+use osc_model::{Algorithm, Bytes, Path, Resource};
 use osc_token::claims_text;
 use std::alloc::{AllocError, Global};
 
@@ -83,14 +83,14 @@ pub(crate) fn via(args: &[&str]) -> Option<Line>
     Some(Line::Via { client, proxy })
 }
 
-// CLIENT SCOPE [nbf=N] [exp=N]
+// CLIENT SCOPE [nbf=N] [exp=N] [alg=30]
 pub(crate) fn grant(alloc: Global, args: &[&str]) -> Result<Option<Line>, AllocError>
     ensures { IfOk result (λ found. Reads (Say (codes "grant" ∷ map (λ arg. arg.now) args.now)) found) }
 {
-    let [client, scope, dates @ ..] = args else {
+    let [client, scope, words @ ..] = args else {
         return Ok(None);
     };
-    grant_of(alloc, client, scope, dates)
+    grant_of(alloc, client, scope, words)
 }
 
 // The same of the words of each.
@@ -98,20 +98,21 @@ fn grant_of(
     alloc: Global,
     client_name: &str,
     scope_text: &str,
-    date_words: &[&str],
+    words: &[&str],
 ) -> Result<Option<Line>, AllocError>
-    ensures { IfOk result (λ found. Reads (Say (codes "grant" ∷ client_name.now ∷ scope_text.now ∷ map (λ word. word.now) date_words.now)) found) }
+    ensures { IfOk result (λ found. Reads (Say (codes "grant" ∷ client_name.now ∷ scope_text.now ∷ map (λ word. word.now) words.now)) found) }
 {
     let Some(client) = client(client_name.as_bytes()) else {
         return Ok(None);
     };
+    let (date_words, alg) = algorithm(words);
     let Some((not_before, expires)) = dates(date_words) else {
         return Ok(None);
     };
     let Some(scope) = scope(alloc, scope_text)? else {
         return Ok(None);
     };
-    if !can_be_sealed(alloc, &scope, not_before, expires)? {
+    if !can_be_sealed(alloc, &scope, not_before, expires, alg)? {
         return Ok(None);
     }
     Ok(Some(Line::Grant {
@@ -119,6 +120,7 @@ fn grant_of(
         scope,
         not_before,
         expires,
+        alg,
     }))
 }
 
@@ -128,10 +130,11 @@ fn can_be_sealed(
     scope: &Bytes,
     not_before: Option<u64>,
     expires: Option<u64>,
+    alg: Algorithm,
 ) -> Result<bool, AllocError>
-    ensures { IfOk result (λ short. IsTrue short ↔ (length (spelling (claims_item (claims_of 1 scope.now not_before expires))) ≤ most_claims)) }
+    ensures { IfOk result (λ short. IsTrue short ↔ (length (spelling (claims_item (claims_of 1 scope.now not_before expires alg))) ≤ most_claims)) }
 {
-    let claims = grant_claims(alloc, 1, scope, not_before, expires)?;
+    let claims = grant_claims(alloc, 1, scope, not_before, expires, alg)?;
     let text = claims_text(alloc, &claims)?;
     Ok(text.len() <= CLAIMS_LIMIT)
 }

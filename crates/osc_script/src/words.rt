@@ -1,14 +1,14 @@
 //! Single words of a script.
 
 ghost use Rattle.std.specs.Prelude.{◌≡◌, ◌≢◌, ◌<◌, ◌==◌, ◌↔◌, length, slice_index, IfOk, IfSome, IsNone, IsTrue, ◌∷◌, [], map, option_map};
-ghost use Rattle.osc_script.specs.Reading.{number_in, short_number_in, request_number_in, format_in, client_in, client_with, proxy_in, proxy_with, node_in, one_named, worker_in, method_in, hex_in, nonce_in, repeated_in, part_in, part_length, parts_in, bytes_in, short_bytes_in, total_length, date_in, dates_in, one_date};
+ghost use Rattle.osc_script.specs.Reading.{number_in, short_number_in, request_number_in, format_in, client_in, client_with, proxy_in, proxy_with, node_in, one_named, worker_in, method_in, hex_in, nonce_in, repeated_in, part_in, part_length, parts_in, bytes_in, short_bytes_in, total_length, date_in, dates_in, one_date, algorithm_in};
 
 use crate::client_name::ClientName;
 use crate::node::Node;
 use crate::proxy_name::ProxyName;
 use crate::split::parts;
 use crate::values::decoded;
-use osc_model::{Bytes, Method};
+use osc_model::{Algorithm, Bytes, Method};
 use std::alloc::{AllocError, Global};
 use std::str;
 
@@ -190,6 +190,21 @@ fn date(name: &[u8], word: &[u8]) -> Option<u64>
     ensures { result ≡ date_in name.now word.now }
 {
     number(word.strip_prefix(name)?)
+}
+
+/// The words before a last word `alg=30`, and the algorithm: without that word all of them, and that of shorter tags.
+#[tactic(auto, unfolding(crate::specs::Reading::algorithm_in))]
+pub(crate) fn algorithm<'a, 'b>(words: &'a [&'b str]) -> (&'a [&'b str], Algorithm)
+    ensures { (map (λ word. word.now) result.0.now, result.1) ≡ algorithm_in (map (λ word. word.now) words.now) }
+{
+    let [before @ .., last] = words else {
+        return (words, Algorithm::EightByteTag);
+    };
+    if *last == "alg=30" {
+        (before, Algorithm::SixteenByteTag)
+    } else {
+        (words, Algorithm::EightByteTag)
+    }
 }
 
 /// `-` for no bytes, or parts joined by `+`.

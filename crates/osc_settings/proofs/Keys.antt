@@ -1,5 +1,5 @@
 -- The keys of a table are those of its members.
-use Rattle.std.proofs.Common.{◌≡◌, ℕ, Bool, true, false, not, if◌then◌else◌, List, [], ◌∷◌, refl, ap, string_bytes, String, Option, Some, None, option_map, Global}
+use Rattle.std.proofs.Common.{◌≡◌, Bool, true, false, not, if◌then◌else◌, List, [], ◌∷◌, refl, ap, string_bytes, String, Option, Some, None, option_map, Global}
 use Rattle.std.specs.List.{find, list_any}
 use Rattle.std.specs.Map.{keys_of}
 use Rattle.std.specs.Option.{is_some}

@@ -1,7 +1,6 @@
 -- A document that is at fault stands for no settings.
-use Rattle.std.proofs.Common.{◌≡◌, ◌≢◌, ◌⊎◌, ℕ, zero, suc, true, false, List, [], ◌∷◌, Option, Some, None, refl, inl, inr, sym, ◌∙◌, subst}
-use Rattle.std.specs.Option.{is_some}
-use Rattle.toml.specs.Data.{Data, Items, Members, no_items, item, array, table, get_member}
+use Rattle.std.proofs.Common.{◌≡◌, ◌≢◌, ℕ, zero, suc, List, [], ◌∷◌, Option, Some, None, refl, inl, inr, sym, ◌∙◌, subst}
+use Rattle.toml.specs.Data.{Data, Items, Members, no_items, item, array, get_member}
 use Rattle.osc_settings.specs.Document.{IsPortAt, ListedAt, MaySpellAt, SpelledAt, StandForEach, other_key}
 use Rattle.osc_settings.specs.Faults.{IsArrayAt, IsClientFault, IsFaultAt, IsFaultOfProxy, IsFirstFault, IsItemFault, IsKeyFault, IsOriginFault, IsOther, IsServerFault, IsTargetFault, IsTextAt, IsWrongAt}
 use Rattle.osc_settings.specs.Keys.{name_of}
@@ -145,7 +144,10 @@ client_fault document fault s h a = elim h [
             | inl secret ↦ no_spelled key.Secret (SpellsBytes 1 64) document fault s.secret secret a.secret
             | inr shared ↦ elim shared.1 [
               | inl salt ↦ elim a.salt [ inl there ↦ salt.1 s.salt there | inr out ↦ some_there (get_member (name_of key.Salt) document) salt.0 out.0 ]
-              | inr salted ↦ no_context document fault s.context salted.1 a.context
+              | inr salted ↦ elim salted.1 [
+                | inl context ↦ no_context document fault s.context context a.context
+                | inr told ↦ elim a.alg [ inl there ↦ told.1.1 s.alg there | inr out ↦ some_there (get_member (name_of key.Alg) document) told.1.0 out.0 ]
+              ]
             ]
           ]
         ]

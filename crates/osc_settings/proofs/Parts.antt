@@ -1,10 +1,10 @@
 -- What is at fault in a part is at fault in the whole.
-use Rattle.std.proofs.Common.{◌≡◌, ◌≢◌, ◌⊎◌, ℕ, suc, true, false, Option, Some, None, Result, Ok, Err, List, codes, refl, sym, ◌∙◌, subst, inl, inr, IfErr, MatchResult}
+use Rattle.std.proofs.Common.{◌≡◌, ◌≢◌, ◌⊎◌, ℕ, true, Option, Some, None, Result, Ok, Err, List, refl, sym, subst, inl, inr, IfErr, MatchResult}
 use Rattle.std.specs.Option.{IsSomeAnd, is_some}
 use Rattle.toml.specs.Data.{Members, get_member}
 use Rattle.toml.specs.Parse.{parse_document}
 use Rattle.osc_model.specs.declared.node.Peer.{Peer}
-use Rattle.osc_settings.specs.Document.{IsLeftOut, IsPortAt, SpelledAt, StandsFor, other_key}
+use Rattle.osc_settings.specs.Document.{IsLeftOut, IsPortAt, MaySpellAt, SpelledAt, StandsFor, other_key}
 use Rattle.osc_settings.specs.Faults.{IsFaultAt, IsFaultOfProxy, IsKeyFault, IsOriginFault, IsProxyFault, IsWrongAt, Lacks}
 use Rattle.osc_settings.specs.Keys.{name_of}
 use Rattle.osc_settings.specs.Reading.{AreTargetsRefused, IsNoDocument}
@@ -43,6 +43,11 @@ or_left_out key Stands document Q (Err error) there h = wrong_at key Stands docu
 pub salt_found : (document : Members) (salt : List ℕ) → IsSalt document salt
     → ((x : List ℕ) × SpelledAt (name_of key.Salt) (SpellsBytes 0 64) document x) ⊎ IsLeftOut (name_of key.Salt) document
 salt_found document salt h = elim h [ inl there ↦ inl (salt, there) | inr out ↦ inr out.0 ]
+
+pub context_found : (document : Members) (o : Option (List ℕ)) → MaySpellAt (name_of key.Context) (SpellsBytes 0 64) document o
+    → ((x : List ℕ) × SpelledAt (name_of key.Context) (SpellsBytes 0 64) document x) ⊎ IsLeftOut (name_of key.Context) document
+context_found document None h = inr h
+context_found document (Some context) h = inl (context, h)
 
 -- ---- an origin
 

@@ -2,9 +2,8 @@
 use Rattle.std.proofs.Common.{◌≡◌, ℕ, ℤ, List, Option, Some, None, Result, Ok, Err, refl, sym, ap, subst, ◌∙◌, inl, inr, if◌then◌else◌, MatchResult}
 use Rattle.std.specs.Option.{is_some, option_and_then}
 use Rattle.toml.specs.Data.{Data, Items, Members, string, integer, array, table, as_str, as_integer, as_array, as_table, get_member}
-use Rattle.osc_settings.specs.Document.{SpelledAt, IsPortAt}
+use Rattle.osc_settings.specs.Document.{SpelledAt}
 use Rattle.osc_settings.specs.Reading.{IsRefusal, SpellsPath, read_at, text_at, untyped_at}
-use Rattle.osc_settings.specs.Values.{IsPort}
 use Rattle.osc_settings.specs.Settings.{IsPathText, IsTarget, IsTargetTable}
 use Rattle.osc_settings.specs.declared.proxy.TargetSetting.{TargetSetting}
 use Rattle.osc_settings.specs.Faults.{IsFaultAt, IsItemFault, IsKeyFault, IsTargetFault, IsTextAt}
@@ -93,7 +92,11 @@ pub no_text : (key : SettingsKey) (document : Members) (error : SettingsError)
     → text_at (name_of key) document ≡ None → error ≡ untyped_at key document → IsKeyFault (IsFaultAt key IsTextAt document) error
 no_text key document error none is = untyped_as key IsTextAt document error is (not_there as_str string (get_member (name_of key) document) (λ t. refl) none)
 
--- ---- ports
+-- ---- integers
+
+-- an integer stands at the key, and is the number of this
+abbrev pub NumberedAt : {X : Type 0} → (ℤ → X → Type 0) → List ℕ → Members → X → Type 0
+NumberedAt Numbers key document x = (number : ℤ) × (get_member key document ≡ Some (integer number)) × Numbers number x
 
 one_number : (found : Option Data) (n m : ℤ) → found ≡ Some (integer n) → found ≡ Some (integer m) → m ≡ n
 one_number found n m e f = cc
@@ -101,27 +104,28 @@ one_number found n m e f = cc
 number_there : (key : List ℕ) (document : Members) (number : ℤ) → option_and_then as_integer (get_member key document) ≡ Some number → get_member key document ≡ Some (integer number)
 number_there key document number e = there as_integer integer (get_member key document) number is_integer e
 
-read_port : (key : SettingsKey) (document : Members) (number : ℤ) (r : Result ℕ ValueError)
-    → option_and_then as_integer (get_member (name_of key) document) ≡ Some number → MatchResult r (IsPort number) (IsRefusal (IsPort number))
-    → MatchResult (read_at key r) (IsPortAt (name_of key) document) (IsKeyFault (IsFaultAt key IsPortAt document))
-read_port key document number (Ok port) e h = (number, number_there (name_of key) document number e, h)
-read_port key document number (Err Bad) e h = inl (
+read_number : {X : Type 0} (key : SettingsKey) (Numbers : ℤ → X → Type 0) (document : Members) (number : ℤ) (r : Result X ValueError)
+    → option_and_then as_integer (get_member (name_of key) document) ≡ Some number → MatchResult r (Numbers number) (IsRefusal (Numbers number))
+    → MatchResult (read_at key r) (NumberedAt Numbers (name_of key) document) (IsKeyFault (IsFaultAt key (NumberedAt Numbers) document))
+read_number key Numbers document number (Ok x) e h = (number, number_there (name_of key) document number e, h)
+read_number key Numbers document number (Err Bad) e h = inl (
   ap is_some (number_there (name_of key) document number e),
-  (λ port s. h port (subst (λ n. IsPort n port) (one_number (get_member (name_of key) document) number s.0 (number_there (name_of key) document number e) s.1) s.2)),
+  (λ x s. h x (subst (λ n. Numbers n x) (one_number (get_member (name_of key) document) number s.0 (number_there (name_of key) document number e) s.1) s.2)),
   refl,
 )
-read_port key document number (Err Memory) e h = tt
+read_number key Numbers document number (Err Memory) e h = tt
 
-pub port_read : (key : SettingsKey) (document : Members) (number : ℤ) (r : Result ℕ ValueError) (result : Result ℕ SettingsError)
-    → option_and_then as_integer (get_member (name_of key) document) ≡ Some number → MatchResult r (IsPort number) (IsRefusal (IsPort number)) → result ≡ read_at key r
-    → MatchResult result (IsPortAt (name_of key) document) (IsKeyFault (IsFaultAt key IsPortAt document))
-port_read key document number r result e h is =
-    subst (λ it. MatchResult it (IsPortAt (name_of key) document) (IsKeyFault (IsFaultAt key IsPortAt document))) (sym is) (read_port key document number r e h)
+pub number_read : {X : Type 0} (key : SettingsKey) (Numbers : ℤ → X → Type 0) (document : Members) (number : ℤ) (r : Result X ValueError) (result : Result X SettingsError)
+    → option_and_then as_integer (get_member (name_of key) document) ≡ Some number → MatchResult r (Numbers number) (IsRefusal (Numbers number)) → result ≡ read_at key r
+    → MatchResult result (NumberedAt Numbers (name_of key) document) (IsKeyFault (IsFaultAt key (NumberedAt Numbers) document))
+number_read key Numbers document number r result e h is =
+    subst (λ it. MatchResult it (NumberedAt Numbers (name_of key) document) (IsKeyFault (IsFaultAt key (NumberedAt Numbers) document))) (sym is)
+    (read_number key Numbers document number r e h)
 
-pub no_port_there : (key : SettingsKey) (document : Members) (error : SettingsError)
-    → option_and_then as_integer (get_member (name_of key) document) ≡ None → error ≡ untyped_at key document → IsKeyFault (IsFaultAt key IsPortAt document) error
-no_port_there key document error none is =
-    untyped_as key IsPortAt document error is (λ port s. not_there as_integer integer (get_member (name_of key) document) (λ n. refl) none s.0 s.1)
+pub no_number_there : {X : Type 0} (key : SettingsKey) (Numbers : ℤ → X → Type 0) (document : Members) (error : SettingsError)
+    → option_and_then as_integer (get_member (name_of key) document) ≡ None → error ≡ untyped_at key document → IsKeyFault (IsFaultAt key (NumberedAt Numbers) document) error
+no_number_there key Numbers document error none is =
+    untyped_as key (NumberedAt Numbers) document error is (λ x s. not_there as_integer integer (get_member (name_of key) document) (λ n. refl) none s.0 s.1)
 
 -- ---- arrays
 

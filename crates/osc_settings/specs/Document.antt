@@ -4,8 +4,9 @@ use Rattle.std.specs.List.{list_any}
 use Rattle.std.specs.Str.{bytes_eq}
 use Rattle.toml.specs.Data.{Data, Items, Members, no_members, member, no_items, item, string, integer, array, get_member}
 use Rattle.toml.specs.Parse.{parse_document}
+use Rattle.osc_model.specs.declared.algorithm.Algorithm.{Algorithm}
 use Rattle.osc_settings.specs.Keys.{name_of}
-use Rattle.osc_settings.specs.Values.{IsPort}
+use Rattle.osc_settings.specs.Values.{IsAlgorithm, IsPort}
 use Rattle.osc_settings.specs.declared.key.SettingsKey.{SettingsKey}
 
 -- the text is a document that stands for these settings
@@ -33,6 +34,10 @@ MaySpellAt key Spells document (Some x) = SpelledAt key Spells document x
 -- an integer stands at the key, and is a port
 abbrev pub IsPortAt : List ℕ → Members → ℕ → Type 0
 IsPortAt key document port = (number : ℤ) × (get_member key document ≡ Some (integer number)) × IsPort number port
+
+-- an integer stands at the key, and is the number of an algorithm
+abbrev pub IsAlgorithmAt : List ℕ → Members → Algorithm → Type 0
+IsAlgorithmAt key document algorithm = (number : ℤ) × (get_member key document ≡ Some (integer number)) × IsAlgorithm number algorithm
 
 -- each item stands for one of these, in this order
 abbrev pub StandForEach : {X : Type 0} → (Data → X → Type 0) → Items → List X → Type 0

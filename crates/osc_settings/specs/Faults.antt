@@ -4,7 +4,7 @@ use Rattle.std.specs.Prelude.{◌≡◌, ◌⊎◌, ℕ, zero, suc, true, List, 
 use Rattle.toml.specs.Data.{Data, Items, Members, no_items, item, array, table, string, get_member}
 use Rattle.toml.specs.Parse.{parse_document}
 use Rattle.osc_model.specs.declared.node.Peer.{Peer}
-use Rattle.osc_settings.specs.Document.{other_key, IsLeftOut, SpelledAt, IsPortAt, ListedAt}
+use Rattle.osc_settings.specs.Document.{other_key, IsLeftOut, SpelledAt, IsAlgorithmAt, IsPortAt, ListedAt}
 use Rattle.osc_settings.specs.Keys.{name_of}
 use Rattle.osc_settings.specs.Settings.{server_keys, proxy_keys, target_keys, client_keys, IsOrigin, IsPathText, IsTargetTable}
 use Rattle.osc_settings.specs.Values.{IsAddress, IsHost, SpellsHex, SpellsBytes}
@@ -121,7 +121,8 @@ IsClientFault document =
     (KeyThen key.Token (λ key. SpelledAt key SpellsHex) document
     (KeyThen key.Secret (λ key. SpelledAt key (SpellsBytes 1 64)) document
     (MayThen key.Salt (λ key. SpelledAt key (SpellsBytes 0 64)) document
-    (IsWrongAt key.Context (λ key. SpelledAt key (SpellsBytes 0 64)) document)))))))
+    (MayThen key.Context (λ key. SpelledAt key (SpellsBytes 0 64)) document
+    (IsWrongAt key.Alg IsAlgorithmAt document))))))))
 
 -- ---- of a text
 

@@ -1,9 +1,10 @@
 -- The keys of settings: their names, and what should stand at each, in words.
 use Rattle.std.specs.Prelude.{ℕ, List, codes}
 use Rattle.osc_settings.specs.declared.key.SettingsKey.{SettingsKey}
-use Rattle.osc_settings.specs.declared.key.SettingsKey.TheVariants.{Audience, Bind, Context, Host, Key, Open, Peer, Port, Salt, Secret, Target, To, Token}
+use Rattle.osc_settings.specs.declared.key.SettingsKey.TheVariants.{Alg, Audience, Bind, Context, Host, Key, Open, Peer, Port, Salt, Secret, Target, To, Token}
 
 abbrev pub name_of : SettingsKey → List ℕ
+name_of Alg = codes "alg"
 name_of Audience = codes "audience"
 name_of Bind = codes "bind"
 name_of Context = codes "context"
@@ -19,6 +20,7 @@ name_of To = codes "to"
 name_of Token = codes "token"
 
 abbrev pub form_of : SettingsKey → List ℕ
+form_of Alg = codes "the number 10 or 30"
 form_of Audience = codes "a text"
 form_of Bind = codes "a text of an address and a port, as 127.0.0.1:5683"
 form_of Context = codes "a text of at most 64 bytes in hexadecimal"

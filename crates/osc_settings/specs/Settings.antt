@@ -2,7 +2,9 @@
 use Rattle.std.specs.Prelude.{◌≡◌, ◌⊎◌, ℕ, List, [], ◌∷◌, Option, Some, None, codes}
 use Rattle.toml.specs.Data.{Data, Members, string, table, get_member}
 use Rattle.osc_model.specs.Path.{IsPath}
-use Rattle.osc_settings.specs.Document.{other_key, IsLeftOut, SpelledAt, MaySpellAt, IsPortAt, ListedAt}
+use Rattle.osc_model.specs.declared.algorithm.Algorithm.{Algorithm}
+use Rattle.osc_model.specs.declared.algorithm.Algorithm.TheVariants.{EightByteTag}
+use Rattle.osc_settings.specs.Document.{other_key, IsLeftOut, SpelledAt, MaySpellAt, IsAlgorithmAt, IsPortAt, ListedAt}
 use Rattle.osc_settings.specs.Values.{IsAddress, IsHost, SpellsHex, SpellsBytes}
 use Rattle.osc_settings.specs.declared.client.ClientSettings.{ClientSettings}
 use Rattle.osc_settings.specs.declared.key.SettingsKey.{SettingsKey}
@@ -53,7 +55,7 @@ pub record AreProxySettings (document : Members) (settings : ProxySettings) : Ty
 -- ---- of a client
 
 abbrev pub client_keys : List SettingsKey
-client_keys = key.Bind ∷ key.Context ∷ key.Host ∷ key.Peer ∷ key.Port ∷ key.Salt ∷ key.Secret ∷ key.Token ∷ []
+client_keys = key.Alg ∷ key.Bind ∷ key.Context ∷ key.Host ∷ key.Peer ∷ key.Port ∷ key.Salt ∷ key.Secret ∷ key.Token ∷ []
 
 -- a port that is left out is 5683, that of `coap` (RFC 7252 section 6.1)
 abbrev pub IsOriginPort : Members → ℕ → Type 0
@@ -68,6 +70,10 @@ IsOrigin document (Some origin) = SpelledAt (codes "host") IsHost document origi
 abbrev pub IsSalt : Members → List ℕ → Type 0
 IsSalt document salt = SpelledAt (codes "salt") (SpellsBytes 0 64) document salt ⊎ (IsLeftOut (codes "salt") document × (salt ≡ []))
 
+-- an algorithm that is left out is AES-CCM-16-64-128
+abbrev pub IsClientAlgorithm : Members → Algorithm → Type 0
+IsClientAlgorithm document algorithm = IsAlgorithmAt (codes "alg") document algorithm ⊎ (IsLeftOut (codes "alg") document × (algorithm ≡ EightByteTag))
+
 pub record AreClientSettings (document : Members) (settings : ClientSettings) : Type 0 where
   pub keys : other_key client_keys document ≡ None
   pub bind : SpelledAt (codes "bind") IsAddress document settings.bind
@@ -77,3 +83,4 @@ pub record AreClientSettings (document : Members) (settings : ClientSettings) : 
   pub secret : SpelledAt (codes "secret") (SpellsBytes 1 64) document settings.secret
   pub salt : IsSalt document settings.salt
   pub context : MaySpellAt (codes "context") (SpellsBytes 0 64) document settings.context
+  pub alg : IsClientAlgorithm document settings.alg

@@ -2,6 +2,8 @@
 use Rattle.std.specs.Prelude.{◌≡◌, ℕ, ◌≤◌, ℤ, pos, List, ◌++◌, length, codes, decimal, Ok}
 use Rattle.std.specs.Net.Grammar.{IsDotted}
 use Rattle.hex.specs.Hex.{decode_of}
+use Rattle.osc_model.specs.Algorithm.{algorithm_number}
+use Rattle.osc_model.specs.declared.algorithm.Algorithm.{Algorithm}
 use Rattle.osc_model.specs.declared.node.Peer.{Peer}
 
 -- the numbers of UDP ports that can be sent to
@@ -32,3 +34,7 @@ IsHost text host = (host ≡ text) × (1 ≤ length host) × (length host ≤ 25
 -- an integer that is the number of a port
 abbrev pub IsPort : ℤ → ℕ → Type 0
 IsPort number port = (number ≡ pos port) × IsPortNumber port
+
+-- an integer that is the number of an algorithm (RFC 9053 section 4.2)
+abbrev pub IsAlgorithm : ℤ → Algorithm → Type 0
+IsAlgorithm number algorithm = number ≡ pos (algorithm_number algorithm)

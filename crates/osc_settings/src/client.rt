@@ -1,25 +1,26 @@
 //! Settings of a client.
 ghost use Rattle.std.specs.Prelude.{◌≢◌, IfErr, IfOk, MatchResult, codes};
 ghost use Rattle.toml.specs.View.{table_view};
-ghost use Rattle.osc_settings.specs.Document.{IsPortAt, MaySpellAt, SpelledAt, StandsFor};
+ghost use Rattle.osc_settings.specs.Document.{IsAlgorithmAt, IsPortAt, MaySpellAt, SpelledAt, StandsFor};
 ghost use Rattle.osc_settings.specs.Faults.{IsClientFault, IsKeyFault, IsOriginFault, IsWrongAt, Lacks};
-ghost use Rattle.osc_settings.specs.Settings.{AreClientSettings, IsOrigin, IsOriginPort, IsSalt};
+ghost use Rattle.osc_settings.specs.Settings.{AreClientSettings, IsClientAlgorithm, IsOrigin, IsOriginPort, IsSalt};
 ghost use Rattle.osc_settings.specs.Values.{SpellsBytes};
 ghost use Rattle.osc_settings.specs.declared.key.SettingsKey.TheVariants as AnyKey;
 ghost use Rattle.osc_settings.specs.declared.client.ClientSettings.{ClientSettings as AnySettings};
 
 use crate::document::{
-    address_at, bytes_at, bytes_within_at, document, has, host_at, only, port_at,
+    address_at, algorithm_at, bytes_at, bytes_within_at, document, has, host_at, only, port_at,
 };
 use crate::error::{KeyFault, SettingsError};
 use crate::key::SettingsKey;
-use osc_model::{Bytes, Peer};
+use osc_model::{Algorithm, Bytes, Peer};
 use std::alloc::Global;
 use std::fmt;
 use toml::Table;
 
 /// The keys of its settings.
-const KEYS: [SettingsKey; 8] = [
+const KEYS: [SettingsKey; 9] = [
+    SettingsKey::Alg,
     SettingsKey::Bind,
     SettingsKey::Context,
     SettingsKey::Host,
@@ -54,6 +55,8 @@ pub struct ClientSettings {
     pub salt: Bytes,
     /// Its id context: `context`, at most 64 bytes in hexadecimal, and none where it is left out.
     pub context: Option<Bytes>,
+    /// Its algorithm: `alg`, the number 10 or 30, and 10 where it is left out.
+    pub alg: Algorithm,
 }
 
 // The token and the secret aren't printed.
@@ -64,12 +67,12 @@ impl fmt::Debug for ClientSettings {
 }
 
 /// Reads the settings of a client: a document with the keys `bind`, `peer`, `token` and `secret`, if need be with `host`, `port` beside
-/// it, `salt` and `context`, and with no other.
+/// it, `salt`, `context` and `alg`, and with no other.
 ///
 /// # Errors
 ///
-/// The first fault where the text is no such document, `bind` before `peer`, `port`, `host`, `token`, `secret`, `salt` and `context`, and
-/// `Memory` for want of memory.
+/// The first fault where the text is no such document, `bind` before `peer`, `port`, `host`, `token`, `secret`, `salt`, `context` and `alg`,
+/// and `Memory` for want of memory.
 pub fn read_client_settings(alloc: Global, text: &str) -> Result<ClientSettings, SettingsError>
     ensures read { IfOk result (StandsFor AreClientSettings text.now) }
     ensures lacks { IfErr result (Lacks (λ document. IsKeyFault (IsClientFault document)) text.now) }
@@ -91,6 +94,7 @@ fn settings_in(alloc: Global, table: &Table) -> Result<ClientSettings, SettingsE
         secret: bytes_within_at(alloc, SettingsKey::Secret, table, 1, LONGEST)?,
         salt: salt(alloc, table)?,
         context: context(alloc, table)?,
+        alg: algorithm(table)?,
     })
 }
 
@@ -136,5 +140,15 @@ fn context(alloc: Global, table: &Table) -> Result<Option<Bytes>, SettingsError>
         Ok(Some(bytes_within_at(alloc, SettingsKey::Context, table, 0, LONGEST)?))
     } else {
         Ok(None)
+    }
+}
+
+fn algorithm(table: &Table) -> Result<Algorithm, SettingsError>
+    ensures { MatchResult result (IsClientAlgorithm (table_view table.now)) (IsKeyFault (IsWrongAt AnyKey.Alg IsAlgorithmAt (table_view table.now))) }
+{
+    if has(SettingsKey::Alg, table) {
+        algorithm_at(SettingsKey::Alg, table)
+    } else {
+        Ok(Algorithm::EightByteTag)
     }
 }

@@ -7,7 +7,7 @@ ghost use Rattle.toml.specs.Data.{as_array, as_integer, get_member};
 ghost use Rattle.toml.specs.Parse.{parse_document};
 ghost use Rattle.toml.specs.View.{items_view, table_view, view};
 ghost use Rattle.osc_settings.specs.Document as spec;
-ghost use Rattle.osc_settings.specs.Document.{IsPortAt, SpelledAt};
+ghost use Rattle.osc_settings.specs.Document.{IsAlgorithmAt, IsPortAt, SpelledAt};
 ghost use Rattle.osc_settings.specs.Faults.{IsFaultAt, IsKeyFault, IsOther};
 ghost use Rattle.osc_settings.specs.Keys.{name_of};
 ghost use Rattle.osc_settings.specs.Reading as reading;
@@ -17,7 +17,7 @@ ghost use Rattle.osc_settings.specs.Values.{IsAddress, IsHost, SpellsBytes, Spel
 use crate::error::{KeyFault, SettingsError, ValueError};
 use crate::key::SettingsKey;
 use crate::values;
-use osc_model::{Bytes, Peer};
+use osc_model::{Algorithm, Bytes, Peer};
 use std::alloc::{AllocError, Global};
 use toml::{Table, Value};
 
@@ -213,6 +213,16 @@ pub(crate) fn port_at(key: SettingsKey, table: &Table) -> Result<u16, SettingsEr
 {
     match integer_at(key, table) {
         Some(number) => read_at(key, values::port(number)),
+        None => Err(untyped_at(key, table)),
+    }
+}
+
+/// The algorithm at a key.
+pub(crate) fn algorithm_at(key: SettingsKey, table: &Table) -> Result<Algorithm, SettingsError>
+    ensures { MatchResult result (IsAlgorithmAt (name_of key) (table_view table.now)) (IsKeyFault (IsFaultAt key IsAlgorithmAt (table_view table.now))) }
+{
+    match integer_at(key, table) {
+        Some(number) => read_at(key, values::algorithm(number)),
         None => Err(untyped_at(key, table)),
     }
 }

@@ -5,6 +5,7 @@ ghost use Rattle.osc_settings.specs.Keys.{form_of, name_of};
 /// A key of settings.
 #[derive(Clone, Copy, Debug, PartialEq, Eq)]
 pub enum SettingsKey {
+    Alg,
     Audience,
     Bind,
     Context,
@@ -26,6 +27,7 @@ impl SettingsKey {
         ensures { result.now ≡ name_of self }
     {
         match self {
+            SettingsKey::Alg => "alg",
             SettingsKey::Audience => "audience",
             SettingsKey::Bind => "bind",
             SettingsKey::Context => "context",
@@ -47,6 +49,7 @@ impl SettingsKey {
         ensures { result.now ≡ form_of self }
     {
         match self {
+            SettingsKey::Alg => "the number 10 or 30",
             SettingsKey::Audience => "a text",
             SettingsKey::Bind | SettingsKey::Peer | SettingsKey::To => {
                 "a text of an address and a port, as 127.0.0.1:5683"

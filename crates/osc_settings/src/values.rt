@@ -3,11 +3,11 @@ ghost use Rattle.std.specs.Prelude.{◌≡◌, ◌↔◌, IfOk, IsTrue, MatchRes
 ghost use Rattle.std.specs.Net.Grammar.{IsSocketV4Text};
 ghost use Rattle.std.specs.Net.Text.{socket_v4_text};
 ghost use Rattle.osc_settings.specs.Reading.{IsRefusal, SpellsPath};
-ghost use Rattle.osc_settings.specs.Values.{IsAddress, IsHost, IsPort, SpellsBytes, SpellsHex};
+ghost use Rattle.osc_settings.specs.Values.{IsAddress, IsAlgorithm, IsHost, IsPort, SpellsBytes, SpellsHex};
 
 use crate::error::ValueError;
 use hex::{FromHex, FromHexError};
-use osc_model::{Bytes, Path, Peer};
+use osc_model::{Algorithm, Bytes, Path, Peer};
 use std::alloc::{AllocError, Global};
 use std::net::SocketAddrV4;
 
@@ -115,5 +115,16 @@ pub(crate) fn port(number: i64) -> Result<u16, ValueError>
         Ok(number as u16)
     } else {
         Err(ValueError::Bad)
+    }
+}
+
+/// The algorithm of a number.
+pub(crate) fn algorithm(number: i64) -> Result<Algorithm, ValueError>
+    ensures { MatchResult result (IsAlgorithm number) (IsRefusal (IsAlgorithm number)) }
+{
+    match number {
+        10 => Ok(Algorithm::EightByteTag),
+        30 => Ok(Algorithm::SixteenByteTag),
+        _ => Err(ValueError::Bad),
     }
 }

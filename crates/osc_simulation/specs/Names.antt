@@ -10,7 +10,7 @@ use Rattle.osc_script.specs.declared.proxy_name.ProxyName.{ProxyName}
 -- the clients, in the order of the lines that grant: the number of a client in the world is its place here, from 0
 abbrev pub granted : List Line → List ClientName
 granted [] = []
-granted (Grant client scope not_before expires ∷ lines) = client ∷ granted lines
+granted (Grant client scope not_before expires alg ∷ lines) = client ∷ granted lines
 granted (line ∷ lines) = granted lines
 
 -- a proxy behind the others, if it isn't among them

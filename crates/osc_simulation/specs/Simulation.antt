@@ -22,6 +22,7 @@ use Rattle.osc_world.specs.Starts.{Beginning, Enrols, begun, new_proxy}
 use Rattle.osc_world.specs.Worlds.{State, Happens}
 use Rattle.osc_world.specs.declared.event.What.{What}
 use Rattle.osc_world.specs.declared.start.Holder.{Holder}
+use Rattle.osc_model.specs.declared.algorithm.Algorithm.{Algorithm}
 use Rattle.osc_script.specs.Grants.{claims_of, iv_of, token_key}
 use Rattle.osc_script.specs.Node.{address_of, client_name}
 use Rattle.osc_script.specs.Script.{IsScript}
@@ -88,17 +89,17 @@ way_by None = record { next_hop = address_of Server; origin = None }
 way_by (Some proxy) = record { next_hop = address_of (Proxy proxy); origin = Some server_origin }
 
 -- a client that a line grants to, as the grant of this number, from 1: it stands at its address, and sends as the lines say
-abbrev pub holder_of : List Line → ℕ → ClientName → List ℕ → Option ℕ → Option ℕ → Holder
-holder_of lines number client scope not_before expires = record {
+abbrev pub holder_of : List Line → ℕ → ClientName → List ℕ → Option ℕ → Option ℕ → Algorithm → Holder
+holder_of lines number client scope not_before expires alg = record {
   at = address_of (Client client);
   way = way_by (proxy_of client lines);
-  claims = claims_of number scope not_before expires;
+  claims = claims_of number scope not_before expires alg;
   iv = iv_of number;
 }
 
 -- a line of a script of these lines that grants enrolls its client
 abbrev pub Enrolled : List Line → Beginning → Line → Beginning → Type 0
-Enrolled all old (Grant client scope not_before expires) new = Enrols is_sealing old (holder_of all (length old.clients + 1) client scope not_before expires) new
+Enrolled all old (Grant client scope not_before expires alg) new = Enrols is_sealing old (holder_of all (length old.clients + 1) client scope not_before expires alg) new
 Enrolled all old line new = new ≡ old
 
 abbrev pub AllEnrolled : List Line → Beginning → List Line → Beginning → Type 0

@@ -186,11 +186,12 @@ fn enroll(
         scope,
         not_before,
         expires,
+        alg,
     } = line
     {
         let number = next_number(*enrolled)?;
         let way = way_by(alloc, proxy_of(*client, lines))?;
-        let claims = grant_claims(alloc, number, scope, *not_before, *expires)?;
+        let claims = grant_claims(alloc, number, scope, *not_before, *expires, *alg)?;
         let holder = holder(number, *client, way, claims);
         admit(alloc, start, holder)?;
         *enrolled = number;

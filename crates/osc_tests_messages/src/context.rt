@@ -1,6 +1,6 @@
 //! Contexts: the published examples, and the sender sequence numbers.
 use osc_context::*;
-use osc_model::{Bytes, ContextName, Side};
+use osc_model::{Algorithm, Bytes, ContextName, Side};
 use std::alloc::Global;
 use std::process::Abort;
 
@@ -129,6 +129,7 @@ fn name(
         id_context: id_context_of(rt, alloc, id_context),
         client_id: Bytes::from_slice(alloc, client_id).expect(rt, "memory"),
         server_id: Bytes::from_slice(alloc, server_id).expect(rt, "memory"),
+        alg: Algorithm::EightByteTag,
     }
 }
 

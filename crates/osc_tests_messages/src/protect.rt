@@ -8,7 +8,7 @@ ghost use Rattle.osc_protect.specs.Protection.{HasShortContext, IsFor, note_of, 
 use osc_ccm::Ccm;
 use osc_coap::{DATAGRAM_LIMIT, MessageRef};
 use osc_context::{ID_LIMIT, RecipientContext, SendNumber, derive};
-use osc_model::{Bytes, ContextName, Note, SharedName, Side};
+use osc_model::{Algorithm, Bytes, ContextName, Note, SharedName, Side};
 use osc_protect::*;
 use std::alloc::{AllocError, Global};
 use std::fmt;
@@ -23,24 +23,34 @@ struct Context {
     salt: &'static [u8],
     id_context: &'static [u8],
     client_id: &'static [u8],
+    alg: Algorithm,
 }
 
-/// RFC 8613 appendices C.1 to C.3.
-const CONTEXTS: [Context; 3] = [
+/// RFC 8613 appendices C.1 to C.3, and the first with tags of 16 bytes.
+const CONTEXTS: [Context; 4] = [
     Context {
         salt: b"\x9e\x7c\xa9\x22\x23\x78\x63\x40",
         id_context: b"",
         client_id: b"",
+        alg: Algorithm::EightByteTag,
     },
     Context {
         salt: b"",
         id_context: b"",
         client_id: b"\x00",
+        alg: Algorithm::EightByteTag,
     },
     Context {
         salt: b"\x9e\x7c\xa9\x22\x23\x78\x63\x40",
         id_context: b"\x37\xcb\xf3\x21\x00\x17\xa2\xd3",
         client_id: b"",
+        alg: Algorithm::EightByteTag,
+    },
+    Context {
+        salt: b"\x9e\x7c\xa9\x22\x23\x78\x63\x40",
+        id_context: b"",
+        client_id: b"",
+        alg: Algorithm::SixteenByteTag,
     },
 ];
 
@@ -53,8 +63,8 @@ struct Example {
     protected: &'static [u8],
 }
 
-/// RFC 8613 appendices C.4 to C.6: requests of number 20.
-const REQUESTS: [Example; 3] = [
+/// RFC 8613 appendices C.4 to C.6: requests of number 20. The last is the first with a tag of 16 bytes, as another implementation makes it.
+const REQUESTS: [Example; 4] = [
     Example {
         context: 0,
         own: None,
@@ -73,10 +83,17 @@ const REQUESTS: [Example; 3] = [
         message: b"\x44\x01\x2f\x8e\xef\x9b\xbf\x7a\x39localhost\x83tv1",
         protected: b"\x44\x02\x2f\x8e\xef\x9b\xbf\x7a\x39localhost\x6b\x19\x14\x08\x37\xcb\xf3\x21\x00\x17\xa2\xd3\xff\x72\xcd\x72\x73\xfd\x33\x1a\xc4\x5c\xff\xbe\x55\xc3",
     },
+    Example {
+        context: 3,
+        own: None,
+        message: b"\x44\x01\x5d\x1f\x00\x00\x39\x74\x39localhost\x83tv1",
+        protected: b"\x44\x02\x5d\x1f\x00\x00\x39\x74\x39localhost\x62\x09\x14\xff\xc6\xab\xcf\x09\xb0\x6e\x3e\x9d\x75\xe1\x6a\x6b\x51\x5f\x01\x54\x55\x8b\xa6\x8e\x47",
+    },
 ];
 
-/// RFC 8613 appendices C.7 and C.8: responses to the request of number 20, without and with a Partial IV of their own.
-const RESPONSES: [Example; 2] = [
+/// RFC 8613 appendices C.7 and C.8: responses to the request of number 20, without and with a Partial IV of their own. The last is the
+/// first with a tag of 16 bytes, as another implementation makes it.
+const RESPONSES: [Example; 3] = [
     Example {
         context: 0,
         own: None,
@@ -88,6 +105,12 @@ const RESPONSES: [Example; 2] = [
         own: Some(0),
         message: b"\x64\x45\x5d\x1f\x00\x00\x39\x74\xffHello World!",
         protected: b"\x64\x44\x5d\x1f\x00\x00\x39\x74\x92\x01\x00\xff\x4d\x4c\x13\x66\x93\x84\xb6\x73\x54\xb2\xb6\x17\x5f\xf4\xb8\x65\x8c\x66\x6a\x6c\xf8\x8e",
+    },
+    Example {
+        context: 3,
+        own: None,
+        message: b"\x64\x45\x5d\x1f\x00\x00\x39\x74\xffHello World!",
+        protected: b"\x64\x44\x5d\x1f\x00\x00\x39\x74\x90\xff\xe4\x7c\x31\xfa\xf3\x6f\x75\xfb\x4c\xde\x4a\x0e\xc6\xfb\x0e\x80\xa3\x77\x56\xad\xa6\x49\x67\x50\x10\xb9\xe2\x72\x5c\x79",
     },
 ];
 
@@ -111,6 +134,7 @@ fn name_of(rt: &impl Abort, alloc: Global, context: &Context) -> SharedName
         id_context: id_context_of(rt, alloc, context.id_context),
         client_id: Bytes::from_slice(alloc, context.client_id).expect(rt, "memory"),
         server_id: Bytes::from_slice(alloc, b"\x01").expect(rt, "memory"),
+        alg: context.alg,
     };
     SharedName::new(alloc, name).expect(rt, "memory")
 }
@@ -249,7 +273,7 @@ fn is_protected(rt: &impl Abort, alloc: Global, name: &SharedName, example: &Exa
 
 /// Whether an example is protected as published, and opened again.
 fn is_as_published(rt: &impl Abort, alloc: Global, example: &Example) -> bool {
-    let name = name_of(rt, alloc, &CONTEXTS[example.context.min(2)]);
+    let name = name_of(rt, alloc, &CONTEXTS[example.context.min(3)]);
     let as_published = is_protected(rt, alloc, &name, example);
     drop(name);
     as_published
@@ -262,26 +286,43 @@ fn requests(rt: HostRuntime) {
     }
 }
 
-/// The associated data of the example of appendix C.4 (RFC 8613 section 5.4).
-const AAD: &[u8] = b"\x83\x68Encrypt0\x40\x48\x85\x01\x81\x0a\x40\x41\x14\x40";
+/// A context's place, and the nonce and the associated data (RFC 8613 section 5.4) of the first message under it: those of the example
+/// of appendix C.4, and those with tags of 16 bytes.
+const NONCES: [(usize, [u8; 13], &[u8]); 2] = [
+    (
+        0,
+        *b"\x46\x22\xd4\xdd\x6d\x94\x41\x68\xee\xfb\x54\x98\x68",
+        b"\x83\x68Encrypt0\x40\x48\x85\x01\x81\x0a\x40\x41\x14\x40",
+    ),
+    (
+        3,
+        *b"\xbb\xc0\xff\x1d\xf3\x79\xd8\x36\xec\xb1\x04\xbf\xfc",
+        b"\x83\x68Encrypt0\x40\x49\x85\x01\x81\x18\x1e\x40\x41\x14\x40",
+    ),
+];
 
-/// The nonce of that example.
-const NONCE: [u8; 13] = *b"\x46\x22\xd4\xdd\x6d\x94\x41\x68\xee\xfb\x54\x98\x68";
-
-fn is_sealed_as_published(rt: &impl Abort, alloc: Global, name: &SharedName) -> bool
+fn is_sealed_with(
+    rt: &impl Abort,
+    alloc: Global,
+    name: &SharedName,
+    nonce: &[u8; 13],
+    aad: &[u8],
+) -> bool
     requires { HasShortContext name.now }
 {
     let made = protect_at(rt, alloc, name, 20, REQUESTS[0].message);
-    let as_published = made.note.nonce == NONCE && made.note.aad.as_slice() == AAD;
+    let as_said = made.note.nonce == *nonce && made.note.aad.as_slice() == aad;
     drop(made);
-    as_published
+    as_said
 }
 
 #[test]
 fn the_nonce_and_the_associated_data(rt: HostRuntime) {
-    let name = name_of(&rt, rt.alloc(), &CONTEXTS[0]);
-    assert!(rt; is_sealed_as_published(&rt, rt.alloc(), &name));
-    drop(name);
+    for (context, nonce, aad) in NONCES {
+        let name = name_of(&rt, rt.alloc(), &CONTEXTS[context.min(3)]);
+        assert!(rt; is_sealed_with(&rt, rt.alloc(), &name, &nonce, aad));
+        drop(name);
+    }
 }
 
 /// A holder that seals the published text under the published number makes the published request.
@@ -356,11 +397,11 @@ fn reply_under(
     made
 }
 
-/// The server opens a request of the first context, and replies.
-fn replied(rt: &impl Abort, alloc: Global, request: &[u8], reply: &[u8]) -> ProtectedResponse {
-    let name = name_of(rt, alloc, &CONTEXTS[0]);
+/// The server opens a request of an example, and replies.
+fn replied(rt: &impl Abort, alloc: Global, request: &Example, reply: &[u8]) -> ProtectedResponse {
+    let name = name_of(rt, alloc, &CONTEXTS[request.context.min(3)]);
     let reply = MessageRef::parse(reply).expect(rt, "a message");
-    let request = MessageRef::parse(request).expect(rt, "a message");
+    let request = MessageRef::parse(request.protected).expect(rt, "a message");
     let sealed = read_request(&request).expect(rt, "a request");
     assert!(rt; sealed.is_for(&name));
     let made = reply_under(rt, alloc, &name, &sealed, &reply);
@@ -397,9 +438,12 @@ fn is_published(made: &ProtectedResponse, example: &Example) -> bool {
 
 #[test]
 fn sealed_responses(rt: HostRuntime) {
-    let made = replied(&rt, rt.alloc(), REQUESTS[0].protected, RESPONSES[0].message);
-    assert!(rt; is_published(&made, &RESPONSES[0]));
-    drop(made);
+    for (request, response) in [(0, 0), (3, 2)] {
+        let example: &Example = &RESPONSES[response];
+        let made = replied(&rt, rt.alloc(), &REQUESTS[request], example.message);
+        assert!(rt; is_published(&made, example));
+        drop(made);
+    }
 }
 
 /// Whether a response under a number of the server's own is the published one.
@@ -463,7 +507,7 @@ fn opens(
 
 /// What the client opens of the published response: as that to its request of number 20, and as that to another.
 fn opened_as(rt: &impl Abort, alloc: Global, example: &Example) -> (Option<bool>, Option<bool>) {
-    let name = name_of(rt, alloc, &CONTEXTS[0]);
+    let name = name_of(rt, alloc, &CONTEXTS[example.context.min(3)]);
     let published = opens(rt, alloc, &name, 20, example.protected);
     let other = opens(rt, alloc, &name, 19, example.protected);
     drop(name);
@@ -556,9 +600,9 @@ fn what_is_named(rt: HostRuntime) {
     }
 }
 
-/// Whether a request of these options and payload is none that the server opens.
-fn is_forged(rt: &impl Abort, alloc: Global, options: &[u8]) -> bool {
-    let name = name_of(rt, alloc, &CONTEXTS[0]);
+/// Whether a request of these options and payload is none that the server opens under the context at this place.
+fn is_forged(rt: &impl Abort, alloc: Global, context: usize, options: &[u8]) -> bool {
+    let name = name_of(rt, alloc, &CONTEXTS[context.min(3)]);
     let datagram = with_options(alloc, options).expect(rt, "memory");
     let opened = open_at(rt, alloc, &name, &datagram);
     drop(name);
@@ -567,15 +611,31 @@ fn is_forged(rt: &impl Abort, alloc: Global, options: &[u8]) -> bool {
     forged
 }
 
-/// The last bit of the tag turned, and bytes shorter than a tag.
+/// The last bit of the tag turned, bytes shorter than a tag, and the published request under tags of 16 bytes; the last bit of one of
+/// those turned, and the same text under the same key with a tag of 8.
 #[test]
 fn forged_requests(rt: HostRuntime) {
-    let forged: [&[u8]; 2] = [
-        b"\x92\x09\x14\xff\x61\x2f\x10\x92\xf1\x77\x6f\x1c\x16\x68\xb3\x82\x5f",
-        b"\x92\x09\x14\xff\x61\x2f\x10\x92\xf1\x77\x6f",
+    let forged: [(usize, &[u8]); 5] = [
+        (
+            0,
+            b"\x92\x09\x14\xff\x61\x2f\x10\x92\xf1\x77\x6f\x1c\x16\x68\xb3\x82\x5f",
+        ),
+        (0, b"\x92\x09\x14\xff\x61\x2f\x10\x92\xf1\x77\x6f"),
+        (
+            3,
+            b"\x92\x09\x14\xff\x61\x2f\x10\x92\xf1\x77\x6f\x1c\x16\x68\xb3\x82\x5e",
+        ),
+        (
+            3,
+            b"\x92\x09\x14\xff\xc6\xab\xcf\x09\xb0\x6e\x3e\x9d\x75\xe1\x6a\x6b\x51\x5f\x01\x54\x55\x8b\xa6\x8e\x46",
+        ),
+        (
+            3,
+            b"\x92\x09\x14\xff\xc6\xab\xcf\x09\xb0\x99\xcf\x99\x94\xbe\x03\x11\x11",
+        ),
     ];
-    for options in forged {
-        assert!(rt; is_forged(&rt, rt.alloc(), options));
+    for (context, options) in forged {
+        assert!(rt; is_forged(&rt, rt.alloc(), context, options));
     }
 }
 
@@ -652,26 +712,30 @@ fn size_of(plaintext: usize, message: usize) -> Option<RequestSize> {
     Some(RequestSize { plaintext, message })
 }
 
+/// Under tags of 16 bytes 8 bytes less of payload do.
 #[test]
 fn what_fits(rt: HostRuntime) {
-    let name = name_of(&rt, rt.alloc(), &CONTEXTS[0]);
-    assert!(rt; name.client_id.len() <= ID_LIMIT);
-    for (size, whole) in [
-        (0, size_of(1, 17)),
-        (1134, size_of(1136, 1152)),
-        (1135, None),
-        (1147, None),
+    for (context, size, whole) in [
+        (0, 0, size_of(1, 17)),
+        (0, 1134, size_of(1136, 1152)),
+        (0, 1135, None),
+        (0, 1147, None),
+        (3, 0, size_of(1, 25)),
+        (3, 1126, size_of(1128, 1152)),
+        (3, 1127, None),
     ] {
+        let name = name_of(&rt, rt.alloc(), &CONTEXTS[context]);
+        assert!(rt; name.client_id.len() <= ID_LIMIT);
         assert!(rt; post_size(&rt, rt.alloc(), &name, size) == whole);
+        drop(name);
     }
-    drop(name);
 }
 
 /// The empty option of a reply takes 2 bytes less.
 #[test]
 fn long_replies(rt: HostRuntime) {
     let datagram = post_of(rt.alloc(), 1136).expect(&rt, "memory");
-    let made = replied(&rt, rt.alloc(), REQUESTS[0].protected, &datagram);
+    let made = replied(&rt, rt.alloc(), &REQUESTS[0], &datagram);
     assert!(rt; made.message.bytes().len() == 1152);
     drop(made);
 }

@@ -131,7 +131,7 @@ fn the_key_of_a_proxy_is_named(rt: HostRuntime) -> Result<(), Fail> {
 }
 
 /// Settings of a client behind `bind` and `peer`, and the first fault.
-const CLIENTS: [(&str, &str); 7] = [
+const CLIENTS: [(&str, &str); 9] = [
     (
         "port = 1",
         "key host is missing, and should be a text of 1 to 255 bytes",
@@ -152,6 +152,14 @@ const CLIENTS: [(&str, &str); 7] = [
     (
         "token = ''\nsecret = '01'\ncontext = 1\nsalt = 1",
         "key salt should be a text of at most 64 bytes in hexadecimal",
+    ),
+    (
+        "token = ''\nsecret = '01'\nalg = 1\ncontext = 1",
+        "key context should be a text of at most 64 bytes in hexadecimal",
+    ),
+    (
+        "token = ''\nsecret = '01'\nalg = '30'",
+        "key alg should be the number 10 or 30",
     ),
     (
         "token = ''\nsecret = '01'\ncontext = 1",

@@ -1,8 +1,8 @@
 //! The lines by which a node tells what its steps did.
 use crate::broken::BrokenWriter;
 use osc_model::{
-    Bytes, Code, ContextName, Datagram, Datagrams, Entry, Moment, Peer, RefusedRequest, Reply,
-    SharedName, Step, StepNotes,
+    Algorithm, Bytes, Code, ContextName, Datagram, Datagrams, Entry, Moment, Peer, RefusedRequest,
+    Reply, SharedName, Step, StepNotes,
 };
 use osc_programs::{Lines, Log, Silent, step_text};
 use std::alloc::{AllocError, Global};
@@ -57,6 +57,7 @@ fn name(alloc: Global) -> Result<ContextName, AllocError> {
         id_context: None,
         client_id: Bytes::new(alloc),
         server_id: Bytes::new(alloc),
+        alg: Algorithm::EightByteTag,
     })
 }
 

@@ -2,7 +2,7 @@
 use crate::broken::{BrokenReader, BrokenWriter};
 use osc_programs::{Ended, run_script, sim, status};
 use osc_script::ClientName;
-use std::alloc::Global;
+use std::alloc::{AllocError, Global};
 use std::io::{self, ErrorKind, Write};
 use std::test::Fail;
 
@@ -72,6 +72,36 @@ fn scripts_have_their_traces(rt: HostRuntime) -> Result<(), Fail> {
             writes(rt.alloc(), script, with_bytes, Ended::Done, trace),
             "{script}"
         );
+    }
+    Ok(())
+}
+
+const UNDER_10: &str =
+    "grant c1 /log:GET+POST\nexchange c1\nquiet\nask c1 POST /log 61\nquiet\nask c1 GET /log -\nquiet\n";
+
+const UNDER_30: &str =
+    "grant c1 /log:GET+POST alg=30\nexchange c1\nquiet\nask c1 POST /log 61\nquiet\nask c1 GET /log -\nquiet\n";
+
+// How long the lines are that tell of protected datagrams, with their bytes.
+fn protected_lines(alloc: Global, script: &str) -> Result<Vec<usize>, AllocError> {
+    let (_, written) = run(alloc, script, true);
+    let mut lengths = Vec::new(alloc);
+    for line in written.split(|byte| *byte == b'\n') {
+        if line.windows(8).any(|part| part == b" oscore ".as_slice()) {
+            lengths.push(line.len())?;
+        }
+    }
+    Ok(lengths)
+}
+
+// A tag of 16 bytes has 8 bytes more, which are 16 digits.
+#[test]
+fn a_longer_tag_makes_longer_datagrams(rt: HostRuntime) -> Result<(), Fail> {
+    let short = protected_lines(rt.alloc(), UNDER_10)?;
+    let long = protected_lines(rt.alloc(), UNDER_30)?;
+    assert!(rt; short.len() == 4 && long.len() == 4);
+    for (short, long) in short.iter().zip(long.iter()) {
+        assert!(rt; *long == short.wrapping_add(16));
     }
     Ok(())
 }

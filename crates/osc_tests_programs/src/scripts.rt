@@ -1,5 +1,5 @@
 //! Lines of scripts, and what each says.
-use osc_model::{Bytes, Code, Peer, Request};
+use osc_model::{Algorithm, Bytes, Code, Peer, Request};
 use osc_script::{Line, Node, ScriptError, TOKEN_KEY, grant_claims, read_script, token_iv};
 use std::alloc::{AllocError, Global};
 use std::test::Fail;
@@ -219,7 +219,7 @@ fn places(rt: HostRuntime) {
 }
 
 /// Scripts of grants, and the first bad line of each.
-const GRANTS: [(&[u8], Option<u64>); 19] = [
+const GRANTS: [(&[u8], Option<u64>); 27] = [
     (b"grant c1 /a:GET\ngrant c1 /a:GET", Some(2)),
     (b"grant c0 /a:GET", Some(1)),
     (b"grant c10 /a:GET", Some(1)),
@@ -237,6 +237,14 @@ const GRANTS: [(&[u8], Option<u64>); 19] = [
     (b"grant c1 /a:GET nbf=-1", Some(1)),
     (b"grant c1 /a:GET nbf=+1", Some(1)),
     (b"grant c1 /a:GET alg=1", Some(1)),
+    (b"grant c1 /a:GET alg=10", Some(1)),
+    (b"grant c1 /a:GET alg=31", Some(1)),
+    (b"grant c1 /a:GET alg=030", Some(1)),
+    (b"grant c1 /a:GET alg=30", None),
+    (b"grant c1 /a:GET nbf=1 exp=2 alg=30", None),
+    (b"grant c1 /a:GET alg=30 alg=30", Some(1)),
+    (b"grant c1 /a:GET alg=30 exp=2", Some(1)),
+    (b"grant c1 alg=30", Some(1)),
     (b"grant c1 /a:GET exp=18446744073709551615", None),
     (b"grant c1 /a:GET exp=18446744073709551616", Some(1)),
 ];
@@ -486,9 +494,12 @@ fn addresses(rt: HostRuntime) {
 fn tokens_of_grants(rt: HostRuntime) {
     let alloc = rt.alloc();
     let scope = Bytes::from_slice(alloc, b"\x81\x82\x62/a\x01").expect(&rt, "memory");
-    let claims = grant_claims(alloc, 3, &scope, Some(1), None).expect(&rt, "memory");
+    let claims = grant_claims(alloc, 3, &scope, Some(1), None, Algorithm::SixteenByteTag).expect(
+        &rt, "memory",
+    );
     assert!(rt; claims.audience.as_str() == "s");
     assert!(rt; claims.not_before == Some(1) && claims.expires == None);
+    assert!(rt; claims.material.alg == Algorithm::SixteenByteTag);
     assert!(rt; claims.material.id.as_slice() == b"\x03".as_slice());
     assert!(rt;
         claims.material.secret.as_slice() == b"\0\0\0\0\0\0\0\0\0\0\0\0\0\0\0\x03".as_slice()

@@ -1,5 +1,5 @@
 //! Settings of the three programs: what a good text gives, and texts that are bad.
-use osc_model::{Path, Peer};
+use osc_model::{Algorithm, Path, Peer};
 use osc_settings::{
     ClientSettings, KeyFault, ProxySettings, ServerSettings, SettingsError, SettingsKey,
     TargetSetting, read_client_settings, read_proxy_settings, read_server_settings,
@@ -218,7 +218,7 @@ fn hosts_have_at_most_255_bytes(rt: HostRuntime) -> Result<(), Fail> {
 // ---- a client
 
 const CLIENT: &str =
-    "bind = '127.0.0.1:1'\npeer = '127.0.0.1:2'\nhost = 's'\nport = 3\ntoken = 'd08343'\nsecret = '01'\nsalt = '0203'\ncontext = ''\n";
+    "bind = '127.0.0.1:1'\npeer = '127.0.0.1:2'\nhost = 's'\nport = 3\ntoken = 'd08343'\nsecret = '01'\nsalt = '0203'\ncontext = ''\nalg = 30\n";
 
 /// Whether it sends through a proxy to this host and port.
 fn goes_to(settings: &ClientSettings, host: &[u8], port: u16) -> bool {
@@ -245,6 +245,7 @@ fn a_client(rt: HostRuntime) -> Result<(), Fail> {
     assert!(rt; settings.secret.as_slice() == b"\x01".as_slice());
     assert!(rt; settings.salt.as_slice() == b"\x02\x03".as_slice());
     assert!(rt; has_an_empty_context(&settings));
+    assert!(rt; settings.alg == Algorithm::SixteenByteTag);
     Ok(())
 }
 
@@ -263,6 +264,7 @@ fn what_a_client_may_leave_out(rt: HostRuntime) -> Result<(), Fail> {
     assert!(rt; settings.token.is_empty());
     assert!(rt; settings.salt.is_empty());
     assert!(rt; settings.context.is_none());
+    assert!(rt; settings.alg == Algorithm::EightByteTag);
     Ok(())
 }
 
@@ -278,7 +280,7 @@ fn is_bad_for_a_client(alloc: Global, lines: &str) -> bool {
     is_bad(client_of(alloc, lines))
 }
 
-const CLIENTS: [&str; 17] = [
+const CLIENTS: [&str; 20] = [
     "",
     "token = ''",
     "secret = '01'",
@@ -295,6 +297,9 @@ const CLIENTS: [&str; 17] = [
     "token = ''\nsecret = '01'\nsalt = 1",
     "token = ''\nsecret = '01'\nsalt = '0'",
     "token = ''\nsecret = '01'\ncontext = 1",
+    "token = ''\nsecret = '01'\nalg = 11",
+    "token = ''\nsecret = '01'\nalg = '30'",
+    "token = ''\nsecret = '01'\nalg = 30.0",
     "token = ''\nsecret = '01'\nkey = ''",
 ];
 

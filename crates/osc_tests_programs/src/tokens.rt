@@ -68,6 +68,36 @@ fn a_token_is_printed(rt: HostRuntime) -> Result<(), Fail> {
     Ok(())
 }
 
+// The same with `--alg 30`, which was computed by others too. The token itself stays under a tag of 8 bytes.
+const LONG_TAG_LINE: &str =
+    "8343a1010aa1054d0000000000000000000000000158327a0ede2171a9ef9711e8b23afd723e7879cadfb887e3cb88901dd40461e4a39eafe24ea34116ea414d5529c2f8b5b315d8c3\n";
+
+// What `osc token` writes with one option more.
+fn with_option(alloc: Global, option: &str, value: &str) -> Result<Vec<u8>, Fail> {
+    let words = token_command(alloc, option, value)?;
+    let mut written = Vec::new(alloc);
+    let ended = match read_words(alloc, &words) {
+        Ok(Words::Token(words)) => match words.iv {
+            Some(iv) => token(alloc, &words, &iv, &mut written),
+            None => Ended::Failed,
+        },
+        _ => Ended::BadLine(0),
+    };
+    match ended {
+        Ended::Done => Ok(written),
+        _ => Err("no token".into()),
+    }
+}
+
+#[test]
+fn a_token_names_an_algorithm(rt: HostRuntime) -> Result<(), Fail> {
+    for (value, line) in [("10", TOKEN_LINE), ("30", LONG_TAG_LINE)] {
+        let written = with_option(rt.alloc(), "--alg", value)?;
+        assert!(rt; written.as_slice() == line.as_bytes(), "{value}");
+    }
+    Ok(())
+}
+
 #[test]
 fn a_token_that_is_not_written_fails(rt: HostRuntime) -> Result<(), Fail> {
     let mut writer = BrokenWriter { writes: 0 };
@@ -128,7 +158,7 @@ fn two_tokens_without_an_iv_differ(rt: HostRuntime) -> Result<(), Fail> {
 }
 
 // Values that an option may have: a text so many times.
-const GOOD: [(&str, &str, usize); 11] = [
+const GOOD: [(&str, &str, usize); 14] = [
     ("--id", "", 0),
     ("--id", "0a", 64),
     ("--secret", "0B", 1),
@@ -136,6 +166,9 @@ const GOOD: [(&str, &str, usize); 11] = [
     ("--salt", "", 0),
     ("--salt", "00", 64),
     ("--context", "00", 64),
+    ("--alg", "10", 1),
+    ("--alg", "30", 1),
+    ("--alg", "0030", 1),
     ("--exp", "18446744073709551615", 1),
     ("--nbf", "007", 1),
     ("--scope", "/t:GET,/t:PUT", 1),
@@ -143,7 +176,7 @@ const GOOD: [(&str, &str, usize); 11] = [
 ];
 
 // And values that it may not.
-const BAD: [(&str, &str, usize); 20] = [
+const BAD: [(&str, &str, usize); 24] = [
     ("--key", "40", 15),
     ("--key", "40", 17),
     ("--key", "4", 31),
@@ -157,6 +190,10 @@ const BAD: [(&str, &str, usize); 20] = [
     ("--salt", "00", 65),
     ("--context", "00", 65),
     ("--context", "0x", 1),
+    ("--alg", "", 0),
+    ("--alg", "31", 1),
+    ("--alg", "+30", 1),
+    ("--alg", "3", 24),
     ("--exp", "", 0),
     ("--exp", "+1", 1),
     ("--exp", "18446744073709551616", 1),

@@ -2,7 +2,7 @@
 use osc_authz::{ClientContext, ClientDesk, GrantError, Post, PostAnswer, PostError, ServerDesk};
 use osc_cbor::{Item, write};
 use osc_ccm::Ccm;
-use osc_model::{Bytes, Code, ContextName, Draw, Moment};
+use osc_model::{Algorithm, Bytes, Code, ContextName, Draw, Moment};
 use osc_token::{Audience, Claims, InputMaterial, TokenError, mint};
 use std::alloc::{AllocError, Global};
 use std::process::Abort;
@@ -66,6 +66,7 @@ fn claims_of(rt: &impl Abort, alloc: Global, id: u8, said: Said) -> Claims {
             secret: Bytes::from_slice(alloc, &secret_of(id)).expect(rt, "memory"),
             salt: Bytes::new(alloc),
             id_context: None,
+            alg: Algorithm::EightByteTag,
         },
         scope: Bytes::from_slice(alloc, said.scope).expect(rt, "memory"),
     }
@@ -84,7 +85,14 @@ fn token_of(rt: &impl Abort, alloc: Global, id: u8, said: Said) -> Vec<u8> {
 fn client_of(rt: &impl Abort, alloc: Global, id: u8, said: Said) -> ClientDesk {
     let token = Bytes::from_vec(token_of(rt, alloc, id, said));
     let secret = Bytes::from_slice(alloc, &secret_of(id)).expect(rt, "memory");
-    ClientDesk::new(token, secret, Bytes::new(alloc), None).expect(rt, "a grant")
+    ClientDesk::new(
+        token,
+        secret,
+        Bytes::new(alloc),
+        None,
+        Algorithm::EightByteTag,
+    )
+    .expect(rt, "a grant")
 }
 
 /// A post of the token of this id.
@@ -313,7 +321,14 @@ fn refused_grant(
     let secret = Bytes::from_vec(vec![in alloc; 7; secret]?);
     let salt = Bytes::from_vec(vec![in alloc; 7; salt]?);
     let id_context = Some(Bytes::from_vec(vec![in alloc; 7; id_context]?));
-    Ok(ClientDesk::new(Bytes::new(alloc), secret, salt, id_context).err())
+    let made = ClientDesk::new(
+        Bytes::new(alloc),
+        secret,
+        salt,
+        id_context,
+        Algorithm::EightByteTag,
+    );
+    Ok(made.err())
 }
 
 #[test]

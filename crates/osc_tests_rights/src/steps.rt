@@ -1,6 +1,7 @@
 //! Runs as rows: what each step did, in small numbers.
 use osc_model::{
-    Bytes, ClientResult, Code, ContextName, Entry, Moment, Note, Reply, SharedName, Side, StepNotes,
+    Algorithm, Bytes, ClientResult, Code, ContextName, Entry, Moment, Note, Reply, SharedName,
+    Side, StepNotes,
 };
 use osc_run::{Grant, Minted, Noted, Notes};
 use osc_scope::Scope;
@@ -94,6 +95,7 @@ fn name(rt: &impl Abort, alloc: Global, secret: u8, of_token: bool) -> SharedNam
         id_context: None,
         client_id: Bytes::from_slice(alloc, client_id).expect(rt, "memory"),
         server_id: Bytes::new(alloc),
+        alg: Algorithm::EightByteTag,
     };
     SharedName::new(alloc, name).expect(rt, "memory")
 }
@@ -191,6 +193,7 @@ pub(crate) fn minted(rt: &impl Abort, alloc: Global, secret: u8, claims: u8) -> 
                 secret: Bytes::from_slice(alloc, &[secret]).expect(rt, "memory"),
                 salt: Bytes::new(alloc),
                 id_context: None,
+                alg: Algorithm::EightByteTag,
             },
             scope: Scope::new(alloc),
             not_before: None,

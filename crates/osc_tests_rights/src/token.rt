@@ -1,7 +1,7 @@
 //! Tokens, byte by byte. What is sealed was computed by another implementation of AES-CCM.
 use osc_ccm::Ccm;
 use osc_cose::{seal0, write0};
-use osc_model::{Bytes, ContextName, Note, SharedName, Side};
+use osc_model::{Algorithm, Bytes, ContextName, Note, SharedName, Side};
 use osc_token::{Audience, Claims, InputMaterial, MintError, mint, open_token};
 use std::alloc::{AllocError, Global};
 use std::process::Abort;
@@ -21,9 +21,9 @@ const TEXT: &[u8] =
 const CIPHERTEXT: &[u8] =
     b"\x7a\x0e\xde\x21\x71\xa9\xef\x96\x11\xe8\xb2\x3a\xfd\x72\x3e\x78\x79\xca\xdf\xb8\x87\xe3\xcb\x88\x90\x1d\xd4\x04\x61\xe9\xf3\x01\x24\xce\xe0\x4d\x4a\x5e\x85\x93\x1d\x22\x4b\x7c\xe6\xb4\xe2";
 
-/// The text with each optional part: exp 1704067200, nbf 1700000000, the salt 0a0b and the context 0c.
+/// The text with each optional part: exp 1704067200, nbf 1700000000, the algorithm 30, the salt 0a0b and the context 0c.
 const WHOLE_TEXT: &[u8] =
-    b"\xa5\x03\x61s\x04\x1a\x65\x92\0\x80\x05\x1a\x65\x53\xf1\0\x08\xa1\x04\xa4\0\x41\x01\x02\x50\0\0\0\0\0\0\0\0\0\0\0\0\0\0\0\x01\x05\x42\x0a\x0b\x06\x41\x0c\x09\x48\x81\x82\x64/log\x03";
+    b"\xa5\x03\x61s\x04\x1a\x65\x92\0\x80\x05\x1a\x65\x53\xf1\0\x08\xa1\x04\xa5\0\x41\x01\x02\x50\0\0\0\0\0\0\0\0\0\0\0\0\0\0\0\x01\x04\x18\x1e\x05\x42\x0a\x0b\x06\x41\x0c\x09\x48\x81\x82\x64/log\x03";
 
 /// The claims of the text, with these optional parts.
 fn claims(
@@ -33,6 +33,7 @@ fn claims(
     expires: Option<u64>,
     salt: &[u8],
     id_context: Option<Bytes>,
+    alg: Algorithm,
 ) -> Claims {
     Claims {
         audience: Audience::new(alloc, "s").expect(rt, "memory"),
@@ -43,6 +44,7 @@ fn claims(
             secret: Bytes::from_slice(alloc, &SECRET).expect(rt, "memory"),
             salt: Bytes::from_slice(alloc, salt).expect(rt, "memory"),
             id_context,
+            alg,
         },
         scope: Bytes::from_slice(alloc, b"\x81\x82\x64/log\x03").expect(rt, "memory"),
     }
@@ -64,6 +66,7 @@ fn note(rt: &impl Abort, alloc: Global) -> Note {
         id_context: None,
         client_id: Bytes::new(alloc),
         server_id: Bytes::new(alloc),
+        alg: Algorithm::EightByteTag,
     };
     Note {
         context: SharedName::new(alloc, name).expect(rt, "memory"),
@@ -245,9 +248,14 @@ fn asks_for_the_algorithm(rt: HostRuntime) {
     }
 }
 
+/// The claims of the text, for contexts of this algorithm.
+fn plain_claims(rt: &impl Abort, alloc: Global, alg: Algorithm) -> Claims {
+    claims(rt, alloc, None, None, b"", None, alg)
+}
+
 #[test]
 fn mints(rt: HostRuntime) {
-    let claims = claims(&rt, rt.alloc(), None, None, b"", None);
+    let claims = plain_claims(&rt, rt.alloc(), Algorithm::EightByteTag);
     let token = minted(rt.alloc(), claims).expect(&rt, "a token");
     let form = FORMS[0].bytes(rt.alloc()).expect(&rt, "memory");
     assert!(rt; token.as_slice() == form.as_slice());
@@ -263,7 +271,21 @@ fn whole_claims(rt: &impl Abort, alloc: Global) -> Claims {
         Some(1704067200),
         b"\x0a\x0b",
         Some(id_context),
+        Algorithm::SixteenByteTag,
     )
+}
+
+/// The text for contexts with tags of 16 bytes: {3: "s", 8: {4: {0: h'01', 2: h'00..01', 4: 30}}, 9: h'8182642f6c6f6703'}.
+const SIXTEEN_BYTE_TEXT: &[u8] =
+    b"\xa3\x03\x61s\x08\xa1\x04\xa3\0\x41\x01\x02\x50\0\0\0\0\0\0\0\0\0\0\0\0\0\0\0\x01\x04\x18\x1e\x09\x48\x81\x82\x64/log\x03";
+
+/// The token itself is under a tag of 8 bytes.
+#[test]
+fn mints_for_tags_of_sixteen_bytes(rt: HostRuntime) {
+    let claims = plain_claims(&rt, rt.alloc(), Algorithm::SixteenByteTag);
+    let token = minted(rt.alloc(), claims).expect(&rt, "a token");
+    let text = opened(&rt, rt.alloc(), &token, &KEY).expect(&rt, "a genuine token");
+    assert!(rt; text.as_slice() == SIXTEEN_BYTE_TEXT);
 }
 
 #[test]
@@ -277,7 +299,15 @@ fn mints_each_part(rt: HostRuntime) {
 #[test]
 fn refuses_long_claims(rt: HostRuntime) {
     let salt = vec![in rt.alloc(); 0; 65536].expect(&rt, "memory");
-    let claims = claims(&rt, rt.alloc(), None, None, &salt, None);
+    let claims = claims(
+        &rt,
+        rt.alloc(),
+        None,
+        None,
+        &salt,
+        None,
+        Algorithm::EightByteTag,
+    );
     let refused = minted(rt.alloc(), claims).err();
     assert!(rt; refused == Some(MintError::TooLong));
 }

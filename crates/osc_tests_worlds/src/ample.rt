@@ -10,7 +10,7 @@ use osc_client::Way;
 use osc_fixtures::{
     GET, NOWHERE, PROXY, PUT, Right, SERVER, own, place, straight, targets, through,
 };
-use osc_model::Peer;
+use osc_model::{Algorithm, Peer};
 use osc_run::Actor;
 use osc_tree::Tree;
 use osc_world::{Start, World};
@@ -37,12 +37,13 @@ const DATAGRAMS: [&[u8]; 14] = [
     b"\x70\0\0\x01",
 ];
 
-/// The rights of the client of this number: each length of salt and id context twice.
+/// The rights of the client of this number: each length of salt and id context twice, and each algorithm with each way.
 fn right(client: u8) -> Right {
     let own = own(client, SCOPE);
     match client / 2 {
         0 => own,
         1 => Right {
+            alg: Algorithm::SixteenByteTag,
             salt: b"salt",
             id_context: Some(b""),
             ..own
@@ -53,6 +54,7 @@ fn right(client: u8) -> Right {
             ..own
         },
         _ => Right {
+            alg: Algorithm::SixteenByteTag,
             id_context: Some(&[8; 64]),
             ..own
         },

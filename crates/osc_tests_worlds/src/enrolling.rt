@@ -5,7 +5,7 @@ use crate::quiet::settles;
 use osc_authz::GrantError;
 use osc_ccm::Ccm;
 use osc_fixtures::{CLIENT, PROXY, SERVER, straight};
-use osc_model::{Bytes, Peer};
+use osc_model::{Algorithm, Bytes, Peer};
 use osc_proxy::Targets;
 use osc_token::{Audience, Claims, InputMaterial};
 use osc_tree::Tree;
@@ -55,6 +55,7 @@ fn material(alloc: Global, row: Row) -> Result<InputMaterial, AllocError> {
         secret: bytes(alloc, secret)?,
         salt: bytes(alloc, salt)?,
         id_context: Some(bytes(alloc, id_context)?),
+        alg: Algorithm::EightByteTag,
     })
 }
 

@@ -2,6 +2,8 @@
 #![tactic(auto)]
 
 #[cfg(test)]
+mod algorithms;
+#[cfg(test)]
 mod ample;
 #[cfg(test)]
 mod common;

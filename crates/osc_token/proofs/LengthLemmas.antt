@@ -2,12 +2,14 @@
 use Rattle.std.proofs.Common.{◌≡◌, ℕ, ◌+◌, ◌-◌, ◌<◌, ◌≤◌, ◌^◌, min, List, [], ◌∷◌, ◌++◌, length, Option, Some, None, refl, sym, ap, ◌∙◌, arith}
 use Rattle.std.proofs.lemmas.Bool.{lt-ltb}
 use Rattle.std.proofs.lemmas.List.{length-append}
+use Rattle.osc_model.specs.declared.algorithm.Algorithm.{Algorithm}
+use Rattle.osc_model.specs.declared.algorithm.Algorithm.TheVariants.{EightByteTag, SixteenByteTag}
 use Rattle.osc_cbor.specs.Data.{DataItem, unsigned, byte_string, text_string, map, Pairs, no_pairs, pair, pair_count}
 use Rattle.osc_cbor.specs.Head.{head}
 use Rattle.osc_cbor.specs.Spelling.{spelling, pairs_spelling}
 use Rattle.osc_cose.specs.Encrypt0.{parameter}
 use Rattle.osc_token.specs.Lengths.{counted}
-use Rattle.osc_token.specs.Token.{claims_item, date, material_item, salt_field}
+use Rattle.osc_token.specs.Token.{alg_field, claims_item, date, material_item, salt_field}
 use Rattle.osc_token.specs.declared.claims.Claims.{Claims}
 use Rattle.osc_token.specs.declared.claims.InputMaterial.{InputMaterial}
 
@@ -53,6 +55,10 @@ salt_length : (salt : List ℕ) (others : Pairs) → pairs_length (salt_field sa
 salt_length [] others = omega arith
 salt_length (byte ∷ bytes) others = pair_length (unsigned 5) (byte_string (byte ∷ bytes)) others
 
+alg_length : (alg : Algorithm) (others : Pairs) → pairs_length (alg_field alg others) ≡ pairs_length (alg_field alg no_pairs) + pairs_length others
+alg_length EightByteTag others = omega arith
+alg_length SixteenByteTag others = pair_length (unsigned 4) (unsigned 30) others
+
 -- ---- the heads of the maps, each of one byte
 
 head_length : (major n : ℕ) → n < 24 → length (head major n) ≡ 1
@@ -62,29 +68,36 @@ head_length major n small = rw (lt-ltb n 24 small) refl
 map_length : (pairs : Pairs) → pair_count pairs < 24 → length (spelling (map pairs)) ≡ pairs_length pairs + 1
 map_length pairs few = omega (arith, length-append (head 5 (pair_count pairs)) (pairs_spelling pairs), head_length 5 (pair_count pairs) few)
 
-few_fields : (m : InputMaterial) → pair_count (pair (unsigned 0) (byte_string m.id) (pair (unsigned 2) (byte_string m.secret) (salt_field m.salt (parameter 6 m.id_context no_pairs)))) < 24
-few_fields m = by m.salt m.id_context
+few_fields : (m : InputMaterial) → pair_count (pair (unsigned 0) (byte_string m.id) (pair (unsigned 2) (byte_string m.secret) (alg_field m.alg (salt_field m.salt (parameter 6 m.id_context no_pairs))))) < 24
+few_fields m = by m.alg m.salt m.id_context
   where
-    by : (salt : List ℕ) (context : Option (List ℕ)) → pair_count (pair (unsigned 0) (byte_string m.id) (pair (unsigned 2) (byte_string m.secret) (salt_field salt (parameter 6 context no_pairs)))) < 24
-    by [] None = omega arith
-    by [] (Some bytes) = omega arith
-    by (b ∷ bs) None = omega arith
-    by (b ∷ bs) (Some bytes) = omega arith
+    by : (alg : Algorithm) (salt : List ℕ) (context : Option (List ℕ))
+        → pair_count (pair (unsigned 0) (byte_string m.id) (pair (unsigned 2) (byte_string m.secret) (alg_field alg (salt_field salt (parameter 6 context no_pairs))))) < 24
+    by EightByteTag [] None = omega arith
+    by EightByteTag [] (Some bytes) = omega arith
+    by EightByteTag (b ∷ bs) None = omega arith
+    by EightByteTag (b ∷ bs) (Some bytes) = omega arith
+    by SixteenByteTag [] None = omega arith
+    by SixteenByteTag [] (Some bytes) = omega arith
+    by SixteenByteTag (b ∷ bs) None = omega arith
+    by SixteenByteTag (b ∷ bs) (Some bytes) = omega arith
 
 -- ---- the whole
 
 material_length : (m : InputMaterial) → length (spelling (material_item m))
     ≡ pairs_length (pair (unsigned 0) (byte_string m.id) no_pairs) + pairs_length (pair (unsigned 2) (byte_string m.secret) no_pairs)
-    + pairs_length (salt_field m.salt no_pairs) + pairs_length (parameter 6 m.id_context no_pairs) + 1
+    + pairs_length (alg_field m.alg no_pairs) + pairs_length (salt_field m.salt no_pairs) + pairs_length (parameter 6 m.id_context no_pairs) + 1
 material_length m =
     let context : Pairs = parameter 6 m.id_context no_pairs in
     let salt : Pairs = salt_field m.salt context in
-    let secret : Pairs = pair (unsigned 2) (byte_string m.secret) salt in
+    let alg : Pairs = alg_field m.alg salt in
+    let secret : Pairs = pair (unsigned 2) (byte_string m.secret) alg in
     omega (
       arith,
       map_length (pair (unsigned 0) (byte_string m.id) secret) (few_fields m),
       pair_length (unsigned 0) (byte_string m.id) secret,
-      pair_length (unsigned 2) (byte_string m.secret) salt,
+      pair_length (unsigned 2) (byte_string m.secret) alg,
+      alg_length m.alg salt,
       salt_length m.salt context,
     )
 
@@ -126,15 +139,16 @@ claims_length c =
 
 -- ---- the whole, as it is counted
 
-pub material_counted : (m : InputMaterial) (w x y z one two three sum : ℕ)
-    → w ≡ counted (pairs_length (pair (unsigned 0) (byte_string m.id) no_pairs))
-    → x ≡ counted (pairs_length (pair (unsigned 2) (byte_string m.secret) no_pairs))
+pub material_counted : (m : InputMaterial) (v w x y z one two three four sum : ℕ)
+    → v ≡ counted (pairs_length (pair (unsigned 0) (byte_string m.id) no_pairs))
+    → w ≡ counted (pairs_length (pair (unsigned 2) (byte_string m.secret) no_pairs)) → x ≡ counted (pairs_length (alg_field m.alg no_pairs))
     → y ≡ counted (pairs_length (salt_field m.salt no_pairs)) → z ≡ counted (pairs_length (parameter 6 m.id_context no_pairs))
-    → one ≡ min (w + x) (2 ^ 64 - 1) → two ≡ min (one + y) (2 ^ 64 - 1) → three ≡ min (two + z) (2 ^ 64 - 1)
-    → sum ≡ min (three + 1) (2 ^ 64 - 1) → sum ≡ counted (length (spelling (material_item m)))
-material_counted m w x y z one two three sum id secret salt context first second third last =
-    counted_four (pairs_length (pair (unsigned 0) (byte_string m.id) no_pairs)) (pairs_length (pair (unsigned 2) (byte_string m.secret) no_pairs))
-    (pairs_length (salt_field m.salt no_pairs)) (pairs_length (parameter 6 m.id_context no_pairs)) w x y z one two three sum id secret salt context first second third last
+    → one ≡ min (v + w) (2 ^ 64 - 1) → two ≡ min (one + x) (2 ^ 64 - 1) → three ≡ min (two + y) (2 ^ 64 - 1)
+    → four ≡ min (three + z) (2 ^ 64 - 1) → sum ≡ min (four + 1) (2 ^ 64 - 1) → sum ≡ counted (length (spelling (material_item m)))
+material_counted m v w x y z one two three four sum id secret alg salt context first second third fourth last =
+    counted_five (pairs_length (pair (unsigned 0) (byte_string m.id) no_pairs)) (pairs_length (pair (unsigned 2) (byte_string m.secret) no_pairs))
+    (pairs_length (alg_field m.alg no_pairs)) (pairs_length (salt_field m.salt no_pairs)) (pairs_length (parameter 6 m.id_context no_pairs))
+    v w x y z one two three four sum id secret alg salt context first second third fourth last
     ∙ ap counted (sym (material_length m))
 
 pub confirmation_counted : (material : DataItem) (size label inner sum : ℕ) → size ≡ counted (length (spelling material))

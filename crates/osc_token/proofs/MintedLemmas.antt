@@ -3,6 +3,9 @@ use Rattle.std.proofs.Common.{◌≡◌, ◌⊎◌, inl, inr, ℕ, ◌≤◌, �
 use Rattle.std.specs.Option.{option_map, ForSome, IfSome}
 use Rattle.osc_model.specs.Grant.{HasBegun, IsNotOver}
 use Rattle.osc_model.specs.declared.node.Moment.{Moment}
+use Rattle.osc_model.specs.Algorithm.{algorithm_number}
+use Rattle.osc_model.specs.declared.algorithm.Algorithm.{Algorithm}
+use Rattle.osc_model.specs.declared.algorithm.Algorithm.TheVariants.{EightByteTag, SixteenByteTag}
 use Rattle.osc_cbor.specs.Data.{DataItem, unsigned, byte_string, text_string, map}
 use Rattle.osc_cbor.specs.Spelling.{Spells, HasSpelling, spelling}
 use Rattle.osc_scope.specs.Entries.{Entry, IsScope, scope_of}
@@ -19,16 +22,24 @@ abbrev pub salt_value : List ℕ → Option DataItem
 salt_value [] = None
 salt_value (byte ∷ bytes) = Some (byte_string (byte ∷ bytes))
 
+abbrev pub alg_value : Algorithm → Option DataItem
+alg_value EightByteTag = None
+alg_value SixteenByteTag = Some (unsigned 30)
+
 abbrev pub material_fields : InputMaterial → List Field
 material_fields m =
-    (0, Some (byte_string m.id)) ∷ (2, Some (byte_string m.secret)) ∷ (5, salt_value m.salt) ∷ (6, option_map byte_string m.id_context) ∷ []
+    (0, Some (byte_string m.id)) ∷ (2, Some (byte_string m.secret)) ∷ (4, alg_value m.alg) ∷ (5, salt_value m.salt) ∷ (6, option_map byte_string m.id_context) ∷ []
 
-pub material_is : (id secret salt : List ℕ) (context : Option (List ℕ))
-    → let m : InputMaterial = record { id = id; secret = secret; salt = salt; id_context = context } in material_item m ≡ map (fields (material_fields m))
-material_is id secret [] None = refl
-material_is id secret [] (Some context) = refl
-material_is id secret (byte ∷ salt) None = refl
-material_is id secret (byte ∷ salt) (Some context) = refl
+pub material_is : (id secret salt : List ℕ) (context : Option (List ℕ)) (alg : Algorithm)
+    → let m : InputMaterial = record { id = id; secret = secret; salt = salt; id_context = context; alg = alg } in material_item m ≡ map (fields (material_fields m))
+material_is id secret [] None EightByteTag = refl
+material_is id secret [] None SixteenByteTag = refl
+material_is id secret [] (Some context) EightByteTag = refl
+material_is id secret [] (Some context) SixteenByteTag = refl
+material_is id secret (byte ∷ salt) None EightByteTag = refl
+material_is id secret (byte ∷ salt) None SixteenByteTag = refl
+material_is id secret (byte ∷ salt) (Some context) EightByteTag = refl
+material_is id secret (byte ∷ salt) (Some context) SixteenByteTag = refl
 
 abbrev pub confirmation : InputMaterial → DataItem
 confirmation m = map (fields ((4, Some (material_item m)) ∷ []))
@@ -59,10 +70,14 @@ salt_spelled : (k : ℕ) (salt : List ℕ) → length salt ≤ 64 → IfSome (sa
 salt_spelled k [] le = tt
 salt_spelled k (byte ∷ bytes) le = (omega arith, omega arith)
 
+alg_spelled : (k : ℕ) (alg : Algorithm) → IfSome (alg_value alg) (IsSpelled k)
+alg_spelled k EightByteTag = tt
+alg_spelled k SixteenByteTag = (omega arith, omega arith)
+
 material_spelled : (c : Claims) → HasLawfulParts c → IsSpelled 1 (material_item c.material)
 material_spelled c has =
     let m = c.material in
-    let is : material_item m ≡ map (fields (material_fields m)) = material_is m.id m.secret m.salt m.id_context in
+    let is : material_item m ≡ map (fields (material_fields m)) = material_is m.id m.secret m.salt m.id_context m.alg in
     let bytes = λ (b : List ℕ) (le : length b ≤ 64). let lt : length b < 2 ^ 64 = omega arith in lt in
     subst (IsSpelled 1) (sym is) (are_spelled 0 0 (material_fields m) refl (omega arith) (
       omega arith,
@@ -72,8 +87,12 @@ material_spelled c has =
         (bytes m.secret has.secret.1, omega arith),
         (
           omega arith,
-          salt_spelled 0 m.salt has.salt,
-          (omega arith, context_spelled 0 m.id_context has.id_context, tt),
+          alg_spelled 0 m.alg,
+          (
+            omega arith,
+            salt_spelled 0 m.salt has.salt,
+            (omega arith, context_spelled 0 m.id_context has.id_context, tt),
+          ),
         ),
       ),
     ))
@@ -106,6 +125,10 @@ salt_under : (salt : List ℕ) → (salt_value salt ≡ Some (byte_string salt))
 salt_under [] = inr (refl, refl)
 salt_under (byte ∷ bytes) = inl refl
 
+alg_under : (alg : Algorithm) → (alg_value alg ≡ Some (unsigned (algorithm_number alg))) ⊎ ((alg_value alg ≡ None) × (alg ≡ EightByteTag))
+alg_under EightByteTag = inr (refl, refl)
+alg_under SixteenByteTag = inl refl
+
 is_material : (c : Claims) → HasLawfulParts c → IsMaterial (fields (material_fields c.material)) c.material
 is_material c has =
     let m = c.material in
@@ -117,7 +140,7 @@ is_material c has =
       secret = value_at 2 0 fs refl;
       secret_size = has.secret;
       hkdf = inl (inl (value_at 3 0 fs refl));
-      algorithm = inl (value_at 4 0 fs refl);
+      algorithm = rw (value_at 4 0 fs refl) (alg_under m.alg);
       salt = rw (value_at 5 0 fs refl) (salt_under m.salt);
       salt_size = has.salt;
       id_context = value_at 6 0 fs refl;
@@ -127,7 +150,7 @@ is_material c has =
 has_material : (c : Claims) → HasLawfulParts c → HasMaterial (fields (claims_fields c)) c.material
 has_material c has =
     let m = c.material in
-    let is : material_item m ≡ map (fields (material_fields m)) = material_is m.id m.secret m.salt m.id_context in
+    let is : material_item m ≡ map (fields (material_fields m)) = material_is m.id m.secret m.salt m.id_context m.alg in
     record {
       confirmation = fields ((4, Some (material_item m)) ∷ []);
       fields = fields (material_fields m);

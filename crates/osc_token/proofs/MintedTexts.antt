@@ -1,8 +1,11 @@
 -- What the text of minted claims comes to, whatever their lengths: the claims alone.
-use Rattle.std.proofs.Common.{◌≡◌, ◌⊎◌, inl, inr, ℕ, List, [], ◌∷◌, Option, Some, None, Result, Ok, refl, sym, ap, ◌∙◌, subst}
+use Rattle.std.proofs.Common.{◌≡◌, ◌⊎◌, inl, inr, ℕ, List, [], ◌∷◌, Option, Some, None, Result, Ok, refl, sym, ap, ◌∙◌, subst, arith}
 use Rattle.std.specs.Option.{option_map}
 use Rattle.osc_model.specs.Scope.{Scope}
 use Rattle.osc_model.specs.declared.node.Moment.{Moment}
+use Rattle.osc_model.specs.Algorithm.{algorithm_number}
+use Rattle.osc_model.specs.declared.algorithm.Algorithm.{Algorithm}
+use Rattle.osc_model.specs.declared.algorithm.Algorithm.TheVariants.{EightByteTag, SixteenByteTag}
 use Rattle.osc_cbor.specs.Data.{DataItem, unsigned, byte_string, text_string, map, Pairs, value_under}
 use Rattle.osc_cbor.specs.Parts.{value}
 use Rattle.osc_cbor.specs.Spelling.{Spells}
@@ -13,7 +16,7 @@ use Rattle.osc_token.specs.declared.claims.Claims.{Claims}
 use Rattle.osc_token.specs.declared.claims.InputMaterial.{InputMaterial}
 use Rattle.osc_token.specs.declared.error.TokenError.{TokenError}
 use Rattle.osc_token.proofs.FieldLemmas.{fields, value_at}
-use Rattle.osc_token.proofs.MintedLemmas.{salt_value, material_fields, material_is, confirmation, claims_fields, claims_are}
+use Rattle.osc_token.proofs.MintedLemmas.{alg_value, salt_value, material_fields, material_is, confirmation, claims_fields, claims_are}
 
 same_date : (a b : Option ℕ) → option_map unsigned a ≡ option_map unsigned b → a ≡ b
 same_date None None e = refl
@@ -33,6 +36,13 @@ same_salt a [] (inr e) = e.1
 same_salt a (x ∷ xs) (inl e) = cc
 same_salt a (x ∷ xs) (inr e) = absurd (cc e.0)
 
+same_alg : (a b : Algorithm) → (alg_value b ≡ Some (unsigned (algorithm_number a))) ⊎ ((alg_value b ≡ None) × (a ≡ EightByteTag)) → a ≡ b
+same_alg a EightByteTag (inl e) = absurd (cc)
+same_alg a EightByteTag (inr e) = e.1
+same_alg EightByteTag SixteenByteTag (inl e) = let no : ◌≡◌ {A = ℕ} 30 10 = cc in absurd (omega (arith, no))
+same_alg SixteenByteTag SixteenByteTag (inl e) = refl
+same_alg a SixteenByteTag (inr e) = absurd (cc e.0)
+
 same_item : (a b : DataItem) → Some a ≡ Some b → a ≡ b
 same_item a b e = cc
 
@@ -48,8 +58,8 @@ ok x = Ok x
 same_outcome : (a b : Claims × Scope) → ok a ≡ ok b → a ≡ b
 same_outcome a b e = cc
 
-same_material : (m n : InputMaterial) → m.id ≡ n.id → m.secret ≡ n.secret → m.salt ≡ n.salt → m.id_context ≡ n.id_context → m ≡ n
-same_material m n id secret salt context = λ i. record { id = id i; secret = secret i; salt = salt i; id_context = context i }
+same_material : (m n : InputMaterial) → m.id ≡ n.id → m.secret ≡ n.secret → m.salt ≡ n.salt → m.id_context ≡ n.id_context → m.alg ≡ n.alg → m ≡ n
+same_material m n id secret salt context alg = λ i. record { id = id i; secret = secret i; salt = salt i; id_context = context i; alg = alg i }
 
 same_claims : (a b : Claims) → a.audience ≡ b.audience → a.not_before ≡ b.not_before → a.expires ≡ b.expires → a.material ≡ b.material → a.scope ≡ b.scope → a ≡ b
 same_claims a b audience nbf exp material scope =
@@ -74,7 +84,7 @@ module _ (c : Claims) (its_entries : List Entry) (text : List ℕ)
     fields_are : map has.fields ≡ map (fields (material_fields c.material))
     fields_are =
         same_item _ _ (sym has.osc ∙ ap (value 4) confirmed)
-        ∙ material_is c.material.id c.material.secret c.material.salt c.material.id_context
+        ∙ material_is c.material.id c.material.secret c.material.salt c.material.id_context c.material.alg
 
     in_fields : (label : ℕ) → value_under label has.fields ≡ value_under label (fields (material_fields c.material))
     in_fields label = ap (value label) fields_are
@@ -87,6 +97,14 @@ module _ (c : Claims) (its_entries : List Entry) (text : List ℕ)
     salt_read (inl e) = inl (sym salt_at ∙ e)
     salt_read (inr e) = inr (sym salt_at ∙ e.0, e.1)
 
+    alg_at : value_under 4 has.fields ≡ alg_value c.material.alg
+    alg_at = in_fields 4 ∙ value_at 4 0 (material_fields c.material) refl
+
+    alg_read : (value_under 4 has.fields ≡ Some (unsigned (algorithm_number m.alg))) ⊎ ((value_under 4 has.fields ≡ None) × (m.alg ≡ EightByteTag))
+        → (alg_value c.material.alg ≡ Some (unsigned (algorithm_number m.alg))) ⊎ ((alg_value c.material.alg ≡ None) × (m.alg ≡ EightByteTag))
+    alg_read (inl e) = inl (sym alg_at ∙ e)
+    alg_read (inr e) = inr (sym alg_at ∙ e.0, e.1)
+
     material : m ≡ c.material
     material =
         same_material m c.material
@@ -94,6 +112,7 @@ module _ (c : Claims) (its_entries : List Entry) (text : List ℕ)
         (same_bytes _ _ (sym has.is_material.secret ∙ in_fields 2 ∙ value_at 2 0 (material_fields c.material) refl))
         (same_salt m.salt c.material.salt (salt_read has.is_material.salt))
         (same_context m.id_context c.material.id_context (sym has.is_material.id_context ∙ in_fields 6 ∙ value_at 6 0 (material_fields c.material) refl))
+        (same_alg m.alg c.material.alg (alg_read has.is_material.algorithm))
 
     scope_bytes : bytes ≡ c.scope
     scope_bytes = same_bytes _ _ (sym scoped.scope ∙ under 9 ∙ value_at 9 0 (claims_fields c) refl)

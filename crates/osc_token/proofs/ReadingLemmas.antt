@@ -1,11 +1,14 @@
 -- What claims hold, computed from their item, and the table of claims.
-use Rattle.std.proofs.Common.{◌≡◌, ◌⊎◌, inl, inr, ℕ, ◌≤◌, Bool, true, false, ◌&&◌, ◌||◌, nat_lt, if◌then◌else◌, List, [], length, Option, Some, None, refl, sym, ap, ◌∙◌, arith, eq-eqb, eqb-true}
-use Rattle.std.specs.Option.{option_map, option_and_then, ForSome}
+use Rattle.std.proofs.Common.{◌≡◌, ◌⊎◌, inl, inr, ℕ, ◌≤◌, ◌==◌, Bool, true, false, ◌||◌, nat_lt, if◌then◌else◌, List, [], length, Option, Some, None, refl, sym, ap, ◌∙◌, arith, eq-eqb, eqb-true}
+use Rattle.std.specs.Option.{option_map, option_and_then, ForSome, IfSome, IfNone}
 use Rattle.std.proofs.lemmas.Bool.{and_parts, and_from, or_parts, or_from, ltb-false, le-ltb, cond-true, cond-false}
+use Rattle.osc_model.specs.Algorithm.{algorithm_number}
+use Rattle.osc_model.specs.declared.algorithm.Algorithm.{Algorithm}
+use Rattle.osc_model.specs.declared.algorithm.Algorithm.TheVariants.{EightByteTag, SixteenByteTag}
 use Rattle.osc_cbor.specs.Data.{DataItem, unsigned, negative, byte_string, text_string, array, map, tag, bool, null, Pairs, value_under}
 use Rattle.osc_cbor.specs.Parts.{as_unsigned, as_map, value}
 use Rattle.osc_token.specs.Claims.{IsAbsentOr, IsMaterial, HasMaterial}
-use Rattle.osc_token.specs.Reading.{pairs_in, date_of, dates_in, sized, is_absent_or, is_hkdf, are_known, salt_of, id_context_of, parts_of, material_of, material_in}
+use Rattle.osc_token.specs.Reading.{pairs_in, date_of, dates_in, sized, is_absent_or, is_hkdf, are_known, algorithm_numbered, alg_of, salt_of, id_context_of, parts_of, material_of, material_in}
 use Rattle.osc_token.specs.declared.claims.InputMaterial.{InputMaterial}
 use Rattle.osc_token.specs.declared.judging.Dates.{Dates}
 
@@ -152,7 +155,7 @@ context_from : (v : Option DataItem) (context : Option (List ℕ)) → v ≡ opt
 context_from v None e fits = ap id_context_of e
 context_from v (Some bytes) e fits = ap id_context_of e ∙ ap (option_map Some) (sized_from 0 bytes (omega arith) (fits bytes refl))
 
--- ---- version, HKDF and algorithm
+-- ---- version and HKDF
 
 absent_or_is : (number : ℕ) (v : Option DataItem) → is_absent_or number v ≡ true → IsAbsentOr (unsigned number) v
 absent_or_is number None e = inl refl
@@ -190,6 +193,43 @@ hkdf_from v (inl (inl e)) = ap is_hkdf e
 hkdf_from v (inl (inr e)) = ap is_hkdf e
 hkdf_from v (inr e) = ap is_hkdf e
 
+-- ---- the algorithm
+
+numbered_is : (n : ℕ) (alg : Algorithm) → algorithm_numbered n ≡ Some alg → n ≡ algorithm_number alg
+numbered_is n alg e = first (n == 10) refl e
+  where
+    second : (b : Bool) → (n == 30) ≡ b → (if b then Some SixteenByteTag else None) ≡ Some alg → n ≡ algorithm_number alg
+    second true is e = let same : SixteenByteTag ≡ alg = cc in eqb-true n 30 is ∙ ap algorithm_number same
+    second false is e = absurd cc
+
+    first : (b : Bool) → (n == 10) ≡ b → (if b then Some EightByteTag else if n == 30 then Some SixteenByteTag else None) ≡ Some alg → n ≡ algorithm_number alg
+    first true is e = let same : EightByteTag ≡ alg = cc in eqb-true n 10 is ∙ ap algorithm_number same
+    first false is e = second (n == 30) refl e
+
+numbered_from : (alg : Algorithm) → algorithm_numbered (algorithm_number alg) ≡ Some alg
+numbered_from EightByteTag = refl
+numbered_from SixteenByteTag = refl
+
+-- what was found by its number
+pub found_by_number : (n : ℕ) (found : Option Algorithm) → IfSome found (λ alg. n ≡ algorithm_number alg) → IfNone found ((alg : Algorithm) → ¬ (n ≡ algorithm_number alg))
+    → found ≡ algorithm_numbered n
+found_by_number n (Some alg) is none = sym (ap algorithm_numbered is ∙ numbered_from alg)
+found_by_number n None is none = by (algorithm_numbered n) refl
+  where
+    by : (its : Option Algorithm) → algorithm_numbered n ≡ its → None ≡ its
+    by None e = refl
+    by (Some alg) e = absurd (none (alg) (numbered_is n alg e))
+
+alg_is : (v : Option DataItem) (alg : Algorithm) → alg_of v ≡ Some alg → (v ≡ Some (unsigned (algorithm_number alg))) ⊎ ((v ≡ None) × (alg ≡ EightByteTag))
+alg_is None alg e = let same : EightByteTag ≡ alg = cc in inr (refl, sym same)
+alg_is (Some d) alg e =
+    let n = then_some algorithm_numbered (as_unsigned d) alg e in
+    inl (ap Some (unsigned_is d n.0 n.1 ∙ ap unsigned (numbered_is n.0 alg n.2)))
+
+alg_from : (v : Option DataItem) (alg : Algorithm) → (v ≡ Some (unsigned (algorithm_number alg))) ⊎ ((v ≡ None) × (alg ≡ EightByteTag)) → alg_of v ≡ Some alg
+alg_from v alg (inl e) = ap alg_of e ∙ numbered_from alg
+alg_from v alg (inr e) = ap alg_of e.0 ∙ ap Some (sym e.1)
+
 -- ---- input material
 
 parts_are : (d : DataItem) (m : InputMaterial) → are_known d ≡ true → parts_of d ≡ Some m → IsMaterial (pairs_in d) m
@@ -197,13 +237,14 @@ parts_are d m known e =
     let id = then_some _ (option_and_then (sized 0) (value 0 d)) m e in
     let secret = then_some _ (option_and_then (sized 1) (value 2 d)) m id.2 in
     let salt = then_some _ (salt_of (value 5 d)) m secret.2 in
-    let context = map_some _ (id_context_of (value 6 d)) m salt.2 in
-    let id_is = field_is 0 (value 0 d) m.id (id.1 ∙ ap (λ (x : InputMaterial). Some x.id) context.2) in
-    let secret_is = field_is 1 (value 2 d) m.secret (secret.1 ∙ ap (λ (x : InputMaterial). Some x.secret) context.2) in
-    let salt_is = salt_is (value 5 d) m.salt (salt.1 ∙ ap (λ (x : InputMaterial). Some x.salt) context.2) in
-    let context_is = context_is (value 6 d) m.id_context (context.1 ∙ ap (λ (x : InputMaterial). Some x.id_context) context.2) in
-    let all = and_parts (is_absent_or 1 (value 1 d) && is_hkdf (value 3 d)) (is_absent_or 10 (value 4 d)) known in
-    let first = and_parts (is_absent_or 1 (value 1 d)) (is_hkdf (value 3 d)) all.0 in
+    let context = then_some _ (id_context_of (value 6 d)) m salt.2 in
+    let alg = map_some _ (alg_of (value 4 d)) m context.2 in
+    let id_is = field_is 0 (value 0 d) m.id (id.1 ∙ ap (λ (x : InputMaterial). Some x.id) alg.2) in
+    let secret_is = field_is 1 (value 2 d) m.secret (secret.1 ∙ ap (λ (x : InputMaterial). Some x.secret) alg.2) in
+    let salt_is = salt_is (value 5 d) m.salt (salt.1 ∙ ap (λ (x : InputMaterial). Some x.salt) alg.2) in
+    let context_is = context_is (value 6 d) m.id_context (context.1 ∙ ap (λ (x : InputMaterial). Some x.id_context) alg.2) in
+    let alg_is = alg_is (value 4 d) m.alg (alg.1 ∙ ap (λ (x : InputMaterial). Some x.alg) alg.2) in
+    let first = and_parts (is_absent_or 1 (value 1 d)) (is_hkdf (value 3 d)) known in
     record {
       id = rw value_in at id_is.0;
       id_size = id_is.2;
@@ -211,7 +252,7 @@ parts_are d m known e =
       secret = rw value_in at secret_is.0;
       secret_size = (secret_is.1, secret_is.2);
       hkdf = rw value_in at (hkdf_is (value 3 d) first.1);
-      algorithm = rw value_in at (absent_or_is 10 (value 4 d) all.1);
+      algorithm = rw value_in at alg_is;
       salt = rw value_in at salt_is.0;
       salt_size = salt_is.1;
       id_context = rw value_in at context_is.0;
@@ -220,13 +261,11 @@ parts_are d m known e =
 
 parts_from : (fields : Pairs) (m : InputMaterial) → IsMaterial fields m → parts_of (map fields) ≡ Some m
 parts_from fields m is =
-    rw (is.id, sized_from 0 m.id (omega arith) is.id_size, is.secret, sized_from 1 m.secret is.secret_size.0 is.secret_size.1, salt_from (value_under 5 fields) m.salt is.salt is.salt_size, context_from (value_under 6 fields) m.id_context is.id_context is.id_context_size) refl
+    rw (is.id, sized_from 0 m.id (omega arith) is.id_size, is.secret, sized_from 1 m.secret is.secret_size.0 is.secret_size.1, salt_from (value_under 5 fields) m.salt is.salt is.salt_size, context_from (value_under 6 fields) m.id_context is.id_context is.id_context_size, alg_from (value_under 4 fields) m.alg is.algorithm) refl
 
 known_from : (fields : Pairs) (m : InputMaterial) → IsMaterial fields m → are_known (map fields) ≡ true
 known_from fields m is =
-    and_from (is_absent_or 1 (value_under 1 fields) && is_hkdf (value_under 3 fields)) (is_absent_or 10 (value_under 4 fields))
-    (and_from (is_absent_or 1 (value_under 1 fields)) (is_hkdf (value_under 3 fields)) (absent_or_from 1 _ is.version) (hkdf_from _ is.hkdf))
-    (absent_or_from 10 _ is.algorithm)
+    and_from (is_absent_or 1 (value_under 1 fields)) (is_hkdf (value_under 3 fields)) (absent_or_from 1 _ is.version) (hkdf_from _ is.hkdf)
 
 -- the material of an item is that of the claim cnf, ..
 pub material_is : (d : DataItem) (m : InputMaterial) → material_in d ≡ Some m → HasMaterial (pairs_in d) m

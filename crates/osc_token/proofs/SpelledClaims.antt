@@ -1,10 +1,12 @@
 -- Claims have a spelling, whatever the lengths of their parts.
 use Rattle.std.proofs.Common.{◌≡◌, ℕ, ◌+◌, ◌<◌, ◌≤◌, ◌^◌, List, [], ◌∷◌, length, Option, Some, None, refl, ◌∙◌, inl, inr, arith}
 use Rattle.std.specs.Option.{ForSome}
+use Rattle.osc_model.specs.declared.algorithm.Algorithm.{Algorithm}
+use Rattle.osc_model.specs.declared.algorithm.Algorithm.TheVariants.{EightByteTag, SixteenByteTag}
 use Rattle.osc_cbor.specs.Data.{DataItem, unsigned, byte_string, text_string, map, Pairs, no_pairs, pair, pair_count, HasKey, HasOwnKeys}
 use Rattle.osc_cbor.specs.Spelling.{HasSpelling, PairsHaveSpellings}
 use Rattle.osc_cose.specs.Encrypt0.{parameter}
-use Rattle.osc_token.specs.Token.{date, salt_field, material_item, claims_item}
+use Rattle.osc_token.specs.Token.{date, alg_field, salt_field, material_item, claims_item}
 use Rattle.osc_token.specs.declared.claims.Claims.{Claims}
 use Rattle.osc_token.specs.declared.claims.InputMaterial.{InputMaterial}
 use Rattle.osc_token.specs.Minted.{FitTheirTypes}
@@ -62,6 +64,10 @@ a_salt : (n count : ℕ) (salt : List ℕ) (ps : Pairs) → n < 5 → length sal
 a_salt n count [] ps lt fits r = over n 5 count ps lt r
 a_salt n count (b ∷ bytes) ps lt fits r = one_more n 5 count (byte_string (b ∷ bytes)) ps lt (omega arith) fits r
 
+an_alg : (n count : ℕ) (alg : Algorithm) (ps : Pairs) → n < 4 → Rising 4 count ps → Rising n (count + 1) (alg_field alg ps)
+an_alg n count EightByteTag ps lt r = over n 4 count ps lt r
+an_alg n count SixteenByteTag ps lt r = one_more n 4 count (unsigned 30) ps lt (omega arith) (omega arith) r
+
 a_context : (n : ℕ) (o : Option (List ℕ)) → n < 6 → ForSome o (λ bytes. length bytes < 2 ^ 64) → Rising n 1 (parameter 6 o no_pairs)
 a_context n None lt fits = over n 6 0 no_pairs lt (none 6)
 a_context n (Some bytes) lt fits = one_more n 6 0 (byte_string bytes) no_pairs lt (omega arith) (fits bytes refl) (none 6)
@@ -71,9 +77,10 @@ a_context n (Some bytes) lt fits = one_more n 6 0 (byte_string bytes) no_pairs l
 material_spelled : (m : InputMaterial) → length m.id < 2 ^ 64 → length m.secret < 2 ^ 64 → length m.salt < 2 ^ 64 → ForSome m.id_context (λ bytes. length bytes < 2 ^ 64) → HasSpelling (material_item m)
 material_spelled m id secret salt context =
     let last = a_context 5 m.id_context (omega arith) context in
-    let behind = a_salt 2 1 m.salt (parameter 6 m.id_context no_pairs) (omega arith) salt last in
-    let more = one_more 0 2 2 (byte_string m.secret) (salt_field m.salt (parameter 6 m.id_context no_pairs)) (omega arith) (omega arith) secret behind in
-    a_map 0 3 (byte_string m.id) _ (omega arith) (omega arith) id more
+    let salted = a_salt 4 1 m.salt (parameter 6 m.id_context no_pairs) (omega arith) salt last in
+    let behind = an_alg 2 2 m.alg (salt_field m.salt (parameter 6 m.id_context no_pairs)) (omega arith) salted in
+    let more = one_more 0 2 3 (byte_string m.secret) (alg_field m.alg (salt_field m.salt (parameter 6 m.id_context no_pairs))) (omega arith) (omega arith) secret behind in
+    a_map 0 4 (byte_string m.id) _ (omega arith) (omega arith) id more
 
 pub claims_spelled : (c : Claims) → FitTheirTypes c → HasSpelling (claims_item c)
 claims_spelled c fit =

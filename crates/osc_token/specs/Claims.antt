@@ -2,8 +2,10 @@
 -- osc 4 (RFC 8747 section 3.1, RFC 9203 section 3.2.1), scope 9 (RFC 9200 section 5.8.1). Other claims are ignored.
 use Rattle.std.specs.Prelude.{◌≡◌, ◌≢◌, ◌⊎◌, ℕ, ◌≤◌, List, [], length, Option, Some, None, option_map, Result, Ok, Err}
 use Rattle.std.specs.Option.{ForSome}
+use Rattle.osc_model.specs.Algorithm.{algorithm_number}
 use Rattle.osc_model.specs.Grant.{HasBegun, IsNotOver}
 use Rattle.osc_model.specs.Scope.{Scope}
+use Rattle.osc_model.specs.declared.algorithm.Algorithm.TheVariants.{EightByteTag}
 use Rattle.osc_model.specs.declared.node.Moment.{Moment}
 use Rattle.osc_cbor.specs.Data.{DataItem, unsigned, negative, byte_string, text_string, map, Pairs, value_under}
 use Rattle.osc_cbor.specs.Spelling.{IsWhole}
@@ -23,8 +25,8 @@ pub record IsClaims (text : List ℕ) (claims : Pairs) (nbf exp : Option ℕ) : 
 abbrev pub IsAbsentOr : DataItem → Option DataItem → Type 0
 IsAbsentOr expected value = (value ≡ None) ⊎ (value ≡ Some expected)
 
--- OSCORE_Input_Material: id 0, version 1, ms 2, hkdf 3, alg 4, salt 5, contextId 6. The version is 1, the hash SHA-256 and
--- the cipher AES-CCM-16-64-128, and an absent salt is an empty one.
+-- OSCORE_Input_Material: id 0, version 1, ms 2, hkdf 3, alg 4, salt 5, contextId 6. The version is 1, the hash SHA-256, the
+-- cipher one of two, AES-CCM-16-64-128 where none is named, and an absent salt is an empty one.
 pub record IsMaterial (fields : Pairs) (material : InputMaterial) : Type 0 where
   pub id : value_under 0 fields ≡ Some (byte_string material.id)
   pub id_size : length material.id ≤ 64
@@ -32,7 +34,7 @@ pub record IsMaterial (fields : Pairs) (material : InputMaterial) : Type 0 where
   pub secret : value_under 2 fields ≡ Some (byte_string material.secret)
   pub secret_size : (1 ≤ length material.secret) × (length material.secret ≤ 64)
   pub hkdf : IsAbsentOr (unsigned 5) (value_under 3 fields) ⊎ (value_under 3 fields ≡ Some (negative 9))
-  pub algorithm : IsAbsentOr (unsigned 10) (value_under 4 fields)
+  pub algorithm : (value_under 4 fields ≡ Some (unsigned (algorithm_number material.alg))) ⊎ ((value_under 4 fields ≡ None) × (material.alg ≡ EightByteTag))
   pub salt : (value_under 5 fields ≡ Some (byte_string material.salt)) ⊎ ((value_under 5 fields ≡ None) × (material.salt ≡ []))
   pub salt_size : length material.salt ≤ 64
   pub id_context : value_under 6 fields ≡ option_map byte_string material.id_context

@@ -1,6 +1,8 @@
 -- What claims hold, computed from their item: the way from the code to the table of claims. No public contract rests on
 -- this.
 use Rattle.std.specs.Prelude.{◌≡◌, ℕ, ◌==◌, ◌&&◌, ◌||◌, Bool, true, false, nat_lt, if◌then◌else◌, List, [], length, Option, Some, None, option_map, option_and_then}
+use Rattle.osc_model.specs.declared.algorithm.Algorithm.{Algorithm}
+use Rattle.osc_model.specs.declared.algorithm.Algorithm.TheVariants.{EightByteTag, SixteenByteTag}
 use Rattle.osc_cbor.specs.Data.{DataItem, unsigned, negative, byte_string, map, Pairs, no_pairs}
 use Rattle.osc_cbor.specs.Spelling.{IsWhole}
 use Rattle.osc_cbor.specs.Parts.{as_unsigned, as_map, value}
@@ -46,9 +48,9 @@ abbrev pub is_hkdf : Option DataItem → Bool
 is_hkdf (Some (negative n)) = n == 9
 is_hkdf other = is_absent_or 5 other
 
--- the fields name nothing but what is supported
+-- the fields name no version and no hash but those that are supported
 abbrev pub are_known : DataItem → Bool
-are_known fields = is_absent_or 1 (value 1 fields) && is_hkdf (value 3 fields) && is_absent_or 10 (value 4 fields)
+are_known fields = is_absent_or 1 (value 1 fields) && is_hkdf (value 3 fields)
 
 -- an absent salt is an empty one
 abbrev pub salt_of : Option DataItem → Option (List ℕ)
@@ -59,12 +61,21 @@ abbrev pub id_context_of : Option DataItem → Option (Option (List ℕ))
 id_context_of None = Some None
 id_context_of (Some d) = option_map Some (sized 0 d)
 
+-- the algorithm of this number
+abbrev pub algorithm_numbered : ℕ → Option Algorithm
+algorithm_numbered n = if n == 10 then Some EightByteTag else if n == 30 then Some SixteenByteTag else None
+
+-- where none is named, AES-CCM-16-64-128
+abbrev pub alg_of : Option DataItem → Option Algorithm
+alg_of None = Some EightByteTag
+alg_of (Some d) = option_and_then algorithm_numbered (as_unsigned d)
+
 -- the material of these fields, whatever else they name
 abbrev pub parts_of : DataItem → Option InputMaterial
 parts_of fields =
-    option_and_then (λ id. option_and_then (λ secret. option_and_then (λ salt. option_map
-    (λ context. record { id = id; secret = secret; salt = salt; id_context = context })
-    (id_context_of (value 6 fields))) (salt_of (value 5 fields))) (option_and_then (sized 1) (value 2 fields))) (option_and_then (sized 0) (value 0 fields))
+    option_and_then (λ id. option_and_then (λ secret. option_and_then (λ salt. option_and_then (λ context. option_map
+    (λ alg. record { id = id; secret = secret; salt = salt; id_context = context; alg = alg })
+    (alg_of (value 4 fields))) (id_context_of (value 6 fields))) (salt_of (value 5 fields))) (option_and_then (sized 1) (value 2 fields))) (option_and_then (sized 0) (value 0 fields))
 
 abbrev pub material_of : DataItem → Option InputMaterial
 material_of fields = if are_known fields then parts_of fields else None

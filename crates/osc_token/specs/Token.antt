@@ -1,5 +1,7 @@
 -- Tokens: encrypted claims (RFC 8392 section 7), as COSE_Encrypt0 objects.
 use Rattle.std.specs.Prelude.{◌≡◌, ◌≢◌, ℕ, ◌==◌, if◌then◌else◌, List, [], ◌∷◌, length, Option, Some, None}
+use Rattle.osc_model.specs.declared.algorithm.Algorithm.{Algorithm}
+use Rattle.osc_model.specs.declared.algorithm.Algorithm.TheVariants.{EightByteTag, SixteenByteTag}
 use Rattle.osc_model.specs.declared.context.ContextName.{ContextName}
 use Rattle.osc_model.specs.declared.context.Side.TheVariants.{Server}
 use Rattle.osc_model.specs.declared.step.Note.{Note}
@@ -27,9 +29,9 @@ pub record IsToken (IsSealing : List ℕ → List ℕ → List ℕ → List ℕ 
   pub iv_size : length iv ≡ 13
   pub sealed : IsSealing key iv (enc_structure protected []) text ciphertext
 
--- the note of a token's opening: under the name that has the token key as its secret, and nothing else
+-- the note of a token's opening: under the name that has the token key as its secret, the algorithm of tokens, and nothing else
 abbrev pub token_name : List ℕ → ContextName
-token_name key = record { secret = key; salt = []; id_context = None; client_id = []; server_id = [] }
+token_name key = record { secret = key; salt = []; id_context = None; client_id = []; server_id = []; alg = EightByteTag }
 
 abbrev pub token_note : List ℕ → List ℕ → List ℕ → List ℕ → Note
 token_note key protected iv text =
@@ -51,9 +53,14 @@ abbrev pub salt_field : List ℕ → Pairs → Pairs
 salt_field [] others = others
 salt_field (byte ∷ bytes) others = pair (unsigned 5) (byte_string (byte ∷ bytes)) others
 
+-- an algorithm that isn't the one that is meant where none is named, before the other fields
+abbrev pub alg_field : Algorithm → Pairs → Pairs
+alg_field EightByteTag others = others
+alg_field SixteenByteTag others = pair (unsigned 4) (unsigned 30) others
+
 abbrev pub material_item : InputMaterial → DataItem
 material_item material = map (pair (unsigned 0) (byte_string material.id) (pair (unsigned 2) (byte_string material.secret)
-    (salt_field material.salt (parameter 6 material.id_context no_pairs))))
+    (alg_field material.alg (salt_field material.salt (parameter 6 material.id_context no_pairs)))))
 
 abbrev pub claims_item : Claims → DataItem
 claims_item claims = map (pair (unsigned 3) (text_string claims.audience)

@@ -1,7 +1,7 @@
 //! Claims.
 
 use crate::audience::Audience;
-use osc_model::Bytes;
+use osc_model::{Algorithm, Bytes};
 use std::fmt;
 
 /// What the security contexts of a token's holder are derived from (OSCORE_Input_Material, RFC 9203 section 3.2.1).
@@ -15,6 +15,8 @@ pub struct InputMaterial {
     pub salt: Bytes,
     /// The id context: 0 to 64 bytes, where there is one.
     pub id_context: Option<Bytes>,
+    /// The AEAD algorithm of the contexts.
+    pub alg: Algorithm,
 }
 
 // The secret isn't printed.

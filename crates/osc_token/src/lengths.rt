@@ -5,15 +5,16 @@ ghost use Rattle.osc_cbor.specs.Data.{byte_string, map, no_pairs, pair, text_str
 ghost use Rattle.osc_cbor.specs.Spelling.{pairs_spelling, spelling};
 ghost use Rattle.osc_cose.specs.Encrypt0.{parameter};
 ghost use Rattle.osc_token.specs.Lengths.{counted};
-ghost use Rattle.osc_token.specs.Token.{claims_item, date, material_item, salt_field};
+ghost use Rattle.osc_token.specs.Token.{alg_field, claims_item, date, material_item, salt_field};
 
 use crate::audience::Audience;
 use crate::claims::{Claims, InputMaterial};
 use crate::labels::{
-    AUDIENCE, CONFIRMATION, EXPIRES, ID, ID_CONTEXT, MATERIAL, NOT_BEFORE, SALT, SCOPE, SECRET,
+    ALGORITHM, AUDIENCE, CONFIRMATION, EXPIRES, ID, ID_CONTEXT, MATERIAL, NOT_BEFORE, SALT, SCOPE,
+    SECRET,
 };
 use osc_cbor::{Major, head};
-use osc_model::Bytes;
+use osc_model::{Algorithm, Bytes};
 
 /// The bytes of the head of a map of at most 23 pairs.
 const MAP_HEAD: usize = 1;
@@ -64,9 +65,20 @@ fn material_len(material: &InputMaterial) -> usize
 {
     bytes_len(ID, &material.id)
         .saturating_add(bytes_len(SECRET, &material.secret))
+        .saturating_add(alg_len(material.alg))
         .saturating_add(salt_len(&material.salt))
         .saturating_add(id_context_len(&material.id_context))
         .saturating_add(MAP_HEAD)
+}
+
+/// How many an algorithm has with its label; none where it is meant without being named.
+fn alg_len(alg: Algorithm) -> usize
+    ensures { result ≡ counted (length (pairs_spelling (alg_field alg no_pairs))) }
+{
+    match alg {
+        Algorithm::EightByteTag => 0,
+        Algorithm::SixteenByteTag => number_len(ALGORITHM) + number_len(alg.number()),
+    }
 }
 
 /// How many a salt has with its label; none where it is empty.

@@ -10,7 +10,7 @@ use crate::labels::{
     ALGORITHM, CONFIRMATION, HKDF, ID, ID_CONTEXT, MATERIAL, SALT, SECRET, VERSION,
 };
 use osc_cbor::Item;
-use osc_model::Bytes;
+use osc_model::{Algorithm, Bytes};
 use std::alloc::{AllocError, Global};
 use std::marker::Model;
 
@@ -23,9 +23,6 @@ const HMAC_256: u64 = 5;
 /// HKDF with SHA-256 by direct+HKDF-SHA-256 (RFC 9053 section 6.1.2): the argument of -10.
 const HKDF_SHA_256: u64 = 9;
 
-/// The algorithm AES-CCM-16-64-128 (RFC 9053 section 4.2).
-const AES_CCM: u64 = 10;
-
 /// The most bytes of a field.
 const LONGEST: usize = 64;
 
@@ -36,6 +33,7 @@ pub(crate) struct MaterialRef<'a> {
     secret: &'a [u8],
     salt: &'a [u8],
     id_context: Option<&'a [u8]>,
+    alg: Algorithm,
 }
 
 impl<'a> Model for MaterialRef<'a> {
@@ -44,7 +42,7 @@ impl<'a> Model for MaterialRef<'a> {
 
     ghost Value = { AnyMaterial };
 
-    ghost view = { λ m. record { id = m.id.now; secret = m.secret.now; salt = m.salt.now; id_context = option_copied m.id_context } };
+    ghost view = { λ m. record { id = m.id.now; secret = m.secret.now; salt = m.salt.now; id_context = option_copied m.id_context; alg = m.alg } };
 }
 
 impl<'a> MaterialRef<'a> {
@@ -61,6 +59,7 @@ impl<'a> MaterialRef<'a> {
             secret: Bytes::from_slice(alloc, self.secret)?,
             salt: Bytes::from_slice(alloc, self.salt)?,
             id_context,
+            alg: self.alg,
         })
     }
 }
@@ -83,7 +82,7 @@ fn material_of(fields: &Item) -> Option<MaterialRef<'_>>
     }
 }
 
-/// The input material of these fields, whatever version and algorithms they name.
+/// The input material of these fields, whatever version and hash they name.
 fn parts_of(fields: &Item) -> Option<MaterialRef<'_>>
     ensures { result ≡ spec.parts_of (view fields.now) }
 {
@@ -92,6 +91,7 @@ fn parts_of(fields: &Item) -> Option<MaterialRef<'_>>
         secret: sized(fields.value(SECRET)?, 1)?,
         salt: salt(fields)?,
         id_context: id_context(fields)?,
+        alg: algorithm(fields)?,
     })
 }
 
@@ -115,6 +115,16 @@ fn id_context(fields: &Item) -> Option<Option<&[u8]>>
     }
 }
 
+/// The algorithm, AES-CCM-16-64-128 where none is named; none where it is another than the two.
+fn algorithm(fields: &Item) -> Option<Algorithm>
+    ensures { result ≡ spec.alg_of (part.value 4 (view fields.now)) }
+{
+    match fields.value(ALGORITHM) {
+        Some(value) => Algorithm::from_number(value.as_unsigned()?),
+        None => Some(Algorithm::EightByteTag),
+    }
+}
+
 /// The bytes of a field, if it is a byte string of at least so many and at most [`LONGEST`].
 fn sized(value: &Item, least: usize) -> Option<&[u8]>
     ensures { option_copied result ≡ spec.sized least (view value.now) }
@@ -127,13 +137,11 @@ fn sized(value: &Item, least: usize) -> Option<&[u8]>
     }
 }
 
-/// Whether version, HKDF and algorithm are those that are supported, where they are named.
+/// Whether version and HKDF are those that are supported, where they are named.
 fn are_known(fields: &Item) -> bool
     ensures { result ≡ spec.are_known (view fields.now) }
 {
-    is_absent_or(fields.value(VERSION), OSCORE_1)
-        && is_hkdf(fields.value(HKDF))
-        && is_absent_or(fields.value(ALGORITHM), AES_CCM)
+    is_absent_or(fields.value(VERSION), OSCORE_1) && is_hkdf(fields.value(HKDF))
 }
 
 /// Whether the value is this number, where there is one.

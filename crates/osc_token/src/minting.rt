@@ -11,13 +11,14 @@ ghost use Rattle.osc_token.specs.Token.{algorithm_header, claims_item, material_
 use crate::claims::{Claims, InputMaterial};
 use crate::error::MintError;
 use crate::labels::{
-    AUDIENCE, CONFIRMATION, EXPIRES, ID, ID_CONTEXT, MATERIAL, NOT_BEFORE, SALT, SCOPE, SECRET,
+    ALGORITHM, AUDIENCE, CONFIRMATION, EXPIRES, ID, ID_CONTEXT, MATERIAL, NOT_BEFORE, SALT, SCOPE,
+    SECRET,
 };
 use crate::lengths::claims_len;
 use osc_cbor::{Item, write};
 use osc_ccm::Aead;
 use osc_cose::{Encrypt0, SealError, seal0, write0};
-use osc_model::Bytes;
+use osc_model::{Algorithm, Bytes};
 use std::alloc::{AllocError, Global};
 
 /// The protected header of a token, {1: 10}: the algorithm AES-CCM-16-64-128 (RFC 9053 section 4.2).
@@ -27,7 +28,8 @@ const ALGORITHM_HEADER: [u8; 3] = *b"\xa1\x01\x0a";
 const CLAIMS_LIMIT: usize = 65535;
 
 /// Appends the token of these claims, sealed under the key that its issuer and the server share: a COSE_Encrypt0 object
-/// without tags and without a kid. Claims and fields that aren't there, and an empty salt, are left out.
+/// without tags and without a kid. Claims and fields that aren't there, an empty salt, and the algorithm that is meant where none is
+/// named are left out.
 ///
 /// An IV is used for one token alone under a key.
 ///
@@ -79,7 +81,7 @@ fn seal<A: Aead>(
 }
 
 /// The text of claims, which is sealed into their token: the map of them (RFC 8392 section 3). Claims and fields that aren't there,
-/// and an empty salt, are left out.
+/// an empty salt, and the algorithm that is meant where none is named are left out.
 pub fn claims_text(alloc: Global, claims: &Claims) -> Result<Vec<u8>, AllocError>
     ensures { IfOk result (λ text. text.items ≡ spelling (claims_item claims.now)) }
 {
@@ -123,6 +125,12 @@ fn material_of(alloc: Global, material: &InputMaterial) -> Result<Item, AllocErr
         (Item::Unsigned(ID), bytes_of(alloc, &material.id)?),
         (Item::Unsigned(SECRET), bytes_of(alloc, &material.secret)?),
     ]?;
+    if material.alg == Algorithm::SixteenByteTag {
+        fields.push((
+            Item::Unsigned(ALGORITHM),
+            Item::Unsigned(material.alg.number()),
+        ))?;
+    }
     if !material.salt.is_empty() {
         fields.push((Item::Unsigned(SALT), bytes_of(alloc, &material.salt)?))?;
     }

@@ -12,7 +12,7 @@ ghost use Rattle.osc_token.specs.Token.{IsToken, token_name, token_note, without
 use osc_cbor::{Item, read_whole};
 use osc_ccm::Aead;
 use osc_cose::{Encrypt0, OpenError, ParseError, enc_structure, object_of, open0};
-use osc_model::{Bytes, ContextName, Note, SharedName, Side};
+use osc_model::{Algorithm, Bytes, ContextName, Note, SharedName, Side};
 use std::alloc::{AllocError, Global};
 
 /// The tag of a CWT (RFC 8392 section 6).
@@ -174,7 +174,7 @@ fn note(
     })
 }
 
-/// The name under which a token is opened, which has the key as its secret and nothing else.
+/// The name under which a token is opened, which has the key as its secret, the algorithm of tokens and nothing else.
 fn name_of(alloc: Global, key: &[u8; 16]) -> Result<SharedName, AllocError>
     ensures { IfOk result (λ name. name ≡ token_name key.now) }
 {
@@ -184,6 +184,7 @@ fn name_of(alloc: Global, key: &[u8; 16]) -> Result<SharedName, AllocError>
         id_context: None,
         client_id: Bytes::new(alloc),
         server_id: Bytes::new(alloc),
+        alg: Algorithm::EightByteTag,
     };
     SharedName::new(alloc, name)
 }

@@ -9,24 +9,25 @@ use Rattle.osc_words.specs.Values.{IsGiven}
 use Rattle.osc_words.specs.TokenWords.{SaysMaterial, SaysClaims, Says, AreMaterial, AreClaims}
 use Rattle.osc_words.specs.declared.named_option.NamedOption.TheVariants as named
 use Rattle.osc_words.specs.declared.token_option.TokenOption.{TokenOption}
-use Rattle.osc_words.specs.declared.token_option.TokenOption.TheVariants.{Key, Audience, Id, Secret, Salt, Context, Scope, Expires, NotBefore, Iv}
+use Rattle.osc_words.specs.declared.token_option.TokenOption.TheVariants.{Key, Audience, Id, Secret, Salt, Context, Algorithm, Scope, Expires, NotBefore, Iv}
 use Rattle.osc_words.specs.declared.token_words.TokenWords.{TokenWords}
 use Rattle.osc_words.specs.declared.words.WordsError.{WordsError}
 use Rattle.osc_words.specs.declared.words.WordsError.TheVariants as words_error
 use Rattle.osc_words.specs.Reading.{IsRefusal, IsRefusalOf}
 
 pub material_said : (rows : List Row) (material : InputMaterial) → SaysMaterial rows Id material → SaysMaterial rows Secret material
-    → SaysMaterial rows Salt material → SaysMaterial rows Context material → (option : TokenOption) → SaysMaterial rows option material
-material_said rows material id secret salt context Key = tt
-material_said rows material id secret salt context Audience = tt
-material_said rows material id secret salt context Id = id
-material_said rows material id secret salt context Secret = secret
-material_said rows material id secret salt context Salt = salt
-material_said rows material id secret salt context Context = context
-material_said rows material id secret salt context Scope = tt
-material_said rows material id secret salt context Expires = tt
-material_said rows material id secret salt context NotBefore = tt
-material_said rows material id secret salt context Iv = tt
+    → SaysMaterial rows Salt material → SaysMaterial rows Context material → SaysMaterial rows Algorithm material → (option : TokenOption) → SaysMaterial rows option material
+material_said rows material id secret salt context alg Key = tt
+material_said rows material id secret salt context alg Audience = tt
+material_said rows material id secret salt context alg Id = id
+material_said rows material id secret salt context alg Secret = secret
+material_said rows material id secret salt context alg Salt = salt
+material_said rows material id secret salt context alg Context = context
+material_said rows material id secret salt context alg Algorithm = alg
+material_said rows material id secret salt context alg Scope = tt
+material_said rows material id secret salt context alg Expires = tt
+material_said rows material id secret salt context alg NotBefore = tt
+material_said rows material id secret salt context alg Iv = tt
 
 pub claims_said : (rows : List Row) (claims : Claims) → SaysClaims rows Audience claims → SaysClaims rows NotBefore claims
     → SaysClaims rows Expires claims → AreMaterial rows claims.material → SaysClaims rows Scope claims → (option : TokenOption) → SaysClaims rows option claims
@@ -36,6 +37,7 @@ claims_said rows claims audience nbf exp material scope Id = material Id
 claims_said rows claims audience nbf exp material scope Secret = material Secret
 claims_said rows claims audience nbf exp material scope Salt = material Salt
 claims_said rows claims audience nbf exp material scope Context = material Context
+claims_said rows claims audience nbf exp material scope Algorithm = material Algorithm
 claims_said rows claims audience nbf exp material scope Scope = scope
 claims_said rows claims audience nbf exp material scope Expires = exp
 claims_said rows claims audience nbf exp material scope NotBefore = nbf
@@ -49,6 +51,7 @@ token_said rows words key iv claims Id = claims Id
 token_said rows words key iv claims Secret = claims Secret
 token_said rows words key iv claims Salt = claims Salt
 token_said rows words key iv claims Context = claims Context
+token_said rows words key iv claims Algorithm = claims Algorithm
 token_said rows words key iv claims Scope = claims Scope
 token_said rows words key iv claims Expires = claims Expires
 token_said rows words key iv claims NotBefore = claims NotBefore

@@ -20,7 +20,7 @@ use Rattle.osc_words.specs.declared.client_option.ClientOption.TheVariants as cl
 use Rattle.osc_words.specs.declared.named_option.NamedOption.{NamedOption}
 use Rattle.osc_words.specs.declared.named_option.NamedOption.TheVariants as option
 use Rattle.osc_words.specs.declared.token_option.TokenOption.{TokenOption}
-use Rattle.osc_words.specs.declared.token_option.TokenOption.TheVariants.{Key, Audience, Id, Secret, Salt, Context, Scope, Expires, NotBefore, Iv}
+use Rattle.osc_words.specs.declared.token_option.TokenOption.TheVariants.{Key, Audience, Id, Secret, Salt, Context, Algorithm, Scope, Expires, NotBefore, Iv}
 use Rattle.osc_words.specs.declared.words.Words.{Words}
 use Rattle.osc_words.specs.declared.words.Words.TheVariants.{Sim, Token, Server, Proxy, Client, Lab}
 use Rattle.osc_words.specs.declared.words.WordsError.{WordsError}
@@ -35,9 +35,9 @@ abbrev pub sim_app : App
 sim_app = with_rule (with_rule (new_app (codes "sim")) (flag_rule (codes "bytes"))) (value_rule (codes "only") false)
 
 abbrev pub token_options : List TokenOption
-token_options = Key ∷ Audience ∷ Id ∷ Secret ∷ Scope ∷ Salt ∷ Context ∷ Expires ∷ NotBefore ∷ Iv ∷ []
+token_options = Key ∷ Audience ∷ Id ∷ Secret ∷ Scope ∷ Salt ∷ Context ∷ Algorithm ∷ Expires ∷ NotBefore ∷ Iv ∷ []
 
--- osc token --key HEX --aud TEXT --id HEX --secret HEX --scope TEXT [--salt HEX] [--context HEX] [--exp N] [--nbf N] [--iv HEX]
+-- osc token --key HEX --aud TEXT --id HEX --secret HEX --scope TEXT [--salt HEX] [--context HEX] [--alg N] [--exp N] [--nbf N] [--iv HEX]
 abbrev pub token_app : App
 token_app = fold (λ app option. with_rule app (option_rule option)) (new_app (codes "token")) token_options
 

@@ -2,7 +2,7 @@
 use Rattle.std.specs.Prelude.{ℕ, Bool, true, false, List, codes, Option, Some}
 use Rattle.clap.specs.Words.{Row, Rule, first_of, new_rule}
 use Rattle.osc_words.specs.declared.token_option.TokenOption.{TokenOption}
-use Rattle.osc_words.specs.declared.token_option.TokenOption.TheVariants.{Key, Audience, Id, Secret, Salt, Context, Scope, Expires, NotBefore, Iv}
+use Rattle.osc_words.specs.declared.token_option.TokenOption.TheVariants.{Key, Audience, Id, Secret, Salt, Context, Algorithm, Scope, Expires, NotBefore, Iv}
 
 -- --key, --aud, ..
 abbrev pub name_of : TokenOption → List ℕ
@@ -12,6 +12,7 @@ name_of Id = codes "id"
 name_of Secret = codes "secret"
 name_of Salt = codes "salt"
 name_of Context = codes "context"
+name_of Algorithm = codes "alg"
 name_of Scope = codes "scope"
 name_of Expires = codes "exp"
 name_of NotBefore = codes "nbf"
@@ -45,6 +46,7 @@ form_of Id = codes "0 to 64 bytes in hexadecimal"
 form_of Secret = codes "1 to 64 bytes in hexadecimal"
 form_of Salt = codes "0 to 64 bytes in hexadecimal"
 form_of Context = codes "0 to 64 bytes in hexadecimal"
+form_of Algorithm = codes "10 or 30"
 form_of Scope = codes "a scope"
 form_of Expires = codes "a number of 64 bits in decimal digits"
 form_of NotBefore = codes "a number of 64 bits in decimal digits"

@@ -1,21 +1,23 @@
 -- What the values of the options of `osc token` stand for.
-use Rattle.std.specs.Prelude.{◌≡◌, List, [], Some, unwrap_or}
+use Rattle.std.specs.Prelude.{◌≡◌, List, [], Some, unwrap_or, codes}
 use Rattle.clap.specs.Words.{Row}
+use Rattle.osc_model.specs.Algorithm.{algorithm_number}
 use Rattle.osc_script.specs.Values.{SpellsHexWithin, SpellsNumber, SpellsScope}
 use Rattle.osc_token.specs.declared.claims.Claims.{Claims}
 use Rattle.osc_token.specs.declared.claims.InputMaterial.{InputMaterial}
 use Rattle.osc_words.specs.Options.{value_of}
 use Rattle.osc_words.specs.Values.{IsGiven}
 use Rattle.osc_words.specs.declared.token_option.TokenOption.{TokenOption}
-use Rattle.osc_words.specs.declared.token_option.TokenOption.TheVariants.{Key, Audience, Id, Secret, Salt, Context, Scope, Expires, NotBefore, Iv}
+use Rattle.osc_words.specs.declared.token_option.TokenOption.TheVariants.{Key, Audience, Id, Secret, Salt, Context, Algorithm, Scope, Expires, NotBefore, Iv}
 use Rattle.osc_words.specs.declared.token_words.TokenWords.{TokenWords}
 
--- what an option says of the input material; an absent salt is an empty one
+-- what an option says of the input material; an absent salt is an empty one, and an absent algorithm is that of number 10
 abbrev pub SaysMaterial : List Row → TokenOption → InputMaterial → Type 0
 SaysMaterial rows Id material = IsGiven (SpellsHexWithin 0 64) (value_of Id rows) (Some material.id)
 SaysMaterial rows Secret material = IsGiven (SpellsHexWithin 1 64) (value_of Secret rows) (Some material.secret)
 SaysMaterial rows Salt material = SpellsHexWithin 0 64 (unwrap_or (value_of Salt rows) []) material.salt
 SaysMaterial rows Context material = IsGiven (SpellsHexWithin 0 64) (value_of Context rows) material.id_context
+SaysMaterial rows Algorithm material = SpellsNumber (unwrap_or (value_of Algorithm rows) (codes "10")) (algorithm_number material.alg)
 SaysMaterial rows option material = Unit {0}
 
 abbrev pub AreMaterial : List Row → InputMaterial → Type 0

@@ -17,6 +17,8 @@ pub enum TokenOption {
     Salt,
     /// `--context`: the id context.
     Context,
+    /// `--alg`: the AEAD algorithm of the holder's contexts.
+    Algorithm,
     /// `--scope`: what the holder may do.
     Scope,
     /// `--exp`: the second from which on the token counts no more.
@@ -29,7 +31,7 @@ pub enum TokenOption {
 
 impl TokenOption {
     /// All of them, those first that a token needs.
-    pub(crate) const ALL: [TokenOption; 10] = [
+    pub(crate) const ALL: [TokenOption; 11] = [
         TokenOption::Key,
         TokenOption::Audience,
         TokenOption::Id,
@@ -37,6 +39,7 @@ impl TokenOption {
         TokenOption::Scope,
         TokenOption::Salt,
         TokenOption::Context,
+        TokenOption::Algorithm,
         TokenOption::Expires,
         TokenOption::NotBefore,
         TokenOption::Iv,
@@ -53,6 +56,7 @@ impl TokenOption {
             TokenOption::Secret => "secret",
             TokenOption::Salt => "salt",
             TokenOption::Context => "context",
+            TokenOption::Algorithm => "alg",
             TokenOption::Scope => "scope",
             TokenOption::Expires => "exp",
             TokenOption::NotBefore => "nbf",
@@ -85,6 +89,7 @@ impl TokenOption {
             TokenOption::Id | TokenOption::Salt | TokenOption::Context => {
                 "0 to 64 bytes in hexadecimal"
             }
+            TokenOption::Algorithm => "10 or 30",
             TokenOption::Scope => "a scope",
             TokenOption::Expires | TokenOption::NotBefore => {
                 "a number of 64 bits in decimal digits"
@@ -97,7 +102,7 @@ impl TokenOption {
     pub(crate) fn value_name(self) -> &'static str {
         match self {
             TokenOption::Audience | TokenOption::Scope => "TEXT",
-            TokenOption::Expires | TokenOption::NotBefore => "N",
+            TokenOption::Algorithm | TokenOption::Expires | TokenOption::NotBefore => "N",
             _ => "HEX",
         }
     }
@@ -111,6 +116,8 @@ impl TokenOption {
             TokenOption::Secret => "The master secret: 1 to 64 bytes",
             TokenOption::Salt => "The salt that master salts begin with: 0 to 64 bytes",
             TokenOption::Context => "The id context: 0 to 64 bytes",
+            TokenOption::Algorithm =>
+                "The algorithm of the holder's contexts: 10, tags of 8 bytes, or 30, of 16; 10 by default",
             TokenOption::Scope =>
                 "What the holder may do, as /log:GET+POST,/t:GET+SUB; SUB takes in the paths below",
             TokenOption::Expires => "The second from which on the token counts no more",

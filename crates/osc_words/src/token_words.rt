@@ -1,6 +1,7 @@
 //! What the options of `osc token` stand for.
-ghost use Rattle.std.specs.Prelude.{◌≡◌, MatchResult, [], unwrap_or};
+ghost use Rattle.std.specs.Prelude.{◌≡◌, MatchResult, [], codes, unwrap_or};
 ghost use Rattle.clap.specs.Words.{found_of, rows_of};
+ghost use Rattle.osc_model.specs.Algorithm.{algorithm_number};
 ghost use Rattle.osc_script.specs.Values.{SpellsHexWithin, SpellsNumber, SpellsScope};
 ghost use Rattle.osc_words.specs.Options.{value_of};
 ghost use Rattle.osc_words.specs.Reading.{IsRefusal, IsRefusalOf};
@@ -12,7 +13,7 @@ use crate::named_option::NamedOption;
 use crate::token_option::TokenOption;
 use crate::words::WordsError;
 use clap::ArgMatches;
-use osc_model::Bytes;
+use osc_model::{Algorithm, Bytes};
 use osc_script::values;
 use osc_token::{Audience, Claims, InputMaterial};
 use std::alloc::Global;
@@ -70,6 +71,7 @@ fn material(alloc: Global, options: &ArgMatches<'_>) -> Result<InputMaterial, Wo
         secret: required_bytes(alloc, options, TokenOption::Secret, 1)?,
         salt: salt(alloc, options)?,
         id_context: bytes(alloc, options, TokenOption::Context, 0)?,
+        alg: algorithm(options)?,
     })
 }
 
@@ -159,6 +161,20 @@ fn salt(alloc: Global, options: &ArgMatches<'_>) -> Result<Bytes, WordsError>
     let option = NamedOption::Token(TokenOption::Salt);
     let text = given::text(options, option).unwrap_or("");
     values::bytes_within(alloc, text, 0, LONGEST)?.ok_or(WordsError::Value(option))
+}
+
+// The algorithm; an absent one is that of number 10.
+fn algorithm(options: &ArgMatches<'_>) -> Result<Algorithm, WordsError>
+    ensures { MatchResult result
+        (λ alg. SpellsNumber (unwrap_or (value_of TokenOption.Algorithm (rows_of (found_of options.now))) (codes "10")) (algorithm_number alg))
+        (IsRefusalOf (NamedOption.Token TokenOption.Algorithm) (λ alg. SpellsNumber (unwrap_or (value_of TokenOption.Algorithm (rows_of (found_of options.now))) (codes "10")) (algorithm_number alg))) }
+{
+    let option = NamedOption::Token(TokenOption::Algorithm);
+    let text = given::text(options, option).unwrap_or("10");
+    let Some(number) = values::number(text) else {
+        return Err(WordsError::Value(option));
+    };
+    Algorithm::from_number(number).ok_or(WordsError::Value(option))
 }
 
 // A number, where it is given.

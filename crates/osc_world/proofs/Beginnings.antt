@@ -69,6 +69,7 @@ module _ (is_sealing : Sealings) (tag : ℕ)
         secret = is.client.desk.secret;
         salt = is.client.desk.salt;
         id_context = is.client.desk.id_context;
+        alg = is.client.desk.alg;
       }
 
   welcome : IsWelcome (is_sealing EightByteTag) (begun start).nodes.server.desk now holder.claims enrols.enrolled.entries enrols.placed.client.desk

@@ -56,6 +56,7 @@ minted_of number claims entries = record {
     secret = claims.material.secret;
     salt = claims.material.salt;
     id_context = claims.material.id_context;
+    alg = claims.material.alg;
     scope = scope_of entries;
     not_before = claims.not_before;
     expires = claims.expires;
@@ -70,6 +71,7 @@ pub record IsDeskOf (material : InputMaterial) (token : List ℕ) (desk : Client
   pub secret : desk.secret ≡ material.secret
   pub salt : desk.salt ≡ material.salt
   pub id_context : desk.id_context ≡ material.id_context
+  pub alg : desk.alg ≡ material.alg
 
 -- a client that stands there and reaches its server that way, with this token, with no context, waiting for nothing, and having heard nothing
 pub record IsPlaced (holder : Holder) (token : List ℕ) (placed : Placed) : Type 0 where

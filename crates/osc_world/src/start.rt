@@ -347,7 +347,7 @@ fn desk_of(claims: &Claims, token: Bytes) -> Result<ClientDesk, EnrollError>
     let secret = material.secret.clone()?;
     let salt = material.salt.clone()?;
     let id_context = material.id_context.clone()?;
-    Ok(ClientDesk::new(token, secret, salt, id_context)?)
+    Ok(ClientDesk::new(token, secret, salt, id_context, material.alg)?)
 }
 
 /// For proofs: the parts of claims are as long as their types allow. Does nothing.

@@ -39,4 +39,5 @@ returns-clause-short g c =
     c.token-token.ensures.lawful.token
     (made.whole ∙ ap (λ m. response_with None m made.sealed) (c.message.ensures ∙ c.reply_to-plain.ensures))
     in
-    omega (arith, plain, size, all)
+    let tag = ap (λ name. g.A.Ciphers.TAG (algorithm_of name)) c.requires.name in
+    omega (arith, plain, size, all, tag)

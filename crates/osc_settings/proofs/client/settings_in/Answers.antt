@@ -1,12 +1,12 @@
 use Rattle.std.proofs.Common.{inl, inr}
 use Rattle.std.proofs.lemmas.Result.{err_from_is_err_and}
 use Rattle.toml.specs.View.{table_view}
-use Rattle.osc_settings.specs.Document.{SpelledAt}
+use Rattle.osc_settings.specs.Document.{IsAlgorithmAt, SpelledAt}
 use Rattle.osc_settings.specs.Faults.{IsClientFault, IsFaultAt, IsOriginFault, IsOther, IsWrongAt}
 use Rattle.osc_settings.specs.Settings.{client_keys}
 use Rattle.osc_settings.specs.Values.{IsAddress, SpellsBytes, SpellsHex}
 use Rattle.osc_settings.specs.declared.key.SettingsKey.TheVariants as key
-use Rattle.osc_settings.proofs.Parts.{fault_within, salt_found}
+use Rattle.osc_settings.proofs.Parts.{context_found, fault_within, salt_found}
 use Rattle.osc_settings.proofs.client.settings_in.Goals as goal
 
 pub returns-in_err-only : goal.returns-in_err-only
@@ -55,4 +55,10 @@ pub returns-in_err-context : goal.returns-in_err-context
 returns-in_err-context c =
     let p = err_from_is_err_and c.from_residual-in_err-context.result c.from_residual-in_err-context.ensures.1 in
     let document = table_view c.args.table.now in
-    rw (p.1, p.2) (fault_within (IsWrongAt key.Context (λ name. SpelledAt name (SpellsBytes 0 64)) document) (IsClientFault document) c.in_err-context.field-0.0 (λ fault h. inr (c.in_ok-only.ensures, inr ((c.in_ok-address_at.field-0, c.in_ok-address_at.ensures), inr ((c.in_ok-address_at-2.field-0, c.in_ok-address_at-2.ensures), inr ((c.in_ok-origin.field-0, c.in_ok-origin.ensures), inr ((c.in_ok-bytes_at.field-0, c.in_ok-bytes_at.ensures), inr ((c.in_ok-bytes_within_at.field-0, c.in_ok-bytes_within_at.ensures), inr (salt_found document c.in_ok-salt.field-0 c.in_ok-salt.ensures, h)))))))) c.in_err-context.ensures)
+    rw (p.1, p.2) (fault_within (IsWrongAt key.Context (λ name. SpelledAt name (SpellsBytes 0 64)) document) (IsClientFault document) c.in_err-context.field-0.0 (λ fault h. inr (c.in_ok-only.ensures, inr ((c.in_ok-address_at.field-0, c.in_ok-address_at.ensures), inr ((c.in_ok-address_at-2.field-0, c.in_ok-address_at-2.ensures), inr ((c.in_ok-origin.field-0, c.in_ok-origin.ensures), inr ((c.in_ok-bytes_at.field-0, c.in_ok-bytes_at.ensures), inr ((c.in_ok-bytes_within_at.field-0, c.in_ok-bytes_within_at.ensures), inr (salt_found document c.in_ok-salt.field-0 c.in_ok-salt.ensures, inl h)))))))) c.in_err-context.ensures)
+
+pub returns-in_err-algorithm : goal.returns-in_err-algorithm
+returns-in_err-algorithm c =
+    let p = err_from_is_err_and c.from_residual-in_err-algorithm.result c.from_residual-in_err-algorithm.ensures.1 in
+    let document = table_view c.args.table.now in
+    rw (p.1, p.2) (fault_within (IsWrongAt key.Alg IsAlgorithmAt document) (IsClientFault document) c.in_err-algorithm.field-0.0 (λ fault h. inr (c.in_ok-only.ensures, inr ((c.in_ok-address_at.field-0, c.in_ok-address_at.ensures), inr ((c.in_ok-address_at-2.field-0, c.in_ok-address_at-2.ensures), inr ((c.in_ok-origin.field-0, c.in_ok-origin.ensures), inr ((c.in_ok-bytes_at.field-0, c.in_ok-bytes_at.ensures), inr ((c.in_ok-bytes_within_at.field-0, c.in_ok-bytes_within_at.ensures), inr (salt_found document c.in_ok-salt.field-0 c.in_ok-salt.ensures, inr (context_found document c.in_ok-context.field-0 c.in_ok-context.ensures, h))))))))) c.in_err-algorithm.ensures)

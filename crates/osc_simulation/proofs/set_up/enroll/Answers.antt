@@ -12,6 +12,6 @@ returns-in_ok-admit-clause-enrolled c =
     let grant = c.in-Grant in
     let number = c.in_ok-number.ensures ∙ ap (λ n. n + 1) c.requires in
     let way = c.in_ok-way.ensures ∙ ap way_by c.proxy_of.ensures in
-    let made = holder_is all c.in_ok-number.number grant.client grant.scope grant.not_before grant.expires _ _ _ way c.in_ok-claims.ensures c.holder-holder.ensures in
-    let holder = made ∙ ap (λ n. holder_of all n grant.client grant.scope grant.not_before grant.expires) number in
+    let made = holder_is all c.in_ok-number.number grant.client grant.scope grant.not_before grant.expires grant.alg _ _ _ way c.in_ok-claims.ensures c.holder-holder.ensures in
+    let holder = made ∙ ap (λ n. holder_of all n grant.client grant.scope grant.not_before grant.expires grant.alg) number in
     subst (λ line. Enrolled all old line new) (sym grant.is) (subst (λ holder. Enrols is_sealing old holder new) holder c.in_ok-admit.ensures)

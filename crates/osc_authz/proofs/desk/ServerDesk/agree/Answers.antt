@@ -9,7 +9,7 @@ invariant_of-self-2 c =
     let fields = c.args.fields.now in
     agreed_is_table c.args.now c.args.claims c.args.scope fields.nonce1.now fields.client_id.now
     (record { nonce2 = c.nonce.result; recipient_id = c.free_id.result })
-    c.args.self.now.table c.deref.result.now c.reserve.new.self.items c.add_pending.new.table.items c.as_slice-token.result.now
+    c.args.self.now.table c.deref.result.now c.reserve_exact.new.self.items c.add_pending.new.table.items c.as_slice-token.result.now
     c.in_ok-token.token c.in_ok-token.context (subst IsTable table c.self.invariant) c.requires.room
     c.as_slice-token.ensures (c.deref.ensures.value ∙ table) c.free_id.ensures
-    c.in_ok-token.ensures.id c.in_ok-token.ensures.context (c.in_ok-reserve.ensures.items ∙ table) c.add_pending.ensures
+    c.in_ok-token.ensures.id c.in_ok-token.ensures.context (c.in_ok-reserve_exact.ensures.items ∙ table) c.add_pending.ensures

@@ -7,7 +7,7 @@ returns-in-Put c = lets_as c.args.above.now c.args.line.now (Put c.in-Put.path c
 
 pub returns-then-not-self : goal.returns-then-not-self
 returns-then-not-self c =
-    lets_as c.args.above.now c.args.line.now (Grant c.in-Grant.client c.in-Grant.scope c.in-Grant.not_before c.in-Grant.expires) _ c.in-Grant.is
+    lets_as c.args.above.now c.args.line.now (Grant c.in-Grant.client c.in-Grant.scope c.in-Grant.not_before c.in-Grant.expires c.in-Grant.alg) _ c.in-Grant.is
     (lets_grant c.args.self.has_event c.has_granted.result _ _ c.if-not-self.true c.requires.event c.has_granted.ensures)
 
 pub returns-in-Via : goal.returns-in-Via
