@@ -1,9 +1,9 @@
 #!/usr/bin/env python3
 """Stands between an OSCORE client and its server, and opens what goes by. The ciphers are those of Python's `cryptography`; the rest is written from the
-RFCs alone: CoAP (RFC 7252), OSCORE (RFC 8613), and the exchange at authz-info (RFC 9203). It knows the token's secret, and reads all else of the
-context off the wire: both nonces, and both ids.
+RFCs alone: CoAP (RFC 7252), OSCORE (RFC 8613), and the exchange at authz-info (RFC 9203). It knows the token's secret and algorithm, and reads all else
+of the context off the wire: both nonces, and both ids.
 
-    unprotect.py SECRET LISTEN_PORT SERVER_PORT
+    unprotect.py SECRET ALGORITHM LISTEN_PORT SERVER_PORT
 
 It passes datagrams on between one client and the server until nothing came for two seconds, and then prints a line for each: who sent it, its code,
 and for a protected message the code, the request's Partial IV and the plaintext, each in hexadecimal. A line behind them has the context: both ids and the
@@ -17,7 +17,7 @@ from cryptography.hazmat.primitives.hashes import SHA256
 from cryptography.hazmat.primitives.kdf.hkdf import HKDF
 
 OSCORE = 9
-ALGORITHM = 10  # AES-CCM-16-64-128
+TAGS = {10: 8, 30: 16}  # AES-CCM-16-64-128 and AES-CCM-16-128-128 (RFC 9053 section 4.2), and how many bytes their tags have
 NONCE1, NONCE2, CLIENT_RECIPIENT_ID, SERVER_RECIPIENT_ID = 40, 42, 43, 44  # RFC 9203 section 4
 
 
@@ -89,12 +89,12 @@ class Message:
 class Context:
     """A security context (RFC 8613 section 3.2)."""
 
-    def __init__(self, secret, salt, client_id, server_id):
+    def __init__(self, secret, algorithm, salt, client_id, server_id):
         def derived(name, kind, length):
-            info = cbor([name, None, ALGORITHM, kind, length])
+            info = cbor([name, None, algorithm, kind, length])
             return HKDF(SHA256(), length, salt, info).derive(secret)
 
-        self.client_id = client_id
+        self.algorithm, self.client_id = algorithm, client_id
         self.iv = derived(b"", "IV", 13)
         self.keys = {"client": derived(client_id, "Key", 16), "server": derived(server_id, "Key", 16)}
 
@@ -103,13 +103,13 @@ class Context:
         own = self.client_id
         plain = bytes([len(own)]) + own.rjust(7, b"\0") + partial_iv.rjust(5, b"\0")
         nonce = bytes(a ^ b for a, b in zip(plain, self.iv))
-        external = cbor([1, [ALGORITHM], own, partial_iv, b""])
-        return AESCCM(self.keys[sender], tag_length=8).decrypt(nonce, sealed, cbor(["Encrypt0", b"", external]))
+        external = cbor([1, [self.algorithm], own, partial_iv, b""])
+        return AESCCM(self.keys[sender], tag_length=TAGS[self.algorithm]).decrypt(nonce, sealed, cbor(["Encrypt0", b"", external]))
 
 
 class Wire:
-    def __init__(self, secret):
-        self.secret, self.asked, self.requests, self.context = secret, None, {}, None
+    def __init__(self, secret, algorithm):
+        self.secret, self.algorithm, self.asked, self.requests, self.context = secret, algorithm, None, {}, None
         self.told = "no context"
 
     def line(self, sender, datagram):
@@ -135,17 +135,17 @@ class Wire:
         """Both nonces make the master salt (RFC 9203 section 4.3), and each end says by which id it wants to be addressed."""
         salt = cbor(b"") + cbor(self.asked[NONCE1]) + cbor(answer[NONCE2])
         client_id, server_id = answer[SERVER_RECIPIENT_ID], self.asked[CLIENT_RECIPIENT_ID]
-        self.context = Context(self.secret, salt, client_id, server_id)
+        self.context = Context(self.secret, self.algorithm, salt, client_id, server_id)
         self.told = f"context {client_id.hex()} {server_id.hex()} {salt.hex()}"
 
 
 def main():
-    secret, listen, server = bytes.fromhex(sys.argv[1]), int(sys.argv[2]), int(sys.argv[3])
+    secret, (algorithm, listen, server) = bytes.fromhex(sys.argv[1]), map(int, sys.argv[2:])
     inner = socket.socket(socket.AF_INET, socket.SOCK_DGRAM)
     inner.bind(("127.0.0.1", listen))
     outer = socket.socket(socket.AF_INET, socket.SOCK_DGRAM)
     outer.connect(("127.0.0.1", server))
-    wire, client, wait, lines = Wire(secret), None, 20, []
+    wire, client, wait, lines = Wire(secret, algorithm), None, 20, []
     while ready := select.select([inner, outer], [], [], wait)[0]:
         wait = 2
         for it in ready:
