@@ -44,7 +44,17 @@ fn token_command<'a>(
 
 // How `osc token` ends for this audience, and what it writes.
 fn run_token<W: Write>(alloc: Global, audience: &str, writer: &mut W) -> Result<Ended, AllocError> {
-    let words = token_command(alloc, "--aud", audience)?;
+    run_with(alloc, "--aud", audience, writer)
+}
+
+// The same with this value of an option.
+fn run_with<'a, W: Write>(
+    alloc: Global,
+    option: &'a str,
+    value: &'a str,
+    writer: &mut W,
+) -> Result<Ended, AllocError> {
+    let words = token_command(alloc, option, value)?;
     match read_words(alloc, &words) {
         Ok(Words::Token(words)) => Ok(match words.iv {
             Some(iv) => token(alloc, &words, &iv, writer),
@@ -72,28 +82,15 @@ fn a_token_is_printed(rt: HostRuntime) -> Result<(), Fail> {
 const LONG_TAG_LINE: &str =
     "8343a1010aa1054d0000000000000000000000000158327a0ede2171a9ef9711e8b23afd723e7879cadfb887e3cb88901dd40461e4a39eafe24ea34116ea414d5529c2f8b5b315d8c3\n";
 
-// What `osc token` writes with one option more.
-fn with_option(alloc: Global, option: &str, value: &str) -> Result<Vec<u8>, Fail> {
-    let words = token_command(alloc, option, value)?;
-    let mut written = Vec::new(alloc);
-    let ended = match read_words(alloc, &words) {
-        Ok(Words::Token(words)) => match words.iv {
-            Some(iv) => token(alloc, &words, &iv, &mut written),
-            None => Ended::Failed,
-        },
-        _ => Ended::BadLine(0),
-    };
-    match ended {
-        Ended::Done => Ok(written),
-        _ => Err("no token".into()),
-    }
-}
-
 #[test]
 fn a_token_names_an_algorithm(rt: HostRuntime) -> Result<(), Fail> {
     for (value, line) in [("10", TOKEN_LINE), ("30", LONG_TAG_LINE)] {
-        let written = with_option(rt.alloc(), "--alg", value)?;
-        assert!(rt; written.as_slice() == line.as_bytes(), "{value}");
+        let mut written = Vec::new(rt.alloc());
+        assert_eq!(rt;
+            run_with(rt.alloc(), "--alg", value, &mut written)?,
+            Ended::Done
+        );
+        assert_eq!(rt; written.as_slice(), line.as_bytes());
     }
     Ok(())
 }
