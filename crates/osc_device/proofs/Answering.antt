@@ -1,0 +1,129 @@
+-- A request of the device's own is answered, and its post makes a context, by what those of any client come to that go straight to
+-- their server.
+use Rattle.std.proofs.Common.{◌≡◌, ◌≢◌, ◌∙◌, ap, sym, subst, ℕ, List, [], ◌∷◌, length, Option, Some, None}
+use Rattle.std.specs.Option.{IsSome}
+use Rattle.osc_model.specs.declared.node.Draw.{Draw}
+use Rattle.osc_model.specs.declared.node.Moment.{Moment}
+use Rattle.osc_model.specs.declared.node.Peer.{Peer}
+use Rattle.osc_model.specs.declared.request.Request.{Request}
+use Rattle.osc_model.specs.declared.step.ClientResult.TheVariants as result
+use Rattle.osc_model.specs.declared.step.Datagram.{Datagram}
+use Rattle.osc_model.specs.declared.step.Step.{Step}
+use Rattle.osc_coap.specs.Message.{spelling}
+use Rattle.osc_message.specs.Sending.{datagram}
+use Rattle.osc_protect.specs.Ciphers.{Sealings, Tags}
+use Rattle.osc_scope.specs.Entries.{Entry}
+use Rattle.osc_token.specs.declared.claims.Claims.{Claims}
+use Rattle.osc_authz.specs.Begun.{ClientContextState}
+use Rattle.osc_authz.specs.Held.{Held}
+use Rattle.osc_client.specs.Hearing.{Begins, Hears as ClientHears, Requests}
+use Rattle.osc_client.specs.Lawful.{IsLawfulClient}
+use Rattle.osc_client.specs.Sending.{Asks, Exchanges}
+use Rattle.osc_client.specs.State.{State as Client}
+use Rattle.osc_server.specs.Hearing.{Hears as ServerHears}
+use Rattle.osc_server.specs.State.{State as Server}
+use Rattle.osc_rounds.specs.AskRound.{IsAskedAndAnswered, IsLawfulServer, IsServedAndAnswered, asked_text}
+use Rattle.osc_rounds.specs.ExchangeRound.{IsAgreedAndMade, IsBegunAndMade}
+use Rattle.osc_rounds.specs.Ready.{IsStraight, MayAsk, MayExchange}
+use Rattle.osc_device.specs.Answered.{IsAnswered, IsOpen, IsReady, IsWhole, MayOpen}
+use Rattle.osc_device.specs.Carrying.{Carries, ComesBack, Reaches}
+use Rattle.osc_device.specs.State.{State, own_address, server_address}
+use Rattle.osc_device.specs.declared.round.Round.{Round}
+
+one_bytes : (out : List Datagram) (one other : Datagram) → out ≡ one ∷ [] → out ≡ other ∷ [] → one.bytes ≡ other.bytes
+one_bytes out one other a b = let same : one ≡ other = cc in ap (λ (d : Datagram). d.bytes) same
+
+nothing_there : (o : Option Step) → IsSome o → o ≡ None → ⊥
+nothing_there None some none = absurd cc
+nothing_there (Some step) some none = cc
+
+one_step : (o : Option Step) (a b : Step) → o ≡ Some a → o ≡ Some b → a ≡ b
+one_step o a b e f = cc
+
+module _ (is_sealing : Sealings) (tag : Tags)
+    (law : (client asked : Client) (server : Server) (asked_at now : Moment) (draw : Draw) (request : Request) (at server_at : Peer)
+    (context : ClientContextState) (held : Held) (first : Step)
+    → IsLawfulServer server → IsLawfulClient asked
+    → IsStraight client server now draw at server_at → MayAsk client server now context held
+    → first.notes.result ≢ Some (result.Refused 14)
+    → Asks is_sealing tag client asked_at request draw first asked
+    → IsAskedAndAnswered is_sealing client server now draw request at server_at held context.next first asked)
+    (old new : State) (now : Moment) (draw server_draw : Draw) (request : Request) (context : ClientContextState) (held : Held) (asked : Client) (round : Round)
+    (straight : (old.own.origin ≡ None) × (old.own.next_hop ≡ server_address)) (lawful : IsLawfulServer old.server) (lawful_own : IsLawfulClient asked)
+    (ready : IsReady old now draw context held) (whole : IsWhole round)
+    (requests : Requests is_sealing tag old.own now request draw round.begun asked) where
+  abbrev text : List ℕ
+  text = asked_text old.own draw request
+
+  is : IsAskedAndAnswered is_sealing old.own old.server now draw request own_address server_address held context.next round.begun asked
+  is =
+      law old.own asked old.server now now draw request own_address server_address context held round.begun lawful lawful_own
+      (record { direct = straight.0; next_hop = straight.1; unheard = ready.unheard }) ready.may_ask whole.fits requests.asks
+
+  -- the answer comes back
+  back : (second : Step) → round.served ≡ Some second → IsServedAndAnswered is_sealing asked old.server now own_address server_address held context.next text second new.server
+      → ComesBack is_sealing asked now round.served round.learnt new.own → IsAnswered old now draw request held context.next round new
+  back second served it (ComesBack.lost lost) = absurd (nothing_there round.learnt whole.learnt lost.0)
+  back second served it (ComesBack.heard answer one third some only learnt hears kind) =
+      let same : answer ≡ second = one_step round.served answer second some served in
+      let bytes : one.bytes ≡ spelling it.answer = one_bytes second.out one (datagram own_address it.answer) (sym (ap (λ (s : Step). s.out) same) ∙ only) it.out in
+      let answered = it.answered third new.own (subst (λ (bs : List ℕ). ClientHears is_sealing asked now server_address bs third new.own) bytes hears) in
+      record {
+        reply = it.reply;
+        applied = it.applied;
+        second = second;
+        served = served;
+        entry = it.entry;
+        third = third;
+        learnt = learnt;
+        told = ap (λ (s : Step). s.notes.result) answered.told;
+        idle = answered.waiting;
+      }
+
+  there : Reaches is_sealing old.server now server_draw round.begun.out round.served new.server → ComesBack is_sealing asked now round.served round.learnt new.own
+      → IsAnswered old now draw request held context.next round new
+  there (Reaches.lost lost) comes = absurd (nothing_there round.served whole.served lost.0)
+  there (Reaches.heard one second only served hears kind) comes =
+      let bytes : one.bytes ≡ spelling is.message = one_bytes round.begun.out one (datagram old.own.next_hop is.message) only is.out in
+      back second served
+      (is.served server_draw second new.server (subst (λ (bs : List ℕ). ServerHears is_sealing old.server now server_draw own_address bs second new.server) bytes hears))
+      comes
+
+  pub is_answered : Carries is_sealing old.server asked now server_draw round new → IsAnswered old now draw request held context.next round new
+  is_answered carries = there carries.reaches carries.comes_back
+
+module _ (is_sealing : Sealings)
+    (law : (client begun : Client) (server : Server) (asked_at now : Moment) (draw : Draw) (at server_at : Peer) (claims : Claims) (entries : List Entry) (first : Step)
+    → IsLawfulClient begun → IsStraight client server now draw at server_at → MayExchange is_sealing client server now claims entries
+    → first.notes.result ≢ Some (result.Refused 14)
+    → Exchanges client asked_at draw first begun
+    → IsBegunAndMade is_sealing client server now draw at server_at entries first begun)
+    (old new : State) (now : Moment) (draw server_draw : Draw) (claims : Claims) (entries : List Entry) (begun : Client) (round : Round)
+    (straight : (old.own.origin ≡ None) × (old.own.next_hop ≡ server_address)) (lawful_own : IsLawfulClient begun)
+    (may : MayOpen is_sealing old now draw claims entries) (whole : IsWhole round) (size : length server_draw.0 ≡ 32)
+    (begins : Begins old.own now draw round.begun begun) where
+  is_begun : IsBegunAndMade is_sealing old.own old.server now draw own_address server_address entries round.begun begun
+  is_begun =
+      law old.own begun old.server now now draw own_address server_address claims entries round.begun lawful_own
+      (record { direct = straight.0; next_hop = straight.1; unheard = may.unheard }) may.may_exchange whole.fits begins.exchanges
+
+  made_back : (second : Step) → round.served ≡ Some second → IsAgreedAndMade is_sealing begun now own_address server_address entries second new.server
+      → ComesBack is_sealing begun now round.served round.learnt new.own → IsOpen now entries new
+  made_back second served it (ComesBack.lost lost) = absurd (nothing_there round.learnt whole.learnt lost.0)
+  made_back second served it (ComesBack.heard answer one third some only learnt hears kind) =
+      let same : answer ≡ second = one_step round.served answer second some served in
+      let bytes : one.bytes ≡ spelling it.answer = one_bytes second.out one (datagram own_address it.answer) (sym (ap (λ (s : Step). s.out) same) ∙ only) it.out in
+      let made = it.made third new.own (subst (λ (bs : List ℕ). ClientHears is_sealing begun now server_address bs third new.own) bytes hears) in
+      record { held = made.0; is_held = made.1; context = made.2.context; idle = made.2.waiting }
+
+  posted : Reaches is_sealing old.server now server_draw round.begun.out round.served new.server → ComesBack is_sealing begun now round.served round.learnt new.own
+      → IsOpen now entries new
+  posted (Reaches.lost lost) comes = absurd (nothing_there round.served whole.served lost.0)
+  posted (Reaches.heard one second only served hears kind) comes =
+      let bytes : one.bytes ≡ spelling is_begun.message = one_bytes round.begun.out one (datagram old.own.next_hop is_begun.message) only is_begun.out in
+      made_back second served
+      (is_begun.agreed server_draw second new.server size (subst (λ (bs : List ℕ). ServerHears is_sealing old.server now server_draw own_address bs second new.server) bytes hears))
+      comes
+
+  pub is_open : Carries is_sealing old.server begun now server_draw round new → IsOpen now entries new
+  is_open carries = posted carries.reaches carries.comes_back

@@ -1,0 +1,62 @@
+-- What a slice of one datagram, and what a node answered, come to.
+use Rattle.std.proofs.Common.{◌≡◌, ◌∙◌, ap, sym, subst, ℕ, ◌≤◌, ◌<◌, false, List, [], ◌∷◌, length, slice_index_or, Option, Some, None, Result, Ok, Err, arith}
+use Rattle.std.specs.Prelude.{IfOk, IsOk, OnErr}
+use Rattle.std.specs.Result.{result_ok}
+use Rattle.std.specs.declared.alloc.AllocError.{AllocError}
+use Rattle.osc_model.specs.declared.node.Draw.{Draw}
+use Rattle.osc_model.specs.declared.node.Moment.{Moment}
+use Rattle.osc_model.specs.declared.step.Datagram.{Datagram}
+use Rattle.osc_model.specs.declared.step.Step.{Step}
+use Rattle.osc_protect.specs.Ciphers.{Sealings}
+use Rattle.osc_run.specs.ClientKinds.{ClientStep}
+use Rattle.osc_run.specs.ServerKinds.{ServerStep}
+use Rattle.osc_client.specs.Hearing.{Hears as ClientHears}
+use Rattle.osc_client.specs.State.{State as Client, core as client_core}
+use Rattle.osc_message.specs.Endpoint.{after_tick}
+use Rattle.osc_server.specs.Hearing.{Hears as ServerHears, Ticks as ServerTicks}
+use Rattle.osc_server.specs.State.{State as Server, core as server_core}
+use Rattle.osc_device.specs.Carrying.{ComesBack, Reaches}
+use Rattle.osc_device.specs.State.{own_address, server_address}
+use Rattle.osc_device.proofs.Way.{hears_same}
+
+-- a list of one
+pub one_only : (seen out : List Datagram) (one : Datagram) → seen ≡ out → 1 ≤ length seen → length seen < 2 → one ≡ slice_index_or seen 0 one → out ≡ one ∷ []
+one_only [] out one e least most is = absurd (omega arith)
+one_only (x ∷ []) out one e least most is = sym e ∙ ap (λ (d : Datagram). d ∷ []) (sym is)
+one_only (x ∷ y ∷ xs) out one e least most is = absurd (omega arith)
+
+module _ (is_sealing : Sealings) where
+  pub reaches : (inside old new : Server) (now : Moment) (draw : Draw) (out : List Datagram) (one : Datagram) (bytes : List ℕ) (result : Result Step AllocError) (step : Option Step)
+      → inside ≡ old → out ≡ one ∷ [] → bytes ≡ one.bytes
+      → IfOk result (λ s. ServerHears is_sealing inside now draw own_address bytes s new) → IfOk result (λ s. ServerStep (server_core inside) now s.notes (server_core new))
+      → OnErr result (new ≡ inside) → step ≡ result_ok result
+      → Reaches is_sealing old now draw out step new
+  reaches inside old new now draw out one bytes (Ok s) step e only b heard kind kept is =
+      subst (λ (o : Server). Reaches is_sealing o now draw out step new) e
+      (Reaches.heard one s only is (subst (λ (bs : List ℕ). ServerHears is_sealing inside now draw own_address bs s new) b heard) kind)
+  reaches inside old new now draw out one bytes (Err error) step e only b heard kind kept is = Reaches.lost (is, kept ∙ e)
+
+  pub comes_back : (inside old new : Client) (now : Moment) (served : Option Step) (answer : Step) (one : Datagram) (bytes : List ℕ) (result : Result Step AllocError) (step : Option Step)
+      → inside ≡ old → served ≡ Some answer → answer.out ≡ one ∷ [] → bytes ≡ one.bytes
+      → IfOk result (λ s. ClientHears is_sealing inside now server_address bytes s new) → IfOk result (λ s. ClientStep false (client_core inside) s.notes (client_core new))
+      → OnErr result (new ≡ inside) → step ≡ result_ok result
+      → ComesBack is_sealing old now served step new
+  comes_back inside old new now served answer one bytes (Ok s) step e some only b heard kind kept is =
+      subst (λ (o : Client). ComesBack is_sealing o now served step new) e
+      (ComesBack.heard answer one s some only is (subst (λ (bs : List ℕ). ClientHears is_sealing inside now server_address bs s new) b heard) kind)
+  comes_back inside old new now served answer one bytes (Err error) step e some only b heard kind kept is = ComesBack.lost (is, kept ∙ e)
+
+  -- the device still sends straight to its server
+  pub still_straight : (old new : Client) (now : Moment) (bytes : List ℕ) (result : Result Step AllocError)
+      → IfOk result (λ s. ClientHears is_sealing old now server_address bytes s new) → OnErr result (new ≡ old)
+      → (old.origin ≡ None) × (old.next_hop ≡ server_address) → (new.origin ≡ None) × (new.next_hop ≡ server_address)
+  still_straight old new now bytes (Ok s) heard kept straight =
+      let same = hears_same is_sealing old now server_address bytes s new heard in
+      (same.1 ∙ straight.0, same.0 ∙ straight.1)
+  still_straight old new now bytes (Err error) heard kept straight = (ap (λ (c : Client). c.origin) kept ∙ straight.0, ap (λ (c : Client). c.next_hop) kept ∙ straight.1)
+
+-- a server's tick, which never lacks memory
+pub let_go : (old new : Server) (now : Moment) (result : Result Step AllocError) → IsOk result → IfOk result (λ step. ServerTicks old now step new)
+    → new ≡ record old { endpoint = after_tick now old.endpoint }
+let_go old new now (Ok step) ok ticks = ticks.kept
+let_go old new now (Err error) ok ticks = absurd cc

@@ -1,0 +1,4 @@
+-- Proofs.
+pub mod Carried
+pub mod Way
+pub mod Answering

@@ -1,0 +1,32 @@
+use Rattle.std.proofs.Common.{false, ◌∙◌, ap, sym, subst}
+use Rattle.osc_client.specs.Hearing.{Requests}
+use Rattle.osc_client.specs.State.{State as Client, core}
+use Rattle.osc_run.specs.ClientKinds.{ClientStep}
+use Rattle.osc_model.specs.declared.step.Step.{Step}
+use Rattle.osc_rounds.specs.AskRound.{IsLawfulServer}
+use Rattle.osc_server.specs.State.{State as Server}
+use Rattle.osc_device.specs.Carrying.{Carries}
+use Rattle.osc_device.proofs.device.Device.ask.Goals as goal
+
+pub returns-clause-asked : goal.returns-clause-asked
+returns-clause-asked g c =
+    let own = ap (λ d. d.own) c.self.view_is in
+    let server = ap (λ d. d.server) c.self.view_is in (
+      c.ask.new.self,
+      subst (λ (begun : Step). Requests g.A.Ciphers.is_sealing g.A.Ciphers.TAG c.args.self.now.own c.args.now c.args.request.now c.args.draw.now begun c.ask.new.self) (sym c.carry.ensures.begun)
+          (subst (λ (old : Client). Requests g.A.Ciphers.is_sealing g.A.Ciphers.TAG old c.args.now c.args.request.now c.args.draw.now c.in_ok-begun.begun c.ask.new.self) own c.in_ok-begun.ensures.asked),
+      subst (λ (begun : Step). ClientStep false (core c.args.self.now.own) begun.notes (core c.ask.new.self)) (sym c.carry.ensures.begun)
+          (subst (λ (old : Client). ClientStep false (core old) c.in_ok-begun.begun.notes (core c.ask.new.self)) own c.in_ok-begun.ensures.kind),
+      subst (λ (old : Server). Carries g.A.Ciphers.is_sealing old c.ask.new.self c.args.now c.args.server_draw.now c.carry.result c.carry.new.self) server c.carry.ensures.carries,
+    )
+
+pub returns-clause-answered : goal.returns-clause-answered
+returns-clause-answered g c = λ context held ready whole.
+    let own = ap (λ d. d.own) c.self.view_is in
+    let server = ap (λ d. d.server) c.self.view_is in
+    c.a_request_is_answered.ensures c.args.self.now c.carry.new.self c.args.now c.args.draw.now c.args.server_draw.now c.args.request.now context held c.ask.new.self c.carry.result
+    (sym (ap (λ k. k.origin) own) ∙ c.self.invariant.0, sym (ap (λ k. k.next_hop) own) ∙ c.self.invariant.1)
+    (subst IsLawfulServer server c.is_lawful.ensures) c.has_lawful_parts.ensures ready whole
+    (subst (λ (begun : Step). Requests g.A.Ciphers.is_sealing g.A.Ciphers.TAG c.args.self.now.own c.args.now c.args.request.now c.args.draw.now begun c.ask.new.self) (sym c.carry.ensures.begun)
+    (subst (λ (old : Client). Requests g.A.Ciphers.is_sealing g.A.Ciphers.TAG old c.args.now c.args.request.now c.args.draw.now c.in_ok-begun.begun c.ask.new.self) own c.in_ok-begun.ensures.asked))
+    (subst (λ (old : Server). Carries g.A.Ciphers.is_sealing old c.ask.new.self c.args.now c.args.server_draw.now c.carry.result c.carry.new.self) server c.carry.ensures.carries)

@@ -1,0 +1,31 @@
+use Rattle.std.proofs.Common.{false, ◌∙◌, ap, sym, subst}
+use Rattle.osc_client.specs.Hearing.{Begins}
+use Rattle.osc_client.specs.State.{State as Client, core}
+use Rattle.osc_run.specs.ClientKinds.{ClientStep}
+use Rattle.osc_model.specs.declared.step.Step.{Step}
+use Rattle.osc_server.specs.State.{State as Server}
+use Rattle.osc_device.specs.Carrying.{Carries}
+use Rattle.osc_device.proofs.device.Device.open.Goals as goal
+
+pub returns-clause-begun : goal.returns-clause-begun
+returns-clause-begun g c =
+    let own = ap (λ d. d.own) c.self.view_is in
+    let server = ap (λ d. d.server) c.self.view_is in (
+      c.exchange.new.self,
+      subst (λ (begun : Step). Begins c.args.self.now.own c.args.now c.args.draw.now begun c.exchange.new.self) (sym c.carry.ensures.begun)
+          (subst (λ (old : Client). Begins old c.args.now c.args.draw.now c.in_ok-begun.begun c.exchange.new.self) own c.in_ok-begun.ensures.begun),
+      subst (λ (begun : Step). ClientStep false (core c.args.self.now.own) begun.notes (core c.exchange.new.self)) (sym c.carry.ensures.begun)
+          (subst (λ (old : Client). ClientStep false (core old) c.in_ok-begun.begun.notes (core c.exchange.new.self)) own c.in_ok-begun.ensures.kind),
+      subst (λ (old : Server). Carries g.A.Ciphers.is_sealing old c.exchange.new.self c.args.now c.args.server_draw.now c.carry.result c.carry.new.self) server c.carry.ensures.carries,
+    )
+
+pub returns-clause-made : goal.returns-clause-made
+returns-clause-made g c = λ claims entries may whole.
+    let own = ap (λ d. d.own) c.self.view_is in
+    let server = ap (λ d. d.server) c.self.view_is in
+    c.a_context_is_made.ensures c.args.self.now c.carry.new.self c.args.now c.args.draw.now c.args.server_draw.now claims entries c.exchange.new.self c.carry.result
+    (sym (ap (λ k. k.origin) own) ∙ c.self.invariant.0, sym (ap (λ k. k.next_hop) own) ∙ c.self.invariant.1)
+    c.has_lawful_parts.ensures may whole c.is_drawn.ensures
+    (subst (λ (begun : Step). Begins c.args.self.now.own c.args.now c.args.draw.now begun c.exchange.new.self) (sym c.carry.ensures.begun)
+    (subst (λ (old : Client). Begins old c.args.now c.args.draw.now c.in_ok-begun.begun c.exchange.new.self) own c.in_ok-begun.ensures.begun))
+    (subst (λ (old : Server). Carries g.A.Ciphers.is_sealing old c.exchange.new.self c.args.now c.args.server_draw.now c.carry.result c.carry.new.self) server c.carry.ensures.carries)

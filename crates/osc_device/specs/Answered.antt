@@ -1,0 +1,65 @@
+-- What a request of the device's own comes to.
+use Rattle.std.specs.Prelude.{◌≡◌, ◌≢◌, ℕ, List, Some, None}
+use Rattle.std.specs.Option.{IsSome}
+use Rattle.osc_model.specs.Apply.{apply_read}
+use Rattle.osc_model.specs.declared.node.Draw.{Draw}
+use Rattle.osc_model.specs.declared.node.Moment.{Moment}
+use Rattle.osc_model.specs.declared.reply.Reply.{Reply}
+use Rattle.osc_model.specs.declared.request.Request.{Request}
+use Rattle.osc_model.specs.declared.step.ClientResult.TheVariants as result
+use Rattle.osc_model.specs.declared.step.Step.{Step}
+use Rattle.osc_dedup.specs.Table.{looked}
+use Rattle.osc_message.specs.Endpoint.{own_id}
+use Rattle.osc_scope.specs.Entries.{Entry}
+use Rattle.osc_token.specs.declared.claims.Claims.{Claims}
+use Rattle.osc_protect.specs.Ciphers.{Sealings}
+use Rattle.osc_authz.specs.Begun.{ClientContextState}
+use Rattle.osc_authz.specs.Held.{Held}
+use Rattle.osc_run.specs.ServerKinds.{Replies as AppliesTo}
+use Rattle.osc_run.specs.Texts.{read_request}
+use Rattle.osc_server.specs.Table.{notes_of_request}
+use Rattle.osc_rounds.specs.AskRound.{asked_text}
+use Rattle.osc_rounds.specs.ExchangeRound.{IsHeld}
+use Rattle.osc_rounds.specs.Ready.{MayAsk, MayExchange}
+use Rattle.osc_device.specs.State.{State, own_address}
+use Rattle.osc_device.specs.declared.round.Round.{Round}
+
+-- The device may ask: it waits for nothing, both have a context of one name, which is live, and its next number is fresh at the server,
+-- which heard no message of the ID that it takes.
+pub record IsReady (device : State) (now : Moment) (draw : Draw) (context : ClientContextState) (held : Held) : Type 0 where
+  pub may_ask : MayAsk device.own device.server now context held
+  pub unheard : looked now own_address (own_id draw device.own.endpoint.next_id) device.server.endpoint.seen ≡ None
+
+-- the request wasn't too long for a datagram, and no step wanted memory
+pub record IsWhole (round : Round) : Type 0 where
+  pub fits : round.begun.notes.result ≢ Some (result.Refused 14)
+  pub served : IsSome round.served
+  pub learnt : IsSome round.learnt
+
+-- It is served as one entry: its plaintext is applied to the resources under the scope of the device's token, or is answered by 5.00 where the
+-- resources lack memory; the device learns that reply, and waits for nothing.
+pub record IsAnswered (old : State) (now : Moment) (draw : Draw) (request : Request) (held : Held) (number : ℕ) (round : Round) (new : State) : Type 0 where
+  pub reply : Reply
+  pub applied : AppliesTo old.server.tree (apply_read old.server.tree held.scope (read_request (asked_text old.own draw request))) reply new.server.tree
+  pub second : Step
+  pub served : round.served ≡ Some second
+  pub entry : second.notes ≡ notes_of_request now held number (asked_text old.own draw request) reply
+  pub third : Step
+  pub learnt : round.learnt ≡ Some third
+  pub told : third.notes.result ≡ Some (result.Answer reply)
+  pub idle : new.own.waiting ≡ None
+
+-- `is_sealing algorithm` is the relation of the algorithm's cipher
+module _ (is_sealing : Sealings) where
+  -- The device may post its token, which has these claims and this scope: it waits for nothing, the token is welcome at the server, and
+  -- that heard no message of the ID that the device takes.
+  pub record MayOpen (device : State) (now : Moment) (draw : Draw) (claims : Claims) (entries : List Entry) : Type 0 where
+    pub may_exchange : MayExchange is_sealing device.own device.server now claims entries
+    pub unheard : looked now own_address (own_id draw device.own.endpoint.next_id) device.server.endpoint.seen ≡ None
+
+-- The server has a live context with the token's scope, and the device one of the same name, and waits for nothing.
+pub record IsOpen (now : Moment) (entries : List Entry) (device : State) : Type 0 where
+  pub held : Held
+  pub is_held : IsHeld device.server now entries held
+  pub context : device.own.context ≡ Some (record { name = held.name; next = 0 })
+  pub idle : device.own.waiting ≡ None

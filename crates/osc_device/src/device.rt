@@ -1,0 +1,285 @@
+//! The device.
+ghost use Rattle.std.specs.Prelude.{◌≡◌, ◌<◌, ◌≤◌, ◌↔◌, true, false, [], List, None, length, IfNone, IfOk, IfSome, OnErr};
+ghost use Rattle.osc_scope.specs.Entries.{Entry};
+ghost use Rattle.osc_token.specs.declared.claims.Claims.{Claims as AnyClaims};
+ghost use Rattle.osc_client.specs.Hearing.{Begins, Requests, Ticks};
+ghost use Rattle.osc_client.specs.Sending.{acts_at, restarted};
+ghost use Rattle.osc_client.specs.State.{State as Own, core as own_core};
+ghost use Rattle.osc_run.specs.ClientKinds.{ClientStep};
+ghost use Rattle.osc_run.specs.ServerKinds.{ServerStep};
+ghost use Rattle.osc_server.specs.Hearing.{Hears};
+ghost use Rattle.osc_server.specs.State.{core};
+ghost use Rattle.osc_model.specs.StepNotes.{quiet};
+ghost use Rattle.osc_model.specs.declared.node.Moment.{Moment as AnyMoment};
+ghost use Rattle.osc_message.specs.Endpoint.{after_tick, fresh};
+ghost use Rattle.osc_authz.specs.Begun.{ClientContextState};
+ghost use Rattle.osc_authz.specs.Held.{Held};
+ghost use Rattle.osc_rounds.specs.AskRound.{IsLawfulServer};
+ghost use Rattle.osc_device.specs.Answered.{IsAnswered, IsOpen, IsReady, IsWhole, MayOpen};
+ghost use Rattle.osc_device.specs.Carrying.{Carries, ComesBack, Reaches};
+ghost use Rattle.osc_device.specs.State.{server_address};
+
+use crate::laws::{a_context_is_made, a_request_is_answered};
+use crate::round::Round;
+use osc_authz::ClientDesk;
+use osc_client::{Client, Way};
+use osc_model::{Draw, Moment, Peer, Request, Step};
+use osc_protect::Ciphers;
+use osc_server::Server;
+use std::alloc::{AllocError, Global};
+use std::marker::Model;
+
+/// Where the device stands to its server.
+const OWN: Peer = Peer {
+    address: [0, 0, 0, 0],
+    port: 0,
+};
+
+/// Where the server stands to the device.
+const SERVER: Peer = Peer {
+    address: [0, 0, 0, 0],
+    port: 1,
+};
+
+/// A server, and the device itself as a client of it.
+pub struct Device {
+    server: Server,
+    own: Client,
+}
+
+// Proved once, and not anew at each exit of whoever owns one.
+impl Drop for Device {
+    fn drop(self) {
+        let Device { server: _, own: _ } = self;
+    }
+}
+
+impl Model for Device {
+    ghost use Rattle.std.specs.Prelude.{◌≡◌, None};
+    ghost use Rattle.std.specs.Coded.{codes};
+    ghost use Rattle.osc_model.specs.Scope.{coded_scope};
+    ghost use Rattle.osc_model.specs.Tree.{coded_tree};
+    ghost use Rattle.osc_device.specs.State.{State, server_address};
+
+    ghost Value = { State };
+
+    ghost coded = { Prim.hlevel (codes, coded_scope, coded_tree) };
+
+    ghost view = { λ d. record { server = d.server; own = d.own } };
+
+    ghost invariant = { λ d. (d.own.origin ≡ None) × (d.own.next_hop ≡ server_address) };
+}
+
+/// For proofs: what is true of each server. Does nothing.
+fn is_lawful(server: &Server)
+    ensures { IsLawfulServer server.now }
+{
+    let _resources = server.tree().len();
+    let _desk = server.desk();
+}
+
+/// For proofs: how many bytes a draw has. Does nothing.
+fn is_drawn(draw: &Draw)
+    ensures { length draw.now.0 ≡ 32 }
+{
+    let _bytes = draw.0.as_slice();
+}
+
+impl Device {
+    /// A device of this server, which holds this grant; it has no context yet.
+    pub fn new(alloc: Global, server: Server, grant: ClientDesk) -> Result<Device, AllocError>
+        ensures { IfOk result (λ device. device ≡ record {
+          server = server;
+          own = record { desk = grant; next_hop = server_address; origin = None; context = None; waiting = None; endpoint = fresh };
+        }) }
+    {
+        let way = Way {
+            next_hop: SERVER,
+            origin: None,
+        };
+        let own = Client::new(alloc, grant, way)?;
+        Ok(Device { server, own })
+    }
+
+    /// The server, with its resources.
+    pub fn server(&self) -> &Server
+        ensures { result.now ≡ self.now.server }
+    {
+        &self.server
+    }
+
+    /// The device as a client of its server.
+    pub fn own(&self) -> &Client
+        ensures { result.now ≡ self.now.own }
+    {
+        &self.own
+    }
+
+    /// These bytes came from this peer at this moment as one datagram: the server's step that answers them, as
+    /// [`Server::on_datagram`] says. The device itself isn't changed by it.
+    pub fn on_datagram<A: Ciphers>(
+        &mut self,
+        alloc: Global,
+        now: Moment,
+        from: Peer,
+        bytes: &[u8],
+        draw: &Draw,
+    ) -> Result<Step, AllocError>
+        ensures heard { IfOk result (λ step. Hears A.is_sealing self.old.server now draw.now from bytes.now step self.new.server) }
+        ensures kind { IfOk result (λ step. ServerStep (core self.old.server) now step.notes (core self.new.server)) }
+        ensures own { self.new.own ≡ self.old.own }
+        ensures err { OnErr result (self.new ≡ self.old) }
+    {
+        self.server.on_datagram::<A>(alloc, now, from, bytes, draw)
+    }
+
+    /// The time has come for what is due by this moment: the server lets its notes go whose lifetime has ended, and what the device began
+    /// and nobody acknowledged goes to the server again. Without memory for it an `AllocError`; then nothing has changed.
+    pub fn on_tick<A: Ciphers>(
+        &mut self,
+        alloc: Global,
+        now: Moment,
+        server_draw: &Draw,
+    ) -> Result<Round, AllocError>
+        ensures ticked { IfOk result (λ round. (ticked : Own) × Ticks self.old.own now round.begun ticked
+            × ClientStep false (own_core self.old.own) round.begun.notes (own_core ticked)
+            × Carries A.is_sealing (record self.old.server { endpoint = after_tick now self.old.server.endpoint }) ticked now server_draw.now round self.new) }
+        ensures err { OnErr result (self.new ≡ self.old) }
+    {
+        let begun = self.own.on_tick(alloc, now)?;
+        let _let_go = self.server.on_tick(alloc, now);
+        Ok(self.carry::<A>(alloc, now, begun, server_draw))
+    }
+
+    /// The first moment at which a tick does anything for the device itself, in ms, or none where no tick would: the server has nothing
+    /// that is ever due.
+    pub fn next_deadline(&self) -> Option<u64>
+        ensures some { IfSome result (λ deadline. (now : AnyMoment) → (acts_at self.now.own now ≡ true) ↔ (deadline ≤ now.ms)) }
+        ensures none { IfNone result ((now : AnyMoment) → acts_at self.now.own now ≡ false) }
+    {
+        self.own.next_deadline()
+    }
+
+    /// Starts again: the server as [`Server::restart`] says, and the device without its context, so that it posts its token anew.
+    pub fn restart(&mut self)
+        ensures server { self.new.server ≡ record self.old.server { desk = record self.old.server.desk { table = [] }; endpoint = fresh } }
+        ensures own { self.new.own ≡ restarted self.old.own }
+        ensures kinds { ((now : AnyMoment) → ServerStep (core self.old.server) now quiet (core self.new.server))
+            × ClientStep false (own_core self.old.own) quiet (own_core self.new.own) }
+    {
+        self.server.restart();
+        self.own.restart();
+    }
+
+    /// Asks the server for this, as [`Client::ask`] does. Without memory for the request an `AllocError`; then nothing has changed.
+    pub fn ask<A: Ciphers>(
+        &mut self,
+        alloc: Global,
+        now: Moment,
+        request: &Request,
+        draw: &Draw,
+        server_draw: &Draw,
+    ) -> Result<Round, AllocError>
+        requires { 0 < request.now.code.0 }
+        ensures asked { IfOk result (λ round. (asked : Own) × Requests A.is_sealing A.TAG self.old.own now request.now draw.now round.begun asked
+            × ClientStep false (own_core self.old.own) round.begun.notes (own_core asked)
+            × Carries A.is_sealing self.old.server asked now server_draw.now round self.new) }
+        // Where it may ask, and no step wants memory.
+        ensures answered { IfOk result (λ round. (context : ClientContextState) (held : Held)
+            → IsReady self.old now draw.now context held → IsWhole round
+            → IsAnswered self.old now draw.now request.now held context.next round self.new) }
+        ensures err { OnErr result (self.new ≡ self.old) }
+    {
+        a_request_is_answered::<A>();
+        is_lawful(&self.server);
+        let begun = self.own.ask::<A>(alloc, now, request, draw)?;
+        self.own.has_lawful_parts();
+        Ok(self.carry::<A>(alloc, now, begun, server_draw))
+    }
+
+    /// Posts the device's token to the server, as [`Client::exchange`] does, so that it has a context. Without memory for the post an
+    /// `AllocError`; then nothing has changed.
+    pub fn open<A: Ciphers>(
+        &mut self,
+        alloc: Global,
+        now: Moment,
+        draw: &Draw,
+        server_draw: &Draw,
+    ) -> Result<Round, AllocError>
+        ensures begun { IfOk result (λ round. (begun : Own) × Begins self.old.own now draw.now round.begun begun
+            × ClientStep false (own_core self.old.own) round.begun.notes (own_core begun)
+            × Carries A.is_sealing self.old.server begun now server_draw.now round self.new) }
+        // Where it may, and no step wants memory.
+        ensures made { IfOk result (λ round. (claims : AnyClaims) (entries : List Entry)
+            → MayOpen A.is_sealing self.old now draw.now claims entries → IsWhole round → IsOpen now entries self.new) }
+        ensures err { OnErr result (self.new ≡ self.old) }
+    {
+        a_context_is_made::<A>();
+        is_drawn(server_draw);
+        let begun = self.own.exchange(alloc, now, draw)?;
+        self.own.has_lawful_parts();
+        Ok(self.carry::<A>(alloc, now, begun, server_draw))
+    }
+
+    /// Hands what was sent to the server, and what that answers to the device.
+    fn carry<A: Ciphers>(
+        &mut self,
+        alloc: Global,
+        now: Moment,
+        begun: Step,
+        server_draw: &Draw,
+    ) -> Round
+        ensures carries { Carries A.is_sealing self.old.server self.old.own now server_draw.now result self.new }
+        ensures begun { result.begun ≡ begun }
+    {
+        let served = self.served::<A>(alloc, now, &begun, server_draw);
+        let learnt = self.learnt::<A>(alloc, now, &served);
+        Round {
+            begun,
+            served,
+            learnt,
+        }
+    }
+
+    /// The server's step for what was sent, if anything was and there is memory for it.
+    fn served<A: Ciphers>(
+        &mut self,
+        alloc: Global,
+        now: Moment,
+        begun: &Step,
+        server_draw: &Draw,
+    ) -> Option<Step>
+        ensures served { Reaches A.is_sealing self.old.server now server_draw.now begun.now.out result self.new.server }
+        ensures own { self.new.own ≡ self.old.own }
+    {
+        match begun.out.as_slice() {
+            [datagram] => self
+                .server
+                .on_datagram::<A>(alloc, now, OWN, datagram.bytes.as_slice(), server_draw)
+                .ok(),
+            _ => None,
+        }
+    }
+
+    /// The device's step for what came back, if anything did and there is memory for it.
+    fn learnt<A: Ciphers>(
+        &mut self,
+        alloc: Global,
+        now: Moment,
+        served: &Option<Step>,
+    ) -> Option<Step>
+        ensures learnt { ComesBack A.is_sealing self.old.own now served.now result self.new.own }
+        ensures server { self.new.server ≡ self.old.server }
+    {
+        let Some(step) = served else {
+            return None;
+        };
+        match step.out.as_slice() {
+            [datagram] => self
+                .own
+                .on_datagram::<A>(alloc, now, SERVER, datagram.bytes.as_slice())
+                .ok(),
+            _ => None,
+        }
+    }
+}

@@ -1,0 +1,11 @@
+//! A device: a resource server, and beside it the device itself, which holds a token and asks that server as any other client does. What it
+//! says to its server goes through no socket: the datagrams are handed over by value, so each thing that the device does is a step of a client
+//! and a step of a server, and what is promised of holders is promised of the device.
+#![tactic(auto)]
+
+mod device;
+pub mod laws;
+mod round;
+
+pub use device::Device;
+pub use round::Round;

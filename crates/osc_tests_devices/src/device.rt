@@ -1,0 +1,156 @@
+//! A device that asks its own server, and what others see of it.
+ghost use Rattle.std.specs.Prelude.{◌<◌};
+
+use osc_ccm::Ccm;
+use osc_device::{Device, Round};
+use osc_fixtures::{CLIENT, GET, POST, PUT, at, desk, drawn, empty_server, own, request, sent_in};
+use osc_model::{ClientResult, Path};
+use std::alloc::{AllocError, Global};
+use std::process::Abort;
+use std::test::*;
+
+/// GET, POST and PUT on `/log`.
+const SCOPE: &[u8] = b"\x81\x82\x64/log\x07";
+
+/// A GET of `/log` without protection.
+const UNPROTECTED: &[u8] = b"\x40\x01\0\x01\xb3log";
+
+/// A device without resources, which may do all of that to itself.
+fn device(alloc: Global) -> Result<Device, AllocError> {
+    let server = empty_server(alloc)?;
+    let grant = desk(alloc, own(7, SCOPE))?;
+    Device::new(alloc, server, grant)
+}
+
+/// What the device learnt.
+fn learnt(round: &Round) -> Option<&ClientResult> {
+    round.learnt.as_ref()?.notes.result()
+}
+
+/// Whether the device has posted its token, and has a context.
+fn opens(alloc: Global, device: &mut Device, number: u8) -> bool {
+    let other = drawn(number.wrapping_add(100));
+    match device.open::<(Ccm<8>, Ccm<16>)>(alloc, at(0), &drawn(number), &other) {
+        Ok(round) => {
+            let made = learnt(&round) == Some(&ClientResult::Made);
+            drop(round);
+            made
+        }
+        Err(_) => false,
+    }
+}
+
+/// The code that the device's request on `/log` is answered by; 0 where it isn't.
+fn answer(round: &Round) -> u8 {
+    match learnt(round) {
+        Some(ClientResult::Answer(reply)) => reply.code.0,
+        _ => 0,
+    }
+}
+
+fn asks(alloc: Global, device: &mut Device, number: u8, code: u8, payload: &'static [u8]) -> u8
+    requires { 0 < code }
+{
+    let Ok(request) = request(alloc, b"/log", code, payload) else {
+        return 0;
+    };
+    let other = drawn(number.wrapping_add(100));
+    let round = device.ask::<(Ccm<8>, Ccm<16>)>(alloc, at(0), &request, &drawn(number), &other);
+    drop(request);
+    match round {
+        Ok(round) => {
+            let code = answer(&round);
+            drop(round);
+            code
+        }
+        Err(_) => 0,
+    }
+}
+
+/// Whether `/log` has these bytes.
+fn has(alloc: Global, device: &Device, bytes: &[u8]) -> bool {
+    match Path::from_text(alloc, b"/log") {
+        Ok(Some(path)) => match device.server().tree().get(&path) {
+            Some(resource) => resource.payload.as_slice() == bytes,
+            None => false,
+        },
+        _ => false,
+    }
+}
+
+/// The code that somebody else is answered, who asks without protection; 0 where nothing is.
+fn told(alloc: Global, device: &mut Device) -> u8 {
+    let step = device.on_datagram::<(Ccm<8>, Ccm<16>)>(
+        alloc,
+        at(0),
+        CLIENT,
+        UNPROTECTED,
+        &drawn(9),
+    );
+    let bytes = sent_in(alloc, step);
+    let code = bytes.get(1).copied().unwrap_or(0);
+    drop(bytes);
+    code
+}
+
+fn says(rt: &impl Abort, alloc: Global, device: &mut Device) {
+    assert!(rt; asks(alloc, device, 1, GET, b"") == 0);
+    assert!(rt; opens(alloc, device, 2));
+    assert!(rt; asks(alloc, device, 3, GET, b"") == 0x84);
+    assert!(rt; asks(alloc, device, 4, PUT, b"a") == 0x41);
+    assert!(rt; asks(alloc, device, 5, POST, b"b") == 0x44);
+    assert!(rt; has(alloc, device, b"ab"));
+    assert!(rt; asks(alloc, device, 6, GET, b"") == 0x45);
+    assert!(rt; told(alloc, device) == 0x81);
+    assert!(rt; device.next_deadline().is_none());
+}
+
+/// Without a context it isn't asked; then what it writes is there. Nobody else reads it without a token.
+#[test]
+fn a_device_has_its_say(rt: HostRuntime) -> Result<(), Fail> {
+    let mut device = device(rt.alloc())?;
+    says(&rt, rt.alloc(), &mut device);
+    drop(device);
+    Ok(())
+}
+
+fn starts_again(rt: &impl Abort, alloc: Global, device: &mut Device) {
+    assert!(rt; opens(alloc, device, 1));
+    assert!(rt; asks(alloc, device, 2, PUT, b"a") == 0x41);
+    device.restart();
+    assert!(rt; asks(alloc, device, 3, PUT, b"b") == 0);
+    assert!(rt; has(alloc, device, b"a"));
+    assert!(rt; opens(alloc, device, 4));
+    assert!(rt; asks(alloc, device, 5, PUT, b"b") == 0x44);
+    assert!(rt; has(alloc, device, b"b"));
+}
+
+/// Behind a restart it posts its token anew, and its resources are there.
+#[test]
+fn a_device_starts_again(rt: HostRuntime) -> Result<(), Fail> {
+    let mut device = device(rt.alloc())?;
+    starts_again(&rt, rt.alloc(), &mut device);
+    drop(device);
+    Ok(())
+}
+
+/// A tick of a device at rest sends nothing.
+fn ticks(alloc: Global, device: &mut Device) -> bool {
+    match device.on_tick::<(Ccm<8>, Ccm<16>)>(alloc, at(1_000), &drawn(9)) {
+        Ok(round) => {
+            let silent = round.begun.out.as_slice().is_empty() && round.served.is_none();
+            drop(round);
+            silent
+        }
+        Err(_) => false,
+    }
+}
+
+#[test]
+fn a_tick_at_rest(rt: HostRuntime) -> Result<(), Fail> {
+    let mut device = device(rt.alloc())?;
+    let silent = ticks(rt.alloc(), &mut device);
+    drop(device);
+    assert!(rt; silent);
+    Ok(())
+}
