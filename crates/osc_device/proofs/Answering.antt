@@ -63,7 +63,7 @@ module _ (is_sealing : Sealings) (tag : Tags)
   -- the answer comes back
   back : (second : Step) → round.served ≡ Some second → IsServedAndAnswered is_sealing asked old.server now own_address server_address held context.next text second new.server
       → ComesBack is_sealing asked now round.served round.learnt new.own → IsAnswered old now draw request held context.next round new
-  back second served it (ComesBack.lost lost) = absurd (nothing_there round.learnt whole.learnt lost.0)
+  back second served it (ComesBack.lost nothing lost) = absurd (nothing_there round.learnt whole.learnt lost.0)
   back second served it (ComesBack.heard answer one third some only learnt hears kind) =
       let same : answer ≡ second = one_step round.served answer second some served in
       let bytes : one.bytes ≡ spelling it.answer = one_bytes second.out one (datagram own_address it.answer) (sym (ap (λ (s : Step). s.out) same) ∙ only) it.out in
@@ -82,7 +82,7 @@ module _ (is_sealing : Sealings) (tag : Tags)
 
   there : Reaches is_sealing old.server now server_draw round.begun.out round.served new.server → ComesBack is_sealing asked now round.served round.learnt new.own
       → IsAnswered old now draw request held context.next round new
-  there (Reaches.lost lost) comes = absurd (nothing_there round.served whole.served lost.0)
+  there (Reaches.lost nothing lost) comes = absurd (nothing_there round.served whole.served lost.0)
   there (Reaches.heard one second only served hears kind) comes =
       let bytes : one.bytes ≡ spelling is.message = one_bytes round.begun.out one (datagram old.own.next_hop is.message) only is.out in
       back second served
@@ -109,7 +109,7 @@ module _ (is_sealing : Sealings)
 
   made_back : (second : Step) → round.served ≡ Some second → IsAgreedAndMade is_sealing begun now own_address server_address entries second new.server
       → ComesBack is_sealing begun now round.served round.learnt new.own → IsOpen now entries new
-  made_back second served it (ComesBack.lost lost) = absurd (nothing_there round.learnt whole.learnt lost.0)
+  made_back second served it (ComesBack.lost nothing lost) = absurd (nothing_there round.learnt whole.learnt lost.0)
   made_back second served it (ComesBack.heard answer one third some only learnt hears kind) =
       let same : answer ≡ second = one_step round.served answer second some served in
       let bytes : one.bytes ≡ spelling it.answer = one_bytes second.out one (datagram own_address it.answer) (sym (ap (λ (s : Step). s.out) same) ∙ only) it.out in
@@ -118,7 +118,7 @@ module _ (is_sealing : Sealings)
 
   posted : Reaches is_sealing old.server now server_draw round.begun.out round.served new.server → ComesBack is_sealing begun now round.served round.learnt new.own
       → IsOpen now entries new
-  posted (Reaches.lost lost) comes = absurd (nothing_there round.served whole.served lost.0)
+  posted (Reaches.lost nothing lost) comes = absurd (nothing_there round.served whole.served lost.0)
   posted (Reaches.heard one second only served hears kind) comes =
       let bytes : one.bytes ≡ spelling is_begun.message = one_bytes round.begun.out one (datagram old.own.next_hop is_begun.message) only is_begun.out in
       made_back second served

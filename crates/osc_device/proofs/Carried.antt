@@ -15,7 +15,7 @@ use Rattle.osc_client.specs.State.{State as Client, core as client_core}
 use Rattle.osc_message.specs.Endpoint.{after_tick}
 use Rattle.osc_server.specs.Hearing.{Hears as ServerHears, Ticks as ServerTicks}
 use Rattle.osc_server.specs.State.{State as Server, core as server_core}
-use Rattle.osc_device.specs.Carrying.{ComesBack, Reaches}
+use Rattle.osc_device.specs.Carrying.{ClientTakesMemory, ComesBack, Reaches, ServerTakesMemory}
 use Rattle.osc_device.specs.State.{own_address, server_address}
 use Rattle.osc_device.proofs.Way.{hears_same}
 
@@ -25,26 +25,39 @@ one_only [] out one e least most is = absurd (omega arith)
 one_only (x ∷ []) out one e least most is = sym e ∙ ap (λ (d : Datagram). d ∷ []) (sym is)
 one_only (x ∷ y ∷ xs) out one e least most is = absurd (omega arith)
 
+one_datagram : (out : List Datagram) (one other : Datagram) → out ≡ one ∷ [] → out ≡ other ∷ [] → one ≡ other
+one_datagram out one other a b = cc
+
+one_step : (o : Option Step) (a b : Step) → o ≡ Some a → o ≡ Some b → a ≡ b
+one_step o a b e f = cc
+
 module _ (is_sealing : Sealings) where
   pub reaches : (inside old new : Server) (now : Moment) (draw : Draw) (out : List Datagram) (one : Datagram) (bytes : List ℕ) (result : Result Step AllocError) (step : Option Step)
       → inside ≡ old → out ≡ one ∷ [] → bytes ≡ one.bytes
       → IfOk result (λ s. ServerHears is_sealing inside now draw own_address bytes s new) → IfOk result (λ s. ServerStep (server_core inside) now s.notes (server_core new))
-      → OnErr result (new ≡ inside) → step ≡ result_ok result
+      → OnErr result (new ≡ inside) → OnErr result (ServerTakesMemory inside now bytes) → step ≡ result_ok result
       → Reaches is_sealing old now draw out step new
-  reaches inside old new now draw out one bytes (Ok s) step e only b heard kind kept is =
+  reaches inside old new now draw out one bytes (Ok s) step e only b heard kind kept memory is =
       subst (λ (o : Server). Reaches is_sealing o now draw out step new) e
       (Reaches.heard one s only is (subst (λ (bs : List ℕ). ServerHears is_sealing inside now draw own_address bs s new) b heard) kind)
-  reaches inside old new now draw out one bytes (Err error) step e only b heard kind kept is = Reaches.lost (is, kept ∙ e)
+  reaches inside old new now draw out one bytes (Err error) step e only b heard kind kept memory is =
+      subst (λ (o : Server). Reaches is_sealing o now draw out step new) e
+      (Reaches.lost (λ other its. subst (λ (bs : List ℕ). ServerTakesMemory inside now bs) (b ∙ ap (λ (d : Datagram). d.bytes) (one_datagram out one other only its)) memory) (is, kept))
 
   pub comes_back : (inside old new : Client) (now : Moment) (served : Option Step) (answer : Step) (one : Datagram) (bytes : List ℕ) (result : Result Step AllocError) (step : Option Step)
       → inside ≡ old → served ≡ Some answer → answer.out ≡ one ∷ [] → bytes ≡ one.bytes
       → IfOk result (λ s. ClientHears is_sealing inside now server_address bytes s new) → IfOk result (λ s. ClientStep false (client_core inside) s.notes (client_core new))
-      → OnErr result (new ≡ inside) → step ≡ result_ok result
+      → OnErr result (new ≡ inside) → OnErr result (ClientTakesMemory inside now bytes) → step ≡ result_ok result
       → ComesBack is_sealing old now served step new
-  comes_back inside old new now served answer one bytes (Ok s) step e some only b heard kind kept is =
+  comes_back inside old new now served answer one bytes (Ok s) step e some only b heard kind kept memory is =
       subst (λ (o : Client). ComesBack is_sealing o now served step new) e
       (ComesBack.heard answer one s some only is (subst (λ (bs : List ℕ). ClientHears is_sealing inside now server_address bs s new) b heard) kind)
-  comes_back inside old new now served answer one bytes (Err error) step e some only b heard kind kept is = ComesBack.lost (is, kept ∙ e)
+  comes_back inside old new now served answer one bytes (Err error) step e some only b heard kind kept memory is =
+      subst (λ (o : Client). ComesBack is_sealing o now served step new) e
+      (ComesBack.lost (λ its other there sent.
+      let same : answer ≡ its = one_step served answer its some there in
+      subst (λ (bs : List ℕ). ClientTakesMemory inside now bs)
+      (b ∙ ap (λ (d : Datagram). d.bytes) (one_datagram answer.out one other only (ap (λ (s : Step). s.out) same ∙ sent))) memory) (is, kept))
 
   -- the device still sends straight to its server
   pub still_straight : (old new : Client) (now : Moment) (bytes : List ℕ) (result : Result Step AllocError)

@@ -13,4 +13,4 @@ returns-in-len1-clause-learnt g c =
     c.datagram-item.result c.as_slice-in-len1.result.now c.on_datagram.result c.ok.result
     (ap (λ d. d.own) c.self.view_is) c.in-Some.is
     (one_only c.as_slice.result.now c.in-Some.step.out c.datagram-item.result c.as_slice.ensures c.in-len1.len_at_least c.in-len1.len_below c.datagram-item.is)
-    c.as_slice-in-len1.ensures c.on_datagram.ensures.heard c.on_datagram.ensures.kind c.on_datagram.ensures.err c.ok.ensures.value
+    c.as_slice-in-len1.ensures c.on_datagram.ensures.heard c.on_datagram.ensures.kind c.on_datagram.ensures.err c.on_datagram.ensures.needs_memory c.ok.ensures.value

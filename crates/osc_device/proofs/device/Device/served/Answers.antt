@@ -8,4 +8,4 @@ returns-in-len1-clause-served g c =
     c.datagram-item.result c.as_slice-in-len1.result.now c.on_datagram.result c.ok.result
     (ap (λ d. d.server) c.self.view_is)
     (one_only c.as_slice.result.now c.args.begun.now.out c.datagram-item.result c.as_slice.ensures c.in-len1.len_at_least c.in-len1.len_below c.datagram-item.is)
-    c.as_slice-in-len1.ensures c.on_datagram.ensures.heard c.on_datagram.ensures.kind c.on_datagram.ensures.err c.ok.ensures.value
+    c.as_slice-in-len1.ensures c.on_datagram.ensures.heard c.on_datagram.ensures.kind c.on_datagram.ensures.err c.on_datagram.ensures.needs_memory c.ok.ensures.value
