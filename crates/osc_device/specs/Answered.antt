@@ -1,7 +1,9 @@
 -- What a request of the device's own comes to.
-use Rattle.std.specs.Prelude.{◌≡◌, ◌≢◌, ℕ, List, Some, None}
+use Rattle.std.specs.Prelude.{◌≡◌, ◌≢◌, ℕ, false, List, [], Option, Some, None}
 use Rattle.std.specs.Option.{IsSome}
 use Rattle.osc_model.specs.Apply.{apply_read}
+use Rattle.osc_model.specs.Code.{code, method_number}
+use Rattle.osc_model.specs.declared.code.Method.{Method}
 use Rattle.osc_model.specs.declared.node.Draw.{Draw}
 use Rattle.osc_model.specs.declared.node.Moment.{Moment}
 use Rattle.osc_model.specs.declared.reply.Reply.{Reply}
@@ -48,6 +50,16 @@ pub record IsAnswered (old : State) (now : Moment) (draw : Draw) (request : Requ
   pub learnt : round.learnt ≡ Some third
   pub told : third.notes.result ≡ Some (result.Answer reply)
   pub idle : new.own.waiting ≡ None
+
+-- wherever it may ask, and no step wants memory
+abbrev pub IsAnsweredWhereReady : State → Moment → Draw → Request → Round → State → Type 0
+IsAnsweredWhereReady old now draw request round new =
+    (context : ClientContextState) (held : Held) → IsReady old now draw context held → IsWhole round → IsAnswered old now draw request held context.next round new
+
+-- a request of this method on this path, with a payload, its format, and no other option
+abbrev pub own_request : Method → List ℕ → Option ℕ → List ℕ → Request
+own_request method path format payload =
+    record { code = code 0 (method_number method); path = Some path; format = format; accept = None; if_match = []; if_none_match = false; payload = payload }
 
 -- `is_sealing algorithm` is the relation of the algorithm's cipher
 module _ (is_sealing : Sealings) where

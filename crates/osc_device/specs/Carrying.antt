@@ -2,16 +2,17 @@
 use Rattle.std.specs.Prelude.{◌≡◌, ℕ, false, List, [], ◌∷◌, Option, Some, None}
 use Rattle.osc_model.specs.declared.node.Draw.{Draw}
 use Rattle.osc_model.specs.declared.node.Moment.{Moment}
+use Rattle.osc_model.specs.declared.request.Request.{Request}
 use Rattle.osc_model.specs.declared.step.Datagram.{Datagram}
 use Rattle.osc_model.specs.declared.step.Step.{Step}
 use Rattle.osc_message.specs.Heard.{heard as heard_as}
 use Rattle.osc_message.specs.Received.{Receives}
 use Rattle.osc_message.specs.declared.received.Received.{Received}
-use Rattle.osc_protect.specs.Ciphers.{Sealings}
+use Rattle.osc_protect.specs.Ciphers.{Sealings, Tags}
 use Rattle.osc_run.specs.ClientKinds.{ClientStep}
 use Rattle.osc_run.specs.ServerKinds.{ServerStep}
 use Rattle.osc_client.specs.Case.{case_of as client_case}
-use Rattle.osc_client.specs.Hearing.{Hears as ClientHears}
+use Rattle.osc_client.specs.Hearing.{Hears as ClientHears, Requests}
 use Rattle.osc_client.specs.State.{State as Client, core as client_core}
 use Rattle.osc_client.specs.Table.{TakesMemory}
 use Rattle.osc_server.specs.Case.{IsAnswered, case_of as server_case}
@@ -59,3 +60,10 @@ module _ (is_sealing : Sealings) where
   pub record Carries (server : Server) (own : Client) (now : Moment) (draw : Draw) (round : Round) (new : State) : Type 0 where
     pub reaches : Reaches server now draw round.begun.out round.served new.server
     pub comes_back : ComesBack own now round.served round.learnt new.own
+
+  -- the device asks for this, and what goes out is carried to its server and back
+  pub record AsksItsServer (tag : Tags) (old : State) (now : Moment) (draw server_draw : Draw) (request : Request) (round : Round) (new : State) : Type 0 where
+    pub asked : Client
+    pub requests : Requests is_sealing tag old.own now request draw round.begun asked
+    pub kind : ClientStep false (client_core old.own) round.begun.notes (client_core asked)
+    pub carries : Carries old.server asked now server_draw round new

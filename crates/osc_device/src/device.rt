@@ -15,15 +15,16 @@ ghost use Rattle.osc_message.specs.Endpoint.{after_tick, fresh};
 ghost use Rattle.osc_authz.specs.Begun.{ClientContextState};
 ghost use Rattle.osc_authz.specs.Held.{Held};
 ghost use Rattle.osc_rounds.specs.AskRound.{IsLawfulServer};
-ghost use Rattle.osc_device.specs.Answered.{IsAnswered, IsOpen, IsReady, IsWhole, MayOpen};
-ghost use Rattle.osc_device.specs.Carrying.{Carries, ComesBack, Reaches};
+ghost use Rattle.osc_model.specs.declared.code.Method.TheVariants.{Delete, Get, Post, Put};
+ghost use Rattle.osc_device.specs.Answered.{IsAnsweredWhereReady, IsOpen, IsWhole, MayOpen, own_request as own_request_of};
+ghost use Rattle.osc_device.specs.Carrying.{AsksItsServer, Carries, ComesBack, Reaches};
 ghost use Rattle.osc_device.specs.State.{server_address};
 
 use crate::laws::{a_context_is_made, a_request_is_answered};
 use crate::round::Round;
 use osc_authz::ClientDesk;
 use osc_client::{Client, Way};
-use osc_model::{Draw, Moment, Peer, Request, Step};
+use osc_model::{Bytes, Draw, ETags, Method, Moment, Path, Peer, Request, Step};
 use osc_protect::Ciphers;
 use osc_server::Server;
 use std::alloc::{AllocError, Global};
@@ -68,6 +69,28 @@ impl Model for Device {
     ghost view = { λ d. record { server = d.server; own = d.own } };
 
     ghost invariant = { λ d. (d.own.origin ≡ None) × (d.own.next_hop ≡ server_address) };
+}
+
+/// A request of this method on this path, with a payload, its format, and no other option.
+fn own_request(
+    alloc: Global,
+    method: Method,
+    path: Path,
+    format: Option<u16>,
+    payload: Bytes,
+) -> Request
+    ensures request { result ≡ own_request_of method path format payload }
+    ensures code { 0 < result.code.0 }
+{
+    Request {
+        code: method.code(),
+        path: Some(path),
+        format,
+        accept: None,
+        if_match: ETags::new(alloc),
+        if_none_match: false,
+        payload,
+    }
 }
 
 /// For proofs: what is true of each server. Does nothing.
@@ -181,13 +204,8 @@ impl Device {
         server_draw: &Draw,
     ) -> Result<Round, AllocError>
         requires { 0 < request.now.code.0 }
-        ensures asked { IfOk result (λ round. (asked : Own) × Requests A.is_sealing A.TAG self.old.own now request.now draw.now round.begun asked
-            × ClientStep false (own_core self.old.own) round.begun.notes (own_core asked)
-            × Carries A.is_sealing self.old.server asked now server_draw.now round self.new) }
-        // Where it may ask, and no step wants memory.
-        ensures answered { IfOk result (λ round. (context : ClientContextState) (held : Held)
-            → IsReady self.old now draw.now context held → IsWhole round
-            → IsAnswered self.old now draw.now request.now held context.next round self.new) }
+        ensures asked { IfOk result (λ round. AsksItsServer A.is_sealing A.TAG self.old now draw.now server_draw.now request.now round self.new) }
+        ensures answered { IfOk result (λ round. IsAnsweredWhereReady self.old now draw.now request.now round self.new) }
         ensures err { OnErr result (self.new ≡ self.old) }
     {
         a_request_is_answered::<A>();
@@ -195,6 +213,78 @@ impl Device {
         let begun = self.own.ask::<A>(alloc, now, request, draw)?;
         self.own.has_lawful_parts();
         Ok(self.carry::<A>(alloc, now, begun, server_draw))
+    }
+
+    /// Puts this value at the path, as [`Device::ask`] does: 2.01 where nothing was there, 2.04 where something was.
+    pub fn put<A: Ciphers>(
+        &mut self,
+        alloc: Global,
+        now: Moment,
+        path: Path,
+        format: Option<u16>,
+        payload: Bytes,
+        draw: &Draw,
+        server_draw: &Draw,
+    ) -> Result<Round, AllocError>
+        ensures asked { IfOk result (λ round. AsksItsServer A.is_sealing A.TAG self.old now draw.now server_draw.now (own_request_of Put path format payload) round self.new) }
+        ensures answered { IfOk result (λ round. IsAnsweredWhereReady self.old now draw.now (own_request_of Put path format payload) round self.new) }
+        ensures err { OnErr result (self.new ≡ self.old) }
+    {
+        let request = own_request(alloc, Method::Put, path, format, payload);
+        self.ask::<A>(alloc, now, &request, draw, server_draw)
+    }
+
+    /// Appends this to the value at the path, or makes it anew.
+    pub fn append<A: Ciphers>(
+        &mut self,
+        alloc: Global,
+        now: Moment,
+        path: Path,
+        format: Option<u16>,
+        payload: Bytes,
+        draw: &Draw,
+        server_draw: &Draw,
+    ) -> Result<Round, AllocError>
+        ensures asked { IfOk result (λ round. AsksItsServer A.is_sealing A.TAG self.old now draw.now server_draw.now (own_request_of Post path format payload) round self.new) }
+        ensures answered { IfOk result (λ round. IsAnsweredWhereReady self.old now draw.now (own_request_of Post path format payload) round self.new) }
+        ensures err { OnErr result (self.new ≡ self.old) }
+    {
+        let request = own_request(alloc, Method::Post, path, format, payload);
+        self.ask::<A>(alloc, now, &request, draw, server_draw)
+    }
+
+    /// Removes what is at the path.
+    pub fn remove<A: Ciphers>(
+        &mut self,
+        alloc: Global,
+        now: Moment,
+        path: Path,
+        draw: &Draw,
+        server_draw: &Draw,
+    ) -> Result<Round, AllocError>
+        ensures asked { IfOk result (λ round. AsksItsServer A.is_sealing A.TAG self.old now draw.now server_draw.now (own_request_of Delete path None []) round self.new) }
+        ensures answered { IfOk result (λ round. IsAnsweredWhereReady self.old now draw.now (own_request_of Delete path None []) round self.new) }
+        ensures err { OnErr result (self.new ≡ self.old) }
+    {
+        let request = own_request(alloc, Method::Delete, path, None, Bytes::new(alloc));
+        self.ask::<A>(alloc, now, &request, draw, server_draw)
+    }
+
+    /// Reads the value at the path.
+    pub fn read<A: Ciphers>(
+        &mut self,
+        alloc: Global,
+        now: Moment,
+        path: Path,
+        draw: &Draw,
+        server_draw: &Draw,
+    ) -> Result<Round, AllocError>
+        ensures asked { IfOk result (λ round. AsksItsServer A.is_sealing A.TAG self.old now draw.now server_draw.now (own_request_of Get path None []) round self.new) }
+        ensures answered { IfOk result (λ round. IsAnsweredWhereReady self.old now draw.now (own_request_of Get path None []) round self.new) }
+        ensures err { OnErr result (self.new ≡ self.old) }
+    {
+        let request = own_request(alloc, Method::Get, path, None, Bytes::new(alloc));
+        self.ask::<A>(alloc, now, &request, draw, server_draw)
     }
 
     /// Posts the device's token to the server, as [`Client::exchange`] does, so that it has a context. Without memory for the post an

@@ -4,13 +4,13 @@ ghost use Rattle.std.specs.Prelude.{◌<◌};
 use osc_ccm::Ccm;
 use osc_device::{Device, Round};
 use osc_fixtures::{CLIENT, GET, POST, PUT, at, desk, drawn, empty_server, own, request, sent_in};
-use osc_model::{ClientResult, Path};
+use osc_model::{Bytes, ClientResult, Path};
 use std::alloc::{AllocError, Global};
 use std::process::Abort;
 use std::test::*;
 
-/// GET, POST and PUT on `/log`.
-const SCOPE: &[u8] = b"\x81\x82\x64/log\x07";
+/// Every method on `/log`.
+const SCOPE: &[u8] = b"\x81\x82\x64/log\x0f";
 
 /// A GET of `/log` without protection.
 const UNPROTECTED: &[u8] = b"\x40\x01\0\x01\xb3log";
@@ -152,5 +152,79 @@ fn a_tick_at_rest(rt: HostRuntime) -> Result<(), Fail> {
     let silent = ticks(rt.alloc(), &mut device);
     drop(device);
     assert!(rt; silent);
+    Ok(())
+}
+
+/// The code that a call of the device's own is answered by; 0 where it isn't.
+fn code_of(round: Result<Round, AllocError>) -> u8 {
+    match round {
+        Ok(round) => {
+            let code = answer(&round);
+            drop(round);
+            code
+        }
+        Err(_) => 0,
+    }
+}
+
+fn log(rt: &impl Abort, alloc: Global) -> Path {
+    let path = Path::from_text(alloc, b"/log").expect(rt, "memory");
+    path.expect(rt, "a path")
+}
+
+fn puts(rt: &impl Abort, alloc: Global, device: &mut Device, number: u8, bytes: &[u8]) -> u8 {
+    let payload = Bytes::from_slice(alloc, bytes).expect(rt, "memory");
+    let path = log(rt, alloc);
+    code_of(device.put::<(Ccm<8>, Ccm<16>)>(
+        alloc,
+        at(0),
+        path,
+        None,
+        payload,
+        &drawn(number),
+        &drawn(100),
+    ))
+}
+
+fn appends(rt: &impl Abort, alloc: Global, device: &mut Device, number: u8, bytes: &[u8]) -> u8 {
+    let payload = Bytes::from_slice(alloc, bytes).expect(rt, "memory");
+    let path = log(rt, alloc);
+    code_of(device.append::<(Ccm<8>, Ccm<16>)>(
+        alloc,
+        at(0),
+        path,
+        None,
+        payload,
+        &drawn(number),
+        &drawn(100),
+    ))
+}
+
+fn reads(rt: &impl Abort, alloc: Global, device: &mut Device, number: u8) -> u8 {
+    let path = log(rt, alloc);
+    code_of(device.read::<(Ccm<8>, Ccm<16>)>(alloc, at(0), path, &drawn(number), &drawn(100)))
+}
+
+fn removes(rt: &impl Abort, alloc: Global, device: &mut Device, number: u8) -> u8 {
+    let path = log(rt, alloc);
+    code_of(device.remove::<(Ccm<8>, Ccm<16>)>(alloc, at(0), path, &drawn(number), &drawn(100)))
+}
+
+fn writes(rt: &impl Abort, alloc: Global, device: &mut Device) {
+    assert!(rt; opens(alloc, device, 1));
+    assert!(rt; puts(rt, alloc, device, 2, b"a") == 0x41);
+    assert!(rt; puts(rt, alloc, device, 3, b"b") == 0x44);
+    assert!(rt; appends(rt, alloc, device, 4, b"c") == 0x44);
+    assert!(rt; has(alloc, device, b"bc"));
+    assert!(rt; reads(rt, alloc, device, 5) == 0x45);
+    assert!(rt; removes(rt, alloc, device, 6) == 0x42);
+    assert!(rt; reads(rt, alloc, device, 7) == 0x84);
+}
+
+#[test]
+fn each_call_of_its_own(rt: HostRuntime) -> Result<(), Fail> {
+    let mut device = device(rt.alloc())?;
+    writes(&rt, rt.alloc(), &mut device);
+    drop(device);
     Ok(())
 }

@@ -11,14 +11,15 @@ use Rattle.osc_device.proofs.device.Device.ask.Goals as goal
 pub returns-clause-asked : goal.returns-clause-asked
 returns-clause-asked g c =
     let own = ap (λ d. d.own) c.self.view_is in
-    let server = ap (λ d. d.server) c.self.view_is in (
-      c.ask.new.self,
-      subst (λ (begun : Step). Requests g.A.Ciphers.is_sealing g.A.Ciphers.TAG c.args.self.now.own c.args.now c.args.request.now c.args.draw.now begun c.ask.new.self) (sym c.carry.ensures.begun)
-          (subst (λ (old : Client). Requests g.A.Ciphers.is_sealing g.A.Ciphers.TAG old c.args.now c.args.request.now c.args.draw.now c.in_ok-begun.begun c.ask.new.self) own c.in_ok-begun.ensures.asked),
-      subst (λ (begun : Step). ClientStep false (core c.args.self.now.own) begun.notes (core c.ask.new.self)) (sym c.carry.ensures.begun)
-          (subst (λ (old : Client). ClientStep false (core old) c.in_ok-begun.begun.notes (core c.ask.new.self)) own c.in_ok-begun.ensures.kind),
-      subst (λ (old : Server). Carries g.A.Ciphers.is_sealing old c.ask.new.self c.args.now c.args.server_draw.now c.carry.result c.carry.new.self) server c.carry.ensures.carries,
-    )
+    let server = ap (λ d. d.server) c.self.view_is in
+    record {
+      asked = c.ask.new.self;
+      requests = subst (λ (begun : Step). Requests g.A.Ciphers.is_sealing g.A.Ciphers.TAG c.args.self.now.own c.args.now c.args.request.now c.args.draw.now begun c.ask.new.self) (sym c.carry.ensures.begun)
+          (subst (λ (old : Client). Requests g.A.Ciphers.is_sealing g.A.Ciphers.TAG old c.args.now c.args.request.now c.args.draw.now c.in_ok-begun.begun c.ask.new.self) own c.in_ok-begun.ensures.asked);
+      kind = subst (λ (begun : Step). ClientStep false (core c.args.self.now.own) begun.notes (core c.ask.new.self)) (sym c.carry.ensures.begun)
+          (subst (λ (old : Client). ClientStep false (core old) c.in_ok-begun.begun.notes (core c.ask.new.self)) own c.in_ok-begun.ensures.kind);
+      carries = subst (λ (old : Server). Carries g.A.Ciphers.is_sealing old c.ask.new.self c.args.now c.args.server_draw.now c.carry.result c.carry.new.self) server c.carry.ensures.carries;
+    }
 
 pub returns-clause-answered : goal.returns-clause-answered
 returns-clause-answered g c = λ context held ready whole.
