@@ -2,3 +2,8 @@
 pub mod Carried
 pub mod Way
 pub mod Answering
+pub mod Slots
+pub mod Going
+pub mod Entering
+pub mod Granted
+pub mod FirstOf

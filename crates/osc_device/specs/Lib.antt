@@ -2,3 +2,6 @@
 pub mod State
 pub mod Carrying
 pub mod Answered
+pub mod Begun
+pub mod Runs
+pub mod Words

@@ -1,11 +1,12 @@
 //! The device.
-ghost use Rattle.std.specs.Prelude.{◌≡◌, ◌<◌, ◌≤◌, ◌↔◌, true, false, [], List, None, length, IfNone, IfOk, IfSome, OnErr};
-ghost use Rattle.osc_scope.specs.Entries.{Entry};
+ghost use Rattle.std.specs.Prelude.{◌≡◌, ◌∷◌, ◌<◌, ◌≤◌, ◌↔◌, true, false, [], List, None, length, IfErr, IfNone, IfOk, IfSome, OnErr};
+ghost use Rattle.osc_scope.specs.Entries.{Entry, IsScope};
 ghost use Rattle.osc_token.specs.declared.claims.Claims.{Claims as AnyClaims};
 ghost use Rattle.osc_client.specs.Hearing.{Begins, Requests, Ticks};
 ghost use Rattle.osc_client.specs.Sending.{acts_at, restarted};
 ghost use Rattle.osc_client.specs.State.{State as Own, core as own_core};
 ghost use Rattle.osc_run.specs.ClientKinds.{ClientStep};
+ghost use Rattle.osc_run.specs.Notes.{by_server};
 ghost use Rattle.osc_run.specs.ServerKinds.{ServerStep};
 ghost use Rattle.osc_server.specs.Hearing.{Hears};
 ghost use Rattle.osc_server.specs.State.{core};
@@ -17,35 +18,35 @@ ghost use Rattle.osc_authz.specs.Held.{Held};
 ghost use Rattle.osc_rounds.specs.AskRound.{IsLawfulServer};
 ghost use Rattle.osc_model.specs.declared.code.Method.TheVariants.{Delete, Get, Post, Put};
 ghost use Rattle.osc_device.specs.Answered.{IsAnsweredWhereReady, IsOpen, IsWhole, MayOpen, own_request as own_request_of};
+ghost use Rattle.osc_device.specs.Begun.{IsBegun, IsGranted, IsNoDevice, own_claims};
 ghost use Rattle.osc_device.specs.Carrying.{AsksItsServer, Carries, ComesBack, Reaches};
+ghost use Rattle.osc_device.specs.Runs.{AllGoOn, IsOfAnEntry, noted, restarts};
 ghost use Rattle.osc_device.specs.State.{server_address};
 
-use crate::laws::{a_context_is_made, a_request_is_answered};
+use crate::beginning::{OWN, SERVER, enrolled, fits, nodes_of, own_holder, server_alone};
+use crate::error::NewError;
+use crate::laws::{
+    a_context_is_made, a_request_is_answered, runs_go_on, runs_go_on_alone,
+    runs_keep_their_promises,
+};
+use crate::own_token::{OwnToken, ServerParts};
 use crate::round::Round;
-use osc_authz::ClientDesk;
-use osc_client::{Client, Way};
+use osc_client::Client;
 use osc_model::{Bytes, Draw, ETags, Method, Moment, Path, Peer, Request, Step};
 use osc_protect::Ciphers;
 use osc_server::Server;
+use osc_world::Placed;
+use osc_world::laws::where_a_world_begins;
 use std::alloc::{AllocError, Global};
 use std::marker::Model;
 
-/// Where the device stands to its server.
-const OWN: Peer = Peer {
-    address: [0, 0, 0, 0],
-    port: 0,
-};
-
-/// Where the server stands to the device.
-const SERVER: Peer = Peer {
-    address: [0, 0, 0, 0],
-    port: 1,
-};
+/// The most bytes that a token's id may have (RFC 9203 section 3.2.1 leaves it open; a server takes no longer one).
+const LONGEST_ID: usize = 64;
 
 /// A server, and the device itself as a client of it.
 pub struct Device {
     server: Server,
-    own: Client,
+    own: Placed,
 }
 
 // Proved once, and not anew at each exit of whoever owns one.
@@ -66,9 +67,9 @@ impl Model for Device {
 
     ghost coded = { Prim.hlevel (codes, coded_scope, coded_tree) };
 
-    ghost view = { λ d. record { server = d.server; own = d.own } };
+    ghost view = { λ d. record { server = d.server; own = d.own.client } };
 
-    ghost invariant = { λ d. (d.own.origin ≡ None) × (d.own.next_hop ≡ server_address) };
+    ghost invariant = { λ d. (d.own.client.origin ≡ None) × (d.own.client.next_hop ≡ server_address) };
 }
 
 /// A request of this method on this path, with a payload, its format, and no other option.
@@ -109,18 +110,34 @@ fn is_drawn(draw: &Draw)
 }
 
 impl Device {
-    /// A device of this server, which holds this grant; it has no context yet.
-    pub fn new(alloc: Global, server: Server, grant: ClientDesk) -> Result<Device, AllocError>
-        ensures { IfOk result (λ device. device ≡ record {
-          server = server;
-          own = record { desk = grant; next_hop = server_address; origin = None; context = None; waiting = None; endpoint = fresh };
-        }) }
+    /// A device whose server has these parts, and which holds this token, minted under the server's key. It has no context yet: [`Device::open`]
+    /// makes one.
+    ///
+    /// # Errors
+    ///
+    /// The first that stands: `Id` where the token's id has more than 64 bytes, and `Token` where its scope is none, its claims have more than
+    /// 65535 bytes, or its secret doesn't have 1 to 64; or `Token` for want of memory, whatever they are.
+    pub fn new<A: Ciphers>(
+        alloc: Global,
+        parts: ServerParts,
+        own: OwnToken,
+    ) -> Result<Device, NewError>
+        ensures begun { IfOk result (λ device. IsBegun A.is_sealing parts own device) }
+        ensures granted { IfOk result (λ device. (entries : List Entry) × IsScope own.scope entries × IsGranted A.is_sealing device (own_claims parts own) entries) }
+        ensures refused { IfErr result (λ error. IsNoDevice parts own error) }
     {
-        let way = Way {
-            next_hop: SERVER,
-            origin: None,
+        where_a_world_begins::<A>();
+        fits(&parts, &own);
+        if own.id.len() > LONGEST_ID {
+            return Err(NewError::Id);
+        }
+        let audience = parts.audience.clone()?;
+        let alone = server_alone(alloc, parts);
+        let start = match enrolled::<A>(alloc, alone, own_holder(alloc, audience, own)) {
+            Ok(start) => start,
+            Err(error) => return Err(NewError::Token(error)),
         };
-        let own = Client::new(alloc, grant, way)?;
+        let (server, own) = nodes_of(alloc, start)?;
         Ok(Device { server, own })
     }
 
@@ -135,7 +152,7 @@ impl Device {
     pub fn own(&self) -> &Client
         ensures { result.now ≡ self.now.own }
     {
-        &self.own
+        &self.own.client
     }
 
     /// These bytes came from this peer at this moment as one datagram: the server's step that answers them, as
@@ -151,8 +168,10 @@ impl Device {
         ensures heard { IfOk result (λ step. Hears A.is_sealing self.old.server now draw.now from bytes.now step self.new.server) }
         ensures kind { IfOk result (λ step. ServerStep (core self.old.server) now step.notes (core self.new.server)) }
         ensures own { self.new.own ≡ self.old.own }
+        ensures run { IfOk result (λ step. AllGoOn self.old (λ number. by_server step.notes ∷ []) self.new) }
         ensures err { OnErr result (self.new ≡ self.old) }
     {
+        runs_go_on_alone();
         self.server.on_datagram::<A>(alloc, now, from, bytes, draw)
     }
 
@@ -167,9 +186,13 @@ impl Device {
         ensures ticked { IfOk result (λ round. (ticked : Own) × Ticks self.old.own now round.begun ticked
             × ClientStep false (own_core self.old.own) round.begun.notes (own_core ticked)
             × Carries A.is_sealing (record self.old.server { endpoint = after_tick now self.old.server.endpoint }) ticked now server_draw.now round self.new) }
+        ensures run { IfOk result (λ round. AllGoOn self.old (λ number. noted number round) self.new) }
+        ensures entry { IfOk result (λ round. IsOfAnEntry self.old round) }
         ensures err { OnErr result (self.new ≡ self.old) }
     {
-        let begun = self.own.on_tick(alloc, now)?;
+        runs_go_on::<A>();
+        runs_keep_their_promises::<A>();
+        let begun = self.own.client.on_tick(alloc, now)?;
         let _let_go = self.server.on_tick(alloc, now);
         Ok(self.carry::<A>(alloc, now, begun, server_draw))
     }
@@ -180,7 +203,7 @@ impl Device {
         ensures some { IfSome result (λ deadline. (now : AnyMoment) → (acts_at self.now.own now ≡ true) ↔ (deadline ≤ now.ms)) }
         ensures none { IfNone result ((now : AnyMoment) → acts_at self.now.own now ≡ false) }
     {
-        self.own.next_deadline()
+        self.own.client.next_deadline()
     }
 
     /// Starts again: the server as [`Server::restart`] says, and the device without its context, so that it posts its token anew.
@@ -189,9 +212,11 @@ impl Device {
         ensures own { self.new.own ≡ restarted self.old.own }
         ensures kinds { ((now : AnyMoment) → ServerStep (core self.old.server) now quiet (core self.new.server))
             × ClientStep false (own_core self.old.own) quiet (own_core self.new.own) }
+        ensures run { (now : AnyMoment) → AllGoOn self.old restarts self.new }
     {
+        runs_go_on_alone();
         self.server.restart();
-        self.own.restart();
+        self.own.client.restart();
     }
 
     /// Asks the server for this, as [`Client::ask`] does. Without memory for the request an `AllocError`; then nothing has changed.
@@ -206,12 +231,16 @@ impl Device {
         requires { 0 < request.now.code.0 }
         ensures asked { IfOk result (λ round. AsksItsServer A.is_sealing A.TAG self.old now draw.now server_draw.now request.now round self.new) }
         ensures answered { IfOk result (λ round. IsAnsweredWhereReady self.old now draw.now request.now round self.new) }
+        ensures run { IfOk result (λ round. AllGoOn self.old (λ number. noted number round) self.new) }
+        ensures entry { IfOk result (λ round. IsOfAnEntry self.old round) }
         ensures err { OnErr result (self.new ≡ self.old) }
     {
         a_request_is_answered::<A>();
+        runs_go_on::<A>();
+        runs_keep_their_promises::<A>();
         is_lawful(&self.server);
-        let begun = self.own.ask::<A>(alloc, now, request, draw)?;
-        self.own.has_lawful_parts();
+        let begun = self.own.client.ask::<A>(alloc, now, request, draw)?;
+        self.own.client.has_lawful_parts();
         Ok(self.carry::<A>(alloc, now, begun, server_draw))
     }
 
@@ -228,6 +257,8 @@ impl Device {
     ) -> Result<Round, AllocError>
         ensures asked { IfOk result (λ round. AsksItsServer A.is_sealing A.TAG self.old now draw.now server_draw.now (own_request_of Put path format payload) round self.new) }
         ensures answered { IfOk result (λ round. IsAnsweredWhereReady self.old now draw.now (own_request_of Put path format payload) round self.new) }
+        ensures run { IfOk result (λ round. AllGoOn self.old (λ number. noted number round) self.new) }
+        ensures entry { IfOk result (λ round. IsOfAnEntry self.old round) }
         ensures err { OnErr result (self.new ≡ self.old) }
     {
         let request = own_request(alloc, Method::Put, path, format, payload);
@@ -247,6 +278,8 @@ impl Device {
     ) -> Result<Round, AllocError>
         ensures asked { IfOk result (λ round. AsksItsServer A.is_sealing A.TAG self.old now draw.now server_draw.now (own_request_of Post path format payload) round self.new) }
         ensures answered { IfOk result (λ round. IsAnsweredWhereReady self.old now draw.now (own_request_of Post path format payload) round self.new) }
+        ensures run { IfOk result (λ round. AllGoOn self.old (λ number. noted number round) self.new) }
+        ensures entry { IfOk result (λ round. IsOfAnEntry self.old round) }
         ensures err { OnErr result (self.new ≡ self.old) }
     {
         let request = own_request(alloc, Method::Post, path, format, payload);
@@ -264,6 +297,8 @@ impl Device {
     ) -> Result<Round, AllocError>
         ensures asked { IfOk result (λ round. AsksItsServer A.is_sealing A.TAG self.old now draw.now server_draw.now (own_request_of Delete path None []) round self.new) }
         ensures answered { IfOk result (λ round. IsAnsweredWhereReady self.old now draw.now (own_request_of Delete path None []) round self.new) }
+        ensures run { IfOk result (λ round. AllGoOn self.old (λ number. noted number round) self.new) }
+        ensures entry { IfOk result (λ round. IsOfAnEntry self.old round) }
         ensures err { OnErr result (self.new ≡ self.old) }
     {
         let request = own_request(alloc, Method::Delete, path, None, Bytes::new(alloc));
@@ -281,6 +316,8 @@ impl Device {
     ) -> Result<Round, AllocError>
         ensures asked { IfOk result (λ round. AsksItsServer A.is_sealing A.TAG self.old now draw.now server_draw.now (own_request_of Get path None []) round self.new) }
         ensures answered { IfOk result (λ round. IsAnsweredWhereReady self.old now draw.now (own_request_of Get path None []) round self.new) }
+        ensures run { IfOk result (λ round. AllGoOn self.old (λ number. noted number round) self.new) }
+        ensures entry { IfOk result (λ round. IsOfAnEntry self.old round) }
         ensures err { OnErr result (self.new ≡ self.old) }
     {
         let request = own_request(alloc, Method::Get, path, None, Bytes::new(alloc));
@@ -302,12 +339,14 @@ impl Device {
         // Where it may, and no step wants memory.
         ensures made { IfOk result (λ round. (claims : AnyClaims) (entries : List Entry)
             → MayOpen A.is_sealing self.old now draw.now claims entries → IsWhole round → IsOpen now entries self.new) }
+        ensures run { IfOk result (λ round. AllGoOn self.old (λ number. noted number round) self.new) }
         ensures err { OnErr result (self.new ≡ self.old) }
     {
         a_context_is_made::<A>();
+        runs_go_on::<A>();
         is_drawn(server_draw);
-        let begun = self.own.exchange(alloc, now, draw)?;
-        self.own.has_lawful_parts();
+        let begun = self.own.client.exchange(alloc, now, draw)?;
+        self.own.client.has_lawful_parts();
         Ok(self.carry::<A>(alloc, now, begun, server_draw))
     }
 
@@ -367,6 +406,7 @@ impl Device {
         match step.out.as_slice() {
             [datagram] => self
                 .own
+                .client
                 .on_datagram::<A>(alloc, now, SERVER, datagram.bytes.as_slice())
                 .ok(),
             _ => None,

@@ -1,8 +1,9 @@
 //! Laws of the definitions. These functions do nothing: whoever calls one has its clauses for a proof.
 
-ghost use Rattle.std.specs.Prelude.{◌≡◌, List, None, length};
+ghost use Rattle.std.specs.Prelude.{◌≡◌, ◌∷◌, ◌<◌, ◌^◌, [], false, List, None, length};
 ghost use Rattle.osc_model.specs.declared.node.Draw.{Draw as AnyDraw};
 ghost use Rattle.osc_model.specs.declared.node.Moment.{Moment as AnyMoment};
+ghost use Rattle.osc_model.specs.StepNotes.{StepNotes, quiet};
 ghost use Rattle.osc_model.specs.declared.request.Request.{Request as AnyRequest};
 ghost use Rattle.osc_scope.specs.Entries.{Entry};
 ghost use Rattle.osc_token.specs.declared.claims.Claims.{Claims as AnyClaims};
@@ -10,10 +11,19 @@ ghost use Rattle.osc_authz.specs.Begun.{ClientContextState};
 ghost use Rattle.osc_authz.specs.Held.{Held};
 ghost use Rattle.osc_client.specs.Hearing.{Begins, Requests};
 ghost use Rattle.osc_client.specs.Lawful.{IsLawfulClient};
-ghost use Rattle.osc_client.specs.State.{State as Own};
+ghost use Rattle.osc_client.specs.Sending.{restarted};
+ghost use Rattle.osc_client.specs.State.{State as Own, core as own_core};
 ghost use Rattle.osc_rounds.specs.AskRound.{IsLawfulServer};
+ghost use Rattle.osc_run.specs.ClientKinds.{ClientStep};
+ghost use Rattle.osc_run.specs.Notes.{by_server};
+ghost use Rattle.osc_run.specs.Runs.{IsNewClient, IsReached, IsTextOf};
+ghost use Rattle.osc_run.specs.ServerKinds.{ServerStep};
+ghost use Rattle.osc_run.specs.States.{ClientState, Minted, WorldState};
+ghost use Rattle.osc_server.specs.State.{State as AnyServer, core as server_core};
 ghost use Rattle.osc_device.specs.Answered.{IsAnswered, IsOpen, IsReady, IsWhole, MayOpen};
+ghost use Rattle.osc_device.specs.Begun.{IsBegun, IsGranted};
 ghost use Rattle.osc_device.specs.Carrying.{Carries};
+ghost use Rattle.osc_device.specs.Runs.{AllGoOn, IsOfAnEntry, KeepsItsPromises, noted, restarts};
 ghost use Rattle.osc_device.specs.State.{State, server_address};
 ghost use Rattle.osc_device.specs.declared.round.Round.{Round as AnyRound};
 
@@ -44,4 +54,48 @@ pub fn a_context_is_made<A: Ciphers>()
         → IsOpen now entries new }
 {
     osc_rounds::laws::an_exchange_is_made::<A>();
+}
+
+/// A device whose token counts may post it once it waits for nothing, as where it begins and where it starts again: the server has no context
+/// there, and heard nothing.
+pub fn a_granted_device_may_open<A: Ciphers>()
+    ensures { (device : State) (now : AnyMoment) (draw : AnyDraw) (claims : AnyClaims) (entries : List Entry)
+        → IsGranted A.is_sealing device claims entries
+        → device.own.waiting ≡ None → device.server.desk.table ≡ [] → device.server.endpoint.seen ≡ []
+        → MayOpen A.is_sealing device now draw claims entries }
+{}
+
+/// What a device does is a part of each run that it is in, whoever else holds a token of its server and whatever comes from them: its round is
+/// up to three steps, one of its own, one of its server's, and one of its own again.
+pub fn runs_go_on<A: Ciphers>()
+    ensures { (old new : State) (begun : Own) (server : AnyServer) (now : AnyMoment) (draw : AnyDraw) (round : AnyRound)
+        → ClientStep false (own_core old.own) round.begun.notes (own_core begun)
+        → server_core server ≡ server_core old.server
+        → Carries A.is_sealing server begun now draw round new
+        → AllGoOn old (λ number. noted number round) new }
+{}
+
+/// So is what comes from others, by one step of its server's; and a restart, by one step of each.
+pub fn runs_go_on_alone()
+    ensures heard { (old new : State) (now : AnyMoment) (notes : StepNotes)
+        → ServerStep (server_core old.server) now notes (server_core new.server) → new.own ≡ old.own
+        → AllGoOn old (λ number. by_server notes ∷ []) new }
+    ensures restarted { (old new : State) (now : AnyMoment)
+        → ServerStep (server_core old.server) now quiet (server_core new.server)
+        → ClientStep false (own_core old.own) quiet (own_core new.own)
+        → AllGoOn old restarts new }
+{}
+
+/// In each of these runs, where what is assumed holds, there is one history, and a reply that the device learns is that of an entry of it; and
+/// where no two grants name a common path, owners and device are answered as if each were alone.
+pub fn runs_keep_their_promises<A: Ciphers>()
+    ensures promises { (w : WorldState) → IsReached w → KeepsItsPromises w }
+    ensures entered { (old new : State) (begun : Own) (server : AnyServer) (now : AnyMoment) (draw : AnyDraw) (round : AnyRound)
+        → ClientStep false (own_core old.own) round.begun.notes (own_core begun)
+        → server_core server ≡ server_core old.server
+        → Carries A.is_sealing server begun now draw round new
+        → IsOfAnEntry old round }
+{
+    osc_run::laws::one_history();
+    osc_run::laws::own_answers();
 }

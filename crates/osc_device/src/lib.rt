@@ -3,9 +3,16 @@
 //! and a step of a server, and what is promised of holders is promised of the device.
 #![tactic(auto)]
 
+mod beginning;
 mod device;
+mod error;
 pub mod laws;
+mod own_token;
 mod round;
+mod words;
 
 pub use device::Device;
+pub use error::NewError;
+pub use own_token::{OwnToken, ServerParts};
 pub use round::Round;
+pub use words::{Holder, Refused, Served};

@@ -2,9 +2,12 @@
 ghost use Rattle.std.specs.Prelude.{◌<◌};
 
 use osc_ccm::Ccm;
-use osc_device::{Device, Round};
-use osc_fixtures::{CLIENT, GET, POST, PUT, at, desk, drawn, empty_server, own, request, sent_in};
+use osc_device::{Device, OwnToken, Round, ServerParts};
+use osc_fixtures::{CLIENT, GET, KEY, POST, PUT, at, drawn, request, sent_in};
 use osc_model::{Bytes, ClientResult, Path};
+use osc_scope::Scope;
+use osc_token::Audience;
+use osc_tree::Tree;
 use std::alloc::{AllocError, Global};
 use std::process::Abort;
 use std::test::*;
@@ -15,11 +18,31 @@ const SCOPE: &[u8] = b"\x81\x82\x64/log\x0f";
 /// A GET of `/log` without protection.
 const UNPROTECTED: &[u8] = b"\x40\x01\0\x01\xb3log";
 
+/// A server without resources.
+fn parts(alloc: Global) -> Result<ServerParts, AllocError> {
+    Ok(ServerParts {
+        tree: Tree::new(alloc),
+        open_scope: Scope::new(alloc),
+        key: KEY,
+        audience: Audience::new(alloc, "s")?,
+    })
+}
+
+/// A token by which the device may do all of that.
+fn own_token(alloc: Global, id: &[u8]) -> Result<OwnToken, AllocError> {
+    Ok(OwnToken {
+        id: Bytes::from_slice(alloc, id)?,
+        secret: Bytes::from_slice(alloc, b"a secret of its own")?,
+        scope: Bytes::from_slice(alloc, SCOPE)?,
+        iv: [7; 13],
+    })
+}
+
 /// A device without resources, which may do all of that to itself.
-fn device(alloc: Global) -> Result<Device, AllocError> {
-    let server = empty_server(alloc)?;
-    let grant = desk(alloc, own(7, SCOPE))?;
-    Device::new(alloc, server, grant)
+fn device(rt: &impl Abort, alloc: Global) -> Device {
+    let parts = parts(alloc).expect(rt, "memory");
+    let own = own_token(alloc, b"own").expect(rt, "memory");
+    Device::new::<(Ccm<8>, Ccm<16>)>(alloc, parts, own).expect(rt, "a device")
 }
 
 /// What the device learnt.
@@ -108,7 +131,7 @@ fn says(rt: &impl Abort, alloc: Global, device: &mut Device) {
 /// Without a context it isn't asked; then what it writes is there. Nobody else reads it without a token.
 #[test]
 fn a_device_has_its_say(rt: HostRuntime) -> Result<(), Fail> {
-    let mut device = device(rt.alloc())?;
+    let mut device = device(&rt, rt.alloc());
     says(&rt, rt.alloc(), &mut device);
     drop(device);
     Ok(())
@@ -128,7 +151,7 @@ fn starts_again(rt: &impl Abort, alloc: Global, device: &mut Device) {
 /// Behind a restart it posts its token anew, and its resources are there.
 #[test]
 fn a_device_starts_again(rt: HostRuntime) -> Result<(), Fail> {
-    let mut device = device(rt.alloc())?;
+    let mut device = device(&rt, rt.alloc());
     starts_again(&rt, rt.alloc(), &mut device);
     drop(device);
     Ok(())
@@ -148,7 +171,7 @@ fn ticks(alloc: Global, device: &mut Device) -> bool {
 
 #[test]
 fn a_tick_at_rest(rt: HostRuntime) -> Result<(), Fail> {
-    let mut device = device(rt.alloc())?;
+    let mut device = device(&rt, rt.alloc());
     let silent = ticks(rt.alloc(), &mut device);
     drop(device);
     assert!(rt; silent);
@@ -223,7 +246,7 @@ fn writes(rt: &impl Abort, alloc: Global, device: &mut Device) {
 
 #[test]
 fn each_call_of_its_own(rt: HostRuntime) -> Result<(), Fail> {
-    let mut device = device(rt.alloc())?;
+    let mut device = device(&rt, rt.alloc());
     writes(&rt, rt.alloc(), &mut device);
     drop(device);
     Ok(())

@@ -1,4 +1,4 @@
-use Rattle.std.proofs.Common.{false, ◌∙◌, ap, sym, subst}
+use Rattle.std.proofs.Common.{false, ◌∙◌, ap, refl, sym, subst}
 use Rattle.osc_client.specs.Hearing.{Requests}
 use Rattle.osc_client.specs.State.{State as Client, core}
 use Rattle.osc_run.specs.ClientKinds.{ClientStep}
@@ -31,3 +31,13 @@ returns-clause-answered g c = λ context held ready whole.
     (subst (λ (begun : Step). Requests g.A.Ciphers.is_sealing g.A.Ciphers.TAG c.args.self.now.own c.args.now c.args.request.now c.args.draw.now begun c.ask.new.self) (sym c.carry.ensures.begun)
     (subst (λ (old : Client). Requests g.A.Ciphers.is_sealing g.A.Ciphers.TAG old c.args.now c.args.request.now c.args.draw.now c.in_ok-begun.begun c.ask.new.self) own c.in_ok-begun.ensures.asked))
     (subst (λ (old : Server). Carries g.A.Ciphers.is_sealing old c.ask.new.self c.args.now c.args.server_draw.now c.carry.result c.carry.new.self) server c.carry.ensures.carries)
+
+pub returns-clause-run : goal.returns-clause-run
+returns-clause-run g c =
+    let asked = returns-clause-asked g c in
+    c.runs_go_on.ensures c.args.self.now c.carry.new.self asked.asked c.args.self.now.server c.args.now c.args.server_draw.now c.carry.result asked.kind refl asked.carries
+
+pub returns-clause-entry : goal.returns-clause-entry
+returns-clause-entry g c =
+    let asked = returns-clause-asked g c in
+    c.runs_keep_their_promises.ensures.entered c.args.self.now c.carry.new.self asked.asked c.args.self.now.server c.args.now c.args.server_draw.now c.carry.result asked.kind refl asked.carries

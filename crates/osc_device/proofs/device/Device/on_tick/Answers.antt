@@ -1,4 +1,4 @@
-use Rattle.std.proofs.Common.{false, ◌∙◌, ap, sym, subst}
+use Rattle.std.proofs.Common.{false, ◌∙◌, ap, refl, sym, subst}
 use Rattle.osc_client.specs.Hearing.{Ticks}
 use Rattle.osc_client.specs.State.{State as Client, core}
 use Rattle.osc_message.specs.Endpoint.{after_tick}
@@ -22,3 +22,16 @@ returns-clause-ticked g c =
           (subst (λ (old : Client). ClientStep false (core old) c.in_ok-begun.begun.notes (core c.on_tick.new.self)) own c.in_ok-begun.ensures.kind),
       subst (λ (old : Server). Carries g.A.Ciphers.is_sealing old c.on_tick.new.self c.args.now c.args.server_draw.now c.carry.result c.carry.new.self) gone c.carry.ensures.carries,
     )
+
+pub returns-clause-run : goal.returns-clause-run
+returns-clause-run g c =
+    let ticked = returns-clause-ticked g c in
+    c.runs_go_on.ensures c.args.self.now c.carry.new.self ticked.0 (record c.args.self.now.server { endpoint = after_tick c.args.now c.args.self.now.server.endpoint })
+    c.args.now c.args.server_draw.now c.carry.result ticked.2 refl ticked.3
+
+pub returns-clause-entry : goal.returns-clause-entry
+returns-clause-entry g c =
+    let ticked = returns-clause-ticked g c in
+    c.runs_keep_their_promises.ensures.entered c.args.self.now c.carry.new.self ticked.0
+    (record c.args.self.now.server { endpoint = after_tick c.args.now c.args.self.now.server.endpoint })
+    c.args.now c.args.server_draw.now c.carry.result ticked.2 refl ticked.3

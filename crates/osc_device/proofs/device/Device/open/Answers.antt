@@ -1,4 +1,4 @@
-use Rattle.std.proofs.Common.{false, ◌∙◌, ap, sym, subst}
+use Rattle.std.proofs.Common.{false, ◌∙◌, ap, refl, sym, subst}
 use Rattle.osc_client.specs.Hearing.{Begins}
 use Rattle.osc_client.specs.State.{State as Client, core}
 use Rattle.osc_run.specs.ClientKinds.{ClientStep}
@@ -29,3 +29,8 @@ returns-clause-made g c = λ claims entries may whole.
     (subst (λ (begun : Step). Begins c.args.self.now.own c.args.now c.args.draw.now begun c.exchange.new.self) (sym c.carry.ensures.begun)
     (subst (λ (old : Client). Begins old c.args.now c.args.draw.now c.in_ok-begun.begun c.exchange.new.self) own c.in_ok-begun.ensures.begun))
     (subst (λ (old : Server). Carries g.A.Ciphers.is_sealing old c.exchange.new.self c.args.now c.args.server_draw.now c.carry.result c.carry.new.self) server c.carry.ensures.carries)
+
+pub returns-clause-run : goal.returns-clause-run
+returns-clause-run g c =
+    let begun = returns-clause-begun g c in
+    c.runs_go_on.ensures c.args.self.now c.carry.new.self begun.0 c.args.self.now.server c.args.now c.args.server_draw.now c.carry.result begun.2 refl begun.3

@@ -1,0 +1,159 @@
+-- Where a device begins.
+use Rattle.std.proofs.Common.{◌≡◌, ◌∙◌, ap, sym, subst, refl, ℕ, ◌+◌, ◌^◌, ◌<◌, ◌≤◌, Bool, true, false, if◌then◌else◌, List, [], ◌∷◌, ◌++◌, length, None, arith}
+use Rattle.std.specs.Prelude.{nat_lt}
+use Rattle.std.specs.Str.{IsUtf8}
+use Rattle.std.proofs.lemmas.List.{length-append}
+use Rattle.osc_cbor.specs.Data.{byte_string, item, map, no_items, no_pairs, pair, unsigned}
+use Rattle.osc_cbor.specs.Head.{head}
+use Rattle.osc_cbor.specs.Spelling.{items_spelling, pairs_spelling, spelling}
+use Rattle.osc_ccm.specs.Limits.{most_tag}
+use Rattle.osc_cose.specs.Encrypt0.{enc_structure, object_item}
+use Rattle.osc_authz.specs.HoldsToken.{HoldsToken}
+use Rattle.osc_client.specs.State.{State as Client}
+use Rattle.osc_model.specs.Grant.{HasBegun, IsNotOver}
+use Rattle.osc_model.specs.declared.algorithm.Algorithm.TheVariants.{EightByteTag}
+use Rattle.osc_model.specs.declared.node.Moment.{Moment}
+use Rattle.osc_protect.specs.Ciphers.{IsLongerBy, Sealings}
+use Rattle.osc_rounds.specs.Ready.{MayExchange}
+use Rattle.osc_server.specs.State.{State as Server}
+use Rattle.osc_token.specs.Minted.{HasLawfulParts}
+use Rattle.osc_token.specs.Token.{algorithm_header, claims_item, token_object}
+use Rattle.osc_world.specs.Refusals.{FitAToken, IsLawful}
+use Rattle.osc_world.specs.Starts.{Beginning, Enrols, begun, first_nodes}
+use Rattle.osc_world.specs.declared.nodes.Placed.{Placed}
+use Rattle.osc_world.specs.declared.start.Holder.{Holder}
+use Rattle.osc_device.specs.Begun.{IsBegun, IsGranted, own_claims, own_holder, server_alone}
+use Rattle.osc_device.specs.State.{State, server_address}
+use Rattle.osc_device.specs.declared.own_token.OwnToken.{OwnToken}
+use Rattle.osc_device.specs.declared.own_token.ServerParts.{ServerParts}
+
+-- ---- how long a token is
+
+either_short : (first : Bool) (xs ys : List ℕ) → length xs ≤ 9 → length ys ≤ 9 → length (if first then xs else ys) ≤ 9
+either_short true xs ys a b = a
+either_short false xs ys a b = b
+
+short_head : (major n : ℕ) → length (head major n) ≤ 9
+unfolding head
+short_head major n =
+    either_short (nat_lt n 24) _ _ (omega arith)
+    (either_short (nat_lt n (2 ^ 8)) _ _ (omega arith)
+    (either_short (nat_lt n (2 ^ 16)) _ _ (omega arith)
+    (either_short (nat_lt n (2 ^ 32)) _ _ (omega arith) (omega arith))))
+
+string_most : (content : List ℕ) → length (spelling (byte_string content)) ≤ 9 + length content
+string_most content = omega (arith, length-append (head 2 (length content)) content, short_head 2 (length content))
+
+token_most : (iv ciphertext : List ℕ) → length (spelling (object_item (token_object iv ciphertext))) ≤ 70 + length iv + length ciphertext
+token_most iv ciphertext =
+    let iv_field = pair (unsigned 5) (byte_string iv) no_pairs in
+    let last = item (byte_string ciphertext) no_items in
+    let middle = item (map iv_field) last in
+    omega (
+      arith,
+      length-append (head 4 3) (items_spelling (item (byte_string algorithm_header) middle)),
+      short_head 4 3,
+      length-append (spelling (byte_string algorithm_header)) (items_spelling middle),
+      string_most algorithm_header,
+      length-append (spelling (map iv_field)) (items_spelling last),
+      length-append (head 5 1) (pairs_spelling iv_field),
+      short_head 5 1,
+      length-append (spelling (unsigned 5) ++ spelling (byte_string iv)) [],
+      length-append (spelling (unsigned 5)) (spelling (byte_string iv)),
+      short_head 0 5,
+      string_most iv,
+      length-append (spelling (byte_string ciphertext)) [],
+      string_most ciphertext,
+    )
+
+-- ---- the device
+
+pub enrolled : (is_sealing : Sealings) (parts : ServerParts) (own : OwnToken) (alone : Beginning) (holder : Holder) (start : Beginning)
+    → alone ≡ server_alone parts → holder ≡ own_holder parts own → Enrols is_sealing alone holder start
+    → Enrols is_sealing (server_alone parts) (own_holder parts own) start
+enrolled is_sealing parts own alone holder start same is enrols =
+    subst (λ (h : Holder). Enrols is_sealing (server_alone parts) h start) is (subst (λ (s : Beginning). Enrols is_sealing s holder start) same enrols)
+
+pub one_client : (is_sealing : Sealings) (parts : ServerParts) (own : OwnToken) (start : Beginning)
+    → (enrols : Enrols is_sealing (server_alone parts) (own_holder parts own) start) → start.clients ≡ enrols.placed ∷ []
+one_client is_sealing parts own start enrols = ap (λ (s : Beginning). s.clients) enrols.is
+
+same_client : (clients : List Placed) (a b : Placed) → clients ≡ a ∷ [] → clients ≡ b ∷ [] → a ≡ b
+same_client clients a b e f = cc
+
+pub is_begun : (is_sealing : Sealings) (parts : ServerParts) (own : OwnToken) (start : Beginning) (server : Server) (placed : Placed)
+    → Enrols is_sealing (server_alone parts) (own_holder parts own) start
+    → server ≡ (first_nodes start).server → start.clients ≡ placed ∷ []
+    → IsBegun is_sealing parts own (record { server = server; own = placed.client })
+is_begun is_sealing parts own start server placed enrols is there = record {
+  start = start;
+  enrols = enrols;
+  server = is;
+  own_is = ap (λ (p : Placed). p.client) (same_client start.clients placed enrols.placed there (one_client is_sealing parts own start enrols));
+}
+
+pub lawful_parts : (parts : ServerParts) (own : OwnToken) → IsLawful (own_claims parts own)
+    → IsUtf8 parts.audience × (length parts.audience < 2 ^ 64) → length own.id ≤ 64 → length own.scope < 2 ^ 64
+    → HasLawfulParts (own_claims parts own)
+lawful_parts parts own lawful audience id scope = record {
+  audience = audience;
+  not_before = λ seconds is. absurd cc;
+  expires = λ seconds is. absurd cc;
+  id = id;
+  secret = lawful.secret;
+  salt = omega arith;
+  id_context = λ bytes is. absurd cc;
+  scope = scope;
+}
+
+module _ (is_sealing : Sealings) (tag : ℕ) (sealed_length : IsLongerBy tag (is_sealing EightByteTag)) (short_tag : tag ≤ most_tag)
+    (may_exchange : (before after start : Beginning) (holder : Holder) (now : Moment) (enrols : Enrols is_sealing before holder after)
+    → start.key ≡ before.key → HasLawfulParts holder.claims → FitAToken holder.claims → holder.claims.audience ≡ start.audience
+    → HasBegun holder.claims.not_before now → IsNotOver holder.claims.expires now
+    → length holder.iv ≡ 13 → length enrols.placed.client.desk.token < 2 ^ 64
+    → MayExchange is_sealing enrols.placed.client (begun start).nodes.server now holder.claims enrols.enrolled.entries)
+    (parts : ServerParts) (own : OwnToken) (device : State) (is : IsBegun is_sealing parts own device)
+    (lawful : IsLawful (own_claims parts own)) (has : HasLawfulParts (own_claims parts own)) (iv_size : length own.iv ≡ 13) where
+  abbrev start : Beginning
+  start = is.start
+
+  token_size : length is.enrols.placed.client.desk.token < 2 ^ 64
+  token_size =
+      let enrolled = is.enrols.enrolled in
+      omega (
+        arith,
+        ap length enrolled.client.desk.token_is,
+        token_most own.iv enrolled.ciphertext,
+        iv_size,
+        sealed_length parts.key own.iv (enc_structure algorithm_header []) (spelling (claims_item (own_claims parts own))) enrolled.ciphertext enrolled.sealed,
+        short_tag,
+        lawful.fits,
+      )
+
+  same_key : start.key ≡ parts.key
+  same_key = ap (λ (s : Beginning). s.key) is.enrols.is
+
+  same_audience : parts.audience ≡ start.audience
+  same_audience = sym (ap (λ (s : Beginning). s.audience) is.enrols.is)
+
+  pub granted : IsGranted is_sealing device (own_claims parts own) is.enrols.enrolled.entries
+  granted =
+      let now : Moment = record { ms = 0; early = omega arith } in
+      let may = may_exchange (server_alone parts) start start (own_holder parts own) now is.enrols same_key has lawful.fits same_audience
+      (λ seconds none. absurd cc) (λ seconds none. absurd cc) iv_size token_size in
+      record {
+        holds = subst (λ (server : Server). HoldsToken (is_sealing EightByteTag) server.desk.key (own_claims parts own) is.enrols.enrolled.entries device.own.desk) (sym is.server)
+            (subst (λ (client : Client). HoldsToken (is_sealing EightByteTag) start.key (own_claims parts own) is.enrols.enrolled.entries client.desk) (sym is.own_is) may.welcome.holds);
+        lawful = has;
+        audience = same_audience ∙ sym (ap (λ (server : Server). server.desk.audience) is.server);
+        not_before = refl;
+        expires = refl;
+      }
+
+-- the device sends straight to its server
+pub straight : (is_sealing : Sealings) (parts : ServerParts) (own : OwnToken) (start : Beginning) (placed : Placed)
+    → Enrols is_sealing (server_alone parts) (own_holder parts own) start → start.clients ≡ placed ∷ []
+    → (placed.client.origin ≡ None) × (placed.client.next_hop ≡ server_address)
+straight is_sealing parts own start placed enrols there =
+    let same = ap (λ (p : Placed). p.client) (same_client start.clients placed enrols.placed there (one_client is_sealing parts own start enrols)) in
+    (ap (λ (c : Client). c.origin) same ∙ enrols.enrolled.client.origin, ap (λ (c : Client). c.next_hop) same ∙ enrols.enrolled.client.next_hop)

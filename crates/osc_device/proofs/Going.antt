@@ -1,0 +1,137 @@
+-- The runs that a device is in go on with what it does.
+use Rattle.std.proofs.Common.{◌≡◌, ◌∙◌, ap, sym, refl, subst, ℕ, false, List, [], ◌∷◌, ◌++◌, Option, Some, Result, Ok, Err}
+use Rattle.std.specs.Prelude.{IfOk}
+use Rattle.std.specs.declared.alloc.AllocError.{AllocError}
+use Rattle.std.specs.Prelude.{slice_set}
+use Rattle.std.proofs.lemmas.List.{append_assoc}
+use Rattle.osc_model.specs.StepNotes.{StepNotes}
+use Rattle.osc_model.specs.declared.node.Draw.{Draw}
+use Rattle.osc_model.specs.declared.node.Moment.{Moment}
+use Rattle.osc_model.specs.declared.step.Step.{Step}
+use Rattle.osc_protect.specs.Ciphers.{Sealings}
+use Rattle.osc_client.specs.State.{State as Client, core as client_core}
+use Rattle.osc_server.specs.State.{State as Server, core as server_core}
+use Rattle.osc_run.specs.ClientKinds.{ClientStep}
+use Rattle.osc_run.specs.ServerKinds.{ServerStep}
+use Rattle.osc_run.specs.Notes.{Noted, by_client, by_server}
+use Rattle.osc_run.specs.Runs.{IsReached, WorldStep}
+use Rattle.osc_run.specs.Runs as run
+use Rattle.osc_run.specs.States.{ClientState, ServerState, WorldState}
+use Rattle.osc_device.specs.Carrying.{Carries, ComesBack, Reaches}
+use Rattle.osc_device.specs.Runs.{AllGoOn, GoesOn, IsIn, noted, of_own, of_server}
+use Rattle.osc_device.specs.State.{State}
+use Rattle.osc_device.specs.declared.round.Round.{Round}
+use Rattle.osc_device.proofs.Slots.{got_back, others_stay}
+
+-- a run goes on by one step
+more : (v w : WorldState) → IsReached v → WorldStep v w → IsReached w
+more v w reached step = (v ∷ reached.0, (step, reached.1))
+
+abbrev pub device : Server → Client → State
+device server own = record { server = server; own = own }
+
+-- ---- each step of the device
+
+pub of_nothing : (number : ℕ) (v : WorldState) (d : State) → IsReached v → IsIn number d v → GoesOn number [] v d
+of_nothing number v d reached is_in = record {
+  w = v;
+  reached = reached;
+  is_in = is_in;
+  notes = refl;
+  minted = refl;
+  first = refl;
+  others = λ other apart. refl;
+}
+
+pub of_client_step : (number : ℕ) (v : WorldState) (server : Server) (old new : Client) (notes : StepNotes)
+    → IsReached v → IsIn number (device server old) v → ClientStep false (client_core old) notes (client_core new)
+    → GoesOn number (by_client number false notes ∷ []) v (device server new)
+of_client_step number v server old new notes reached is_in kind =
+    let after : ClientState = client_core new in
+    let w : WorldState = record v { clients = slice_set v.clients number after; notes = by_client number false notes ∷ v.notes } in record {
+      w = w;
+      reached = more v w reached (run.WorldStep.OfClient number false (client_core old) after notes is_in.own kind refl);
+      is_in = record { server = is_in.server; own = got_back v.clients number (client_core old) after is_in.own };
+      notes = refl;
+      minted = refl;
+      first = refl;
+      others = λ other apart. others_stay v.clients number after other apart;
+    }
+
+pub of_server_step : (number : ℕ) (v : WorldState) (old new : Server) (own : Client) (now : Moment) (notes : StepNotes)
+    → IsReached v → IsIn number (device old own) v → ServerStep (server_core old) now notes (server_core new)
+    → GoesOn number (by_server notes ∷ []) v (device new own)
+of_server_step number v old new own now notes reached is_in kind =
+    let after : ServerState = server_core new in
+    let w : WorldState = record v { server = after; notes = by_server notes ∷ v.notes } in record {
+      w = w;
+      reached = more v w reached
+          (run.WorldStep.OfServer now after notes (subst (λ (s : ServerState). ServerStep s now notes after) (sym is_in.server) kind) refl);
+      is_in = record { server = refl; own = is_in.own };
+      notes = refl;
+      minted = refl;
+      first = refl;
+      others = λ other apart. refl;
+    }
+
+-- ---- one after another
+
+pub then : (number : ℕ) (steps later : List Noted) (v : WorldState) (middle last : State)
+    → (first : GoesOn number steps v middle) → GoesOn number later first.w last → GoesOn number (later ++ steps) v last
+then number steps later v middle last first second = record {
+  w = second.w;
+  reached = second.reached;
+  is_in = second.is_in;
+  notes = second.notes ∙ ap (λ (ns : List Noted). later ++ ns) first.notes ∙ sym (append_assoc later steps v.notes);
+  minted = second.minted ∙ first.minted;
+  first = second.first ∙ first.first;
+  others = λ other apart. second.others other apart ∙ first.others other apart;
+}
+
+-- ---- a round
+
+module _ (is_sealing : Sealings) where
+  reached_server : (number : ℕ) (v : WorldState) (old new : Server) (own : Client) (now : Moment) (draw : Draw) (begun : Step) (step : Option Step)
+      → Reaches is_sealing old now draw begun.out step new → IsReached v → IsIn number (device old own) v
+      → GoesOn number (of_server step) v (device new own)
+  reached_server number v old new own now draw begun step (Reaches.lost nothing lost) reached is_in =
+      subst (λ (s : Option Step). GoesOn number (of_server s) v (device new own)) (sym lost.0)
+      (subst (λ (s : Server). GoesOn number [] v (device s own)) (sym lost.1) (of_nothing number v (device old own) reached is_in))
+  reached_server number v old new own now draw begun step (Reaches.heard one made only some hears kind) reached is_in =
+      subst (λ (s : Option Step). GoesOn number (of_server s) v (device new own)) (sym some)
+      (of_server_step number v old new own now made.notes reached is_in kind)
+
+  came_back : (number : ℕ) (v : WorldState) (server : Server) (old new : Client) (now : Moment) (served step : Option Step)
+      → ComesBack is_sealing old now served step new → IsReached v → IsIn number (device server old) v
+      → GoesOn number (of_own number step) v (device server new)
+  came_back number v server old new now served step (ComesBack.lost nothing lost) reached is_in =
+      subst (λ (s : Option Step). GoesOn number (of_own number s) v (device server new)) (sym lost.0)
+      (subst (λ (c : Client). GoesOn number [] v (device server c)) (sym lost.1) (of_nothing number v (device server old) reached is_in))
+  came_back number v server old new now served step (ComesBack.heard answer one made some only told hears kind) reached is_in =
+      subst (λ (s : Option Step). GoesOn number (of_own number s) v (device server new)) (sym told)
+      (of_client_step number v server old new made.notes reached is_in kind)
+
+  pub of_round : (number : ℕ) (v : WorldState) (server : Server) (old begun : Client) (now : Moment) (draw : Draw) (round : Round) (new : State)
+      → IsReached v → IsIn number (device server old) v
+      → ClientStep false (client_core old) round.begun.notes (client_core begun)
+      → Carries is_sealing server begun now draw round new
+      → GoesOn number (noted number round) v new
+  of_round number v server old begun now draw round new reached is_in kind carries =
+      let first = of_client_step number v server old begun round.begun.notes reached is_in kind in
+      let second = reached_server number first.w server new.server begun now draw round.begun round.served carries.reaches first.reached first.is_in in
+      let third = came_back number second.w new.server begun new.own now round.served round.learnt carries.comes_back second.reached second.is_in in
+      then number (of_own number (Some round.begun)) (of_own number round.learnt ++ of_server round.served) v (device server begun) new first
+      (then number (of_server round.served) (of_own number round.learnt) first.w (device new.server begun) new second third)
+
+-- ---- what comes from others, and a restart
+
+abbrev HeardLaw : Type 0
+HeardLaw = (old new : State) (now : Moment) (notes : StepNotes)
+    → ServerStep (server_core old.server) now notes (server_core new.server) → new.own ≡ old.own → AllGoOn old (λ number. by_server notes ∷ []) new
+
+pub heard_by_all : HeardLaw → (old : State) (inside new : Server) (own : Client) (now : Moment) (result : Result Step AllocError)
+    → device inside own ≡ old → IfOk result (λ step. ServerStep (server_core inside) now step.notes (server_core new))
+    → IfOk result (λ step. AllGoOn old (λ number. by_server step.notes ∷ []) (device new own))
+heard_by_all law old inside new own now (Ok step) is kind =
+    subst (λ (o : State). AllGoOn o (λ number. by_server step.notes ∷ []) (device new own)) is (law (device inside own) (device new own) now step.notes kind refl)
+heard_by_all law old inside new own now (Err error) is kind = tt

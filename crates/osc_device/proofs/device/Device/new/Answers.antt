@@ -1,0 +1,39 @@
+use Rattle.std.proofs.Common.{arith, sym, subst}
+use Rattle.osc_model.specs.declared.algorithm.Algorithm.TheVariants.{EightByteTag}
+use Rattle.osc_world.specs.Refusals.{IsLawful, Refuses}
+use Rattle.osc_world.specs.Starts.{Beginning}
+use Rattle.osc_world.specs.declared.start.Holder.{Holder}
+use Rattle.osc_device.specs.Begun.{own_holder}
+use Rattle.osc_device.proofs.FirstOf.{enrolled, granted, is_begun, lawful_parts, one_client, straight}
+use Rattle.osc_device.proofs.device.Device.new.Goals as goal
+
+pub returns-in-Err-clause-refused : goal.returns-in-Err-clause-refused
+returns-in-Err-clause-refused g c =
+    subst (λ (s : Beginning). Refuses s (own_holder c.args.parts c.args.own) c.in-Err.error) c.server_alone-alone.ensures
+    (subst (λ (h : Holder). Refuses c.server_alone-alone.result h c.in-Err.error) (c.own_holder.ensures c.args.parts (sym c.in_ok-audience.ensures.cases)) c.in-Err.ensures.refused)
+
+pub nodes_of-requires : goal.nodes_of-requires
+nodes_of-requires g c =
+    let enrols = enrolled g.A.Ciphers.is_sealing c.args.parts c.args.own c.server_alone-alone.result c.own_holder.result c.in-Ok.start c.server_alone-alone.ensures (c.own_holder.ensures c.args.parts (sym c.in_ok-audience.ensures.cases)) c.in-Ok.ensures.enrolled in
+    (enrols.placed, one_client g.A.Ciphers.is_sealing c.args.parts c.args.own c.in-Ok.start enrols)
+
+pub invariant_of-result : goal.invariant_of-result
+invariant_of-result g c =
+    let enrols = enrolled g.A.Ciphers.is_sealing c.args.parts c.args.own c.server_alone-alone.result c.own_holder.result c.in-Ok.start c.server_alone-alone.ensures (c.own_holder.ensures c.args.parts (sym c.in_ok-audience.ensures.cases)) c.in-Ok.ensures.enrolled in
+    straight g.A.Ciphers.is_sealing c.args.parts c.args.own c.in-Ok.start c.in_ok-server.own enrols c.in_ok-server.ensures.own
+
+pub returns-clause-begun : goal.returns-clause-begun
+returns-clause-begun g c =
+    let enrols = enrolled g.A.Ciphers.is_sealing c.args.parts c.args.own c.server_alone-alone.result c.own_holder.result c.in-Ok.start c.server_alone-alone.ensures (c.own_holder.ensures c.args.parts (sym c.in_ok-audience.ensures.cases)) c.in-Ok.ensures.enrolled in
+    is_begun g.A.Ciphers.is_sealing c.args.parts c.args.own c.in-Ok.start c.in_ok-server.server c.in_ok-server.own enrols c.in_ok-server.ensures.server c.in_ok-server.ensures.own
+
+pub returns-clause-granted : goal.returns-clause-granted
+returns-clause-granted g c =
+    let begun = returns-clause-begun g c in
+    let lawful = subst (λ (h : Holder). IsLawful h.claims) (c.own_holder.ensures c.args.parts (sym c.in_ok-audience.ensures.cases)) c.in-Ok.ensures.lawful in
+    let has = lawful_parts c.args.parts c.args.own lawful c.fits.ensures.audience (omega (arith, c.if-len-gt-LONGEST_ID.false, c.len.ensures.len)) c.fits.ensures.scope in (
+      begun.enrols.enrolled.entries,
+      begun.enrols.enrolled.scope,
+      granted g.A.Ciphers.is_sealing (g.A.Ciphers.TAG EightByteTag) (g.met.A.Ciphers.sealed_length EightByteTag) (g.met.A.Ciphers.short_tag EightByteTag)
+          c.where_a_world_begins.ensures.may_exchange c.args.parts c.args.own _ begun lawful has c.fits.ensures.iv,
+    )

@@ -1,0 +1,6 @@
+use Rattle.osc_device.proofs.Going.{heard_by_all}
+use Rattle.osc_device.proofs.device.Device.on_datagram.Goals as goal
+
+pub returns-clause-run : goal.returns-clause-run
+returns-clause-run g c =
+    heard_by_all c.runs_go_on_alone.ensures.heard c.args.self.now c.self.inside.server c.on_datagram.new.self c.self.inside.own.client c.args.now c.on_datagram.result c.self.view_is c.on_datagram.ensures.kind

@@ -1,0 +1,70 @@
+-- Where a device begins: as a world does whose server is the device's, and whose one client is the device itself.
+use Rattle.std.specs.Prelude.{◌≡◌, ◌<◌, List, [], length, None}
+use Rattle.osc_authz.specs.HoldsToken.{HoldsToken}
+use Rattle.osc_model.specs.declared.algorithm.Algorithm.TheVariants.{EightByteTag}
+use Rattle.osc_protect.specs.Ciphers.{Sealings}
+use Rattle.osc_scope.specs.Entries.{Entry}
+use Rattle.osc_token.specs.Minted.{HasLawfulParts}
+use Rattle.osc_token.specs.declared.claims.Claims.{Claims}
+use Rattle.osc_world.specs.Refusals.{Refuses}
+use Rattle.osc_world.specs.Starts.{Beginning, Enrols, first_nodes}
+use Rattle.osc_world.specs.declared.start.Holder.{Holder}
+use Rattle.osc_device.specs.State.{State, own_address, server_address}
+use Rattle.osc_device.specs.declared.error.NewError.{NewError}
+use Rattle.osc_device.specs.declared.error.NewError.TheVariants.{Id, Token}
+use Rattle.osc_device.specs.declared.own_token.OwnToken.{OwnToken}
+use Rattle.osc_device.specs.declared.own_token.ServerParts.{ServerParts}
+
+-- what the device's own token claims: it is for the device's server, at all times
+abbrev pub own_claims : ServerParts → OwnToken → Claims
+own_claims parts own = record {
+  audience = parts.audience;
+  not_before = None;
+  expires = None;
+  material = record { id = own.id; secret = own.secret; salt = []; id_context = None; alg = EightByteTag };
+  scope = own.scope;
+}
+
+-- the device as a client that is to be enrolled
+abbrev pub own_holder : ServerParts → OwnToken → Holder
+own_holder parts own = record {
+  at = own_address;
+  way = record { next_hop = server_address; origin = None };
+  claims = own_claims parts own;
+  iv = own.iv;
+}
+
+-- the server alone
+abbrev pub server_alone : ServerParts → Beginning
+server_alone parts = record {
+  first = parts.tree;
+  open_scope = parts.open_scope;
+  key = parts.key;
+  audience = parts.audience;
+  server_at = server_address;
+  minted = [];
+  clients = [];
+  proxies = [];
+}
+
+-- Why there is none: a token id that is too long, or why the device can't be enrolled.
+abbrev pub IsNoDevice : ServerParts → OwnToken → NewError → Type 0
+IsNoDevice parts own Id = 64 < length own.id
+IsNoDevice parts own (Token error) = Refuses (server_alone parts) (own_holder parts own) error
+
+-- `is_sealing algorithm` is the relation of the algorithm's cipher
+module _ (is_sealing : Sealings) where
+  -- the device's token is minted under the server's key, and neither has done anything yet
+  pub record IsBegun (parts : ServerParts) (own : OwnToken) (device : State) : Type 0 where
+    pub start : Beginning
+    pub enrols : Enrols is_sealing (server_alone parts) (own_holder parts own) start
+    pub server : device.server ≡ (first_nodes start).server
+    pub own_is : device.own ≡ enrols.placed.client
+
+  -- The device's token has these claims and this scope, was minted under its server's key and for its audience, and counts at all times.
+  pub record IsGranted (device : State) (claims : Claims) (entries : List Entry) : Type 0 where
+    pub holds : HoldsToken (is_sealing EightByteTag) device.server.desk.key claims entries device.own.desk
+    pub lawful : HasLawfulParts claims
+    pub audience : claims.audience ≡ device.server.desk.audience
+    pub not_before : claims.not_before ≡ None
+    pub expires : claims.expires ≡ None

@@ -1,0 +1,60 @@
+-- What a step of a server did, as a device tells it.
+use Rattle.std.specs.Prelude.{ℕ, List, [], ◌∷◌, Option, Some, None, Result, Ok, Err, option_map}
+use Rattle.osc_model.specs.Code.{method_of}
+use Rattle.osc_model.specs.StepNotes.{StepNotes}
+use Rattle.osc_model.specs.declared.code.Code.{Code}
+use Rattle.osc_model.specs.declared.code.Method.{Method}
+use Rattle.osc_model.specs.declared.node.Peer.{Peer}
+use Rattle.osc_model.specs.declared.reply.Reply.{Reply}
+use Rattle.osc_model.specs.declared.request.Request.{Request}
+use Rattle.osc_model.specs.declared.step.Datagram.{Datagram}
+use Rattle.osc_model.specs.declared.step.Entry.{Entry}
+use Rattle.osc_model.specs.declared.step.RefusedRequest.{RefusedRequest}
+use Rattle.osc_model.specs.declared.step.Step.{Step}
+use Rattle.osc_run.specs.Texts.{read_request}
+
+-- ---- a protected request that was served
+
+-- Who asked: the kid of the context, and its kid context, where it has one (RFC 8613 section 6.1). Neither is a secret.
+pub record Holder : Type 0 where
+  pub kid : List ℕ
+  pub kid_context : Option (List ℕ)
+
+-- who asked, by which number, for what by which method, with which payload, and what it was answered; of a text that is no request
+-- neither method nor path
+pub record ServedRequest : Type 0 where
+  pub by : Holder
+  pub number : ℕ
+  pub method : Option Method
+  pub path : Option (List ℕ)
+  pub payload : List ℕ
+  pub reply : Reply
+
+abbrev pub holder_of : Entry → Holder
+holder_of entry = record { kid = entry.context.client_id; kid_context = entry.context.id_context }
+
+abbrev pub served_as : Holder → ℕ → Option Request → Reply → ServedRequest
+served_as by number (Some request) reply =
+    record { by = by; number = number; method = method_of request.code; path = request.path; payload = request.payload; reply = reply }
+served_as by number None reply = record { by = by; number = number; method = None; path = None; payload = []; reply = reply }
+
+-- the request that a text is, if it is one
+abbrev pub request_in : Result Request Code → Option Request
+request_in (Ok request) = Some request
+request_in (Err code) = None
+
+abbrev pub served_by : Entry → ServedRequest
+served_by entry = served_as (holder_of entry) entry.number (request_in (read_request entry.plaintext)) entry.reply
+
+abbrev pub served_in : StepNotes → Option ServedRequest
+served_in notes = option_map served_by notes.served
+
+-- ---- a request that was refused
+
+-- to whom it was answered, and why
+abbrev pub refused_by : Option RefusedRequest → List Datagram → Option (Peer × RefusedRequest)
+refused_by (Some why) (datagram ∷ []) = Some (datagram.to, why)
+refused_by why out = None
+
+abbrev pub refused_in : Step → Option (Peer × RefusedRequest)
+refused_in step = refused_by step.notes.refused step.out

@@ -1,0 +1,118 @@
+//! Where a device begins.
+ghost use Rattle.std.specs.Prelude.{◌≡◌, ◌∷◌, ◌<◌, ◌^◌, [], IfErr, IfOk, OnOk, length};
+ghost use Rattle.std.specs.Str.{IsUtf8};
+ghost use Rattle.osc_world.specs.Refusals.{IsLawful, Refuses};
+ghost use Rattle.osc_world.specs.Starts.{Enrols, first_nodes};
+ghost use Rattle.osc_world.specs.declared.nodes.Placed.{Placed as AnyPlaced};
+ghost use Rattle.osc_device.specs.Begun.{own_claims, own_holder as own_holder_of, server_alone as server_alone_of};
+ghost use Rattle.osc_device.specs.declared.own_token.ServerParts.{ServerParts as AnyParts};
+
+use crate::own_token::{OwnToken, ServerParts};
+use osc_client::Way;
+use osc_model::{Algorithm, Bytes, Peer};
+use osc_protect::Ciphers;
+use osc_server::Server;
+use osc_token::{Audience, Claims, InputMaterial};
+use osc_world::{EnrollError, Holder, Parts, Placed, Start};
+use std::alloc::{AllocError, Global};
+
+/// Where the device stands to its server.
+pub(crate) const OWN: Peer = Peer {
+    address: [0, 0, 0, 0],
+    port: 0,
+};
+
+/// Where the server stands to the device.
+pub(crate) const SERVER: Peer = Peer {
+    address: [0, 0, 0, 0],
+    port: 1,
+};
+
+/// The server alone, before the device is a client of it.
+pub(crate) fn server_alone(alloc: Global, parts: ServerParts) -> Start
+    ensures { result ≡ server_alone_of parts }
+{
+    let ServerParts {
+        tree,
+        open_scope,
+        key,
+        audience,
+    } = parts;
+    Start::new(alloc, tree, open_scope, key, audience, SERVER)
+}
+
+/// The device as a client that is to be enrolled at a server of this audience.
+pub(crate) fn own_holder(alloc: Global, audience: Audience, own: OwnToken) -> Holder
+    ensures { (parts : AnyParts) → parts.audience ≡ audience → result ≡ own_holder_of parts own }
+{
+    let OwnToken {
+        id,
+        secret,
+        scope,
+        iv,
+    } = own;
+    Holder {
+        at: OWN,
+        way: Way {
+            next_hop: SERVER,
+            origin: None,
+        },
+        claims: Claims {
+            audience,
+            not_before: None,
+            expires: None,
+            material: InputMaterial {
+                id,
+                secret,
+                salt: Bytes::new(alloc),
+                id_context: None,
+                alg: Algorithm::EightByteTag,
+            },
+            scope,
+        },
+        iv,
+    }
+}
+
+/// The server, and this client of it.
+pub(crate) fn enrolled<A: Ciphers>(
+    alloc: Global,
+    mut start: Start,
+    holder: Holder,
+) -> Result<Start, EnrollError>
+    ensures enrolled { IfOk result (λ after. Enrols A.is_sealing start holder after) }
+    ensures lawful { OnOk result (IsLawful holder.claims) }
+    ensures refused { IfErr result (λ error. Refuses start holder error) }
+{
+    start.enroll::<A>(alloc, holder)?;
+    Ok(start)
+}
+
+/// The nodes of a beginning with one client.
+pub(crate) fn nodes_of(alloc: Global, start: Start) -> Result<(Server, Placed), AllocError>
+    requires { (placed : AnyPlaced) × (start.clients ≡ placed ∷ []) }
+    ensures server { IfOk result (λ nodes. nodes.0 ≡ (first_nodes start).server) }
+    ensures own { IfOk result (λ nodes. start.clients ≡ nodes.1 ∷ []) }
+{
+    let Parts {
+        server,
+        mut clients,
+        ..
+    } = start.into_parts(alloc)?;
+    match clients.pop() {
+        Some(placed) => Ok((server, placed)),
+        // There is one.
+        None => unreachable!(),
+    }
+}
+
+/// For proofs: the parts are as long as their types allow. Does nothing.
+pub(crate) fn fits(parts: &ServerParts, own: &OwnToken)
+    ensures audience { IsUtf8 parts.now.audience × (length parts.now.audience < 2 ^ 64) }
+    ensures scope { length own.now.scope < 2 ^ 64 }
+    ensures iv { length own.now.iv ≡ 13 }
+{
+    let _audience = parts.audience.as_str();
+    let _scope = own.scope.len();
+    let _iv = own.iv;
+}

@@ -1,0 +1,35 @@
+//! Why there is no device.
+ghost use Rattle.std.specs.Prelude.{◌≡◌};
+ghost use Rattle.osc_device.specs.declared.error.NewError.TheVariants as variants;
+ghost use Rattle.osc_world.specs.declared.error.EnrollError.TheVariants as enroll;
+
+use osc_world::EnrollError;
+use std::alloc::AllocError;
+use thiserror::Error;
+
+/// Why a device can't be made: the first of these that stands, or want of memory.
+#[derive(Clone, Copy, Debug, PartialEq, Eq, Error)]
+pub enum NewError {
+    /// Its token's id has more than 64 bytes.
+    #[error("the id of the device's token is too long")]
+    Id,
+    /// Its token can't be minted, or there was no memory.
+    #[error("{0}")]
+    Token(EnrollError),
+}
+
+impl From<EnrollError> for NewError {
+    ghost from_gives = { λ error e. e ≡ variants.Token error };
+
+    fn from(error: EnrollError) -> NewError {
+        NewError::Token(error)
+    }
+}
+
+impl From<AllocError> for NewError {
+    ghost from_gives = { λ _ e. e ≡ variants.Token enroll.Memory };
+
+    fn from(_error: AllocError) -> NewError {
+        NewError::Token(EnrollError::Memory)
+    }
+}

@@ -1,0 +1,47 @@
+//! What a device is made of.
+
+use osc_model::Bytes;
+use osc_scope::Scope;
+use osc_token::Audience;
+use osc_tree::Tree;
+use std::fmt;
+
+/// What a device's server is made of.
+#[derive(Drop)]
+pub struct ServerParts {
+    /// The resources at first.
+    pub tree: Tree,
+    /// What needs no protection, of which GETs alone count.
+    pub open_scope: Scope,
+    /// The key that the server shares with who issues tokens for it.
+    pub key: [u8; 16],
+    /// For whom tokens are that the server takes.
+    pub audience: Audience,
+}
+
+/// The device's own token, which no other has: it is minted under the server's key, for its audience, and counts at all times.
+#[derive(Drop)]
+pub struct OwnToken {
+    /// By what it is named: 0 to 64 bytes, which no other token has.
+    pub id: Bytes,
+    /// The master secret: 1 to 64 bytes of a generator that nobody can guess, which no other token has.
+    pub secret: Bytes,
+    /// What the device may do, as the bytes of a scope (`osc_scope::text_to_cbor` writes them).
+    pub scope: Bytes,
+    /// The IV under which the token is sealed: under a key, one is used for one token alone.
+    pub iv: [u8; 13],
+}
+
+// The key isn't printed.
+impl fmt::Debug for ServerParts {
+    fn fmt<W: fmt::Write>(&self, f: &mut fmt::Formatter<W>) -> fmt::Result {
+        f.write_str("ServerParts")
+    }
+}
+
+// The secret isn't printed.
+impl fmt::Debug for OwnToken {
+    fn fmt<W: fmt::Write>(&self, f: &mut fmt::Formatter<W>) -> fmt::Result {
+        f.write_str("OwnToken")
+    }
+}

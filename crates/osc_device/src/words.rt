@@ -1,0 +1,155 @@
+//! What a step of a server did, in the words of whoever made the device.
+ghost use Rattle.std.specs.Prelude.{◌≡◌, IfOk, option_map};
+ghost use Rattle.osc_run.specs.Texts.{read_request};
+ghost use Rattle.osc_device.specs.Words.{holder_of as holder_of_entry, refused_in, request_in as request_in_of, served_by as served_by_of, served_in};
+
+use osc_model::{ContextName, Entry, Method, Path, Peer, RefusedRequest, Reply, Request, Step};
+use osc_run::request_in;
+use std::alloc::{AllocError, Global};
+use std::fmt;
+use std::marker::Model;
+
+/// Who asked: what a request tells of the context that it means (RFC 8613 section 6.1). Neither is a secret.
+#[derive(Clone, Copy, Debug, PartialEq, Eq)]
+pub struct Holder<'a> {
+    /// The kid: the client's sender ID, which the server gave it at its exchange, 0 to 7 bytes.
+    pub kid: &'a [u8],
+    /// The kid context, where the context has one: the id context of its token, by which an issuer can tell holders apart.
+    pub kid_context: Option<&'a [u8]>,
+}
+
+/// A protected request that was served. Contracts see a record of the six that its calls and fields tell.
+#[derive(Drop)]
+pub struct Served<'a> {
+    /// Who asked.
+    pub by: Holder<'a>,
+    /// By which number of its own: the Partial IV.
+    pub number: u64,
+    /// What it was answered.
+    pub reply: &'a Reply,
+    // What opened, where it is a request.
+    request: Option<Request>,
+}
+
+/// A request that was refused.
+#[derive(Clone, Copy, Debug, PartialEq, Eq)]
+pub struct Refused {
+    /// Who asked.
+    pub from: Peer,
+    /// The code that it was answered, and the number of the reason, where the code alone doesn't tell it.
+    pub why: RefusedRequest,
+}
+
+impl<'a> Model for Served<'a> {
+    ghost use Rattle.std.specs.Prelude.{option_map};
+    ghost use Rattle.osc_device.specs.Words.{ServedRequest, served_as};
+
+    ghost Value = { ServedRequest };
+
+    ghost view = { λ s. served_as (record { kid = s.by.kid.now; kid_context = option_map (λ bytes. bytes.now) s.by.kid_context }) s.number s.request s.reply.now };
+}
+
+// What was opened isn't printed.
+impl<'a> fmt::Debug for Served<'a> {
+    fn fmt<W: fmt::Write>(&self, f: &mut fmt::Formatter<W>) -> fmt::Result {
+        f.write_str("Served")
+    }
+}
+
+impl<'a> Served<'a> {
+    /// The protected request that this step of a server served, if it served one. No secret is copied. Without memory for the path and the
+    /// payload an `AllocError`.
+    pub fn in_step(alloc: Global, step: &'a Step) -> Result<Option<Served<'a>>, AllocError>
+        ensures { IfOk result (λ served. served ≡ served_in step.now.notes) }
+    {
+        match step.notes.served() {
+            Some(entry) => Ok(Some(served_by(alloc, entry)?)),
+            None => Ok(None),
+        }
+    }
+
+    /// The method; none where what opened is no request, or its code is no method's.
+    pub fn method(&self) -> Option<Method>
+        ensures { result ≡ self.now.method }
+    {
+        match &self.request {
+            Some(request) => Method::from_code(request.code),
+            None => None,
+        }
+    }
+
+    /// The path, where it has one.
+    pub fn path(&self) -> Option<&Path>
+        ensures { option_map (λ path. path.now) result ≡ self.now.path }
+    {
+        match &self.request {
+            Some(request) => request.path.as_ref(),
+            None => None,
+        }
+    }
+
+    /// The payload: 0 to 1,152 bytes.
+    pub fn payload(&self) -> &[u8]
+        ensures { result.now ≡ self.now.payload }
+    {
+        match &self.request {
+            Some(request) => request.payload.as_slice(),
+            None => &[],
+        }
+    }
+}
+
+fn served_by(alloc: Global, entry: &Entry) -> Result<Served<'_>, AllocError>
+    ensures { IfOk result (λ served. served ≡ served_by_of entry.now) }
+{
+    Ok(Served {
+        by: holder_of(entry),
+        number: entry.number,
+        reply: &entry.reply,
+        request: request_of(alloc, entry.plaintext.as_slice())?,
+    })
+}
+
+/// The request that a text is, if it is one.
+fn request_of(alloc: Global, text: &[u8]) -> Result<Option<Request>, AllocError>
+    ensures { IfOk result (λ request. request ≡ request_in_of (read_request text.now)) }
+{
+    match request_in(alloc, text)? {
+        Ok(request) => Ok(Some(request)),
+        Err(_) => Ok(None),
+    }
+}
+
+fn holder_of(entry: &Entry) -> Holder<'_>
+    ensures kid { result.kid.now ≡ (holder_of_entry entry.now).kid }
+    ensures kid_context { option_map (λ bytes. bytes.now) result.kid_context ≡ (holder_of_entry entry.now).kid_context }
+{
+    Holder {
+        kid: entry.context.client_id.as_slice(),
+        kid_context: id_context(&entry.context),
+    }
+}
+
+fn id_context(name: &ContextName) -> Option<&[u8]>
+    ensures { option_map (λ bytes. bytes.now) result ≡ name.now.id_context }
+{
+    match &name.id_context {
+        Some(bytes) => Some(bytes.as_slice()),
+        None => None,
+    }
+}
+
+impl Refused {
+    /// The request that this step of a server refused, if it refused one.
+    pub fn in_step(step: &Step) -> Option<Refused>
+        ensures { option_map (λ refused. (refused.from, refused.why)) result ≡ refused_in step.now }
+    {
+        match (step.notes.refused(), step.out.as_slice()) {
+            (Some(why), [datagram]) => Some(Refused {
+                from: datagram.to,
+                why,
+            }),
+            _ => None,
+        }
+    }
+}
