@@ -7,3 +7,4 @@ pub mod Going
 pub mod Entering
 pub mod Granted
 pub mod FirstOf
+pub mod RunBegins

@@ -2,16 +2,18 @@
 use Rattle.std.specs.Prelude.{◌≡◌, ◌≢◌, ℕ, false, List, [], ◌∷◌, ◌++◌, Option, Some, None, slice_get}
 use Rattle.osc_model.specs.Isolation.{HaveOwnPaths, IsIsolated}
 use Rattle.osc_model.specs.StepNotes.{quiet}
+use Rattle.osc_model.specs.Tree.{Tree}
 use Rattle.osc_model.specs.declared.step.ClientResult.TheVariants as result
 use Rattle.osc_model.specs.declared.reply.Reply.{Reply}
 use Rattle.osc_model.specs.declared.step.Step.{Step}
+use Rattle.osc_authz.specs.Members.{In}
 use Rattle.osc_client.specs.State.{core as client_core}
 use Rattle.osc_run.specs.History.{Acceptance, history}
 use Rattle.osc_run.specs.Notes.{Noted, by_client, by_server}
 use Rattle.osc_run.specs.OneHistory.{IsReplyOfRequest, OneHistory}
 use Rattle.osc_run.specs.Premise.{Premise}
-use Rattle.osc_run.specs.Runs.{IsReached}
-use Rattle.osc_run.specs.States.{WorldState, grants_of}
+use Rattle.osc_run.specs.Runs.{IsNewClient, IsReached, IsTextOf}
+use Rattle.osc_run.specs.States.{ClientState, Minted, WorldState, grants_of}
 use Rattle.osc_run.specs.Texts.{read_request}
 use Rattle.osc_server.specs.State.{core as server_core}
 use Rattle.osc_device.specs.State.{State}
@@ -21,6 +23,23 @@ use Rattle.osc_device.specs.declared.round.Round.{Round}
 pub record IsIn (number : ℕ) (device : State) (w : WorldState) : Type 0 where
   pub server : w.server ≡ server_core device.server
   pub own : slice_get w.clients number ≡ Some (client_core device.own)
+
+-- ---- where they begin
+
+-- others, who may hold tokens of the device's server: each text is that of its grant, and each client holds one and did nothing yet
+pub record AreOthers (minted : List Minted) (clients : List ClientState) : Type 0 where
+  pub texts : (m : Minted) → In m minted → IsTextOf m.grant m.text
+  pub holders : (number : ℕ) (client : ClientState) → slice_get clients number ≡ Some client → IsNewClient minted number client
+
+-- a run before its first step, in which the device comes behind these others, with a grant of its own
+abbrev pub first_run : List Minted → List ClientState → Minted → Tree → State → WorldState
+first_run others clients own first device = record {
+  minted = others ++ own ∷ [];
+  first = first;
+  server = server_core device.server;
+  clients = clients ++ client_core device.own ∷ [];
+  notes = [];
+}
 
 -- ---- what is noted of what a device does, the newest first
 

@@ -6,7 +6,9 @@ ghost use Rattle.osc_model.specs.declared.node.Moment.{Moment as AnyMoment};
 ghost use Rattle.osc_model.specs.StepNotes.{StepNotes, quiet};
 ghost use Rattle.osc_model.specs.declared.request.Request.{Request as AnyRequest};
 ghost use Rattle.osc_scope.specs.Entries.{Entry};
+ghost use Rattle.osc_token.specs.Minted.{HasLawfulParts};
 ghost use Rattle.osc_token.specs.declared.claims.Claims.{Claims as AnyClaims};
+ghost use Rattle.osc_world.specs.Starts.{minted_of};
 ghost use Rattle.osc_authz.specs.Begun.{ClientContextState};
 ghost use Rattle.osc_authz.specs.Held.{Held};
 ghost use Rattle.osc_client.specs.Hearing.{Begins, Requests};
@@ -16,15 +18,17 @@ ghost use Rattle.osc_client.specs.State.{State as Own, core as own_core};
 ghost use Rattle.osc_rounds.specs.AskRound.{IsLawfulServer};
 ghost use Rattle.osc_run.specs.ClientKinds.{ClientStep};
 ghost use Rattle.osc_run.specs.Notes.{by_server};
-ghost use Rattle.osc_run.specs.Runs.{IsNewClient, IsReached, IsTextOf};
+ghost use Rattle.osc_run.specs.Runs.{IsReached};
 ghost use Rattle.osc_run.specs.ServerKinds.{ServerStep};
 ghost use Rattle.osc_run.specs.States.{ClientState, Minted, WorldState};
 ghost use Rattle.osc_server.specs.State.{State as AnyServer, core as server_core};
 ghost use Rattle.osc_device.specs.Answered.{IsAnswered, IsOpen, IsReady, IsWhole, MayOpen};
-ghost use Rattle.osc_device.specs.Begun.{IsBegun, IsGranted};
+ghost use Rattle.osc_device.specs.Begun.{IsBegun, IsGranted, own_claims};
 ghost use Rattle.osc_device.specs.Carrying.{Carries};
-ghost use Rattle.osc_device.specs.Runs.{AllGoOn, IsOfAnEntry, KeepsItsPromises, noted, restarts};
+ghost use Rattle.osc_device.specs.Runs.{AllGoOn, AreOthers, IsIn, IsOfAnEntry, KeepsItsPromises, first_run, noted, restarts};
 ghost use Rattle.osc_device.specs.State.{State, server_address};
+ghost use Rattle.osc_device.specs.declared.own_token.OwnToken.{OwnToken as AnyToken};
+ghost use Rattle.osc_device.specs.declared.own_token.ServerParts.{ServerParts as AnyParts};
 ghost use Rattle.osc_device.specs.declared.round.Round.{Round as AnyRound};
 
 use osc_protect::Ciphers;
@@ -64,6 +68,16 @@ pub fn a_granted_device_may_open<A: Ciphers>()
         → device.own.waiting ≡ None → device.server.desk.table ≡ [] → device.server.endpoint.seen ≡ []
         → MayOpen A.is_sealing device now draw claims entries }
 {}
+
+/// A run begins with a device, whoever else holds tokens of its server: the others and the device did nothing yet.
+pub fn a_run_begins<A: Ciphers>()
+    ensures { (parts : AnyParts) (own : AnyToken) (device : State) (is : IsBegun A.is_sealing parts own device) (others : List Minted) (clients : List ClientState)
+        → HasLawfulParts (own_claims parts own) → AreOthers others clients
+        → IsReached (first_run others clients (minted_of (length clients) (own_claims parts own) is.enrols.enrolled.entries) parts.tree device)
+        × IsIn (length clients) device (first_run others clients (minted_of (length clients) (own_claims parts own) is.enrols.enrolled.entries) parts.tree device) }
+{
+    osc_run::kinds::minted_texts();
+}
 
 /// What a device does is a part of each run that it is in, whoever else holds a token of its server and whatever comes from them: its round is
 /// up to three steps, one of its own, one of its server's, and one of its own again.
