@@ -2,11 +2,12 @@
 #![tactic(auto)]
 
 use osc_programs::{
-    Ended, Lines, Silent, ask, ended_by, forward, issue_token, lab, running_fault, serve, sim,
-    started_by_io, status, token_fault,
+    Ended, Lines, Silent, ask, ended_by, filled, forward, issue_token, lab, running_fault, serve,
+    sim, started_by_io, status, token_fault, token_warning,
 };
-use osc_words::{TokenWords, Words, WordsError, fault_line, read_words};
+use osc_words::{Source, TokenAsked, TokenWords, Words, WordsError, fault_line, read_words};
 use std::env;
+use std::fs::File;
 use std::io::{self, IsTerminal};
 use std::process::ExitCode;
 
@@ -43,7 +44,7 @@ fn follow(rt: &HostRuntime, words: Words) -> Ended {
             bytes,
             only,
         ),
-        Words::Token(words) => print_token(rt, &words),
+        Words::Token(asked) => token(rt, asked),
         Words::Server { turns, log } => tell(rt, run_server(rt, turns, log)),
         Words::Proxy { turns, log } => tell(rt, run_proxy(rt, turns, log)),
         Words::Client(words) => tell(
@@ -101,10 +102,32 @@ fn run_proxy(rt: &HostRuntime, turns: u64, log: bool) -> Ended {
     }
 }
 
-/// The token goes to the standard output, and the one line of a fault to the standard error.
+/// Reads the files that the key and the secret may stand in, and prints the token.
+fn token(rt: &HostRuntime, asked: TokenAsked) -> Ended {
+    let key_file = opened(rt, &asked.key);
+    let secret_file = opened(rt, &asked.secret);
+    match filled(rt.alloc(), asked, key_file, secret_file) {
+        Ok(words) => print_token(rt, &words),
+        Err(error) => refuse(rt, &error),
+    }
+}
+
+/// The file that a value stands in, if it does and the file can be opened.
+fn opened<T>(rt: &HostRuntime, source: &Source<T>) -> Option<File> {
+    match source {
+        Source::Given(_) => None,
+        Source::InFile(name) => File::open(rt, name.as_str()).ok(),
+    }
+}
+
+/// The token goes to the standard output, and the one line of a fault or a warning to the standard error.
 fn print_token(rt: &HostRuntime, words: &TokenWords) -> Ended {
     let ended = issue_token(rt.alloc(), rt, words, &mut io::writer(rt));
-    if let Some(line) = token_fault(ended) {
+    let line = match ended {
+        Ended::Done => token_warning(words),
+        _ => token_fault(ended),
+    };
+    if let Some(line) = line {
         notice(rt, line);
     }
     ended
@@ -120,16 +143,21 @@ fn tell(rt: &HostRuntime, ended: Ended) -> Ended {
 
 /// Help and the version go to the standard output, and the one line of a fault to the standard error.
 fn explain(rt: &HostRuntime, error: &WordsError) -> io::Result<Ended> {
-    let ended = ended_by(error);
-    match (ended, error) {
-        (Ended::Done, WordsError::Clap(help)) => rt.print(help)?,
-        _ => {
-            if let Ok(line) = fault_line(rt.alloc(), error) {
-                notice(rt, line.as_str());
-            }
+    match (ended_by(error), error) {
+        (Ended::Done, WordsError::Clap(help)) => {
+            rt.print(help)?;
+            Ok(Ended::Done)
         }
+        _ => Ok(refuse(rt, error)),
     }
-    Ok(ended)
+}
+
+/// The one line of a fault goes to the standard error.
+fn refuse(rt: &HostRuntime, error: &WordsError) -> Ended {
+    if let Ok(line) = fault_line(rt.alloc(), error) {
+        notice(rt, line.as_str());
+    }
+    ended_by(error)
 }
 
 /// The command line could not be read, or help not be written.

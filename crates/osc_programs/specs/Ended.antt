@@ -1,13 +1,14 @@
 -- How the programs end: their exit statuses, and what ends them.
-use Rattle.std.specs.Prelude.{◌≡◌, ℕ, List, ◌++◌, Option, Some, None, codes, decimal}
+use Rattle.std.specs.Prelude.{◌≡◌, ℕ, List, ◌++◌, if◌then◌else◌, Option, Some, None, is_some, codes, decimal}
 use Rattle.std.specs.declared.io.ErrorKind.{ErrorKind}
 use Rattle.std.specs.declared.io.ErrorKind.TheVariants as kind
 use Rattle.clap.specs.Words.{kind_of}
 use Rattle.clap.specs.declared.error.kind.ErrorKind.{ErrorKind as WordsKind}
 use Rattle.clap.specs.declared.error.kind.ErrorKind.TheVariants as words_kind
 use Rattle.osc_model.specs.declared.request.Request.{Request}
+use Rattle.osc_token.specs.declared.claims.Claims.{Claims}
 use Rattle.osc_words.specs.declared.words.WordsError.{WordsError}
-use Rattle.osc_words.specs.declared.words.WordsError.TheVariants.{Clap, Value, Memory}
+use Rattle.osc_words.specs.declared.words.WordsError.TheVariants.{Clap, Value, NotOne, Unread, Memory}
 use Rattle.osc_programs.specs.declared.ended.Ended.{Ended}
 use Rattle.osc_programs.specs.declared.ended.Ended.TheVariants.{Done, BadCommandLine, BadLine, BadSettings, OutOfMemory, Failed, PortFailed, NotDone}
 
@@ -107,6 +108,8 @@ ended_by_kind other = BadCommandLine
 abbrev pub ended_by : WordsError → Ended
 ended_by (Clap error) = ended_by_kind (kind_of error)
 ended_by (Value option) = BadCommandLine
+ended_by (NotOne option) = BadCommandLine
+ended_by (Unread option) = Failed
 ended_by Memory = OutOfMemory
 
 -- want of memory is told apart from other faults of an input or an output
@@ -124,6 +127,11 @@ abbrev pub token_fault_of : Ended → Option (List ℕ)
 token_fault_of BadCommandLine = Some (codes "error: the claims have more than 65535 bytes")
 token_fault_of OutOfMemory = Some (codes "out of memory")
 token_fault_of ended = None
+
+-- what a token is printed with that has no `exp`
+abbrev pub token_warning_of : Claims → Option (List ℕ)
+token_warning_of claims =
+    if is_some claims.expires then None else Some (codes "warning: without --exp the token never expires, and keeps one of the server's 64 places")
 
 -- what is told where a program ended that runs nodes on sockets
 abbrev pub running_fault_of : Ended → Option (List ℕ)

@@ -1,5 +1,6 @@
 pub mod Ended
 pub mod TokenLine
+pub mod TokenFiles
 pub mod Log
 pub mod Unread
 pub mod Turning

@@ -4,7 +4,7 @@ ghost use Rattle.std.specs.Prelude.{◌≡◌, ◌⊎◌, Some, IfOk, option_map
 ghost use Rattle.osc_programs.specs.Ended as spec;
 
 use clap::error::ErrorKind as WordsKind;
-use osc_words::WordsError;
+use osc_words::{TokenWords, WordsError};
 use std::alloc::{AllocError, Global};
 use std::io::{self, ErrorKind};
 
@@ -46,7 +46,8 @@ pub fn ended_by(error: &WordsError) -> Ended
 {
     match error {
         WordsError::Clap(error) => ended_by_kind(error.kind()),
-        WordsError::Value(_) => Ended::BadCommandLine,
+        WordsError::Value(_) | WordsError::NotOne(_) => Ended::BadCommandLine,
+        WordsError::Unread(_) => Ended::Failed,
         WordsError::Memory => Ended::OutOfMemory,
     }
 }
@@ -116,5 +117,17 @@ pub fn token_fault(ended: Ended) -> Option<&'static str>
         Ended::BadCommandLine => Some("error: the claims have more than 65535 bytes"),
         Ended::OutOfMemory => Some("out of memory"),
         _ => None,
+    }
+}
+
+/// The line that warns on the standard error of a token that is printed, if one does: nobody can take back one that never expires.
+pub fn token_warning(words: &TokenWords) -> Option<&'static str>
+    ensures { option_map (λ line. line.now) result ≡ spec.token_warning_of words.now.claims }
+{
+    match words.claims.expires {
+        Some(_) => None,
+        None => Some(
+            "warning: without --exp the token never expires, and keeps one of the server's 64 places",
+        ),
     }
 }

@@ -17,6 +17,8 @@ mod scripts;
 #[cfg(test)]
 mod settings;
 #[cfg(test)]
+mod token_files;
+#[cfg(test)]
 mod tokens;
 #[cfg(test)]
 mod words;

@@ -1,8 +1,8 @@
 //! `osc token`: what it prints, and the values of its options.
 use crate::broken::BrokenWriter;
 use crate::words::refused;
-use osc_programs::{Ended, drawn_iv, issue_token, token};
-use osc_words::{TokenWords, Words, read_words};
+use osc_programs::{Ended, drawn_iv, filled, issue_token, token};
+use osc_words::{TokenAsked, TokenWords, Words, WordsError, read_words};
 use std::alloc::{AllocError, Global};
 use std::io::Write;
 use std::test::Fail;
@@ -17,7 +17,7 @@ const OPTIONS: [(&str, &str); 6] = [
     ("--iv", "00000000000000000000000001"),
 ];
 
-const TOKEN_LINE: &str =
+pub(crate) const TOKEN_LINE: &str =
     "8343a1010aa1054d00000000000000000000000001582f7a0ede2171a9ef9611e8b23afd723e7879cadfb887e3cb88901dd40461e9f30124cee04d4a5e85931d224b7ce6b4e2\n";
 
 // Adds the options but for this one.
@@ -56,11 +56,31 @@ fn run_with<'a, W: Write>(
 ) -> Result<Ended, AllocError> {
     let words = token_command(alloc, option, value)?;
     match read_words(alloc, &words) {
-        Ok(Words::Token(words)) => Ok(match words.iv {
-            Some(iv) => token(alloc, &words, &iv, writer),
-            None => Ended::Failed,
-        }),
+        Ok(Words::Token(asked)) => Ok(run_given(alloc, asked, writer)),
         _ => Ok(Ended::BadLine(0)),
+    }
+}
+
+// The same for a token whose key and secret are given.
+fn run_given<W: Write>(alloc: Global, asked: TokenAsked, writer: &mut W) -> Ended {
+    match given(alloc, asked) {
+        Ok(words) => run_words(alloc, &words, writer),
+        Err(_) => Ended::BadLine(0),
+    }
+}
+
+/// The token that is asked for, where no file is opened.
+pub(crate) fn given(alloc: Global, asked: TokenAsked) -> Result<TokenWords, WordsError> {
+    let no_key_file: Option<&[u8]> = None;
+    let no_secret_file: Option<&[u8]> = None;
+    filled(alloc, asked, no_key_file, no_secret_file)
+}
+
+/// How `osc token` ends for these words, which have an IV.
+pub(crate) fn run_words<W: Write>(alloc: Global, words: &TokenWords, writer: &mut W) -> Ended {
+    match words.iv {
+        Some(iv) => token(alloc, words, &iv, writer),
+        None => Ended::Failed,
     }
 }
 
@@ -133,22 +153,25 @@ fn drawn_token(rt: &HostRuntime, words: &TokenWords) -> Result<Vec<u8>, Fail> {
     }
 }
 
-// Whether two tokens of the words differ.
-fn two_tokens_differ(rt: &HostRuntime, words: &Words) -> Result<bool, Fail> {
-    match words {
-        Words::Token(words) => {
-            let one = drawn_token(rt, words)?;
-            Ok(one.as_slice() != drawn_token(rt, words)?.as_slice())
-        }
-        _ => Ok(false),
+/// The token that these words ask for, where no file is opened.
+pub(crate) fn given_words(alloc: Global, words: &[&str]) -> Option<TokenWords> {
+    match read_words(alloc, words) {
+        Ok(Words::Token(asked)) => given(alloc, asked).ok(),
+        _ => None,
     }
+}
+
+// Whether two tokens of the words differ.
+fn two_tokens_differ(rt: &HostRuntime, words: &TokenWords) -> Result<bool, Fail> {
+    let one = drawn_token(rt, words)?;
+    Ok(one.as_slice() != drawn_token(rt, words)?.as_slice())
 }
 
 #[test]
 fn two_tokens_without_an_iv_differ(rt: HostRuntime) -> Result<(), Fail> {
-    let differ = match read_words(rt.alloc(), &WITHOUT_IV) {
-        Ok(words) => two_tokens_differ(&rt, &words)?,
-        Err(_) => false,
+    let differ = match given_words(rt.alloc(), &WITHOUT_IV) {
+        Some(words) => two_tokens_differ(&rt, &words)?,
+        None => false,
     };
     assert!(rt; differ);
     Ok(())

@@ -334,7 +334,7 @@ fn is_told(alloc: Global, words: &[&str], line: &str) -> Result<bool, AllocError
     }
 }
 
-const WRONG: [(&[&str], &str); 20] = [
+const WRONG: [(&[&str], &str); 24] = [
     (
         &["osc"],
         "error: 'osc' requires a subcommand but one was not provided [subcommands: sim, token, server, proxy, client, lab, help]",
@@ -386,7 +386,64 @@ const WRONG: [(&[&str], &str); 20] = [
     ),
     (
         &["osc", "token", "--aud", "s", "--scope", "/a:GET"],
-        "error: the following required arguments were not provided: --key <HEX> --id <HEX> --secret <HEX>",
+        "error: the following required arguments were not provided: --id <HEX>",
+    ),
+    (
+        &[
+            "osc", "token", "--aud", "s", "--id", "01", "--scope", "/a:GET",
+        ],
+        "error: exactly one of --key and --key-file has to be given",
+    ),
+    (
+        &[
+            "osc",
+            "token",
+            "--aud",
+            "s",
+            "--id",
+            "01",
+            "--scope",
+            "/a:GET",
+            "--key",
+            "40",
+            "--key-file",
+            "key",
+        ],
+        "error: exactly one of --key and --key-file has to be given",
+    ),
+    (
+        &[
+            "osc",
+            "token",
+            "--aud",
+            "s",
+            "--id",
+            "01",
+            "--scope",
+            "/a:GET",
+            "--key-file",
+            "key",
+        ],
+        "error: exactly one of --secret and --secret-file has to be given",
+    ),
+    (
+        &[
+            "osc",
+            "token",
+            "--aud",
+            "s",
+            "--id",
+            "01",
+            "--scope",
+            "/a:GET",
+            "--key-file",
+            "key",
+            "--secret",
+            "40",
+            "--secret-file",
+            "secret",
+        ],
+        "error: exactly one of --secret and --secret-file has to be given",
     ),
     (
         &["osc", "token", "--iv", "", "--iv", ""],
@@ -430,7 +487,7 @@ fn shows(alloc: Global, words: &[&str], part: &str) -> Result<bool, AllocError> 
     }
 }
 
-const SHOWN: [(&[&str], &str); 19] = [
+const SHOWN: [(&[&str], &str); 20] = [
     (&["osc", "--version"], "osc 0.1.0\n"),
     (&["osc", "-V"], "osc 0.1.0\n"),
     (&["osc", "help"], "\n  sim     Runs the script"),
@@ -442,6 +499,7 @@ const SHOWN: [(&[&str], &str); 19] = [
     (&["osc", "help", "sim"], "\nExample: osc sim"),
     (&["osc", "sim", "--help"], "      --only <CLIENT>"),
     (&["osc", "help", "token"], "      --nbf <N>"),
+    (&["osc", "help", "token"], "      --secret-file <FILE>"),
     (&["osc", "token", "--help"], "\nExample: osc token --key"),
     (&["osc", "server", "--help"], "\nExample: osc server"),
     (

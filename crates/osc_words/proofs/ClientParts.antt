@@ -36,6 +36,8 @@ pub path_refused : (rows : List Row) (error : WordsError)
 path_refused rows (words_error.Clap error) h = h
 path_refused rows (words_error.Value option) h =
     subst (λ refused. IsClientRefusal rows (words_error.Value refused)) (sym h.0) (λ words said. h.1 said.0 (said.1, said.2))
+path_refused rows (words_error.NotOne option) h = absurd h
+path_refused rows (words_error.Unread option) h = absurd h
 path_refused rows words_error.Memory h = tt
 
 -- a number of turns that can't be read
@@ -47,6 +49,8 @@ pub turns_refused : (option : NamedOption) (value : Option (List ℕ)) (error : 
     → IsRefusalOf option (SpellsTurns value) error
 turns_refused option value (words_error.Clap error) h = h
 turns_refused option value (words_error.Value refused) h = (h.0, no_turns value h.1)
+turns_refused option value (words_error.NotOne hidden) h = absurd h
+turns_refused option value (words_error.Unread hidden) h = absurd h
 turns_refused option value words_error.Memory h = tt
 
 -- the code of a method

@@ -13,18 +13,20 @@ use Rattle.osc_words.specs.ClientOptions as of_client
 use Rattle.osc_words.specs.ClientWords as client
 use Rattle.osc_words.specs.NamedOptions.{refusal_text, value_of}
 use Rattle.osc_words.specs.Options.{option_rule, value_rule}
+use Rattle.osc_words.specs.Sources.{IsNotOne, not_one_text, unread_text}
 use Rattle.osc_words.specs.TokenWords as token
 use Rattle.osc_words.specs.Values.{IsGiven, SpellsClient, SpellsTurns}
 use Rattle.osc_words.specs.declared.client_option.ClientOption.{ClientOption}
 use Rattle.osc_words.specs.declared.client_option.ClientOption.TheVariants as client_option
+use Rattle.osc_words.specs.declared.hidden_option.HiddenOption.{HiddenOption}
 use Rattle.osc_words.specs.declared.named_option.NamedOption.{NamedOption}
 use Rattle.osc_words.specs.declared.named_option.NamedOption.TheVariants as option
 use Rattle.osc_words.specs.declared.token_option.TokenOption.{TokenOption}
-use Rattle.osc_words.specs.declared.token_option.TokenOption.TheVariants.{Key, Audience, Id, Secret, Salt, Context, Algorithm, Scope, Expires, NotBefore, Iv}
+use Rattle.osc_words.specs.declared.token_option.TokenOption.TheVariants.{Key, KeyFile, Audience, Id, Secret, SecretFile, Salt, Context, Algorithm, Scope, Expires, NotBefore, Iv}
 use Rattle.osc_words.specs.declared.words.Words.{Words}
 use Rattle.osc_words.specs.declared.words.Words.TheVariants.{Sim, Token, Server, Proxy, Client, Lab}
 use Rattle.osc_words.specs.declared.words.WordsError.{WordsError}
-use Rattle.osc_words.specs.declared.words.WordsError.TheVariants.{Clap, Value, Memory}
+use Rattle.osc_words.specs.declared.words.WordsError.TheVariants.{Clap, Value, NotOne, Unread, Memory}
 
 -- --NAME
 abbrev pub flag_rule : Text → Rule
@@ -35,9 +37,9 @@ abbrev pub sim_app : App
 sim_app = with_rule (with_rule (new_app (codes "sim")) (flag_rule (codes "bytes"))) (value_rule (codes "only") false)
 
 abbrev pub token_options : List TokenOption
-token_options = Key ∷ Audience ∷ Id ∷ Secret ∷ Scope ∷ Salt ∷ Context ∷ Algorithm ∷ Expires ∷ NotBefore ∷ Iv ∷ []
+token_options = Key ∷ KeyFile ∷ Audience ∷ Id ∷ Secret ∷ SecretFile ∷ Scope ∷ Salt ∷ Context ∷ Algorithm ∷ Expires ∷ NotBefore ∷ Iv ∷ []
 
--- osc token --key HEX --aud TEXT --id HEX --secret HEX --scope TEXT [--salt HEX] [--context HEX] [--alg N] [--exp N] [--nbf N] [--iv HEX]
+-- osc token --key HEX | --key-file FILE --aud TEXT --id HEX --secret HEX | --secret-file FILE --scope TEXT [--salt HEX] [--context HEX] [--alg N] [--exp N] [--nbf N] [--iv HEX]
 abbrev pub token_app : App
 token_app = fold (λ app option. with_rule app (option_rule option)) (new_app (codes "token")) token_options
 
@@ -73,7 +75,7 @@ abbrev pub AreWords : Option (Text × List Row) → Words → Type 0
 AreWords None words = ⊥
 AreWords (Some entered) (Sim bytes only) =
     (entered.0 ≡ codes "sim") × (bytes ≡ is_set (codes "bytes") entered.1) × IsGiven SpellsClient (value_of option.SimOnly entered.1) only
-AreWords (Some entered) (Token words) = (entered.0 ≡ codes "token") × token.AreTokenWords entered.1 words
+AreWords (Some entered) (Token asked) = (entered.0 ≡ codes "token") × token.AreTokenWords entered.1 asked
 AreWords (Some entered) (Server turns log) =
     (entered.0 ≡ codes "server") × SpellsTurns (value_of option.ServerTurns entered.1) turns × (log ≡ is_set (codes "log") entered.1)
 AreWords (Some entered) (Proxy turns log) =
@@ -91,6 +93,11 @@ HasNothing (Some entered) (option.Client refused) = (entered.0 ≡ codes "client
 HasNothing (Some entered) option.LabTurns = (entered.0 ≡ codes "lab") × ((turns : ℕ) → ¬ IsGiven SpellsNumber (value_of option.LabTurns entered.1) (Some turns))
 HasNothing (Some entered) (option.Token refused) = (entered.0 ≡ codes "token") × token.SaysNothing entered.1 refused
 
+-- the two options of a value of `osc token` that others should not see are both given, or neither is
+abbrev pub HasNotOne : Option (Text × List Row) → HiddenOption → Type 0
+HasNotOne None option = ⊥
+HasNotOne (Some entered) option = (entered.0 ≡ codes "token") × IsNotOne entered.1 option
+
 -- what the words of a command line stand for
 abbrev pub StandFor : List Text → Words → Type 0
 StandFor words read = AreWords (subcommand_of program words) read
@@ -100,10 +107,12 @@ abbrev pub AsksByMethod : Words → Type 0
 AsksByMethod (Client words) = (0 < words.request.code.0) × (words.request.code.0 < 5)
 AsksByMethod words = Unit {0}
 
--- Why they stand for nothing: a fault of theirs, or a wish for help; else the value of an option.
+-- Why they stand for nothing: a fault of theirs, or a wish for help; else the value of an option, or two options for one value.
 abbrev pub HaveFault : List Text → WordsError → Type 0
 HaveFault words (Clap error) = IsAmong (kind_of error) (fault_of program words)
 HaveFault words (Value option) = (fault_of program words ≡ []) × HasNothing (subcommand_of program words) option
+HaveFault words (NotOne option) = (fault_of program words ≡ []) × HasNotOne (subcommand_of program words) option
+HaveFault words (Unread option) = ⊥
 HaveFault words Memory = Unit {0}
 
 -- what clap's error comes to
@@ -115,4 +124,6 @@ told_as other error = Clap error
 abbrev pub IsFaultLine : WordsError → List ℕ → Type 0
 IsFaultLine (Clap error) line = Unit {0}
 IsFaultLine (Value option) line = line ≡ refusal_text option
+IsFaultLine (NotOne option) line = line ≡ not_one_text option
+IsFaultLine (Unread option) line = line ≡ unread_text option
 IsFaultLine Memory line = line ≡ codes "out of memory"

@@ -1,5 +1,7 @@
 pub mod Options
 pub mod Values
+pub mod Sources
+pub mod Filled
 pub mod TokenWords
 pub mod ClientOptions
 pub mod ClientWords

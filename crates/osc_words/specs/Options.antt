@@ -2,14 +2,16 @@
 use Rattle.std.specs.Prelude.{ℕ, Bool, true, false, List, codes, Option, Some}
 use Rattle.clap.specs.Words.{Row, Rule, first_of, new_rule}
 use Rattle.osc_words.specs.declared.token_option.TokenOption.{TokenOption}
-use Rattle.osc_words.specs.declared.token_option.TokenOption.TheVariants.{Key, Audience, Id, Secret, Salt, Context, Algorithm, Scope, Expires, NotBefore, Iv}
+use Rattle.osc_words.specs.declared.token_option.TokenOption.TheVariants.{Key, KeyFile, Audience, Id, Secret, SecretFile, Salt, Context, Algorithm, Scope, Expires, NotBefore, Iv}
 
 -- --key, --aud, ..
 abbrev pub name_of : TokenOption → List ℕ
 name_of Key = codes "key"
+name_of KeyFile = codes "key-file"
 name_of Audience = codes "aud"
 name_of Id = codes "id"
 name_of Secret = codes "secret"
+name_of SecretFile = codes "secret-file"
 name_of Salt = codes "salt"
 name_of Context = codes "context"
 name_of Algorithm = codes "alg"
@@ -18,12 +20,10 @@ name_of Expires = codes "exp"
 name_of NotBefore = codes "nbf"
 name_of Iv = codes "iv"
 
--- there is no token without it
+-- there is no token without it, whatever else is given
 abbrev pub is_required : TokenOption → Bool
-is_required Key = true
 is_required Audience = true
 is_required Id = true
-is_required Secret = true
 is_required Scope = true
 is_required option = false
 
@@ -41,9 +41,11 @@ value_of option rows = first_of (name_of option) rows
 -- what a value has to be
 abbrev pub form_of : TokenOption → List ℕ
 form_of Key = codes "16 bytes in hexadecimal"
+form_of KeyFile = codes "a file of 16 bytes in hexadecimal"
 form_of Audience = codes "a text"
 form_of Id = codes "0 to 64 bytes in hexadecimal"
 form_of Secret = codes "1 to 64 bytes in hexadecimal"
+form_of SecretFile = codes "a file of 1 to 64 bytes in hexadecimal"
 form_of Salt = codes "0 to 64 bytes in hexadecimal"
 form_of Context = codes "0 to 64 bytes in hexadecimal"
 form_of Algorithm = codes "10 or 30"

@@ -1,26 +1,43 @@
 -- What the reading of words comes to, part by part. No public contract rests on this file.
-use Rattle.std.specs.Prelude.{◌≡◌, ◌||◌, Bool, true, false, List, MatchResult, Option, Result, codes}
+use Rattle.std.specs.Prelude.{◌≡◌, ◌||◌, ℕ, Bool, true, false, List, MatchResult, Option, Result, codes, is_some, not}
 use Rattle.std.specs.Option.{option_map_or}
 use Rattle.std.specs.Str.{bytes_eq}
 use Rattle.clap.specs.Words.{Row, Text}
 use Rattle.osc_words.specs.ClientWords as client
-use Rattle.osc_words.specs.Command.{AreWords, HasNothing}
+use Rattle.osc_words.specs.Command.{AreWords, HasNothing, HasNotOne}
+use Rattle.osc_words.specs.Options.{value_of}
+use Rattle.osc_words.specs.Sources.{IsNotOne, file_option_of, option_of}
 use Rattle.osc_words.specs.TokenWords as token
+use Rattle.osc_words.specs.declared.hidden_option.HiddenOption.{HiddenOption}
 use Rattle.osc_words.specs.declared.named_option.NamedOption.{NamedOption}
 use Rattle.osc_words.specs.declared.named_option.NamedOption.TheVariants.{Client, Token}
 use Rattle.osc_words.specs.declared.words.Words.{Words}
 use Rattle.osc_words.specs.declared.words.WordsError.{WordsError}
-use Rattle.osc_words.specs.declared.words.WordsError.TheVariants.{Clap, Value, Memory}
+use Rattle.osc_words.specs.declared.words.WordsError.TheVariants.{Clap, Value, NotOne, Unread, Memory}
 
 -- an option is refused since nothing is such
 abbrev pub IsRefusalOf : {X : Type 0} → NamedOption → (X → Type 0) → WordsError → Type 0
 IsRefusalOf option P (Clap error) = ⊥
 IsRefusalOf {X} option P (Value refused) = (refused ≡ option) × ((x : X) → ¬ P x)
+IsRefusalOf option P (NotOne hidden) = ⊥
+IsRefusalOf option P (Unread hidden) = ⊥
 IsRefusalOf option P Memory = Unit {0}
+
+-- a value that others should not see stands in this file, or in none and is given
+abbrev pub IsInOne : HiddenOption → List Row → Option (List ℕ) → Type 0
+IsInOne option rows file =
+    (value_of (file_option_of option) rows ≡ file) × (is_some (value_of (option_of option) rows) ≡ not (is_some file))
+
+-- both options of it are given, or neither
+abbrev pub IsNotOneOf : HiddenOption → List Row → WordsError → Type 0
+IsNotOneOf option rows (NotOne refused) = (refused ≡ option) × IsNotOne rows option
+IsNotOneOf option rows Memory = Unit {0}
+IsNotOneOf option rows error = ⊥
 
 -- an option of these of `osc token` says nothing
 abbrev pub IsRefusal : List Row → WordsError → Type 0
 IsRefusal rows (Value (Token option)) = token.SaysNothing rows option
+IsRefusal rows (NotOne option) = IsNotOne rows option
 IsRefusal rows Memory = Unit {0}
 IsRefusal rows error = ⊥
 
@@ -33,6 +50,8 @@ IsClientRefusal rows error = ⊥
 abbrev pub IsRefusalIn : Option (Text × List Row) → WordsError → Type 0
 IsRefusalIn entered (Clap error) = ⊥
 IsRefusalIn entered (Value refused) = HasNothing entered refused
+IsRefusalIn entered (NotOne option) = HasNotOne entered option
+IsRefusalIn entered (Unread option) = ⊥
 IsRefusalIn entered Memory = Unit {0}
 
 -- the name of a subcommand of the program

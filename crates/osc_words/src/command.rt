@@ -6,16 +6,16 @@ ghost use Rattle.osc_words.specs.Command as spec;
 ghost use Rattle.osc_words.specs.NamedOptions.{name_of};
 ghost use Rattle.osc_words.specs.Options.{value_rule};
 ghost use Rattle.osc_words.specs.Reading.{IsKnown, IsReadFrom};
+ghost use Rattle.osc_words.specs.declared.hidden_option.HiddenOption.{HiddenOption as AnyHidden};
 ghost use Rattle.osc_words.specs.declared.named_option.NamedOption.{NamedOption as AnyOption};
 ghost use Rattle.osc_words.specs.declared.words.Words.{Words as AnyWords};
 
 use crate::client_option::ClientOption;
 use crate::client_words::client_words;
-use crate::given;
 use crate::named_option::NamedOption;
 use crate::token_option::TokenOption;
-use crate::token_words::token_words;
 use crate::words::{Words, WordsError};
+use crate::{given, token_words};
 use clap::{Arg, ArgAction, ArgMatches, Command, Error};
 use std::alloc::{AllocError, Global};
 
@@ -29,7 +29,7 @@ const LOG_HELP: &str = "Tells of each request that is served or refused, on the 
 /// # Errors
 ///
 /// `Clap` for a fault of the words and for a wish for help or the version, then `Value` for an option whose value is none
-/// that it may have; `Memory` for want of memory.
+/// that it may have, or `NotOne` for a value with both of its options or neither; `Memory` for want of memory.
 pub fn read_words(alloc: Global, words: &[&str]) -> Result<Words, WordsError>
     // What is read is what the words stand for ..
     ensures read { IfOk result (λ read. spec.StandFor (map (λ word. word.now) words.now) read) }
@@ -39,6 +39,8 @@ pub fn read_words(alloc: Global, words: &[&str]) -> Result<Words, WordsError>
         (spec.HaveFault (map (λ word. word.now) words.now)) }
     ensures method { IfOk result spec.AsksByMethod }
     ensures nothing { (option : AnyOption) → result ≡ Err (WordsError.Value option)
+        → (read : AnyWords) → ¬ spec.StandFor (map (λ word. word.now) words.now) read }
+    ensures not_one { (option : AnyHidden) → result ≡ Err (WordsError.NotOne option)
         → (read : AnyWords) → ¬ spec.StandFor (map (λ word. word.now) words.now) read }
 {
     let matches = read_matches(alloc, words)?;
@@ -75,7 +77,7 @@ fn sim_asked(options: &ArgMatches<'_>) -> Result<Words, WordsError>
 fn token_asked(alloc: Global, options: &ArgMatches<'_>) -> Result<Words, WordsError>
     ensures { IsReadFrom (Some (codes "token", rows_of (found_of options.now))) result }
 {
-    Ok(Words::Token(token_words(alloc, options)?))
+    Ok(Words::Token(token_words::token_asked(alloc, options)?))
 }
 
 // What `osc server` asks for.

@@ -7,12 +7,16 @@ ghost use Rattle.osc_words.specs.Options as spec;
 pub enum TokenOption {
     /// `--key`: the key that the token's issuer and the server share.
     Key,
+    /// `--key-file`: the file that the key stands in.
+    KeyFile,
     /// `--aud`: the server that the token is for.
     Audience,
     /// `--id`: the id of the input material.
     Id,
     /// `--secret`: the master secret.
     Secret,
+    /// `--secret-file`: the file that the secret stands in.
+    SecretFile,
     /// `--salt`: the salt that master salts begin with.
     Salt,
     /// `--context`: the id context.
@@ -31,11 +35,13 @@ pub enum TokenOption {
 
 impl TokenOption {
     /// All of them, those first that a token needs.
-    pub(crate) const ALL: [TokenOption; 11] = [
+    pub(crate) const ALL: [TokenOption; 13] = [
         TokenOption::Key,
+        TokenOption::KeyFile,
         TokenOption::Audience,
         TokenOption::Id,
         TokenOption::Secret,
+        TokenOption::SecretFile,
         TokenOption::Scope,
         TokenOption::Salt,
         TokenOption::Context,
@@ -51,9 +57,11 @@ impl TokenOption {
     {
         match self {
             TokenOption::Key => "key",
+            TokenOption::KeyFile => "key-file",
             TokenOption::Audience => "aud",
             TokenOption::Id => "id",
             TokenOption::Secret => "secret",
+            TokenOption::SecretFile => "secret-file",
             TokenOption::Salt => "salt",
             TokenOption::Context => "context",
             TokenOption::Algorithm => "alg",
@@ -64,17 +72,13 @@ impl TokenOption {
         }
     }
 
-    /// Whether there is no token without it.
+    /// Whether there is no token without it, whatever else is given.
     pub fn is_required(self) -> bool
         ensures { result ≡ spec.is_required self }
     {
         matches!(
             self,
-            TokenOption::Key
-                | TokenOption::Audience
-                | TokenOption::Id
-                | TokenOption::Secret
-                | TokenOption::Scope
+            TokenOption::Audience | TokenOption::Id | TokenOption::Scope
         )
     }
 
@@ -84,8 +88,10 @@ impl TokenOption {
     {
         match self {
             TokenOption::Key => "16 bytes in hexadecimal",
+            TokenOption::KeyFile => "a file of 16 bytes in hexadecimal",
             TokenOption::Audience => "a text",
             TokenOption::Secret => "1 to 64 bytes in hexadecimal",
+            TokenOption::SecretFile => "a file of 1 to 64 bytes in hexadecimal",
             TokenOption::Id | TokenOption::Salt | TokenOption::Context => {
                 "0 to 64 bytes in hexadecimal"
             }
@@ -102,6 +108,7 @@ impl TokenOption {
     pub(crate) fn value_name(self) -> &'static str {
         match self {
             TokenOption::Audience | TokenOption::Scope => "TEXT",
+            TokenOption::KeyFile | TokenOption::SecretFile => "FILE",
             TokenOption::Algorithm | TokenOption::Expires | TokenOption::NotBefore => "N",
             _ => "HEX",
         }
@@ -111,9 +118,13 @@ impl TokenOption {
     pub(crate) fn help(self) -> &'static str {
         match self {
             TokenOption::Key => "The key that the issuer and the server share: 16 bytes",
+            TokenOption::KeyFile =>
+                "A file that the key stands in, in place of --key; unlike that, no other user sees it",
             TokenOption::Audience => "The server that the token is for",
             TokenOption::Id => "The id of the input material: 0 to 64 bytes",
             TokenOption::Secret => "The master secret: 1 to 64 bytes",
+            TokenOption::SecretFile =>
+                "A file that the secret stands in, in place of --secret; unlike that, no other user sees it",
             TokenOption::Salt => "The salt that master salts begin with: 0 to 64 bytes",
             TokenOption::Context => "The id context: 0 to 64 bytes",
             TokenOption::Algorithm =>

@@ -4,12 +4,16 @@ ghost use Rattle.clap.specs.Words.{found_of, rows_of};
 ghost use Rattle.osc_model.specs.Algorithm.{algorithm_number};
 ghost use Rattle.osc_script.specs.Values.{SpellsHexWithin, SpellsNumber, SpellsScope};
 ghost use Rattle.osc_words.specs.Options.{value_of};
-ghost use Rattle.osc_words.specs.Reading.{IsRefusal, IsRefusalOf};
+ghost use Rattle.osc_words.specs.Reading.{IsInOne, IsNotOneOf, IsRefusal, IsRefusalOf};
+ghost use Rattle.osc_words.specs.Sources.{IsSource};
+ghost use Rattle.osc_words.specs.Filled.{with_secret};
 ghost use Rattle.osc_words.specs.TokenWords as spec;
 ghost use Rattle.osc_words.specs.Values.{IsGiven};
 
 use crate::given;
+use crate::hidden_option::HiddenOption;
 use crate::named_option::NamedOption;
+use crate::source::{FileName, Source};
 use crate::token_option::TokenOption;
 use crate::words::WordsError;
 use clap::ArgMatches;
@@ -22,7 +26,33 @@ use std::fmt;
 // The most bytes that a part of the input material has.
 const LONGEST: usize = 64;
 
-/// What `osc token` is asked for.
+/// What `osc token` is asked for, before the files are read that the key and the secret may stand in.
+#[derive(PartialEq, Eq, Drop)]
+pub struct TokenAsked {
+    /// The key that the token's issuer and the server share.
+    pub key: Source<[u8; 16]>,
+    /// The master secret.
+    pub secret: Source<Bytes>,
+    /// What the token claims beside the secret.
+    pub claims: OpenClaims,
+    /// The IV under which the token is sealed; one is drawn where there is none.
+    pub iv: Option<[u8; 13]>,
+}
+
+/// What a token claims, but for the secret.
+#[derive(PartialEq, Eq, Drop)]
+pub struct OpenClaims {
+    pub audience: Audience,
+    pub not_before: Option<u64>,
+    pub expires: Option<u64>,
+    pub id: Bytes,
+    pub salt: Bytes,
+    pub id_context: Option<Bytes>,
+    pub alg: Algorithm,
+    pub scope: Bytes,
+}
+
+/// The token to be printed.
 #[derive(PartialEq, Eq, Drop)]
 pub struct TokenWords {
     /// The key that the token's issuer and the server share.
@@ -33,6 +63,13 @@ pub struct TokenWords {
     pub iv: Option<[u8; 13]>,
 }
 
+// The key and the secret aren't printed.
+impl fmt::Debug for TokenAsked {
+    fn fmt<W: fmt::Write>(&self, f: &mut fmt::Formatter<W>) -> fmt::Result {
+        f.write_str("TokenAsked")
+    }
+}
+
 // The key isn't printed.
 impl fmt::Debug for TokenWords {
     fn fmt<W: fmt::Write>(&self, f: &mut fmt::Formatter<W>) -> fmt::Result {
@@ -40,39 +77,95 @@ impl fmt::Debug for TokenWords {
     }
 }
 
+impl OpenClaims {
+    /// All the claims, with this secret.
+    pub fn with(self, secret: Bytes) -> Claims
+        ensures { result ≡ with_secret self secret }
+    {
+        Claims {
+            audience: self.audience,
+            not_before: self.not_before,
+            expires: self.expires,
+            material: InputMaterial {
+                id: self.id,
+                secret,
+                salt: self.salt,
+                id_context: self.id_context,
+                alg: self.alg,
+            },
+            scope: self.scope,
+        }
+    }
+}
+
 /// What the options say of a token.
-pub(crate) fn token_words(alloc: Global, options: &ArgMatches<'_>) -> Result<TokenWords, WordsError>
+pub(crate) fn token_asked(alloc: Global, options: &ArgMatches<'_>) -> Result<TokenAsked, WordsError>
     ensures { MatchResult result (spec.AreTokenWords (rows_of (found_of options.now))) (IsRefusal (rows_of (found_of options.now))) }
 {
-    Ok(TokenWords {
-        key: required_array(options, TokenOption::Key)?,
+    Ok(TokenAsked {
+        key: key(alloc, options)?,
+        secret: secret(alloc, options)?,
         iv: array(options, TokenOption::Iv)?,
         claims: claims(alloc, options)?,
     })
 }
 
-fn claims(alloc: Global, options: &ArgMatches<'_>) -> Result<Claims, WordsError>
+fn claims(alloc: Global, options: &ArgMatches<'_>) -> Result<OpenClaims, WordsError>
     ensures { MatchResult result (spec.AreClaims (rows_of (found_of options.now))) (IsRefusal (rows_of (found_of options.now))) }
 {
-    Ok(Claims {
+    Ok(OpenClaims {
         audience: audience(alloc, options)?,
         not_before: number(options, TokenOption::NotBefore)?,
         expires: number(options, TokenOption::Expires)?,
-        material: material(alloc, options)?,
+        id: required_bytes(alloc, options, TokenOption::Id, 0)?,
+        salt: salt(alloc, options)?,
+        id_context: bytes(alloc, options, TokenOption::Context, 0)?,
+        alg: algorithm(options)?,
         scope: scope(alloc, options)?,
     })
 }
 
-fn material(alloc: Global, options: &ArgMatches<'_>) -> Result<InputMaterial, WordsError>
-    ensures { MatchResult result (spec.AreMaterial (rows_of (found_of options.now))) (IsRefusal (rows_of (found_of options.now))) }
+// ---- what is given, or stands in a file
+
+// The key, or the file that it stands in.
+fn key(alloc: Global, options: &ArgMatches<'_>) -> Result<Source<[u8; 16]>, WordsError>
+    ensures { MatchResult result
+        (IsSource (SpellsHexWithin 16 16) HiddenOption.Key (rows_of (found_of options.now)))
+        (IsRefusal (rows_of (found_of options.now))) }
 {
-    Ok(InputMaterial {
-        id: required_bytes(alloc, options, TokenOption::Id, 0)?,
-        secret: required_bytes(alloc, options, TokenOption::Secret, 1)?,
-        salt: salt(alloc, options)?,
-        id_context: bytes(alloc, options, TokenOption::Context, 0)?,
-        alg: algorithm(options)?,
-    })
+    match name_of_file(alloc, options, HiddenOption::Key)? {
+        Some(name) => Ok(Source::InFile(name)),
+        None => Ok(Source::Given(required_array(options, TokenOption::Key)?)),
+    }
+}
+
+// The secret likewise.
+fn secret(alloc: Global, options: &ArgMatches<'_>) -> Result<Source<Bytes>, WordsError>
+    ensures { MatchResult result
+        (IsSource (SpellsHexWithin 1 64) HiddenOption.Secret (rows_of (found_of options.now)))
+        (IsRefusal (rows_of (found_of options.now))) }
+{
+    match name_of_file(alloc, options, HiddenOption::Secret)? {
+        Some(name) => Ok(Source::InFile(name)),
+        None => Ok(Source::Given(required_bytes(alloc, options, TokenOption::Secret, 1)?)),
+    }
+}
+
+// The file that the value stands in, or none where it is given; it is one of the two.
+fn name_of_file(
+    alloc: Global,
+    options: &ArgMatches<'_>,
+    option: HiddenOption,
+) -> Result<Option<FileName>, WordsError>
+    ensures { MatchResult result (IsInOne option (rows_of (found_of options.now))) (IsNotOneOf option (rows_of (found_of options.now))) }
+{
+    let value = given::text(options, NamedOption::Token(option.option()));
+    let file = given::text(options, NamedOption::Token(option.file_option()));
+    match (value, file) {
+        (Some(_), None) => Ok(None),
+        (None, Some(name)) => Ok(Some(FileName::new(alloc, name)?)),
+        (Some(_), Some(_)) | (None, None) => Err(WordsError::NotOne(option)),
+    }
 }
 
 // ---- one option

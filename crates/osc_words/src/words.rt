@@ -5,8 +5,9 @@ ghost use Rattle.osc_words.specs.Command as spec;
 ghost use Rattle.osc_words.specs.declared.words.WordsError.TheVariants as words_error;
 
 use crate::client_words::ClientWords;
+use crate::hidden_option::HiddenOption;
 use crate::named_option::NamedOption;
-use crate::token_words::TokenWords;
+use crate::token_words::TokenAsked;
 use clap::error::ErrorKind;
 use osc_script::ClientName;
 use std::alloc::{AllocError, Global};
@@ -21,7 +22,7 @@ pub enum Words {
         only: Option<ClientName>,
     },
     /// `osc token`: print a token.
-    Token(TokenWords),
+    Token(TokenAsked),
     /// `osc server [--turns N] [--log]`: run a server for so many turns, and tell of each where `log` says so. Where no turns are
     /// given, there are `u64::MAX`.
     Server {
@@ -48,6 +49,10 @@ pub enum WordsError {
     Clap(clap::Error),
     /// The value of this option is none that it may have.
     Value(NamedOption),
+    /// A value is both given and said to stand in a file, or neither.
+    NotOne(HiddenOption),
+    /// The file that this value is to stand in can't be read.
+    Unread(HiddenOption),
     /// There was no memory.
     Memory,
 }
@@ -78,6 +83,8 @@ pub fn fault_line(alloc: Global, error: &WordsError) -> Result<String, AllocErro
     match error {
         WordsError::Clap(error) => told(alloc, error.to_string(alloc)?.as_str()),
         WordsError::Value(option) => option.refusal(alloc),
+        WordsError::NotOne(option) => option.not_one(alloc),
+        WordsError::Unread(option) => option.unread(alloc),
         WordsError::Memory => "out of memory".to_string(alloc),
     }
 }

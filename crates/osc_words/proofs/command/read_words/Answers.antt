@@ -1,8 +1,9 @@
 use Rattle.std.proofs.Common.{map, subst, sym}
 use Rattle.clap.specs.Words.{subcommand_rows_of}
+use Rattle.osc_words.specs.Command.{AreWords}
 use Rattle.osc_words.specs.Reading.{IsKnown}
 use Rattle.osc_words.proofs.Entered.{words_known}
-use Rattle.osc_words.proofs.Stand.{asked_by_methods}
+use Rattle.osc_words.proofs.Stand.{asked_by_methods, stand_for_nothing}
 use Rattle.osc_words.proofs.command.read_words.Goals as goal
 
 pub words_in-requires : goal.words_in-requires
@@ -10,3 +11,8 @@ words_in-requires c = subst IsKnown (sym c.in_ok-matches.ensures.entered) (words
 
 pub returns-clause-method : goal.returns-clause-method
 returns-clause-method c = asked_by_methods (subcommand_rows_of c.in_ok-matches.matches) c.words_in.result c.words_in.ensures
+
+pub returns-clause-not_one : goal.returns-clause-not_one
+returns-clause-not_one c = λ option refused read stands.
+    stand_for_nothing (subcommand_rows_of c.in_ok-matches.matches) c.words_in.result option c.words_in.ensures refused read
+    (subst (λ entered. AreWords entered read) (sym c.in_ok-matches.ensures.entered) stands)

@@ -1,0 +1,229 @@
+//! `osc token` with a key and a secret that stand in files.
+use crate::broken::BrokenReader;
+use crate::tokens::{TOKEN_LINE, given_words, run_words};
+use osc_programs::{Ended, ended_by, filled, token_warning};
+use osc_words::{Source, TokenAsked, Words, WordsError, fault_line, read_words};
+use std::alloc::{AllocError, Global};
+use std::test::Fail;
+
+// The words of the token that others computed, whose key and secret stand in files.
+const IN_FILES: [&str; 14] = [
+    "osc",
+    "token",
+    "--key-file",
+    "key",
+    "--aud",
+    "s",
+    "--id",
+    "01",
+    "--secret-file",
+    "secret",
+    "--scope",
+    "/log:GET+POST",
+    "--iv",
+    "00000000000000000000000001",
+];
+
+const KEY: &[u8] = b"404142434445464748494a4b4c4d4e4f";
+
+const SECRET: &[u8] = b"00000000000000000000000000000001";
+
+fn asked(alloc: Global) -> Option<TokenAsked> {
+    match read_words(alloc, &IN_FILES) {
+        Ok(Words::Token(asked)) => Some(asked),
+        _ => None,
+    }
+}
+
+// What the files are named.
+fn names(asked: &TokenAsked) -> bool {
+    matches!(&asked.key, Source::InFile(name) if name.as_str() == "key")
+        && matches!(&asked.secret, Source::InFile(name) if name.as_str() == "secret")
+}
+
+#[test]
+fn files_are_named(rt: HostRuntime) {
+    assert!(rt; asked(rt.alloc()).is_some_and(|asked| names(&asked)));
+}
+
+// How `osc token` ends where the files hold this, and what is written on the standard output or told.
+fn run(
+    alloc: Global,
+    key_file: Option<&[u8]>,
+    secret_file: Option<&[u8]>,
+) -> Result<(Ended, Vec<u8>), AllocError> {
+    let Some(asked) = asked(alloc) else {
+        return Ok((Ended::BadLine(0), Vec::new(alloc)));
+    };
+    match filled(alloc, asked, key_file, secret_file) {
+        Ok(words) => {
+            let mut written = Vec::new(alloc);
+            let ended = run_words(alloc, &words, &mut written);
+            Ok((ended, written))
+        }
+        Err(error) => refused(alloc, &error),
+    }
+}
+
+fn refused(alloc: Global, error: &WordsError) -> Result<(Ended, Vec<u8>), AllocError> {
+    let line = fault_line(alloc, error)?;
+    Ok((ended_by(error), Vec::from_slice(alloc, line.as_bytes())?))
+}
+
+// Whether it ends so, and writes or tells this.
+fn ends(
+    alloc: Global,
+    key_file: Option<&[u8]>,
+    secret_file: Option<&[u8]>,
+    ended: Ended,
+    line: &str,
+) -> Result<bool, AllocError> {
+    let (found, told) = run(alloc, key_file, secret_file)?;
+    Ok(found == ended && told.as_slice() == line.as_bytes())
+}
+
+// The hexadecimal with these bytes behind it.
+fn with_end(alloc: Global, text: &[u8], end: &[u8]) -> Result<Vec<u8>, AllocError> {
+    let mut bytes = Vec::from_slice(alloc, text)?;
+    bytes.extend_from_slice(end)?;
+    Ok(bytes)
+}
+
+#[test]
+fn a_line_may_end_what_a_file_holds(rt: HostRuntime) -> Result<(), Fail> {
+    for end in [b"".as_slice(), b"\n".as_slice(), b"\r\n".as_slice()] {
+        let key = with_end(rt.alloc(), KEY, end)?;
+        let secret = with_end(rt.alloc(), SECRET, end)?;
+        assert!(rt;
+            ends(
+                rt.alloc(),
+                Some(&key),
+                Some(&secret),
+                Ended::Done,
+                TOKEN_LINE
+            )?
+        );
+    }
+    Ok(())
+}
+
+// What may not stand behind the hexadecimal, or in its place.
+const BAD_ENDS: [&[u8]; 5] = [b"\n\n", b"\r", b"\n\r", b" \n", b"\xff"];
+
+#[test]
+fn nothing_else_may_stand_in_a_file(rt: HostRuntime) -> Result<(), Fail> {
+    for end in BAD_ENDS {
+        let key = with_end(rt.alloc(), KEY, end)?;
+        assert!(rt; is_bad_key(rt.alloc(), &key)?);
+        let secret = with_end(rt.alloc(), SECRET, end)?;
+        assert!(rt; is_bad_secret(rt.alloc(), &secret)?);
+    }
+    for text in [b"".as_slice(), b"\n".as_slice(), b"4".as_slice()] {
+        assert!(rt; is_bad_key(rt.alloc(), text)?);
+        assert!(rt; is_bad_secret(rt.alloc(), text)?);
+    }
+    assert!(rt; is_bad_key(rt.alloc(), b"40")?);
+    Ok(())
+}
+
+fn is_bad_key(alloc: Global, key: &[u8]) -> Result<bool, AllocError> {
+    ends(
+        alloc,
+        Some(key),
+        Some(SECRET),
+        Ended::BadCommandLine,
+        "error: --key-file is not a file of 16 bytes in hexadecimal",
+    )
+}
+
+fn is_bad_secret(alloc: Global, secret: &[u8]) -> Result<bool, AllocError> {
+    ends(
+        alloc,
+        Some(KEY),
+        Some(secret),
+        Ended::BadCommandLine,
+        "error: --secret-file is not a file of 1 to 64 bytes in hexadecimal",
+    )
+}
+
+#[test]
+fn files_that_are_not_read_fail(rt: HostRuntime) -> Result<(), Fail> {
+    assert!(rt;
+        ends(
+            rt.alloc(),
+            None,
+            None,
+            Ended::Failed,
+            "error: the file of --key-file can't be read"
+        )?
+    );
+    assert!(rt;
+        ends(
+            rt.alloc(),
+            Some(KEY),
+            None,
+            Ended::Failed,
+            "error: the file of --secret-file can't be read"
+        )?
+    );
+    Ok(())
+}
+
+// How a token ends whose secret's file breaks off.
+fn broken(alloc: Global) -> Option<Ended> {
+    let secret_file = BrokenReader { bytes: SECRET };
+    match filled(alloc, asked(alloc)?, Some(KEY), Some(secret_file)) {
+        Ok(_) => None,
+        Err(error) => Some(ended_by(&error)),
+    }
+}
+
+#[test]
+fn a_file_that_breaks_off_fails(rt: HostRuntime) {
+    assert_eq!(rt; broken(rt.alloc()), Some(Ended::Failed));
+}
+
+// ---- tokens that never expire
+
+const FOREVER: [&str; 12] = [
+    "osc",
+    "token",
+    "--key",
+    "404142434445464748494a4b4c4d4e4f",
+    "--aud",
+    "s",
+    "--id",
+    "01",
+    "--secret",
+    "01",
+    "--scope",
+    "/log:GET",
+];
+
+const FOR_A_TIME: [&str; 14] = [
+    "osc",
+    "token",
+    "--key",
+    "404142434445464748494a4b4c4d4e4f",
+    "--aud",
+    "s",
+    "--id",
+    "01",
+    "--secret",
+    "01",
+    "--scope",
+    "/log:GET",
+    "--exp",
+    "0",
+];
+
+// Whether there is a warning of a token.
+fn warns(alloc: Global, words: &[&str]) -> Option<bool> {
+    Some(token_warning(&given_words(alloc, words)?).is_some())
+}
+
+#[test]
+fn a_token_without_an_end_is_warned_of(rt: HostRuntime) {
+    assert_eq!(rt; warns(rt.alloc(), &FOREVER), Some(true));
+    assert_eq!(rt; warns(rt.alloc(), &FOR_A_TIME), Some(false));
+}
