@@ -5,7 +5,7 @@ use Rattle.osc_settings.specs.Document.{IsPortAt, ListedAt, MaySpellAt, SpelledA
 use Rattle.osc_settings.specs.Faults.{IsArrayAt, IsClientFault, IsFaultAt, IsFaultOfProxy, IsFirstFault, IsItemFault, IsKeyFault, IsOriginFault, IsOther, IsServerFault, IsTargetFault, IsTextAt, IsWrongAt}
 use Rattle.osc_settings.specs.Keys.{name_of}
 use Rattle.osc_settings.specs.Settings.{AreClientSettings, AreProxySettings, AreServerSettings, IsOrigin, IsPathText, IsTarget, IsTargetTable, client_keys, proxy_keys, server_keys, target_keys}
-use Rattle.osc_settings.specs.Values.{IsAddress, IsHost, SpellsBytes, SpellsHex}
+use Rattle.osc_settings.specs.Values.{IsAddress, IsHost, IsOpenAddress, SpellsBytes, SpellsHex}
 use Rattle.osc_settings.specs.declared.client.ClientSettings.{ClientSettings}
 use Rattle.osc_settings.specs.declared.error.KeyFault.{KeyFault}
 use Rattle.osc_settings.specs.declared.error.SettingsError.{SettingsError}
@@ -133,7 +133,7 @@ client_fault : (document : Members) (fault : KeyFault) (s : ClientSettings) → 
 client_fault document fault s h a = elim h [
   | inl other ↦ no_other client_keys document fault other a.keys
   | inr only ↦ elim only.1 [
-    | inl bind ↦ no_spelled key.Bind IsAddress document fault s.bind bind a.bind
+    | inl bind ↦ no_spelled key.Bind IsOpenAddress document fault s.bind bind a.bind
     | inr bound ↦ elim bound.1 [
       | inl peer ↦ no_spelled key.Peer IsAddress document fault s.peer peer a.peer
       | inr known ↦ elim known.1 [

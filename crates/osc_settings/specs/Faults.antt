@@ -7,7 +7,7 @@ use Rattle.osc_model.specs.declared.node.Peer.{Peer}
 use Rattle.osc_settings.specs.Document.{other_key, IsLeftOut, SpelledAt, IsAlgorithmAt, IsPortAt, ListedAt}
 use Rattle.osc_settings.specs.Keys.{name_of}
 use Rattle.osc_settings.specs.Settings.{server_keys, proxy_keys, target_keys, client_keys, IsOrigin, IsPathText, IsTargetTable}
-use Rattle.osc_settings.specs.Values.{IsAddress, IsHost, SpellsHex, SpellsBytes}
+use Rattle.osc_settings.specs.Values.{IsAddress, IsHost, IsOpenAddress, SpellsHex, SpellsBytes}
 use Rattle.osc_settings.specs.declared.error.KeyFault.{KeyFault}
 use Rattle.osc_settings.specs.declared.error.KeyFault.TheVariants.{Unknown, Missing, Wrong}
 use Rattle.osc_settings.specs.declared.error.SettingsError.{SettingsError}
@@ -115,7 +115,7 @@ OriginThen document Later fault = IsOriginFault document fault ⊎ (((origin : O
 abbrev pub IsClientFault : Members → KeyFault → Type 0
 IsClientFault document =
     OnlyThen client_keys document
-    (KeyThen key.Bind (λ key. SpelledAt key IsAddress) document
+    (KeyThen key.Bind (λ key. SpelledAt key IsOpenAddress) document
     (KeyThen key.Peer (λ key. SpelledAt key IsAddress) document
     (OriginThen document
     (KeyThen key.Token (λ key. SpelledAt key SpellsHex) document

@@ -5,7 +5,7 @@ use Rattle.osc_model.specs.Path.{IsPath}
 use Rattle.osc_model.specs.declared.algorithm.Algorithm.{Algorithm}
 use Rattle.osc_model.specs.declared.algorithm.Algorithm.TheVariants.{EightByteTag}
 use Rattle.osc_settings.specs.Document.{other_key, IsLeftOut, SpelledAt, MaySpellAt, IsAlgorithmAt, IsPortAt, ListedAt}
-use Rattle.osc_settings.specs.Values.{IsAddress, IsHost, SpellsHex, SpellsBytes}
+use Rattle.osc_settings.specs.Values.{IsAddress, IsHost, IsOpenAddress, SpellsHex, SpellsBytes}
 use Rattle.osc_settings.specs.declared.client.ClientSettings.{ClientSettings}
 use Rattle.osc_settings.specs.declared.key.SettingsKey.{SettingsKey}
 use Rattle.osc_settings.specs.declared.key.SettingsKey.TheVariants as key
@@ -76,7 +76,7 @@ IsClientAlgorithm document algorithm = IsAlgorithmAt (codes "alg") document algo
 
 pub record AreClientSettings (document : Members) (settings : ClientSettings) : Type 0 where
   pub keys : other_key client_keys document ≡ None
-  pub bind : SpelledAt (codes "bind") IsAddress document settings.bind
+  pub bind : SpelledAt (codes "bind") IsOpenAddress document settings.bind
   pub peer : SpelledAt (codes "peer") IsAddress document settings.peer
   pub origin : IsOrigin document settings.origin
   pub token : SpelledAt (codes "token") SpellsHex document settings.token

@@ -10,12 +10,21 @@ use Rattle.osc_model.specs.declared.node.Peer.{Peer}
 abbrev pub IsPortNumber : ℕ → Type 0
 IsPortNumber port = (1 ≤ port) × (port ≤ 65535)
 
--- `A.B.C.D:PORT`: decimal numbers without leading zeros, A to D at most 255, PORT from 1 to 65535
-pub record IsAddress (text : List ℕ) (peer : Peer) : Type 0 where
+-- `A.B.C.D:PORT`: decimal numbers without leading zeros, A to D at most 255, PORT from `least` to 65535
+pub record IsAddressFrom (least : ℕ) (text : List ℕ) (peer : Peer) : Type 0 where
   pub dotted : List ℕ
   pub address : IsDotted dotted peer.address
-  pub port : IsPortNumber peer.port
+  pub at_least : least ≤ peer.port
+  pub at_most : peer.port ≤ 65535
   pub spelled : text ≡ dotted ++ codes ":" ++ decimal peer.port
+
+-- an address that can be sent to
+abbrev pub IsAddress : List ℕ → Peer → Type 0
+IsAddress = IsAddressFrom 1
+
+-- an address for which the system may pick the port: it does where the port is 0
+abbrev pub IsOpenAddress : List ℕ → Peer → Type 0
+IsOpenAddress = IsAddressFrom 0
 
 -- pairs of hexadecimal digits in either case
 abbrev pub SpellsHex : List ℕ → List ℕ → Type 0

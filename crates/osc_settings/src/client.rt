@@ -40,7 +40,7 @@ const LONGEST: usize = 64;
 /// What a client is told.
 #[derive(Drop)]
 pub struct ClientSettings {
-    /// The address and the port that it receives on: `bind`, a text `A.B.C.D:PORT`.
+    /// The address and the port that it receives on: `bind`, a text `A.B.C.D:PORT`. The system picks the number of a port of 0.
     pub bind: Peer,
     /// To whom it sends, the server or a proxy: `peer`, a text `A.B.C.D:PORT`.
     pub peer: Peer,
@@ -87,8 +87,8 @@ fn settings_in(alloc: Global, table: &Table) -> Result<ClientSettings, SettingsE
 {
     only(alloc, &KEYS, table)?;
     Ok(ClientSettings {
-        bind: address_at(alloc, SettingsKey::Bind, table)?,
-        peer: address_at(alloc, SettingsKey::Peer, table)?,
+        bind: address_at(alloc, SettingsKey::Bind, table, 0)?,
+        peer: address_at(alloc, SettingsKey::Peer, table, 1)?,
         origin: origin(alloc, table)?,
         token: bytes_at(alloc, SettingsKey::Token, table)?,
         secret: bytes_within_at(alloc, SettingsKey::Secret, table, 1, LONGEST)?,

@@ -12,7 +12,7 @@ ghost use Rattle.osc_settings.specs.Faults.{IsFaultAt, IsKeyFault, IsOther};
 ghost use Rattle.osc_settings.specs.Keys.{name_of};
 ghost use Rattle.osc_settings.specs.Reading as reading;
 ghost use Rattle.osc_settings.specs.Reading.{IsNoDocument, text_at};
-ghost use Rattle.osc_settings.specs.Values.{IsAddress, IsHost, SpellsBytes, SpellsHex};
+ghost use Rattle.osc_settings.specs.Values.{IsAddressFrom, IsHost, SpellsBytes, SpellsHex};
 
 use crate::error::{KeyFault, SettingsError, ValueError};
 use crate::key::SettingsKey;
@@ -139,11 +139,12 @@ pub(crate) fn address_at(
     alloc: Global,
     key: SettingsKey,
     table: &Table,
+    least: u16,
 ) -> Result<Peer, SettingsError>
-    ensures { MatchResult result (SpelledAt (name_of key) IsAddress (table_view table.now)) (IsKeyFault (IsFaultAt key (λ name. SpelledAt name IsAddress) (table_view table.now))) }
+    ensures { MatchResult result (SpelledAt (name_of key) (IsAddressFrom least) (table_view table.now)) (IsKeyFault (IsFaultAt key (λ name. SpelledAt name (IsAddressFrom least)) (table_view table.now))) }
 {
     match text_at(key, table) {
-        Some(text) => read_at(key, values::address(alloc, text)),
+        Some(text) => read_at(key, values::address(alloc, text, least)),
         None => Err(untyped_at(key, table)),
     }
 }

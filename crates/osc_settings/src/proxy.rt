@@ -61,7 +61,7 @@ fn settings_in(alloc: Global, table: &Table) -> Result<ProxySettings, SettingsEr
 {
     only(alloc, &KEYS, table)?;
     Ok(ProxySettings {
-        bind: address_at(alloc, SettingsKey::Bind, table)?,
+        bind: address_at(alloc, SettingsKey::Bind, table, 1)?,
         targets: all_targets(alloc, table)?,
     })
 }
@@ -115,7 +115,7 @@ fn target_in(alloc: Global, table: &Table) -> Result<TargetSetting, SettingsErro
     only(alloc, &TARGET_KEYS, table)?;
     Ok(TargetSetting {
         port: port_at(SettingsKey::Port, table)?,
-        to: address_at(alloc, SettingsKey::To, table)?,
+        to: address_at(alloc, SettingsKey::To, table, 1)?,
         host: host_at(alloc, SettingsKey::Host, table)?,
     })
 }

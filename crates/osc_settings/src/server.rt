@@ -67,7 +67,7 @@ fn settings_in(alloc: Global, table: &Table) -> Result<ServerSettings, SettingsE
 {
     only(alloc, &KEYS, table)?;
     Ok(ServerSettings {
-        bind: address_at(alloc, SettingsKey::Bind, table)?,
+        bind: address_at(alloc, SettingsKey::Bind, table, 1)?,
         key: array_at(SettingsKey::Key, table)?,
         audience: audience(alloc, table)?,
         open: open_paths(alloc, table)?,

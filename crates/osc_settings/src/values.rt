@@ -3,7 +3,7 @@ ghost use Rattle.std.specs.Prelude.{◌≡◌, ◌↔◌, IfOk, IsTrue, MatchRes
 ghost use Rattle.std.specs.Net.Grammar.{IsSocketV4Text};
 ghost use Rattle.std.specs.Net.Text.{socket_v4_text};
 ghost use Rattle.osc_settings.specs.Reading.{IsRefusal, SpellsPath};
-ghost use Rattle.osc_settings.specs.Values.{IsAddress, IsAlgorithm, IsHost, IsPort, SpellsBytes, SpellsHex};
+ghost use Rattle.osc_settings.specs.Values.{IsAddressFrom, IsAlgorithm, IsHost, IsPort, SpellsBytes, SpellsHex};
 
 use crate::error::ValueError;
 use hex::{FromHex, FromHexError};
@@ -14,22 +14,27 @@ use std::net::SocketAddrV4;
 /// The most bytes of a Uri-Host option (RFC 7252 section 5.10, table 4).
 const LONGEST_HOST: usize = 255;
 
-/// An address and a port, `A.B.C.D:PORT`.
-pub(crate) fn address(alloc: Global, text: &str) -> Result<Peer, ValueError>
-    ensures { MatchResult result (IsAddress text.now) (IsRefusal (IsAddress text.now)) }
+/// An address and a port from `least` on, `A.B.C.D:PORT`.
+pub(crate) fn address(alloc: Global, text: &str, least: u16) -> Result<Peer, ValueError>
+    ensures { MatchResult result (IsAddressFrom least text.now) (IsRefusal (IsAddressFrom least text.now)) }
 {
     match SocketAddrV4::parse_ascii(text.as_bytes()) {
-        Ok(address) => plain_address(alloc, address, text),
+        Ok(address) => plain_address(alloc, address, text, least),
         Err(_) => Err(ValueError::Bad),
     }
 }
 
-// The address, where it has a port and the text is as it is printed: std lets zeros lead a port.
-fn plain_address(alloc: Global, address: SocketAddrV4, text: &str) -> Result<Peer, ValueError>
+// The address, where it has such a port and the text is as it is printed: std lets zeros lead a port.
+fn plain_address(
+    alloc: Global,
+    address: SocketAddrV4,
+    text: &str,
+    least: u16,
+) -> Result<Peer, ValueError>
     requires { IsSocketV4Text text.now address }
-    ensures { MatchResult result (IsAddress text.now) (IsRefusal (IsAddress text.now)) }
+    ensures { MatchResult result (IsAddressFrom least text.now) (IsRefusal (IsAddressFrom least text.now)) }
 {
-    if address.port() == 0 {
+    if address.port() < least {
         return Err(ValueError::Bad);
     }
     if is_printed(alloc, address, text)? {

@@ -167,7 +167,7 @@ fn is_bad_for_a_proxy(alloc: Global, first: &str, rest: &str) -> Result<bool, Al
     Ok(is_bad(read_proxy_settings(alloc, text.as_str())))
 }
 
-const TARGETS: [&str; 15] = [
+const TARGETS: [&str; 16] = [
     "",
     "target = 't'",
     "target = ['t']",
@@ -181,6 +181,7 @@ const TARGETS: [&str; 15] = [
     "target = [{ host = 't', port = 65536, to = '127.0.0.1:1' }]",
     "target = [{ host = 't', port = '1', to = '127.0.0.1:1' }]",
     "target = [{ host = 't', port = 1, to = '127.0.0.1' }]",
+    "target = [{ host = 't', port = 1, to = '127.0.0.1:0' }]",
     "target = [{ host = 't', port = 1, to = '127.0.0.1:1', key = '' }]",
     "target = []\nkey = ''",
 ];
@@ -194,6 +195,7 @@ fn bad_targets(rt: HostRuntime) -> Result<(), Fail> {
         );
     }
     assert!(rt; is_bad_for_a_proxy(rt.alloc(), "", "target = []")?);
+    assert!(rt; is_bad_for_a_proxy(rt.alloc(), "bind = '127.0.0.1:0'", "target = []")?);
     assert!(rt; !is_bad_for_a_proxy(rt.alloc(), "bind = '127.0.0.1:1'", "target = []")?);
     Ok(())
 }
@@ -255,6 +257,26 @@ const BIND_AND_PEER: &str = "bind = '127.0.0.1:1'\npeer = '127.0.0.1:2'";
 fn client_of(alloc: Global, lines: &str) -> Result<ClientSettings, SettingsError> {
     let text = format!(in alloc; "{BIND_AND_PEER}\n{lines}")?;
     read_client_settings(alloc, text.as_str())
+}
+
+// The same with these addresses.
+fn client_at(alloc: Global, bind: &str, peer: &str) -> Result<ClientSettings, SettingsError> {
+    let text = format!(in alloc; "bind = '{bind}'\npeer = '{peer}'\ntoken = ''\nsecret = '01'")?;
+    read_client_settings(alloc, text.as_str())
+}
+
+#[test]
+fn a_client_at_any_port(rt: HostRuntime) -> Result<(), Fail> {
+    let settings = client_at(rt.alloc(), "127.0.0.1:0", "127.0.0.1:2")?;
+    assert!(rt; is_local(settings.bind, 0));
+    for (bind, peer) in [
+        ("127.0.0.1:00", "127.0.0.1:2"),
+        ("127.0.0.1:", "127.0.0.1:2"),
+        ("127.0.0.1:1", "127.0.0.1:0"),
+    ] {
+        assert!(rt; is_bad(client_at(rt.alloc(), bind, peer)), "{bind} {peer}");
+    }
+    Ok(())
 }
 
 #[test]

@@ -4,7 +4,7 @@ use Rattle.toml.specs.View.{table_view}
 use Rattle.osc_settings.specs.Document.{IsAlgorithmAt, SpelledAt}
 use Rattle.osc_settings.specs.Faults.{IsClientFault, IsFaultAt, IsOriginFault, IsOther, IsWrongAt}
 use Rattle.osc_settings.specs.Settings.{client_keys}
-use Rattle.osc_settings.specs.Values.{IsAddress, SpellsBytes, SpellsHex}
+use Rattle.osc_settings.specs.Values.{IsAddress, IsOpenAddress, SpellsBytes, SpellsHex}
 use Rattle.osc_settings.specs.declared.key.SettingsKey.TheVariants as key
 use Rattle.osc_settings.proofs.Parts.{context_found, fault_within, salt_found}
 use Rattle.osc_settings.proofs.client.settings_in.Goals as goal
@@ -19,7 +19,7 @@ pub returns-in_err-address_at : goal.returns-in_err-address_at
 returns-in_err-address_at c =
     let p = err_from_is_err_and c.from_residual-in_err-address_at.result c.from_residual-in_err-address_at.ensures.1 in
     let document = table_view c.args.table.now in
-    rw (p.1, p.2) (fault_within (IsFaultAt key.Bind (λ name. SpelledAt name IsAddress) document) (IsClientFault document) c.in_err-address_at.field-0.0 (λ fault h. inr (c.in_ok-only.ensures, inl h)) c.in_err-address_at.ensures)
+    rw (p.1, p.2) (fault_within (IsFaultAt key.Bind (λ name. SpelledAt name IsOpenAddress) document) (IsClientFault document) c.in_err-address_at.field-0.0 (λ fault h. inr (c.in_ok-only.ensures, inl h)) c.in_err-address_at.ensures)
 
 pub returns-in_err-address_at-2 : goal.returns-in_err-address_at-2
 returns-in_err-address_at-2 c =

@@ -5,4 +5,4 @@ use Rattle.osc_settings.proofs.Addresses.{unparsed}
 use Rattle.osc_settings.proofs.values.address.Goals as goal
 
 pub returns-in-Err : goal.returns-in-Err
-returns-in-Err c = unparsed c.args.text.now (subst (λ text. (a : SocketAddrV4) → ¬ IsSocketV4Text text a) c.as_bytes.ensures.value c.in-Err.ensures)
+returns-in-Err c = unparsed c.args.least c.args.text.now (subst (λ text. (a : SocketAddrV4) → ¬ IsSocketV4Text text a) c.as_bytes.ensures.value c.in-Err.ensures)
