@@ -33,10 +33,21 @@ pub record ServedRequest : Type 0 where
 abbrev pub holder_of : Entry → Holder
 holder_of entry = record { kid = entry.context.client_id; kid_context = entry.context.id_context }
 
+abbrev pub method_asked : Option Request → Option Method
+method_asked None = None
+method_asked (Some request) = method_of request.code
+
+abbrev pub path_asked : Option Request → Option (List ℕ)
+path_asked None = None
+path_asked (Some request) = request.path
+
+abbrev pub payload_asked : Option Request → List ℕ
+payload_asked None = []
+payload_asked (Some request) = request.payload
+
 abbrev pub served_as : Holder → ℕ → Option Request → Reply → ServedRequest
-served_as by number (Some request) reply =
-    record { by = by; number = number; method = method_of request.code; path = request.path; payload = request.payload; reply = reply }
-served_as by number None reply = record { by = by; number = number; method = None; path = None; payload = []; reply = reply }
+served_as by number request reply =
+    record { by = by; number = number; method = method_asked request; path = path_asked request; payload = payload_asked request; reply = reply }
 
 -- the request that a text is, if it is one
 abbrev pub request_in : Result Request Code → Option Request
