@@ -1,77 +1,79 @@
-//! A resource server in a program of its own: it makes the server, hands it datagrams, and prints what it would send. Sockets, time and
-//! random bytes are the program's; here they are written out. docs/LIBRARY.md goes through it.
+//! A lock: a device in a program of its own, and two holders of tokens who use it. Holders write what they want to `/lock/wanted`; the lock tries
+//! it, and writes what is to `/lock/actual` and what happened to `/log`, by its own say. There is no network, no clock and no generator here: datagrams
+//! are handed over by value, and moments and draws are written out. docs/LIBRARY.md goes through it.
 #![tactic(auto)]
 
-use osc_authz::ServerDesk;
-use osc_ccm::Ccm;
-use osc_model::{Bytes, Draw, Method, Moment, Path, Peer, Resource};
-use osc_scope::Scope;
-use osc_server::Server;
-use osc_token::Audience;
-use osc_tree::Tree;
-use std::alloc::{AllocError, Global};
-use std::io;
+mod bolt;
+mod fault;
+mod holder;
+mod lock;
+mod place;
+mod story;
+mod supply;
+mod telling;
+mod wire;
+mod wish;
+mod words;
 
-// The key that the server shares with who issues tokens for it.
-const KEY: [u8; 16] = *b"@ABCDEFGHIJKLMNO";
+use fault::Fault;
+use holder::{Grant, Holder};
+use lock::Lock;
+use std::alloc::Global;
+use std::process::ExitCode;
+use supply::BEGINNING;
 
-// Who sends.
-const PEER: Peer = Peer {
-    address: [192, 0, 2, 1],
-    port: 61616,
+/// The owner, for ever.
+const OWNER: Grant = Grant {
+    name: "owner",
+    number: 2,
+    secret: b"the owner's secret",
+    scope: b"/lock/wanted:GET+PUT,/lock/actual:GET,/log:GET",
+    expires: None,
 };
 
-// GETs of `/e` and of `/k`, and an empty confirmable message, by which a peer asks whether anybody is there.
-const DATAGRAMS: [&[u8]; 3] = [
-    b"\x40\x01\x00\x02\xb1e",
-    b"\x40\x01\x00\x05\xb1k",
-    b"\x40\x00\x00\x07",
-];
+/// The technician, for an hour.
+const TECHNICIAN: Grant = Grant {
+    name: "technician",
+    number: 3,
+    secret: b"the technician's secret",
+    scope: b"/lock/wanted:PUT,/lock/actual:GET",
+    expires: Some(BEGINNING + 3_600),
+};
 
-/// The path, where the text is one.
-fn path(alloc: Global, text: &[u8]) -> Result<Path, AllocError> {
-    Path::from_text(alloc, text)?.ok_or(AllocError)
-}
-
-/// A server whose `/e` is `hi` and needs no protection; whatever else it has or gets needs a token.
-fn server(alloc: Global) -> Result<Server, AllocError> {
-    let mut tree = Tree::new(alloc);
-    let value = Resource {
-        format: None,
-        payload: Bytes::from_slice(alloc, b"hi")?,
-    };
-    // A tree holds at most 1024 resources, and `put` asks its caller to see that there is room.
-    if !tree.is_full() {
-        tree.put(alloc, path(alloc, b"/e")?, value)?;
-    }
-    let mut open_scope = Scope::new(alloc);
-    open_scope.allow(alloc, path(alloc, b"/e")?, Method::Get)?;
-    let desk = ServerDesk::new(alloc, KEY, Audience::new(alloc, "door")?);
-    Server::new(alloc, tree, desk, open_scope)
-}
-
-/// What the server sends for this datagram, in hexadecimal.
-fn answer(alloc: Global, server: &mut Server, datagram: &[u8]) -> Result<String, AllocError> {
-    // The moment is your clock's, and the draw 32 bytes of your generator, new for each call.
-    let step = server.on_datagram::<(Ccm<8>, Ccm<16>)>(
-        alloc,
-        Moment::START,
-        PEER,
-        datagram,
-        &Draw([0; 32]),
-    )?;
-    match step.out.as_slice() {
-        [reply] => hex::encode(alloc, reply.bytes.as_slice()),
-        _ => "nothing".to_string(alloc),
+fn main(rt: HostRuntime) -> ExitCode {
+    match with_a_lock(&rt, rt.alloc()) {
+        Ok(()) => ExitCode::SUCCESS,
+        Err(fault) => {
+            let _unsaid = eprintln!(&rt; "{fault}");
+            ExitCode::FAILURE
+        }
     }
 }
 
-fn main(rt: HostRuntime) -> io::Result<()> {
-    let alloc = rt.alloc();
-    let mut server = server(alloc)?;
-    for datagram in DATAGRAMS {
-        let reply = answer(alloc, &mut server, datagram)?;
-        println!(rt; "{reply}")?;
-    }
-    Ok(())
+// Each of these owns one node, and lends it to the next.
+
+fn with_a_lock(rt: &impl Print, alloc: Global) -> Result<(), Fault> {
+    let mut lock = Lock::new(alloc)?;
+    let told = with_its_owner(rt, alloc, &mut lock);
+    drop(lock);
+    told
+}
+
+fn with_its_owner(rt: &impl Print, alloc: Global, lock: &mut Lock) -> Result<(), Fault> {
+    let mut owner = Holder::new(alloc, OWNER)?;
+    let told = with_a_technician(rt, alloc, lock, &mut owner);
+    drop(owner);
+    told
+}
+
+fn with_a_technician(
+    rt: &impl Print,
+    alloc: Global,
+    lock: &mut Lock,
+    owner: &mut Holder,
+) -> Result<(), Fault> {
+    let mut technician = Holder::new(alloc, TECHNICIAN)?;
+    let told = story::tell(rt, alloc, lock, owner, &mut technician);
+    drop(technician);
+    told
 }
