@@ -78,6 +78,16 @@ fn wanted_where(put: bool, leads: bool, done: bool, bytes: &[u8]) -> Option<Want
     }
 }
 
+/// Who asked: the kid context of the request, or nobody's name where it has none.
+fn name_of<'a>(served: &Served<'a>) -> &'a [u8]
+    ensures { result.now ≡ name_in served.now.by.kid_context }
+{
+    match served.by.kid_context {
+        Some(name) => name,
+        None => b"",
+    }
+}
+
 /// The wish that was served, if it is one.
 fn wish_of(alloc: Global, served: &Served<'_>) -> Result<Option<Wish>, AllocError>
     ensures some { IfOk result (λ found. IfSome found (λ wish. IsWish served.now wish.wanted × (wish.by ≡ name_in served.now.by.kid_context))) }
@@ -85,7 +95,7 @@ fn wish_of(alloc: Global, served: &Served<'_>) -> Result<Option<Wish>, AllocErro
 {
     match wanted_by(served) {
         Some(wanted) => Ok(Some(Wish {
-            by: Bytes::from_slice(alloc, served.by.kid_context.unwrap_or(b""))?,
+            by: Bytes::from_slice(alloc, name_of(served))?,
             wanted,
         })),
         None => Ok(None),

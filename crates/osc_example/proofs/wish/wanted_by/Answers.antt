@@ -1,12 +1,11 @@
 use Rattle.std.proofs.Common.{◌∙◌, ap, sym, subst}
 use Rattle.osc_model.specs.declared.reply.Reply.{Reply}
 use Rattle.osc_example.specs.Wish.{IsDone}
-use Rattle.osc_example.proofs.Replies.{reply_is}
 use Rattle.osc_example.proofs.wish.wanted_by.Goals as goal
 
 pub returns : goal.returns
 returns c = λ wanted.
-    let reply = sym (reply_is _ _ _ _) ∙ ap (λ s. s.reply) c.served.view_is in
+    let reply = ap (λ s. s.reply) c.served.view_is in
     let means = c.wanted_where.ensures wanted in (
       (λ found. record {
         method = sym c.method.ensures ∙ c.is_put-put.ensures.0 (means.0 found).0;
