@@ -2,8 +2,8 @@
 #![tactic(auto)]
 
 use osc_programs::{
-    Ended, Lines, Silent, ask, ended_by, filled, forward, issue_token, lab, running_fault, serve,
-    sim, started_by_io, status, token_fault, token_warning,
+    Ended, Lines, Silent, TraceForm, ask, ended_by, filled, forward, issue_token, lab,
+    running_fault, serve, sim, started_by_io, status, token_fault, token_warning,
 };
 use osc_words::{Source, TokenAsked, TokenWords, Words, WordsError, fault_line, read_words};
 use std::env;
@@ -37,11 +37,11 @@ fn run(rt: &HostRuntime) -> io::Result<Ended> {
 fn follow(rt: &HostRuntime, words: Words) -> Ended {
     let alloc = rt.alloc();
     match words {
-        Words::Sim { bytes, only } => sim(
+        Words::Sim { bytes, lines, only } => sim(
             alloc,
             &mut rt.reader(),
             &mut io::writer(rt),
-            bytes,
+            TraceForm { bytes, lines },
             only,
         ),
         Words::Token(asked) => token(rt, asked),

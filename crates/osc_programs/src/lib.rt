@@ -27,6 +27,7 @@ pub use ended::{
 pub use issue::{drawn_iv, issue_token, iv_of, token};
 pub use lab_run::lab;
 pub use log::{Lines, Log, Silent, step_text};
+pub use osc_simulation::TraceForm;
 pub use running::{forward, serve};
 pub use simulate::{run_script, sim};
 pub use token_files::filled;

@@ -10,29 +10,29 @@ use crate::ended::Ended;
 use crate::issue::written;
 use crate::reading::bytes_of;
 use osc_script::ClientName;
-use osc_simulation::{TraceError, bad_line_text, trace_script};
+use osc_simulation::{TraceError, TraceForm, bad_line_text, trace_script};
 use std::alloc::Global;
 use std::io::{Read, Write};
 
-/// Runs the script that the reader gives, and writes its trace line by line: each line's events as it is done, with the bytes of their
-/// datagrams where `with_bytes` says so, then the end lines, and then what the entries of the client of `only` are answered alone, if
-/// there is one. A script with a line that stands for nothing does nothing: the number of the first such line is all that is
-/// written. For want of memory the lines so far are written, and `out of memory` last.
+/// Runs the script that the reader gives, and writes its trace in this form, line by line: each line's events as it is done, then the
+/// end lines, and then what the entries of the client of `only` are answered alone, if there is one. A script with a line that stands for
+/// nothing does nothing: the number of the first such line is all that is written. For want of memory the lines so far are written, and
+/// `out of memory` last.
 pub fn sim<R: Read, W: Write>(
     alloc: Global,
     reader: &mut R,
     writer: &mut W,
-    with_bytes: bool,
+    form: TraceForm,
     only: Option<ClientName>,
 ) -> Ended
-    ensures done { result ≡ Ended.Done → IfSome (R.remaining reader.old) (λ script. (text : List ℕ) × Simulates with_bytes only script text
+    ensures done { result ≡ Ended.Done → IfSome (R.remaining reader.old) (λ script. (text : List ℕ) × Simulates form only script text
         × Appends (W.contents writer.old) (W.contents writer.new) text) }
     ensures bad { (n : ℕ) → result ≡ Ended.BadLine n → IfSome (R.remaining reader.old) (λ script. IsFirstBad script n
         × Appends (W.contents writer.old) (W.contents writer.new) (bad_line_text n)) }
     ensures words { result ≢ Ended.BadCommandLine }
     ensures ends { ends.EndsSim result }
 {
-    match run(alloc, reader, writer, with_bytes, only) {
+    match run(alloc, reader, writer, form, only) {
         Ended::OutOfMemory => told_last(writer),
         ended => ended,
     }
@@ -51,10 +51,10 @@ fn run<R: Read, W: Write>(
     alloc: Global,
     reader: &mut R,
     writer: &mut W,
-    with_bytes: bool,
+    form: TraceForm,
     only: Option<ClientName>,
 ) -> Ended
-    ensures done { result ≡ Ended.Done → IfSome (R.remaining reader.old) (λ script. (text : List ℕ) × Simulates with_bytes only script text
+    ensures done { result ≡ Ended.Done → IfSome (R.remaining reader.old) (λ script. (text : List ℕ) × Simulates form only script text
         × Appends (W.contents writer.old) (W.contents writer.new) text) }
     ensures bad { (n : ℕ) → result ≡ Ended.BadLine n → IfSome (R.remaining reader.old) (λ script. IsFirstBad script n
         × Appends (W.contents writer.old) (W.contents writer.new) (bad_line_text n)) }
@@ -62,29 +62,28 @@ fn run<R: Read, W: Write>(
     ensures ends { ends.EndsSim result }
 {
     match bytes_of(alloc, reader) {
-        Ok(script) => run_script(alloc, &script, with_bytes, only, writer),
+        Ok(script) => run_script(alloc, &script, form, only, writer),
         Err(ended) => ended,
     }
 }
 
-/// Runs the script of these bytes, and writes its trace line by line, each flushed before the next is done: each line's events, with the
-/// bytes of their datagrams where `with_bytes` says so, then the end lines, and then what the entries of the client of `only` are answered
-/// alone, if there is one; of a script with a line that stands for nothing the number of the first such line alone. For want of
-/// memory the lines so far are written.
+/// Runs the script of these bytes, and writes its trace in this form, line by line, each flushed before the next is done: each line's
+/// events, then the end lines, and then what the entries of the client of `only` are answered alone, if there is one; of a script with a
+/// line that stands for nothing the number of the first such line alone. For want of memory the lines so far are written.
 pub fn run_script<W: Write>(
     alloc: Global,
     script: &[u8],
-    with_bytes: bool,
+    form: TraceForm,
     only: Option<ClientName>,
     writer: &mut W,
 ) -> Ended
-    ensures done { result ≡ Ended.Done → (printed : List ℕ) × Simulates with_bytes only script.now printed × Appends (W.contents writer.old) (W.contents writer.new) printed }
+    ensures done { result ≡ Ended.Done → (printed : List ℕ) × Simulates form only script.now printed × Appends (W.contents writer.old) (W.contents writer.new) printed }
     ensures bad { (n : ℕ) → result ≡ Ended.BadLine n → IsFirstBad script.now n × Appends (W.contents writer.old) (W.contents writer.new) (bad_line_text n) }
-    ensures cut { result ≡ Ended.OutOfMemory → (printed : List ℕ) × CutShort with_bytes script.now printed × Appends (W.contents writer.old) (W.contents writer.new) printed }
+    ensures cut { result ≡ Ended.OutOfMemory → (printed : List ℕ) × CutShort form script.now printed × Appends (W.contents writer.old) (W.contents writer.new) printed }
     ensures words { result ≢ Ended.BadCommandLine }
     ensures ends { ends.EndsSim result }
 {
-    match trace_script(alloc, script, with_bytes, only, writer) {
+    match trace_script(alloc, script, form, only, writer) {
         Ok(()) => Ended::Done,
         Err(TraceError::BadLine(number)) => tell_bad_line(alloc, number, writer),
         Err(TraceError::OutOfMemory) => Ended::OutOfMemory,

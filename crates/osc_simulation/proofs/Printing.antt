@@ -1,11 +1,12 @@
 -- Events and datagrams one after another: what is left prints behind what was printed.
-use Rattle.std.proofs.Common.{◌≡◌, sym, subst, refl, ℕ, ◌+◌, ◌<◌, drop, get_or, length, add-one, List, [], ◌∷◌, ◌++◌, append_assoc, append-nil, Bool, codes}
+use Rattle.std.proofs.Common.{◌≡◌, ◌∙◌, ◌==◌, ap, if◌then◌else◌, sym, subst, refl, ℕ, ◌+◌, ◌<◌, drop, get_or, length, add-one, List, [], ◌∷◌, ◌++◌, append_assoc, append-nil, Bool, codes}
 use Rattle.std.proofs.Math.Seq.{drop-cons}
 use Rattle.osc_script.specs.declared.client_name.ClientName.{ClientName}
 use Rattle.osc_world.specs.Worlds.{State}
 use Rattle.osc_world.specs.declared.log.Record.{Record}
 use Rattle.osc_world.specs.declared.log.SentDatagram.{SentDatagram}
 use Rattle.osc_simulation.specs.Text.{line}
+use Rattle.osc_simulation.specs.Trace.{words_before}
 use Rattle.osc_simulation.specs.Records.{PrintsSent, PrintAllSent, PrintsRecord, PrintAllRecords}
 
 pub datagrams_more : (with_bytes : Bool) (number : ℕ) (left left-after : List SentDatagram) (d : SentDatagram) (text line : List ℕ) (P : List ℕ → Type 0)
@@ -60,3 +61,20 @@ learnt_pieces client learnt client-is learnt-is e f = rw (e, f) (simp append_ass
 pub answer_pieces : (code format payload format-is payload-is : List ℕ) → format ≡ format-is → payload ≡ payload-is
     → codes "answer " ++ (code ++ (codes " " ++ (format ++ (codes " " ++ payload)))) ≡ codes "answer " ++ code ++ codes " " ++ format-is ++ codes " " ++ payload-is
 answer_pieces code format payload format-is payload-is e f = rw (e, f) (simp append_assoc)
+
+-- ---- words before lines
+
+behind_words : (text words : List ℕ) (byte : ℕ) (rest : List ℕ) → (text ++ words ++ byte ∷ []) ++ rest ≡ text ++ (words ++ byte ∷ rest)
+behind_words text words byte rest = simp append_assoc
+
+-- one byte more
+pub byte_more : (words : List ℕ) (begins : Bool) (left left-after : List ℕ) (byte : ℕ) (text more whole : List ℕ)
+    → left ≡ byte ∷ left-after → more ≡ text ++ (if begins then words else []) ++ byte ∷ [] → text ++ words_before words begins left ≡ whole
+    → more ++ words_before words (byte == 10) left-after ≡ whole
+byte_more words begins left left-after byte text more whole e grown so_far =
+    let behind = words_before words (byte == 10) left-after in
+    ap (λ bytes. bytes ++ behind) grown ∙ (behind_words text (if begins then words else []) byte behind ∙ (ap (λ bytes. text ++ words_before words begins bytes) (sym e) ∙ so_far))
+
+-- what is left at a byte
+pub bytes_left : (bytes : List ℕ) (i : ℕ) → i < length bytes → drop i bytes ≡ get_or bytes i 0 ∷ drop (i + 1) bytes
+bytes_left bytes i lt = rw (add-one, drop-cons bytes i 0 lt) refl

@@ -1,5 +1,5 @@
 -- Runs that go on: what is left prints behind what was printed.
-use Rattle.std.proofs.Common.{◌≡◌, ◌∙◌, ap, sym, subst, refl, ℕ, ◌+◌, List, [], ◌∷◌, ◌++◌, ◌<◌, ◌≤◌, drop, take, get_or, suc, add-one, length, append_assoc, append-nil, Bool, Option, Some, None, Result, Err}
+use Rattle.std.proofs.Common.{◌≡◌, ◌∙◌, ap, sym, subst, refl, ℕ, ◌+◌, List, [], ◌∷◌, ◌++◌, ◌<◌, ◌≤◌, drop, take, get_or, suc, add-one, length, length-take-le, append_assoc, append-nil, arith, Option, Some, None, Result, Err}
 use Rattle.std.proofs.Math.Seq.{drop-cons, take-suc}
 use Rattle.std.specs.Io.KnownBytes.{Appends, Keeps}
 use Rattle.std.specs.Result.{IsErrAnd}
@@ -7,31 +7,43 @@ use Rattle.osc_script.specs.declared.line.Line.{Line}
 use Rattle.osc_simulation.specs.Names.{Names}
 use Rattle.osc_simulation.specs.Simulation.{Prints, PrintsLine}
 use Rattle.osc_simulation.specs.declared.stage.Stage.{Stage}
+use Rattle.osc_simulation.specs.declared.trace.TraceForm.{TraceForm}
 
 -- what is left at an item, and behind it
 pub drop_item : {A : Type 0} (xs : List A) (i : ℕ) (x : A) → i < length xs → x ≡ get_or xs i x → drop i xs ≡ x ∷ drop (i + 1) xs
 drop_item xs i x lt e = rw (add-one, drop-cons xs i x lt) (ap (λ y. y ∷ drop (suc i) xs) (sym e))
 
+add-zero : (n : ℕ) → n + 0 ≡ n
+add-zero n = omega arith
+
+one_further : (n k : ℕ) → n + suc k ≡ n + 1 + k
+one_further n k = omega arith
+
 -- one line more
-pub one_line_more : (with_bytes : Bool) (names : Names) (lines : List Line) (l : Line) (first between last : Stage) (text more : List ℕ)
-    → Prints with_bytes names first lines text between → PrintsLine with_bytes names between l more last
-    → Prints with_bytes names first (lines ++ l ∷ []) (text ++ more) last
-one_line_more with_bytes names [] l first between last text more so_far line = (
+pub one_line_more : (form : TraceForm) (names : Names) (number : ℕ) (lines : List Line) (l : Line) (first between last : Stage) (text more : List ℕ)
+    → Prints form names number first lines text between → PrintsLine form names (number + length lines) between l more last
+    → Prints form names number first (lines ++ l ∷ []) (text ++ more) last
+one_line_more form names number [] l first between last text more so_far line = (
   more,
   [],
   last,
-  subst (λ stage. PrintsLine with_bytes names stage l more last) so_far.1 line,
+  subst (λ n. PrintsLine form names n first l more last) (add-zero number) (subst (λ stage. PrintsLine form names (number + 0) stage l more last) so_far.1 line),
   (refl, refl),
   ap (λ printed. printed ++ more) so_far.0 ∙ sym (append-nil more),
 )
-one_line_more with_bytes names (x ∷ xs) l first between last text more so_far line = (
+one_line_more form names number (x ∷ xs) l first between last text more so_far line = (
   so_far.0,
   so_far.1 ++ more,
   so_far.2,
   so_far.3,
-  one_line_more with_bytes names xs l so_far.2 between last so_far.1 more so_far.4 line,
+  one_line_more form names (number + 1) xs l so_far.2 between last so_far.1 more so_far.4
+      (subst (λ n. PrintsLine form names n between l more last) (one_further number (length xs)) line),
   ap (λ printed. printed ++ more) so_far.5 ∙ append_assoc so_far.0 so_far.1 more,
 )
+
+-- the number of the next item, from 1
+pub nth : {A : Type 0} (xs : List A) (i n : ℕ) → i < length xs → n ≡ i → n + 1 ≡ 1 + length (take i xs)
+nth xs i n lt e = let short = length-take-le i xs (omega (arith, lt)) in omega (arith, short, e)
 
 -- up to the next item
 pub take_item : {A : Type 0} (xs : List A) (i : ℕ) (d x : A) → i < length xs → x ≡ get_or xs i d → take (i + 1) xs ≡ take i xs ++ x ∷ []

@@ -38,10 +38,11 @@ use Rattle.osc_simulation.specs.Events.{datagram_number, what_of}
 use Rattle.osc_simulation.specs.Names.{Names, made, names_in, number_of}
 use Rattle.osc_simulation.specs.Records.{PrintAllRecords}
 use Rattle.osc_simulation.specs.Text.{line as line_text}
-use Rattle.osc_simulation.specs.Trace.{alone_text, end_text}
+use Rattle.osc_simulation.specs.Trace.{alone_text, end_text, numbered}
 use Rattle.osc_simulation.specs.declared.error.TraceError.{TraceError}
 use Rattle.osc_simulation.specs.declared.error.TraceError.TheVariants as trace_error
 use Rattle.osc_simulation.specs.declared.stage.Stage.{Stage}
+use Rattle.osc_simulation.specs.declared.trace.TraceForm.{TraceForm}
 
 -- ---- the world before the first event
 
@@ -190,17 +191,23 @@ abbrev pub quiet_text : Bool → List ℕ
 quiet_text true = []
 quiet_text false = line_text (codes "not quiet")
 
--- a line prints the events that it brought, and that a quiet round was stopped
-abbrev pub PrintsLine : Bool → Names → Stage → Line → List ℕ → Stage → Type 0
-PrintsLine with_bytes names old line text new =
-    (quiet : Bool) × (events : List ℕ) × Does names old line quiet new
-    × PrintAllRecords with_bytes names.clients new.world (drop (length old.world.records) new.world.records) events × (text ≡ events ++ quiet_text quiet)
+-- behind the number of the script's line, where that is wanted
+abbrev pub behind_number : Bool → ℕ → List ℕ → List ℕ
+behind_number false number text = text
+behind_number true number text = numbered number text
 
--- the lines one after another
-abbrev pub Prints : Bool → Names → Stage → List Line → List ℕ → Stage → Type 0
-Prints with_bytes names old [] text last = (text ≡ []) × (last ≡ old)
-Prints with_bytes names old (line ∷ lines) text last =
-    (first rest : List ℕ) × (next : Stage) × PrintsLine with_bytes names old line first next × Prints with_bytes names next lines rest last
+-- the line of this number prints the events that it brought, and that a quiet round was stopped
+abbrev pub PrintsLine : TraceForm → Names → ℕ → Stage → Line → List ℕ → Stage → Type 0
+PrintsLine form names number old line text new =
+    (quiet : Bool) × (events : List ℕ) × Does names old line quiet new
+    × PrintAllRecords form.bytes names.clients new.world (drop (length old.world.records) new.world.records) events
+    × (text ≡ behind_number form.lines number (events ++ quiet_text quiet))
+
+-- the lines one after another, of which the first has this number
+abbrev pub Prints : TraceForm → Names → ℕ → Stage → List Line → List ℕ → Stage → Type 0
+Prints form names number old [] text last = (text ≡ []) × (last ≡ old)
+Prints form names number old (line ∷ lines) text last =
+    (first rest : List ℕ) × (next : Stage) × PrintsLine form names number old line first next × Prints form names (number + 1) next lines rest last
     × (text ≡ first ++ rest)
 
 -- the end lines of a world
@@ -219,14 +226,14 @@ only_text names world None = []
 only_text names world (Some client) = alone_text (client_name client) (alone_in names world client)
 
 -- the trace of a script: what its events print, the end lines, and what the wanted client's entries are answered alone
-abbrev pub IsTrace : Bool → Option ClientName → List Line → List ℕ → Type 0
-IsTrace with_bytes only lines text =
-    (events end : List ℕ) × (first last : Stage) × Begins lines first.world × IsFirst first × Prints with_bytes (names_in lines) first lines events last
+abbrev pub IsTrace : TraceForm → Option ClientName → List Line → List ℕ → Type 0
+IsTrace form only lines text =
+    (events end : List ℕ) × (first last : Stage) × Begins lines first.world × IsFirst first × Prints form (names_in lines) 1 first lines events last
     × IsEnd last.world end × (text ≡ events ++ end ++ only_text (names_in lines) last.world only)
 
 -- what a script's text prints
-abbrev pub Simulates : Bool → Option ClientName → List ℕ → List ℕ → Type 0
-Simulates with_bytes only script text = (lines : List Line) × IsScript script lines × IsTrace with_bytes only lines text
+abbrev pub Simulates : TraceForm → Option ClientName → List ℕ → List ℕ → Type 0
+Simulates form only script text = (lines : List Line) × IsScript script lines × IsTrace form only lines text
 
 -- ---- a trace that ends early
 
@@ -236,16 +243,16 @@ untraced (BadLine n) = trace_error.BadLine n
 untraced OutOfMemory = trace_error.OutOfMemory
 
 -- What a run from this stage printed of its trace: what the lines before some place did, or that of all and the end lines.
-pub data IsFront (with_bytes : Bool) (names : Names) (first : Stage) (lines : List Line) (text : List ℕ) : Type 0 where
-  in_lines : (before after : List Line) (last : Stage) → lines ≡ before ++ after → Prints with_bytes names first before text last → IsFront with_bytes names first lines text
-  at_end : (events end : List ℕ) (last : Stage) → Prints with_bytes names first lines events last → IsEnd last.world end → text ≡ events ++ end
-      → IsFront with_bytes names first lines text
+pub data IsFront (form : TraceForm) (names : Names) (first : Stage) (lines : List Line) (text : List ℕ) : Type 0 where
+  in_lines : (before after : List Line) (last : Stage) → lines ≡ before ++ after → Prints form names 1 first before text last → IsFront form names first lines text
+  at_end : (events end : List ℕ) (last : Stage) → Prints form names 1 first lines events last → IsEnd last.world end → text ≡ events ++ end
+      → IsFront form names first lines text
 
 -- What a trace of these lines printed that ends for want of memory: nothing, where there was none for the world, or a front.
-pub data IsCut (with_bytes : Bool) (lines : List Line) (text : List ℕ) : Type 0 where
-  at_once : text ≡ [] → IsCut with_bytes lines text
-  later : (first : Stage) → Begins lines first.world → IsFirst first → IsFront with_bytes (names_in lines) first lines text → IsCut with_bytes lines text
+pub data IsCut (form : TraceForm) (lines : List Line) (text : List ℕ) : Type 0 where
+  at_once : text ≡ [] → IsCut form lines text
+  later : (first : Stage) → Begins lines first.world → IsFirst first → IsFront form (names_in lines) first lines text → IsCut form lines text
 
 -- the same of a script's text, for whose lines there may have been none
-abbrev pub CutShort : Bool → List ℕ → List ℕ → Type 0
-CutShort with_bytes script text = (text ≡ []) ⊎ ((lines : List Line) × IsScript script lines × IsCut with_bytes lines text)
+abbrev pub CutShort : TraceForm → List ℕ → List ℕ → Type 0
+CutShort form script text = (text ≡ []) ⊎ ((lines : List Line) × IsScript script lines × IsCut form lines text)

@@ -49,6 +49,15 @@ alone_line client answer = line (codes "alone " ++ client ++ codes " " ++ decima
 abbrev pub alone_text : List ℕ → List Answer → List ℕ
 alone_text client answers = flat_map (alone_line client) answers
 
+-- These words stand before each line of the text; whether a line begins here, and then behind each line feed.
+abbrev pub words_before : List ℕ → Bool → List ℕ → List ℕ
+words_before words begins [] = []
+words_before words begins (byte ∷ text) = (if begins then words else []) ++ byte ∷ words_before words (byte == 10) text
+
+-- each line of the text behind this number: `N: `
+abbrev pub numbered : ℕ → List ℕ → List ℕ
+numbered number text = words_before (decimal number ++ codes ": ") true text
+
 -- line N: bad
 abbrev pub bad_line_text : ℕ → List ℕ
 bad_line_text number = line (codes "line " ++ decimal number ++ codes ": bad")

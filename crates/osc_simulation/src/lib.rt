@@ -20,4 +20,4 @@ pub use names::{Names, name_of_number, number_of};
 pub use record::learnt_text;
 pub use set_up::start_of;
 pub use simulate::trace_script;
-pub use trace::{CodeText, bad_line_text, end_text};
+pub use trace::{CodeText, TraceForm, bad_line_text, end_text};

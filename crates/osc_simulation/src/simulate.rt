@@ -16,16 +16,15 @@ use crate::names::{Names, number_of};
 use crate::record::records_text;
 use crate::set_up::first_world;
 use crate::stage::Stage;
-use crate::trace::{alone_text, end_text};
+use crate::trace::{TraceForm, alone_text, end_text, numbered};
 use osc_script::{ClientName, Line, read_script};
 use osc_world::{Record, World};
 use std::alloc::{AllocError, Global};
 use std::cmp::min;
 use std::io::Write;
 
-/// Writes the trace of the script of these bytes: each line's events as it is done, with the bytes of their datagrams where
-/// `with_bytes` says so, then the end lines, and then what the entries of the client of `only` are answered alone, if there is one. What
-/// a line prints is flushed before the next is done.
+/// Writes the trace of the script of these bytes in this form: each line's events as it is done, then the end lines, and then what the
+/// entries of the client of `only` are answered alone, if there is one. What a line prints is flushed before the next is done.
 ///
 /// # Errors
 ///
@@ -34,16 +33,16 @@ use std::io::Write;
 pub fn trace_script<W: Write>(
     alloc: Global,
     script: &[u8],
-    with_bytes: bool,
+    form: TraceForm,
     only: Option<ClientName>,
     writer: &mut W,
 ) -> Result<(), TraceError>
-    ensures done { OnOk result ((printed : List ℕ) × Simulates with_bytes only script.now printed × Appends (W.contents writer.old) (W.contents writer.new) printed) }
+    ensures done { OnOk result ((printed : List ℕ) × Simulates form only script.now printed × Appends (W.contents writer.old) (W.contents writer.new) printed) }
     ensures bad { (n : ℕ) → result ≡ Err (TraceError.BadLine n) → IsFirstBad script.now n × Appends (W.contents writer.old) (W.contents writer.new) [] }
-    ensures cut { result ≡ Err TraceError.OutOfMemory → (printed : List ℕ) × CutShort with_bytes script.now printed × Appends (W.contents writer.old) (W.contents writer.new) printed }
+    ensures cut { result ≡ Err TraceError.OutOfMemory → (printed : List ℕ) × CutShort form script.now printed × Appends (W.contents writer.old) (W.contents writer.new) printed }
 {
     let script = read_script(alloc, script)?;
-    let traced = trace_lines(alloc, script.lines(), with_bytes, only, writer);
+    let traced = trace_lines(alloc, script.lines(), form, only, writer);
     drop(script);
     traced
 }
@@ -52,19 +51,19 @@ pub fn trace_script<W: Write>(
 fn trace_lines<W: Write>(
     alloc: Global,
     lines: &[Line],
-    with_bytes: bool,
+    form: TraceForm,
     only: Option<ClientName>,
     writer: &mut W,
 ) -> Result<(), TraceError>
     requires { CanPutAll map.empty lines.now }
-    ensures done { OnOk result ((printed : List ℕ) × spec.IsTrace with_bytes only lines.now printed × Appends (W.contents writer.old) (W.contents writer.new) printed) }
+    ensures done { OnOk result ((printed : List ℕ) × spec.IsTrace form only lines.now printed × Appends (W.contents writer.old) (W.contents writer.new) printed) }
     ensures bad { (n : ℕ) → result ≢ Err (TraceError.BadLine n) }
-    ensures cut { result ≡ Err TraceError.OutOfMemory → (printed : List ℕ) × IsCut with_bytes lines.now printed × Appends (W.contents writer.old) (W.contents writer.new) printed }
+    ensures cut { result ≡ Err TraceError.OutOfMemory → (printed : List ℕ) × IsCut form lines.now printed × Appends (W.contents writer.old) (W.contents writer.new) printed }
 {
     let names = Names::of(alloc, lines)?;
     let world = first_world(alloc, &names, lines)?;
     let mut stage = Stage::first(world);
-    let traced = trace_from(alloc, &mut stage, &names, lines, with_bytes, only, writer);
+    let traced = trace_from(alloc, &mut stage, &names, lines, form, only, writer);
     drop(stage);
     traced
 }
@@ -75,18 +74,18 @@ fn trace_from<W: Write>(
     stage: &mut Stage,
     names: &Names,
     lines: &[Line],
-    with_bytes: bool,
+    form: TraceForm,
     only: Option<ClientName>,
     writer: &mut W,
 ) -> Result<(), TraceError>
-    ensures done { OnOk result ((printed end : List ℕ) × spec.Prints with_bytes names.now stage.old lines.now printed stage.new
+    ensures done { OnOk result ((printed end : List ℕ) × spec.Prints form names.now 1 stage.old lines.now printed stage.new
         × spec.IsEnd stage.new.world end
         × Appends (W.contents writer.old) (W.contents writer.new) (printed ++ end ++ spec.only_text names.now stage.new.world only)) }
     ensures bad { (n : ℕ) → result ≢ Err (TraceError.BadLine n) }
     ensures cut { result ≡ Err TraceError.OutOfMemory
-        → (printed : List ℕ) × spec.IsFront with_bytes names.now stage.old lines.now printed × Appends (W.contents writer.old) (W.contents writer.new) printed }
+        → (printed : List ℕ) × spec.IsFront form names.now stage.old lines.now printed × Appends (W.contents writer.old) (W.contents writer.new) printed }
 {
-    trace_events(alloc, stage, names, lines, with_bytes, writer)?;
+    trace_events(alloc, stage, names, lines, form, writer)?;
     trace_end(alloc, stage.world(), writer)?;
     trace_alone(alloc, stage.world(), names, only, writer)
 }
@@ -97,17 +96,19 @@ fn trace_events<W: Write>(
     stage: &mut Stage,
     names: &Names,
     lines: &[Line],
-    with_bytes: bool,
+    form: TraceForm,
     writer: &mut W,
 ) -> Result<(), TraceError>
-    ensures done { OnOk result ((printed : List ℕ) × spec.Prints with_bytes names.now stage.old lines.now printed stage.new
+    ensures done { OnOk result ((printed : List ℕ) × spec.Prints form names.now 1 stage.old lines.now printed stage.new
         × Appends (W.contents writer.old) (W.contents writer.new) printed) }
     ensures bad { (n : ℕ) → result ≢ Err (TraceError.BadLine n) }
     ensures cut { result ≡ Err TraceError.OutOfMemory → (printed : List ℕ) × (before after : List AnyLine) × (last : AnyStage) × (lines.now ≡ before ++ after)
-        × spec.Prints with_bytes names.now stage.old before printed last × Appends (W.contents writer.old) (W.contents writer.new) printed }
+        × spec.Prints form names.now 1 stage.old before printed last × Appends (W.contents writer.old) (W.contents writer.new) printed }
 {
+    let mut number = 0;
     for line in lines {
-        let more = line_text(alloc, stage, names, line, with_bytes)?;
+        number += 1;
+        let more = line_text(alloc, stage, names, number, line, form)?;
         put(writer, &more)?;
     }
     Ok(())
@@ -127,21 +128,38 @@ fn put<W: Write>(writer: &mut W, text: &[u8]) -> Result<(), TraceError>
     Ok(())
 }
 
-// Does what the line says: the text that it prints.
+// Does what the line of this number says: the text that it prints.
 fn line_text(
     alloc: Global,
     stage: &mut Stage,
     names: &Names,
+    number: usize,
     line: &Line,
-    with_bytes: bool,
+    form: TraceForm,
 ) -> Result<Vec<u8>, AllocError>
-    ensures { IfOk result (λ text. spec.PrintsLine with_bytes names.now stage.old line.now text.items stage.new) }
+    ensures { IfOk result (λ text. spec.PrintsLine form names.now number stage.old line.now text.items stage.new) }
 {
     let before = count_events(stage);
     let quiet = stage.does(alloc, names, line)?;
-    let mut text = text_behind(alloc, with_bytes, names, stage, before)?;
+    let mut text = text_behind(alloc, form.bytes, names, stage, before)?;
     add_quiet(&mut text, quiet)?;
-    Ok(text)
+    behind_number(alloc, form.lines, number, text)
+}
+
+// The text behind the number of the script's line, where that is wanted.
+fn behind_number(
+    alloc: Global,
+    wanted: bool,
+    number: usize,
+    text: Vec<u8>,
+) -> Result<Vec<u8>, AllocError>
+    ensures { IfOk result (λ lines. lines.items ≡ spec.behind_number wanted number text.items) }
+{
+    if wanted {
+        numbered(alloc, number, &text)
+    } else {
+        Ok(text)
+    }
 }
 
 // How many events there were.

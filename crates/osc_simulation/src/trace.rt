@@ -1,5 +1,5 @@
 //! The lines of a trace.
-ghost use Rattle.std.specs.Prelude.{◌≡◌, ◌<◌, ◌+◌, ◌++◌, IfOk, Some, codes, flat_map, string_bytes};
+ghost use Rattle.std.specs.Prelude.{◌≡◌, ◌<◌, ◌+◌, ◌++◌, ◌∷◌, [], true, if◌then◌else◌, IfOk, OnOk, Some, codes, decimal, flat_map, string_bytes};
 ghost use Rattle.std.specs.FinMap as map;
 ghost use Rattle.osc_script.specs.Node.{client_name};
 ghost use Rattle.osc_simulation.specs.Text as text;
@@ -13,6 +13,15 @@ use osc_script::{ClientName, Node};
 use osc_tree::Tree;
 use std::alloc::{AllocError, Global};
 use std::fmt;
+
+/// How the events of a trace are printed.
+#[derive(Clone, Copy, Debug, PartialEq, Eq)]
+pub struct TraceForm {
+    /// With the bytes of their datagrams.
+    pub bytes: bool,
+    /// Each line behind the number of the script's line whose event it is, from 1.
+    pub lines: bool,
+}
 
 /// The message's type and code, marked where it has an OSCORE option.
 pub(crate) fn message_text(alloc: Global, message: &MessageRef<'_>) -> Result<String, AllocError>
@@ -174,6 +183,43 @@ fn alone_line(
     let client = client.name();
     let code = CodeText(answer.1.code.0);
     format!(in alloc; "alone {client} {} {code}\n", answer.0)
+}
+
+/// Each line of the text behind this number: `N: `.
+pub(crate) fn numbered(alloc: Global, number: usize, text: &[u8]) -> Result<Vec<u8>, AllocError>
+    ensures { IfOk result (λ lines. lines.items ≡ spec.numbered number text.now) }
+{
+    let words = number_words(alloc, number)?;
+    words_before(alloc, words.as_bytes(), text)
+}
+
+fn number_words(alloc: Global, number: usize) -> Result<String, AllocError>
+    ensures { IfOk result (λ words. string_bytes words ≡ decimal number ++ codes ": ") }
+{
+    format!(in alloc; "{number}: ")
+}
+
+// These words before each line of the text.
+fn words_before(alloc: Global, words: &[u8], text: &[u8]) -> Result<Vec<u8>, AllocError>
+    ensures { IfOk result (λ lines. lines.items ≡ spec.words_before words.now true text.now) }
+{
+    let mut lines = Vec::new(alloc);
+    let mut begins = true;
+    for byte in text {
+        add_byte(&mut lines, words, begins, *byte)?;
+        begins = *byte == b'\n';
+    }
+    Ok(lines)
+}
+
+// The byte, behind the words where a line begins with it.
+fn add_byte(lines: &mut Vec<u8>, words: &[u8], begins: bool, byte: u8) -> Result<(), AllocError>
+    ensures { OnOk result (lines.new.items ≡ lines.old.items ++ (if begins then words.now else []) ++ byte ∷ []) }
+{
+    if begins {
+        lines.extend_from_slice(words)?;
+    }
+    Ok(lines.push(byte)?)
 }
 
 /// `line N: bad`.

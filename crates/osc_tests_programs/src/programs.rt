@@ -1,6 +1,6 @@
 //! Whole scripts with the traces that are wanted of them, and inputs and outputs that fail.
 use crate::broken::{BrokenReader, BrokenWriter};
-use osc_programs::{Ended, run_script, sim, status};
+use osc_programs::{Ended, TraceForm, run_script, sim, status};
 use osc_script::ClientName;
 use std::alloc::{AllocError, Global};
 use std::io::{self, ErrorKind, Write};
@@ -43,11 +43,23 @@ const LONG: &str =
 const LONG_TRACE: &str =
     "sent 1 s>x ACK 4.01\nnothing\nnothing\nsent 2 s>s ACK 4.01\nhistory 0\npremise: held\n";
 
+// A trace without numbers of lines.
+fn plain(bytes: bool) -> TraceForm {
+    TraceForm {
+        bytes,
+        lines: false,
+    }
+}
+
 // How the run ends, and what it writes.
 fn run(alloc: Global, script: &str, with_bytes: bool) -> (Ended, Vec<u8>) {
+    run_in(alloc, script, plain(with_bytes))
+}
+
+fn run_in(alloc: Global, script: &str, form: TraceForm) -> (Ended, Vec<u8>) {
     let mut reader = script.as_bytes();
     let mut writer = Vec::new(alloc);
-    let ended = sim(alloc, &mut reader, &mut writer, with_bytes, None);
+    let ended = sim(alloc, &mut reader, &mut writer, form, None);
     (ended, writer)
 }
 
@@ -74,6 +86,28 @@ fn scripts_have_their_traces(rt: HostRuntime) -> Result<(), Fail> {
         );
     }
     Ok(())
+}
+
+// An exchange with a comment and an empty line, and a tick behind it.
+const COMMENTED: &str = "# an exchange\ngrant c1 /log:GET+POST\n\nexchange c1\nquiet\ntick s";
+
+const NUMBERED_TRACE: &str =
+    "4: sent 1 c1>s CON 0.02\n5: sent 2 s>c1 ACK 2.01\n5: c1 context\n6: nothing\nhistory 0\npremise: held\n";
+
+const COMMENTED_TRACE: &str =
+    "sent 1 c1>s CON 0.02\nsent 2 s>c1 ACK 2.01\nc1 context\nnothing\nhistory 0\npremise: held\n";
+
+#[test]
+fn a_trace_may_have_the_numbers_of_its_lines(rt: HostRuntime) {
+    for (lines, trace) in [(false, COMMENTED_TRACE), (true, NUMBERED_TRACE)] {
+        let form = TraceForm {
+            bytes: false,
+            lines,
+        };
+        let (ended, written) = run_in(rt.alloc(), COMMENTED, form);
+        assert_eq!(rt; ended, Ended::Done);
+        assert_eq!(rt; written.as_slice(), trace.as_bytes());
+    }
 }
 
 const UNDER_10: &str =
@@ -110,7 +144,7 @@ fn a_longer_tag_makes_longer_datagrams(rt: HostRuntime) -> Result<(), Fail> {
 #[test]
 fn a_trace_goes_behind_other_bytes(rt: HostRuntime) -> Result<(), Fail> {
     let mut text = Vec::from_slice(rt.alloc(), b"> ")?;
-    let ended = run_script(rt.alloc(), b"at 1\n", false, None, &mut text);
+    let ended = run_script(rt.alloc(), b"at 1\n", plain(false), None, &mut text);
     assert_eq!(rt; ended, Ended::Done);
     assert_eq!(rt; text.as_slice(), b"> history 0\npremise: held\n".as_slice());
     Ok(())
@@ -124,7 +158,7 @@ const SHARED: &str =
 fn is_alone(alloc: Global, script: &str, digit: u8, lines: &str) -> bool {
     let mut text = Vec::new(alloc);
     let client = ClientName::new(digit);
-    let ended = run_script(alloc, script.as_bytes(), false, client, &mut text);
+    let ended = run_script(alloc, script.as_bytes(), plain(false), client, &mut text);
     ended == Ended::Done && behind_premise(text.as_slice()) == Some(lines.as_bytes())
 }
 
@@ -238,7 +272,7 @@ fn a_broken_input_or_output_fails(rt: HostRuntime) -> Result<(), Fail> {
     };
     let mut written = Vec::new(alloc);
     assert_eq!(rt;
-        sim(alloc, &mut reader, &mut written, true, None),
+        sim(alloc, &mut reader, &mut written, plain(true), None),
         Ended::Failed
     );
     assert_eq!(rt; written.len(), 0);
@@ -246,7 +280,10 @@ fn a_broken_input_or_output_fails(rt: HostRuntime) -> Result<(), Fail> {
     for (writes, ended) in [(0, Ended::Failed), (1, Ended::Failed), (2, Ended::Done)] {
         let mut script = FIRST_RUN.as_bytes();
         let mut writer = BrokenWriter { writes };
-        assert_eq!(rt; sim(alloc, &mut script, &mut writer, true, None), ended);
+        assert_eq!(rt;
+            sim(alloc, &mut script, &mut writer, plain(true), None),
+            ended
+        );
     }
     Ok(())
 }
@@ -292,7 +329,7 @@ fn lines_stand_as_they_are_done(rt: HostRuntime) -> Result<(), Fail> {
             taken: Vec::new(alloc),
             flushes,
         };
-        let ended = sim(alloc, &mut script, &mut writer, false, None);
+        let ended = sim(alloc, &mut script, &mut writer, plain(false), None);
         assert_eq!(rt; ended, Ended::Failed);
         assert!(rt; writer.flushed.as_slice() == stands.as_bytes(), "{stands}");
     }

@@ -7,10 +7,10 @@ use osc_words::{Words, WordsError, fault_line, read_words};
 use std::alloc::{AllocError, Global};
 use std::test::Fail;
 
-// The value of the flag and the digit of the wanted client, or 0, where the words are those of `osc sim`.
-fn sim_asked(alloc: Global, words: &[&str]) -> Option<(bool, u8)> {
+// The values of the flags and the digit of the wanted client, or 0, where the words are those of `osc sim`.
+fn sim_asked(alloc: Global, words: &[&str]) -> Option<(bool, bool, u8)> {
     match read_words(alloc, words) {
-        Ok(Words::Sim { bytes, only }) => Some((bytes, digit_of(only))),
+        Ok(Words::Sim { bytes, lines, only }) => Some((bytes, lines, digit_of(only))),
         _ => None,
     }
 }
@@ -25,12 +25,22 @@ fn digit_of(client: Option<ClientName>) -> u8 {
 #[test]
 fn a_script_is_run(rt: HostRuntime) {
     for (words, asked) in [
-        (&["osc", "sim"].as_slice(), Some((false, 0))),
-        (&["osc", "sim", "--bytes"].as_slice(), Some((true, 0))),
-        (&["osc", "sim", "--only", "c3"].as_slice(), Some((false, 3))),
+        (&["osc", "sim"].as_slice(), Some((false, false, 0))),
         (
-            &["osc", "sim", "--only=c9", "--bytes"].as_slice(),
-            Some((true, 9)),
+            &["osc", "sim", "--bytes"].as_slice(),
+            Some((true, false, 0)),
+        ),
+        (
+            &["osc", "sim", "--lines"].as_slice(),
+            Some((false, true, 0)),
+        ),
+        (
+            &["osc", "sim", "--only", "c3"].as_slice(),
+            Some((false, false, 3)),
+        ),
+        (
+            &["osc", "sim", "--only=c9", "--lines", "--bytes"].as_slice(),
+            Some((true, true, 9)),
         ),
         (&["osc", "sim", "script"].as_slice(), None),
         (&["osc", "server"].as_slice(), None),

@@ -1,12 +1,16 @@
 //! Scripts as bytes, and what their traces say.
 
-use osc_simulation::trace_script;
+use osc_simulation::{TraceForm, trace_script};
 use std::alloc::{AllocError, Global};
 
 /// The trace of the script; none where a line of it is bad or memory is wanting.
 pub(crate) fn trace_of(alloc: Global, script: &[u8], with_bytes: bool) -> Option<Vec<u8>> {
     let mut text = Vec::new(alloc);
-    match trace_script(alloc, script, with_bytes, None, &mut text) {
+    let form = TraceForm {
+        bytes: with_bytes,
+        lines: false,
+    };
+    match trace_script(alloc, script, form, None, &mut text) {
         Ok(()) => Some(text),
         Err(_) => None,
     }

@@ -27,7 +27,7 @@ use Rattle.osc_words.proofs.ClientParts.{code_of_method}
 
 asked_by_method : (entered : Option (Text × List Row)) (read : Words) → AreWords entered read → AsksByMethod read
 asked_by_method None read s = absurd s
-asked_by_method (Some entered) (Sim bytes only) s = tt
+asked_by_method (Some entered) (Sim bytes lines only) s = tt
 asked_by_method (Some entered) (Token asked) s = tt
 asked_by_method (Some entered) (Server turns log) s = tt
 asked_by_method (Some entered) (Proxy turns log) s = tt
@@ -60,7 +60,7 @@ not_token name other e f differ = let both : true ≡ false = sym (ap (λ t. byt
 
 not_one : (entered : Option (Text × List Row)) (option : HiddenOption) → HasNotOne entered option → (read : Words) → AreWords entered read → ⊥
 not_one None option h read s = h
-not_one (Some entered) option h (Sim bytes only) s = not_token entered.0 (codes "sim") h.0 s.0 refl
+not_one (Some entered) option h (Sim bytes lines only) s = not_token entered.0 (codes "sim") h.0 s.0 refl
 not_one (Some entered) option h (Token asked) s = not_asked entered.1 option h.1 asked s.1
 not_one (Some entered) option h (Server turns log) s = not_token entered.0 (codes "server") h.0 s.0 refl
 not_one (Some entered) option h (Proxy turns log) s = not_token entered.0 (codes "proxy") h.0 s.0 refl

@@ -32,9 +32,9 @@ use Rattle.osc_words.specs.declared.words.WordsError.TheVariants.{Clap, Value, N
 abbrev pub flag_rule : Text → Rule
 flag_rule name = record (new_rule name) { long = Some name; action = Some SetTrue }
 
--- osc sim [--bytes] [--only CLIENT]
+-- osc sim [--bytes] [--lines] [--only CLIENT]
 abbrev pub sim_app : App
-sim_app = with_rule (with_rule (new_app (codes "sim")) (flag_rule (codes "bytes"))) (value_rule (codes "only") false)
+sim_app = with_rule (with_rule (with_rule (new_app (codes "sim")) (flag_rule (codes "bytes"))) (flag_rule (codes "lines"))) (value_rule (codes "only") false)
 
 abbrev pub token_options : List TokenOption
 token_options = Key ∷ KeyFile ∷ Audience ∷ Id ∷ Secret ∷ SecretFile ∷ Scope ∷ Salt ∷ Context ∷ Algorithm ∷ Expires ∷ NotBefore ∷ Iv ∷ []
@@ -73,8 +73,8 @@ is_set flag rows = option_map_or (λ text. bytes_eq text (codes "true")) (first_
 -- the subcommand that was entered, with its rows, asks for this
 abbrev pub AreWords : Option (Text × List Row) → Words → Type 0
 AreWords None words = ⊥
-AreWords (Some entered) (Sim bytes only) =
-    (entered.0 ≡ codes "sim") × (bytes ≡ is_set (codes "bytes") entered.1) × IsGiven SpellsClient (value_of option.SimOnly entered.1) only
+AreWords (Some entered) (Sim bytes lines only) =
+    (entered.0 ≡ codes "sim") × (bytes ≡ is_set (codes "bytes") entered.1) × (lines ≡ is_set (codes "lines") entered.1) × IsGiven SpellsClient (value_of option.SimOnly entered.1) only
 AreWords (Some entered) (Token asked) = (entered.0 ≡ codes "token") × token.AreTokenWords entered.1 asked
 AreWords (Some entered) (Server turns log) =
     (entered.0 ≡ codes "server") × SpellsTurns (value_of option.ServerTurns entered.1) turns × (log ≡ is_set (codes "log") entered.1)

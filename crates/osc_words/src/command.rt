@@ -22,6 +22,8 @@ use std::alloc::{AllocError, Global};
 const TOKEN_EXAMPLE: &str =
     "Example: osc token --key 404142434445464748494a4b4c4d4e4f --aud s --id 01 --secret 0123456789abcdef --scope /log:GET+POST";
 
+const LINES_HELP: &str = "Prints the number of the script's line before each line that it prints";
+
 const LOG_HELP: &str = "Tells of each request that is served or refused, on the standard error";
 
 /// Reads a command line, the program's own name first.
@@ -69,6 +71,7 @@ fn sim_asked(options: &ArgMatches<'_>) -> Result<Words, WordsError>
 {
     Ok(Words::Sim {
         bytes: is_set(options, "bytes"),
+        lines: is_set(options, "lines"),
         only: given::client(options, NamedOption::SimOnly)?,
     })
 }
@@ -180,6 +183,7 @@ fn sim_command<'a>(alloc: Global) -> Result<Command<'a>, AllocError>
         .about("Runs the script on the standard input, and prints its trace")
         .after_help("Example: osc sim --bytes --only c1 < SCRIPT");
     let command = with_flag(alloc, command, "bytes", "Prints the bytes of each datagram")?;
+    let command = with_flag(alloc, command, "lines", LINES_HELP)?;
     with_option(alloc, command, NamedOption::SimOnly, false)
 }
 

@@ -15,10 +15,11 @@ use std::alloc::{AllocError, Global};
 /// What a command line asks for: one of the subcommands.
 #[derive(Debug, PartialEq, Eq, Drop)]
 pub enum Words {
-    /// `osc sim [--bytes] [--only CLIENT]`: run a script, print its datagrams' bytes where `bytes` says so, and what the entries of the
-    /// client of `only` are answered alone.
+    /// `osc sim [--bytes] [--lines] [--only CLIENT]`: run a script, print its datagrams' bytes where `bytes` says so, the number of the
+    /// script's line before each line that it prints where `lines` does, and what the entries of the client of `only` are answered alone.
     Sim {
         bytes: bool,
+        lines: bool,
         only: Option<ClientName>,
     },
     /// `osc token`: print a token.

@@ -12,4 +12,4 @@ trace_lines-traced-requires g c =
 pub returns-clause-cut : goal.returns-clause-cut
 returns-clause-cut g c = λ cut.
     let part = c.trace_lines-traced.ensures.cut cut in
-    (part.0, inr (c.in_ok-script.script, c.in_ok-script.ensures.read, subst (λ lines. IsCut c.args.with_bytes lines part.0) c.lines.ensures part.1), part.2)
+    (part.0, inr (c.in_ok-script.script, c.in_ok-script.ensures.read, subst (λ lines. IsCut c.args.form lines part.0) c.lines.ensures part.1), part.2)
