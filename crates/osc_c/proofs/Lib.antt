@@ -1,0 +1,4 @@
+pub mod DeviceValues
+pub mod ClientValues
+pub mod ProxyValues
+pub mod Calls

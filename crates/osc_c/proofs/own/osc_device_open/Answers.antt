@@ -1,0 +1,10 @@
+-- What was held goes on so.
+use Rattle.std.proofs.Common.{rules}
+use Rattle.osc_calls.specs.Own.{OpensBy}
+use Rattle.osc_c.specs.Ciphers.{sealing}
+use Rattle.osc_c.proofs.Calls.{tells}
+use Rattle.osc_c.proofs.own.osc_device_open.Goals as goal
+
+pub returns-in-Some : goal.returns-in-Some
+returns-in-Some c =
+    tells c.args.code.now c.answer.new.code (λ old told new. OpensBy sealing old c.args.now c.args.draws.now told new) c.open-told.result c.in-Some.ensures.taken c.deref_mut.ensures.value (search rules) c.holding.ensures c.answer.ensures.code c.open-told.ensures

@@ -1,0 +1,25 @@
+-- Calls on handles.
+use Rattle.std.specs.Prelude.{◌≡◌, ◌⊎◌, Option, Some, None, MatchOption, ℕ, ℤ, pos}
+use Rattle.osc_calls.specs.Outcome.{number_of}
+use Rattle.osc_calls.specs.declared.outcome.Outcome.{Outcome}
+use Rattle.osc_calls.specs.declared.round.Told.{Told}
+
+-- a number, as a call answers it
+abbrev pub Answers : ℤ → (Outcome → Type 0) → Type 0
+Answers number Does = (outcome : Outcome) × (number ≡ pos (number_of outcome)) × Does outcome
+
+-- Where nothing is held, it answers 33 and holds nothing. What is held goes on so, and is held then.
+abbrev pub Calls : {A : Type 0} → Option A → ℤ → Option A → (A → Outcome → A → Type 0) → Type 0
+Calls {A} old number new Does =
+    MatchOption old ((number ≡ pos 33) × (new ≡ None)) (λ held. (after : A) × (new ≡ Some after) × Answers number (λ outcome. Does held outcome after))
+
+-- The same of a call that only looks: what is held stays so.
+abbrev pub Looks : {A : Type 0} → Option A → ℤ → Option A → (A → Outcome → Type 0) → Type 0
+Looks old number new Does =
+    MatchOption old ((number ≡ pos 33) × (new ≡ None)) (λ held. (new ≡ Some held) × Answers number (λ outcome. Does held outcome))
+
+-- The same of a call that tells a code, too, where something is held.
+abbrev pub Tells : {A : Type 0} → Option A → ℕ → ℤ → Option A → ℕ → (A → Told → A → Type 0) → Type 0
+Tells {A} old before number new code Does =
+    MatchOption old ((number ≡ pos 33) × (new ≡ None) × (code ≡ before))
+    (λ held. (after : A) × (told : Told) × (new ≡ Some after) × (number ≡ pos (number_of told.outcome)) × (code ≡ told.code) × Does held told after)

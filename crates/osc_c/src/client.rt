@@ -1,0 +1,264 @@
+//! A client.
+ghost use Rattle.std.specs.Prelude.{◌≡◌, ◌⊎◌, pos};
+ghost use Rattle.std.specs.declared.option.Option.TheVariants.{None};
+ghost use Rattle.osc_client.specs.Sending.{restarted};
+ghost use Rattle.osc_calls.specs.Client.{AskedBy, BegunBy, HeardBy, TellsContext, TellsDeadline, TickedBy};
+ghost use Rattle.osc_calls.specs.Last.{HandsOut, nothing};
+ghost use Rattle.osc_calls.specs.Plain.{draw_of, peer_of};
+ghost use Rattle.osc_calls.specs.Results.{TellsResult, learnt_in};
+ghost use Rattle.osc_calls.specs.declared.outcome.Outcome.TheVariants.{Done};
+ghost use Rattle.osc_c.specs.Calls.{Calls, Looks};
+ghost use Rattle.osc_c.specs.Ciphers.{sealing, tags};
+
+use crate::client_handle::ClientHandle;
+use osc_calls::{ClientNode, Outcome, PlainDraw, PlainOptions, PlainPeer, PlainResult};
+use osc_ccm::Ccm;
+use std::alloc::Global;
+
+/// Makes a client that was granted this token, in the place of one that is held.
+///
+/// Answers 0; or 9 without memory, and 34 where a length or the algorithm is out of its range: then what was held is held. Heap: some 18 KiB, for
+/// as long as it is held.
+#[unsafe(no_mangle)]
+pub extern "C" fn osc_client_new(
+    alloc: Global,
+    client: &mut ClientHandle,
+    next_hop: &PlainPeer,
+    host: &[u8],
+    port: u16,
+    token: &[u8],
+    secret: &[u8],
+    salt: &[u8],
+    context: &[u8],
+    has_context: u8,
+    algorithm: u8,
+) -> i32
+    ensures { result ≡ pos 0 ⊎ (client.new.held ≡ client.old.held) }
+{
+    let made = ClientNode::new(
+        alloc,
+        next_hop,
+        host,
+        port,
+        token,
+        secret,
+        salt,
+        context,
+        has_context,
+        algorithm,
+    );
+    match made {
+        Ok(node) => match Box::new(alloc, node) {
+            Ok(node) => {
+                *client = ClientHandle::holding(node);
+                Outcome::Done.number()
+            }
+            Err(_) => Outcome::NoMemory.number(),
+        },
+        Err(outcome) => outcome.number(),
+    }
+}
+
+/// Posts the token. Where it isn't begun, `osc_client_result` tells why.
+///
+/// Answers 0; or 9 without memory, 34 where the moment is none, and 33 where nothing is held: then what was held is held. Heap: the post, while
+/// it is open.
+#[unsafe(no_mangle)]
+pub extern "C" fn osc_client_exchange(
+    alloc: Global,
+    client: &mut ClientHandle,
+    now: u64,
+    draw: &PlainDraw,
+) -> i32
+    ensures { Calls client.old.held result client.new.held (λ old outcome new. BegunBy old now (draw_of draw.now) outcome new) }
+{
+    match client.take(alloc) {
+        None => Outcome::Nothing.number(),
+        Some(mut node) => {
+            let outcome = node.exchange(alloc, now, draw);
+            *client = ClientHandle::holding(node);
+            outcome.number()
+        }
+    }
+}
+
+/// Asks for this under protection. Where it isn't begun, `osc_client_result` tells why.
+///
+/// Answers 0; or 9 without memory, 34 where an argument is out of its range, and 33 where nothing is held: then what was held is held. Heap: the
+/// request, while it is open.
+#[unsafe(no_mangle)]
+pub extern "C" fn osc_client_ask(
+    alloc: Global,
+    client: &mut ClientHandle,
+    now: u64,
+    method: u8,
+    path: &[u8],
+    options: &PlainOptions,
+    payload: &[u8],
+    draw: &PlainDraw,
+) -> i32
+    ensures { Calls client.old.held result client.new.held (λ old outcome new. AskedBy sealing tags old now method path.now options.now payload.now (draw_of draw.now) outcome new) }
+{
+    match client.take(alloc) {
+        None => Outcome::Nothing.number(),
+        Some(mut node) => {
+            let outcome = node
+                .ask::<(Ccm<8>, Ccm<16>)>(alloc, now, method, path, options, payload, draw);
+            *client = ClientHandle::holding(node);
+            outcome.number()
+        }
+    }
+}
+
+/// These bytes came from this peer at this moment as one datagram.
+///
+/// Answers 0; or 9 without memory, 34 where the moment is none, and 33 where nothing is held: then what was held is held. Heap: for the step.
+#[unsafe(no_mangle)]
+pub extern "C" fn osc_client_on_datagram(
+    alloc: Global,
+    client: &mut ClientHandle,
+    now: u64,
+    from: &PlainPeer,
+    bytes: &[u8],
+) -> i32
+    ensures { Calls client.old.held result client.new.held (λ old outcome new. HeardBy sealing old now (peer_of from.now) bytes.now outcome new) }
+{
+    match client.take(alloc) {
+        None => Outcome::Nothing.number(),
+        Some(mut node) => {
+            let outcome = node.on_datagram::<(Ccm<8>, Ccm<16>)>(alloc, now, from, bytes);
+            *client = ClientHandle::holding(node);
+            outcome.number()
+        }
+    }
+}
+
+/// What is due by now is done.
+///
+/// Answers 0; or 9 without memory, 34 where the moment is none, and 33 where nothing is held: then what was held is held. Heap: for the step.
+#[unsafe(no_mangle)]
+pub extern "C" fn osc_client_on_tick(alloc: Global, client: &mut ClientHandle, now: u64) -> i32
+    ensures { Calls client.old.held result client.new.held (λ old outcome new. TickedBy old now outcome new) }
+{
+    match client.take(alloc) {
+        None => Outcome::Nothing.number(),
+        Some(mut node) => {
+            let outcome = node.on_tick(alloc, now);
+            *client = ClientHandle::holding(node);
+            outcome.number()
+        }
+    }
+}
+
+/// The first moment at which a tick does anything.
+///
+/// Answers 0; or 33 where none would, or nothing is held. Heap: none.
+#[unsafe(no_mangle)]
+pub extern "C" fn osc_client_next_deadline(
+    alloc: Global,
+    client: &mut ClientHandle,
+    moment: &mut u64,
+) -> i32
+    ensures { Looks client.old.held result client.new.held (λ node outcome. TellsDeadline node moment.old outcome moment.new) }
+{
+    match client.take(alloc) {
+        None => Outcome::Nothing.number(),
+        Some(node) => {
+            let outcome = node.next_deadline(moment);
+            *client = ClientHandle::holding(node);
+            outcome.number()
+        }
+    }
+}
+
+/// Takes the next datagram of the last step.
+///
+/// Answers 0 with its bytes and to whom they go; or 33 once all were taken, or where nothing is held, and 2 where `bytes` is too short: the
+/// datagram stays to be taken. Heap: none.
+#[unsafe(no_mangle)]
+pub extern "C" fn osc_client_next(
+    alloc: Global,
+    client: &mut ClientHandle,
+    to: &mut PlainPeer,
+    bytes: &mut [u8],
+    length: &mut usize,
+) -> i32
+    ensures { Calls client.old.held result client.new.held (λ old outcome new. HandsOut old.last (record { to = to.old; bytes = bytes.old; size = length.old }) outcome new.last (record { to = to.new; bytes = bytes.new; size = length.new }) × (new.client ≡ old.client)) }
+{
+    match client.take(alloc) {
+        None => Outcome::Nothing.number(),
+        Some(mut node) => {
+            let outcome = node.next(to, bytes, length);
+            *client = ClientHandle::holding(node);
+            outcome.number()
+        }
+    }
+}
+
+/// What the client learnt in its last step.
+///
+/// Answers 0; or 33 where it learnt nothing, or nothing is held, and 2 where `payload` is too short. Heap: none.
+#[unsafe(no_mangle)]
+pub extern "C" fn osc_client_result(
+    alloc: Global,
+    client: &mut ClientHandle,
+    learnt: &mut PlainResult,
+    payload: &mut [u8],
+) -> i32
+    ensures { Looks client.old.held result client.new.held (λ node outcome. TellsResult (learnt_in node.last) learnt.old payload.old outcome learnt.new payload.new) }
+{
+    match client.take(alloc) {
+        None => Outcome::Nothing.number(),
+        Some(node) => {
+            let outcome = node.result(learnt, payload);
+            *client = ClientHandle::holding(node);
+            outcome.number()
+        }
+    }
+}
+
+/// The number (Partial IV) that its next request takes.
+///
+/// Answers 0; or 33 where it has no security context, or nothing is held. Heap: none.
+#[unsafe(no_mangle)]
+pub extern "C" fn osc_client_context(
+    alloc: Global,
+    client: &mut ClientHandle,
+    number: &mut u64,
+) -> i32
+    ensures { Looks client.old.held result client.new.held (λ node outcome. TellsContext node number.old outcome number.new) }
+{
+    match client.take(alloc) {
+        None => Outcome::Nothing.number(),
+        Some(node) => {
+            let outcome = node.context(number);
+            *client = ClientHandle::holding(node);
+            outcome.number()
+        }
+    }
+}
+
+/// Starts again: it forgets its context and what it heard.
+///
+/// Answers 0; or 33 where nothing is held. Heap: none.
+#[unsafe(no_mangle)]
+pub extern "C" fn osc_client_restart(alloc: Global, client: &mut ClientHandle) -> i32
+    ensures { Calls client.old.held result client.new.held (λ old outcome new. (outcome ≡ Done) × (new ≡ record { client = restarted old.client; last = nothing })) }
+{
+    match client.take(alloc) {
+        None => Outcome::Nothing.number(),
+        Some(mut node) => {
+            node.restart();
+            *client = ClientHandle::holding(node);
+            Outcome::Done.number()
+        }
+    }
+}
+
+/// Lets the client go, so that nothing is held.
+#[unsafe(no_mangle)]
+pub extern "C" fn osc_client_free(alloc: Global, client: &mut ClientHandle)
+    ensures { client.new.held ≡ None }
+{
+    drop(client.take(alloc));
+}

@@ -1,0 +1,160 @@
+//! A device.
+ghost use Rattle.std.specs.Prelude.{◌≡◌, ◌⊎◌, pos};
+ghost use Rattle.std.specs.declared.option.Option.TheVariants.{None};
+ghost use Rattle.osc_calls.specs.Device.{HeardBy, TellsDeadline, TickedBy, restarted_device};
+ghost use Rattle.osc_calls.specs.Last.{HandsOut, nothing};
+ghost use Rattle.osc_calls.specs.Plain.{draw_of, peer_of};
+ghost use Rattle.osc_calls.specs.declared.outcome.Outcome.TheVariants.{Done};
+ghost use Rattle.osc_c.specs.Calls.{Calls, Looks};
+ghost use Rattle.osc_c.specs.Ciphers.{sealing};
+
+use crate::device_handle::DeviceHandle;
+use osc_calls::{DeviceNode, Outcome, PlainDraw, PlainKey, PlainPeer};
+use osc_ccm::Ccm;
+use std::alloc::Global;
+
+/// Makes a device without resources, in the place of one that is held. Its server takes tokens that are sealed under `key` and for `audience`.
+/// GETs that `open` grants need no protection. The device itself may do what `own` grants.
+///
+/// Answers 0; or 9 without memory, 14 where its token is too long, 24 where a text is no scope, and 34 where the audience is no UTF-8. Then what
+/// was held is held. Heap: some 20 KiB, for as long as it is held.
+#[unsafe(no_mangle)]
+pub extern "C" fn osc_device_new(
+    alloc: Global,
+    device: &mut DeviceHandle,
+    key: &PlainKey,
+    audience: &[u8],
+    open: &[u8],
+    own: &[u8],
+    draw: &PlainDraw,
+) -> i32
+    ensures { result ≡ pos 0 ⊎ (device.new.held ≡ device.old.held) }
+{
+    let made = DeviceNode::new::<(Ccm<8>, Ccm<16>)>(alloc, key, audience, open, own, draw);
+    match made {
+        Ok(node) => match Box::new(alloc, node) {
+            Ok(node) => {
+                *device = DeviceHandle::holding(node);
+                Outcome::Done.number()
+            }
+            Err(_) => Outcome::NoMemory.number(),
+        },
+        Err(outcome) => outcome.number(),
+    }
+}
+
+/// These bytes came from this peer at this moment as one datagram.
+///
+/// Answers 0; or 9 without memory, 34 where the moment is none, and 33 where nothing is held: then what was held is held. Heap: for the step.
+#[unsafe(no_mangle)]
+pub extern "C" fn osc_device_on_datagram(
+    alloc: Global,
+    device: &mut DeviceHandle,
+    now: u64,
+    from: &PlainPeer,
+    bytes: &[u8],
+    draw: &PlainDraw,
+) -> i32
+    ensures { Calls device.old.held result device.new.held (λ old outcome new. HeardBy sealing old now (draw_of draw.now) (peer_of from.now) bytes.now outcome new) }
+{
+    match device.take(alloc) {
+        None => Outcome::Nothing.number(),
+        Some(mut node) => {
+            let outcome = node.on_datagram::<(Ccm<8>, Ccm<16>)>(alloc, now, from, bytes, draw);
+            *device = DeviceHandle::holding(node);
+            outcome.number()
+        }
+    }
+}
+
+/// What is due by now is done.
+///
+/// Answers 0; or 9 without memory, 34 where the moment is none, and 33 where nothing is held: then what was held is held. Heap: for the step.
+#[unsafe(no_mangle)]
+pub extern "C" fn osc_device_on_tick(
+    alloc: Global,
+    device: &mut DeviceHandle,
+    now: u64,
+    draw: &PlainDraw,
+) -> i32
+    ensures { Calls device.old.held result device.new.held (λ old outcome new. TickedBy sealing old now (draw_of draw.now) outcome new) }
+{
+    match device.take(alloc) {
+        None => Outcome::Nothing.number(),
+        Some(mut node) => {
+            let outcome = node.on_tick::<(Ccm<8>, Ccm<16>)>(alloc, now, draw);
+            *device = DeviceHandle::holding(node);
+            outcome.number()
+        }
+    }
+}
+
+/// The first moment at which a tick does anything for the device itself.
+///
+/// Answers 0; or 33 where none would, or nothing is held. Heap: none.
+#[unsafe(no_mangle)]
+pub extern "C" fn osc_device_next_deadline(
+    alloc: Global,
+    device: &mut DeviceHandle,
+    moment: &mut u64,
+) -> i32
+    ensures { Looks device.old.held result device.new.held (λ node outcome. TellsDeadline node moment.old outcome moment.new) }
+{
+    match device.take(alloc) {
+        None => Outcome::Nothing.number(),
+        Some(node) => {
+            let outcome = node.next_deadline(moment);
+            *device = DeviceHandle::holding(node);
+            outcome.number()
+        }
+    }
+}
+
+/// Takes the next datagram of the last step.
+///
+/// Answers 0 with its bytes and to whom they go; or 33 once all were taken, or where nothing is held, and 2 where `bytes` is too short: the
+/// datagram stays to be taken. Heap: none.
+#[unsafe(no_mangle)]
+pub extern "C" fn osc_device_next(
+    alloc: Global,
+    device: &mut DeviceHandle,
+    to: &mut PlainPeer,
+    bytes: &mut [u8],
+    length: &mut usize,
+) -> i32
+    ensures { Calls device.old.held result device.new.held (λ old outcome new. HandsOut old.last (record { to = to.old; bytes = bytes.old; size = length.old }) outcome new.last (record { to = to.new; bytes = bytes.new; size = length.new }) × (new.device ≡ old.device)) }
+{
+    match device.take(alloc) {
+        None => Outcome::Nothing.number(),
+        Some(mut node) => {
+            let outcome = node.next(to, bytes, length);
+            *device = DeviceHandle::holding(node);
+            outcome.number()
+        }
+    }
+}
+
+/// Starts again: resources stay, and security contexts are gone.
+///
+/// Answers 0; or 33 where nothing is held. Heap: none.
+#[unsafe(no_mangle)]
+pub extern "C" fn osc_device_restart(alloc: Global, device: &mut DeviceHandle) -> i32
+    ensures { Calls device.old.held result device.new.held (λ old outcome new. (outcome ≡ Done) × (new ≡ record { device = restarted_device old.device; last = nothing })) }
+{
+    match device.take(alloc) {
+        None => Outcome::Nothing.number(),
+        Some(mut node) => {
+            node.restart();
+            *device = DeviceHandle::holding(node);
+            Outcome::Done.number()
+        }
+    }
+}
+
+/// Lets the device go, so that nothing is held.
+#[unsafe(no_mangle)]
+pub extern "C" fn osc_device_free(alloc: Global, device: &mut DeviceHandle)
+    ensures { device.new.held ≡ None }
+{
+    drop(device.take(alloc));
+}

@@ -1,0 +1,119 @@
+//! What a device does at its own server.
+ghost use Rattle.std.specs.Prelude.{◌≡◌, pos};
+ghost use Rattle.osc_calls.specs.Outcome.{number_of};
+ghost use Rattle.osc_model.specs.declared.code.Method.TheVariants.{Post, Put};
+ghost use Rattle.osc_calls.specs.Own.{AsksBy, OpensBy, RemovesBy};
+ghost use Rattle.osc_c.specs.Calls.{Tells};
+ghost use Rattle.osc_c.specs.Ciphers.{sealing, tags};
+
+use crate::device_handle::DeviceHandle;
+use osc_calls::{Outcome, PlainDraws, Told};
+use osc_ccm::Ccm;
+use std::alloc::Global;
+
+/// Tells the code, and answers the number.
+fn answer(told: Told, code: &mut u8) -> i32
+    ensures number { result ≡ pos (number_of told.outcome) }
+    ensures code { code.new ≡ told.code }
+{
+    *code = told.code;
+    told.outcome.number()
+}
+
+/// Gives the device a security context with its server. `code` is that of an unprotected answer where 36 is answered, and else 0.
+///
+/// Answers 0; or 9 without memory, 17 where something is open, 34 where the moment is none, 33 where nothing is held: then what was held is held;
+/// or 35 or 36. Heap: some 700 bytes, while the context lives.
+#[unsafe(no_mangle)]
+pub extern "C" fn osc_device_open(
+    alloc: Global,
+    device: &mut DeviceHandle,
+    now: u64,
+    draws: &PlainDraws,
+    code: &mut u8,
+) -> i32
+    ensures { Tells device.old.held code.old result device.new.held code.new (λ old told new. OpensBy sealing old now draws.now told new) }
+{
+    match device.take(alloc) {
+        None => Outcome::Nothing.number(),
+        Some(mut node) => {
+            let told = node.open::<(Ccm<8>, Ccm<16>)>(alloc, now, draws);
+            *device = DeviceHandle::holding(node);
+            answer(told, code)
+        }
+    }
+}
+
+/// Puts this value at the path, as a holder of the device's token does. `code` is the answer's, where 0 or 36 is answered, and else 0.
+///
+/// Answers 0; or 9, 14, 17, 18, 22, 33, 34: then what was held is held; or 35 or 36. Heap: what is stored.
+#[unsafe(no_mangle)]
+pub extern "C" fn osc_device_put(
+    alloc: Global,
+    device: &mut DeviceHandle,
+    now: u64,
+    path: &[u8],
+    format: i32,
+    payload: &[u8],
+    draws: &PlainDraws,
+    code: &mut u8,
+) -> i32
+    ensures { Tells device.old.held code.old result device.new.held code.new (λ old told new. AsksBy sealing tags Put old now path.now format payload.now draws.now told new) }
+{
+    match device.take(alloc) {
+        None => Outcome::Nothing.number(),
+        Some(mut node) => {
+            let told =
+                node.put::<(Ccm<8>, Ccm<16>)>(alloc, now, path, format, payload, draws);
+            *device = DeviceHandle::holding(node);
+            answer(told, code)
+        }
+    }
+}
+
+/// Appends this to the value at the path. Otherwise as `osc_device_put`.
+#[unsafe(no_mangle)]
+pub extern "C" fn osc_device_append(
+    alloc: Global,
+    device: &mut DeviceHandle,
+    now: u64,
+    path: &[u8],
+    format: i32,
+    payload: &[u8],
+    draws: &PlainDraws,
+    code: &mut u8,
+) -> i32
+    ensures { Tells device.old.held code.old result device.new.held code.new (λ old told new. AsksBy sealing tags Post old now path.now format payload.now draws.now told new) }
+{
+    match device.take(alloc) {
+        None => Outcome::Nothing.number(),
+        Some(mut node) => {
+            let told =
+                node.append::<(Ccm<8>, Ccm<16>)>(alloc, now, path, format, payload, draws);
+            *device = DeviceHandle::holding(node);
+            answer(told, code)
+        }
+    }
+}
+
+/// Removes what is at the path. Otherwise as `osc_device_put`.
+#[unsafe(no_mangle)]
+pub extern "C" fn osc_device_remove(
+    alloc: Global,
+    device: &mut DeviceHandle,
+    now: u64,
+    path: &[u8],
+    draws: &PlainDraws,
+    code: &mut u8,
+) -> i32
+    ensures { Tells device.old.held code.old result device.new.held code.new (λ old told new. RemovesBy sealing tags old now path.now draws.now told new) }
+{
+    match device.take(alloc) {
+        None => Outcome::Nothing.number(),
+        Some(mut node) => {
+            let told = node.remove::<(Ccm<8>, Ccm<16>)>(alloc, now, path, draws);
+            *device = DeviceHandle::holding(node);
+            answer(told, code)
+        }
+    }
+}

@@ -1,0 +1,77 @@
+//! What a device has, and what its server served and refused.
+ghost use Rattle.std.specs.Prelude.{◌≡◌};
+ghost use Rattle.osc_calls.specs.Values.{TellsValueAt};
+ghost use Rattle.osc_c.specs.Calls.{Looks};
+
+use crate::device_handle::DeviceHandle;
+use osc_calls::{Outcome, PlainRefused, PlainServed, PlainValue};
+use std::alloc::Global;
+
+/// What stands at a path.
+///
+/// Answers 0; or 33 where nothing does, or nothing is held, 2 where `payload` is too short, 34 where the text is no path, and 9 without memory.
+/// Heap: the path, for the call.
+#[unsafe(no_mangle)]
+pub extern "C" fn osc_device_get(
+    alloc: Global,
+    device: &mut DeviceHandle,
+    path: &[u8],
+    payload: &mut [u8],
+    value: &mut PlainValue,
+) -> i32
+    ensures { Looks device.old.held result device.new.held (λ node outcome. TellsValueAt node path.now payload.old value.old outcome payload.new value.new) }
+{
+    match device.take(alloc) {
+        None => Outcome::Nothing.number(),
+        Some(node) => {
+            let outcome = node.get(alloc, path, payload, value);
+            *device = DeviceHandle::holding(node);
+            outcome.number()
+        }
+    }
+}
+
+/// The protected request that the last step served.
+///
+/// Answers 0; or 33 where it served none, or nothing is held, 2 where a room is too short, and 9 without memory. Heap: for the call.
+#[unsafe(no_mangle)]
+pub extern "C" fn osc_device_served(
+    alloc: Global,
+    device: &mut DeviceHandle,
+    served: &mut PlainServed,
+    path: &mut [u8],
+    payload: &mut [u8],
+    context: &mut [u8],
+) -> i32
+    ensures { device.new.held ≡ device.old.held }
+{
+    match device.take(alloc) {
+        None => Outcome::Nothing.number(),
+        Some(node) => {
+            let outcome = node.served(alloc, served, path, payload, context);
+            *device = DeviceHandle::holding(node);
+            outcome.number()
+        }
+    }
+}
+
+/// The request that the last step refused.
+///
+/// Answers 0; or 33 where it refused none, or nothing is held. Heap: none.
+#[unsafe(no_mangle)]
+pub extern "C" fn osc_device_refused(
+    alloc: Global,
+    device: &mut DeviceHandle,
+    refused: &mut PlainRefused,
+) -> i32
+    ensures { device.new.held ≡ device.old.held }
+{
+    match device.take(alloc) {
+        None => Outcome::Nothing.number(),
+        Some(node) => {
+            let outcome = node.refused(refused);
+            *device = DeviceHandle::holding(node);
+            outcome.number()
+        }
+    }
+}

@@ -1,0 +1,50 @@
+//! Tokens.
+ghost use Rattle.osc_calls.specs.Granted.{id_context_of};
+ghost use Rattle.osc_c.specs.Calls.{Answers};
+ghost use Rattle.osc_c.specs.Minting.{MintsBy};
+ghost use Rattle.osc_c.specs.Ciphers.{short_tag};
+
+use osc_calls::{PlainIv, PlainKey, claims, mint};
+use osc_ccm::Ccm;
+use std::alloc::Global;
+
+/// Mints a token, and writes it where there is room: how many bytes it has is told in either case.
+///
+/// Answers 0; or 2 where `token` is too short, 9 without memory, 14 where the claims are too long, 24 where the text is no scope, and 34 where a
+/// length or the algorithm is out of its range. Heap: for the call.
+#[unsafe(no_mangle)]
+pub extern "C" fn osc_token_mint(
+    alloc: Global,
+    key: &PlainKey,
+    audience: &[u8],
+    id: &[u8],
+    secret: &[u8],
+    context: &[u8],
+    has_context: u8,
+    scope: &[u8],
+    not_before: u64,
+    expires: u64,
+    algorithm: u8,
+    iv: &PlainIv,
+    token: &mut [u8],
+    length: &mut usize,
+) -> i32
+    ensures { Answers result (λ outcome. MintsBy short_tag key.now.bytes iv.now.bytes audience.now id.now secret.now (id_context_of has_context context.now) scope.now not_before expires algorithm token.old length.old outcome token.new length.new) }
+{
+    let claims = claims(
+        alloc,
+        audience,
+        id,
+        secret,
+        context,
+        has_context,
+        scope,
+        not_before,
+        expires,
+        algorithm,
+    );
+    match claims {
+        Ok(claims) => mint::<Ccm<8>>(alloc, claims, key, iv, token, length).number(),
+        Err(outcome) => outcome.number(),
+    }
+}

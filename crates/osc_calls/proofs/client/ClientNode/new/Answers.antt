@@ -1,0 +1,15 @@
+-- What was granted, and the algorithm.
+use Rattle.std.proofs.Common.{◌≡◌, ◌∙◌, subst}
+use Rattle.osc_calls.specs.Client.{IsFresh}
+use Rattle.osc_calls.proofs.client.ClientNode.new.Goals as goal
+
+pub returns-clause-ok : goal.returns-clause-ok
+returns-clause-ok c =
+    let is = c.in_ok-desk.ensures.ok in
+    record {
+      desk = c.in_ok-desk.desk;
+      alg = c.in_ok-alg.alg;
+      is_desk = (is.0, is.1, is.2, is.3 ∙ c.in_ok-context.ensures.ok, is.4);
+      is_alg = c.in_ok-alg.ensures.ok;
+      fresh = subst (λ way. IsFresh c.in_ok-desk.desk way c.in_ok-of.field-0) c.in_ok-way.ensures.ok c.in_ok-of.ensures;
+    }

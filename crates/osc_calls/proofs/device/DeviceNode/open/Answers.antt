@@ -1,0 +1,6 @@
+-- At the moment of these milliseconds.
+use Rattle.std.proofs.Common.{inl}
+use Rattle.osc_calls.proofs.device.DeviceNode.open.Goals as goal
+
+pub returns-in-Ok : goal.returns-in-Ok
+returns-in-Ok g c = inl (c.in-Ok.now, c.in-Ok.ensures.ok, c.open_at.ensures)

@@ -1,0 +1,84 @@
+-- A client by calls.
+use Rattle.std.specs.Prelude.{◌≡◌, ℕ, ◌⊎◌, true, false, ◌↔◌, ◌≤◌, List, Option, Some, None, option_map}
+use Rattle.osc_model.specs.declared.node.Draw.{Draw}
+use Rattle.osc_model.specs.declared.node.Moment.{Moment}
+use Rattle.osc_model.specs.declared.node.Peer.{Peer}
+use Rattle.osc_model.specs.declared.request.Request.{Request}
+use Rattle.osc_model.specs.declared.step.Step.{Step}
+use Rattle.osc_message.specs.Endpoint.{fresh}
+use Rattle.osc_authz.specs.declared.granted.ClientDesk.{ClientDesk}
+use Rattle.osc_protect.specs.Ciphers.{Sealings, Tags}
+use Rattle.osc_client.specs.Hearing.{Begins, Hears, Requests, Ticks}
+use Rattle.osc_client.specs.Sending.{acts_at}
+use Rattle.osc_client.specs.State.{State}
+use Rattle.osc_client.specs.declared.way.Way.{Way}
+use Rattle.osc_calls.specs.Arguments.{Tells}
+use Rattle.osc_calls.specs.Calls.{At, Ends}
+use Rattle.osc_calls.specs.Granted.{IsDesk, IsUnfit, origin_of}
+use Rattle.osc_calls.specs.Requests.{IsRequest}
+use Rattle.osc_calls.specs.declared.plain.PlainOptions.{PlainOptions}
+use Rattle.osc_model.specs.Algorithm.{algorithm_number}
+use Rattle.osc_model.specs.declared.algorithm.Algorithm.{Algorithm}
+use Rattle.osc_calls.specs.Last.{nothing, since}
+use Rattle.osc_calls.specs.declared.client.ClientNode.{ClientNode}
+use Rattle.osc_calls.specs.declared.outcome.Outcome.{Outcome}
+use Rattle.osc_calls.specs.declared.outcome.Outcome.TheVariants.{Done, Nothing}
+
+-- it was granted this, and has done nothing
+abbrev pub IsFresh : ClientDesk → Way → ClientNode → Type 0
+IsFresh desk way node = node ≡ record {
+  client = record { desk = desk; next_hop = way.next_hop; origin = way.origin; context = None; waiting = None; endpoint = fresh };
+  last = nothing;
+}
+
+-- it was granted this, and has done nothing
+pub record IsNewClient (next_hop : Peer) (host : List ℕ) (port : ℕ) (token secret salt : List ℕ) (context : Option (List ℕ)) (algorithm : ℕ) (node : ClientNode) : Type 0 where
+  pub desk : ClientDesk
+  pub alg : Algorithm
+  pub is_desk : IsDesk token secret salt context alg desk
+  pub is_alg : algorithm ≡ algorithm_number alg
+  pub fresh : IsFresh desk (record { next_hop = next_hop; origin = origin_of host port }) node
+
+-- the client makes a step of this kind, and it is the last one
+abbrev pub Makes : ClientNode → (State → Step → State → Type 0) → ClientNode → Type 0
+Makes old Does new = (step : Step) × Does old.client step new.client × (new.last ≡ since step)
+
+abbrev pub BegunAt : ClientNode → Moment → Draw → ClientNode → Type 0
+BegunAt old now draw new = Makes old (λ s step t. Begins s now draw step t) new
+
+abbrev pub BegunBy : ClientNode → ℕ → Draw → Outcome → ClientNode → Type 0
+BegunBy old ms draw outcome new = At ms old outcome new (λ now. BegunAt old now draw new)
+
+abbrev pub TickedAt : ClientNode → Moment → ClientNode → Type 0
+TickedAt old now new = Makes old (λ s step t. Ticks s now step t) new
+
+abbrev pub TickedBy : ClientNode → ℕ → Outcome → ClientNode → Type 0
+TickedBy old ms outcome new = At ms old outcome new (λ now. TickedAt old now new)
+
+-- `is_sealing algorithm` is the relation of the algorithm's cipher
+module _ (is_sealing : Sealings) where
+  abbrev pub AskedAt : Tags → ClientNode → Moment → Request → Draw → ClientNode → Type 0
+  AskedAt tag old now request draw new = Makes old (λ s step t. Requests is_sealing tag s now request draw step t) new
+
+  -- A request of these numbers and bytes is asked, or there was no memory for the step; or it is none, or there was no memory for it.
+  abbrev pub AskedBy : Tags → ClientNode → ℕ → ℕ → List ℕ → PlainOptions → List ℕ → Draw → Outcome → ClientNode → Type 0
+  AskedBy tag old ms method path options payload draw outcome new =
+      ((now : Moment) × (request : Request) × (now.ms ≡ ms) × IsRequest method path options payload request
+          × Ends old outcome new (AskedAt tag old now request draw new))
+      ⊎ (IsUnfit outcome × (new ≡ old))
+
+  abbrev pub HeardAt : ClientNode → Moment → Peer → List ℕ → ClientNode → Type 0
+  HeardAt old now from bytes new = Makes old (λ s step t. Hears is_sealing s now from bytes step t) new
+
+  abbrev pub HeardBy : ClientNode → ℕ → Peer → List ℕ → Outcome → ClientNode → Type 0
+  HeardBy old ms from bytes outcome new = At ms old outcome new (λ now. HeardAt old now from bytes new)
+
+-- the first moment is told at which a tick does anything, if one does
+abbrev pub TellsDeadline : ClientNode → ℕ → Outcome → ℕ → Type 0
+TellsDeadline node old outcome new =
+    ((outcome ≡ Done) × ((now : Moment) → (acts_at node.client now ≡ true) ↔ (new ≤ now.ms)))
+    ⊎ ((outcome ≡ Nothing) × (new ≡ old) × ((now : Moment) → acts_at node.client now ≡ false))
+
+-- the number that its next request takes is told, where it has a context
+abbrev pub TellsContext : ClientNode → ℕ → Outcome → ℕ → Type 0
+TellsContext node old outcome new = Tells (option_map (λ context. context.next) node.client.context) old outcome new

@@ -1,0 +1,56 @@
+-- A device by calls.
+use Rattle.std.specs.Prelude.{◌≡◌, ℕ, ◌⊎◌, true, false, ◌↔◌, ◌≤◌, List, [], Option, Some, None}
+use Rattle.osc_model.specs.declared.node.Draw.{Draw}
+use Rattle.osc_model.specs.declared.node.Moment.{Moment}
+use Rattle.osc_model.specs.declared.node.Peer.{Peer}
+use Rattle.osc_model.specs.declared.step.Step.{Step}
+use Rattle.osc_message.specs.Endpoint.{after_tick, fresh}
+use Rattle.osc_protect.specs.Ciphers.{Sealings}
+use Rattle.osc_client.specs.Hearing.{Ticks}
+use Rattle.osc_client.specs.Sending.{acts_at, restarted}
+use Rattle.osc_client.specs.State.{State as Own}
+use Rattle.osc_server.specs.Hearing.{Hears}
+use Rattle.osc_device.specs.Carrying.{Carries}
+use Rattle.osc_device.specs.State.{State}
+use Rattle.osc_device.specs.declared.round.Round.{Round}
+use Rattle.osc_calls.specs.Calls.{At}
+use Rattle.osc_calls.specs.Last.{nothing, since}
+use Rattle.osc_calls.specs.declared.device.DeviceNode.{DeviceNode}
+use Rattle.osc_calls.specs.declared.outcome.Outcome.{Outcome}
+use Rattle.osc_calls.specs.declared.outcome.Outcome.TheVariants.{Done, Nothing}
+
+-- the server starts again without contexts, and the device itself without its own
+abbrev pub restarted_device : State → State
+restarted_device old = record {
+  server = record old.server { desk = record old.server.desk { table = [] }; endpoint = fresh };
+  own = restarted old.own;
+}
+
+-- `is_sealing algorithm` is the relation of the algorithm's cipher
+module _ (is_sealing : Sealings) where
+  -- the server hears these bytes, and its step is the last one; the device itself isn't changed by it
+  pub record HeardAt (old : DeviceNode) (now : Moment) (draw : Draw) (from : Peer) (bytes : List ℕ) (new : DeviceNode) : Type 0 where
+    pub step : Step
+    pub hears : Hears is_sealing old.device.server now draw from bytes step new.device.server
+    pub own : new.device.own ≡ old.device.own
+    pub last : new.last ≡ since step
+
+  abbrev pub HeardBy : DeviceNode → ℕ → Draw → Peer → List ℕ → Outcome → DeviceNode → Type 0
+  HeardBy old ms draw from bytes outcome new = At ms old outcome new (λ now. HeardAt old now draw from bytes new)
+
+  -- the device itself ticks, what it sends is carried to its server and back, and nothing goes to others
+  pub record TickedAt (old : DeviceNode) (now : Moment) (draw : Draw) (new : DeviceNode) : Type 0 where
+    pub round : Round
+    pub ticked : Own
+    pub ticks : Ticks old.device.own now round.begun ticked
+    pub carries : Carries is_sealing (record old.device.server { endpoint = after_tick now old.device.server.endpoint }) ticked now draw round new.device
+    pub last : new.last ≡ nothing
+
+  abbrev pub TickedBy : DeviceNode → ℕ → Draw → Outcome → DeviceNode → Type 0
+  TickedBy old ms draw outcome new = At ms old outcome new (λ now. TickedAt old now draw new)
+
+-- the first moment is told at which a tick does anything for the device itself, if one does
+abbrev pub TellsDeadline : DeviceNode → ℕ → Outcome → ℕ → Type 0
+TellsDeadline node old outcome new =
+    ((outcome ≡ Done) × ((now : Moment) → (acts_at node.device.own now ≡ true) ↔ (new ≤ now.ms)))
+    ⊎ ((outcome ≡ Nothing) × (new ≡ old) × ((now : Moment) → acts_at node.device.own now ≡ false))

@@ -1,0 +1,75 @@
+-- What a device does at its own server, by calls.
+use Rattle.std.specs.Prelude.{◌≡◌, ℕ, ◌⊎◌, Bool, true, false, if◌then◌else◌, ℤ, List, [], Option, Some, None}
+use Rattle.osc_model.specs.declared.code.Method.{Method}
+use Rattle.osc_model.specs.declared.code.Method.TheVariants.{Delete}
+use Rattle.osc_model.specs.declared.node.Moment.{Moment}
+use Rattle.osc_model.specs.declared.step.ClientResult.{ClientResult}
+use Rattle.osc_model.specs.declared.step.ClientResult.TheVariants.{Made, Answer, Unverified, TimedOut, Refused}
+use Rattle.osc_client.specs.Hearing.{Begins}
+use Rattle.osc_client.specs.State.{State as Own}
+use Rattle.osc_protect.specs.Ciphers.{Sealings, Tags}
+use Rattle.osc_scope.specs.Entries.{Entry}
+use Rattle.osc_token.specs.declared.claims.Claims.{Claims}
+use Rattle.osc_device.specs.Answered.{IsAnsweredWhereReady, IsOpen, IsWhole, MayOpen, own_request}
+use Rattle.osc_device.specs.Carrying.{AsksItsServer, Carries}
+use Rattle.osc_device.specs.declared.round.Round.{Round}
+use Rattle.osc_calls.specs.Arguments.{IsFormat}
+use Rattle.osc_calls.specs.Granted.{IsUnfit}
+use Rattle.osc_calls.specs.Last.{LastStep, nothing}
+use Rattle.osc_calls.specs.Plain.{draw_of}
+use Rattle.osc_calls.specs.Told.{bare, told_of}
+use Rattle.osc_calls.specs.declared.device.DeviceNode.{DeviceNode}
+use Rattle.osc_calls.specs.declared.outcome.Outcome.TheVariants.{NoMemory}
+use Rattle.osc_calls.specs.declared.plain.PlainDraws.{PlainDraws}
+use Rattle.osc_calls.specs.declared.round.Told.{Told}
+
+-- whether nothing was begun
+abbrev pub is_refused_by : Option ClientResult → Bool
+is_refused_by (Some (Refused number)) = true
+is_refused_by result = false
+
+-- Where nothing was begun the last step stays, and else there is none for others.
+abbrev pub last_after : Round → LastStep → LastStep
+last_after round last = if is_refused_by round.begun.notes.result then last else nothing
+
+-- It comes to a round of this kind, of which the caller is told; or there was no memory, and nothing changes.
+abbrev pub ComesTo : DeviceNode → Told → DeviceNode → (Round → Type 0) → Type 0
+ComesTo old told new Does =
+    ((round : Round) × Does round × (told ≡ told_of round) × (new.last ≡ last_after round old.last))
+    ⊎ ((told ≡ bare NoMemory) × (new ≡ old))
+
+-- an argument is out of its range, or there was no memory for them: nothing changes
+abbrev pub IsRejected : DeviceNode → Told → DeviceNode → Type 0
+IsRejected old told new = IsUnfit told.outcome × (told.code ≡ 0) × (new ≡ old)
+
+-- `is_sealing algorithm` is the relation of the algorithm's cipher, and `tag algorithm` how long its tag is
+module _ (is_sealing : Sealings) where
+  -- the device posts its token, and what it sends is carried to its server and back; where it may, and no step wants memory, it has a context
+  abbrev pub Opens : DeviceNode → Moment → PlainDraws → Round → DeviceNode → Type 0
+  Opens old now draws round new =
+      ((begun : Own) × Begins old.device.own now (draw_of draws.own) round.begun begun
+          × Carries is_sealing old.device.server begun now (draw_of draws.server) round new.device)
+      × ((claims : Claims) (entries : List Entry) → MayOpen is_sealing old.device now (draw_of draws.own) claims entries → IsWhole round
+          → IsOpen now entries new.device)
+
+  abbrev pub OpensBy : DeviceNode → ℕ → PlainDraws → Told → DeviceNode → Type 0
+  OpensBy old ms draws told new =
+      ((now : Moment) × (now.ms ≡ ms) × ComesTo old told new (λ round. Opens old now draws round new)) ⊎ IsRejected old told new
+
+  module _ (tag : Tags) where
+    -- the device asks its server so; where it may, and no step wants memory, it is answered
+    abbrev pub Asks : Method → DeviceNode → Moment → List ℕ → Option ℕ → List ℕ → PlainDraws → Round → DeviceNode → Type 0
+    Asks method old now path format payload draws round new =
+        AsksItsServer is_sealing tag old.device now (draw_of draws.own) (draw_of draws.server) (own_request method path format payload) round new.device
+        × IsAnsweredWhereReady old.device now (draw_of draws.own) (own_request method path format payload) round new.device
+
+    abbrev pub AsksBy : Method → DeviceNode → ℕ → List ℕ → ℤ → List ℕ → PlainDraws → Told → DeviceNode → Type 0
+    AsksBy method old ms path number payload draws told new =
+        ((now : Moment) × (format : Option ℕ) × (now.ms ≡ ms) × IsFormat number format
+            × ComesTo old told new (λ round. Asks method old now path format payload draws round new))
+        ⊎ IsRejected old told new
+
+    abbrev pub RemovesBy : DeviceNode → ℕ → List ℕ → PlainDraws → Told → DeviceNode → Type 0
+    RemovesBy old ms path draws told new =
+        ((now : Moment) × (now.ms ≡ ms) × ComesTo old told new (λ round. Asks Delete old now path None [] draws round new))
+        ⊎ IsRejected old told new

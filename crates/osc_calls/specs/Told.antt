@@ -1,0 +1,38 @@
+-- What a caller is told of what a device did at its own server.
+use Rattle.std.specs.Prelude.{◌≡◌, ℕ, ◌==◌, if◌then◌else◌, Option, Some, None}
+use Rattle.osc_model.specs.declared.step.ClientResult.{ClientResult}
+use Rattle.osc_model.specs.declared.step.ClientResult.TheVariants.{Made, Answer, Unverified, TimedOut, Refused}
+use Rattle.osc_model.specs.declared.step.Step.{Step}
+use Rattle.osc_device.specs.declared.round.Round.{Round}
+use Rattle.osc_calls.specs.declared.outcome.Outcome.{Outcome}
+use Rattle.osc_calls.specs.declared.outcome.Outcome.TheVariants as outcome
+use Rattle.osc_calls.specs.declared.round.Told.{Told}
+
+abbrev pub bare : Outcome → Told
+bare outcome = record { outcome = outcome; code = 0 }
+
+-- why nothing was begun, by the client's number
+abbrev pub refused_as : ℕ → Outcome
+refused_as number =
+    if number == 14 then outcome.TooLong else if number == 17 then outcome.Busy else if number == 18 then outcome.Exhausted else outcome.NoContext
+
+-- a context was made, or the request was answered; it ended unprotected, or without a context; or nothing is known yet
+abbrev pub learnt_as : Option ClientResult → Told
+learnt_as (Some Made) = bare outcome.Done
+learnt_as (Some (Answer reply)) = record { outcome = outcome.Done; code = reply.code.0 }
+learnt_as (Some (Unverified code)) = record { outcome = outcome.Unverified; code = code.0 }
+learnt_as (Some TimedOut) = bare outcome.Unverified
+learnt_as (Some (Refused number)) = bare outcome.Unverified
+learnt_as None = bare outcome.Lost
+
+-- of the step that heard the answer; without one it is lost
+abbrev pub begun_as : Option Step → Told
+begun_as (Some step) = learnt_as step.notes.result
+begun_as None = bare outcome.Lost
+
+abbrev pub told_by : Option ClientResult → Option Step → Told
+told_by (Some (Refused number)) learnt = bare (refused_as number)
+told_by result learnt = begun_as learnt
+
+abbrev pub told_of : Round → Told
+told_of round = told_by round.begun.notes.result round.learnt

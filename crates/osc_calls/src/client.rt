@@ -1,0 +1,240 @@
+//! A client by calls of plain numbers and bytes.
+ghost use Rattle.std.specs.Prelude.{◌≡◌, ◌<◌, IfErr, IfOk};
+ghost use Rattle.osc_calls.specs.Calls.{Ends};
+ghost use Rattle.osc_calls.specs.Client.{AskedAt, AskedBy, BegunAt, BegunBy, HeardAt, HeardBy, IsFresh, IsNewClient, TellsContext, TellsDeadline, TickedAt, TickedBy};
+ghost use Rattle.osc_calls.specs.Granted.{IsUnfit, id_context_of};
+ghost use Rattle.osc_calls.specs.Last.{HandsOut, nothing};
+ghost use Rattle.osc_calls.specs.Results.{TellsResult, learnt_in};
+ghost use Rattle.osc_calls.specs.Plain.{draw_of, peer_of};
+ghost use Rattle.osc_client.specs.Sending.{restarted};
+
+use crate::arguments::{moment, tell};
+use crate::granted;
+use crate::last::Last;
+use crate::outcome::Outcome;
+use crate::plain::{PlainDraw, PlainOptions, PlainPeer, PlainResult};
+use crate::requests::request;
+use crate::results::tell_result;
+use osc_authz::ClientDesk;
+use osc_client::{Client, Way};
+use osc_model::{Moment, Request};
+use osc_protect::Ciphers;
+use std::alloc::{AllocError, Global};
+
+/// A client, and the step that it made last.
+pub struct ClientNode {
+    /// The client.
+    pub client: Client,
+    /// Its last step.
+    pub last: Last,
+}
+
+// Proved once, and not anew at each exit of whoever owns one.
+impl Drop for ClientNode {
+    fn drop(self) {
+        let ClientNode { client: _, last: _ } = self;
+    }
+}
+
+impl ClientNode {
+    /// A client that was granted this, and reaches its server this way.
+    fn of(alloc: Global, desk: ClientDesk, way: Way) -> Result<ClientNode, AllocError>
+        ensures { IfOk result (λ node. IsFresh desk way node) }
+    {
+        Ok(ClientNode {
+            client: Client::new(alloc, desk, way)?,
+            last: Last::nothing(),
+        })
+    }
+
+    /// A client that was granted this token, with the input material that it has, and the algorithm of this number; it sends to this peer.
+    pub fn new(
+        alloc: Global,
+        next_hop: &PlainPeer,
+        host: &[u8],
+        port: u16,
+        token: &[u8],
+        secret: &[u8],
+        salt: &[u8],
+        context: &[u8],
+        has_context: u8,
+        algorithm: u8,
+    ) -> Result<ClientNode, Outcome>
+        ensures ok { IfOk result (λ node. IsNewClient (peer_of next_hop.now) host.now port token.now secret.now salt.now (id_context_of has_context context.now) algorithm node) }
+        ensures err { IfErr result IsUnfit }
+    {
+        let alg = granted::algorithm(algorithm)?;
+        let way = granted::way(alloc, next_hop, host, port)?;
+        let context = granted::id_context(alloc, has_context, context)?;
+        let desk = granted::desk(alloc, token, secret, salt, context, alg)?;
+        Ok(ClientNode::of(alloc, desk, way)?)
+    }
+
+    /// Asks for this under protection.
+    pub fn ask<A: Ciphers>(
+        &mut self,
+        alloc: Global,
+        now: u64,
+        method: u8,
+        path: &[u8],
+        options: &PlainOptions,
+        payload: &[u8],
+        draw: &PlainDraw,
+    ) -> Outcome
+        ensures { AskedBy A.is_sealing A.TAG self.old now method path.now options.now payload.now (draw_of draw.now) result self.new }
+    {
+        let now = match moment(now) {
+            Ok(now) => now,
+            Err(outcome) => return outcome,
+        };
+        match request(alloc, method, path, options, payload) {
+            Ok(request) => self.ask_at::<A>(alloc, now, &request, draw),
+            Err(outcome) => outcome,
+        }
+    }
+
+    /// What the client learnt in its last step.
+    pub fn result(&self, learnt: &mut PlainResult, payload: &mut [u8]) -> Outcome
+        ensures { TellsResult (learnt_in self.now.last) learnt.old payload.old result learnt.new payload.new }
+    {
+        match self.last.step() {
+            Some(step) => tell_result(&step.notes, learnt, payload),
+            None => Outcome::Nothing,
+        }
+    }
+
+    /// Posts the token. Where it isn't begun, the step tells why.
+    pub fn exchange(&mut self, alloc: Global, now: u64, draw: &PlainDraw) -> Outcome
+        ensures { BegunBy self.old now (draw_of draw.now) result self.new }
+    {
+        match moment(now) {
+            Ok(now) => self.exchange_at(alloc, now, draw),
+            Err(outcome) => outcome,
+        }
+    }
+
+    /// The same at a moment.
+    fn exchange_at(&mut self, alloc: Global, now: Moment, draw: &PlainDraw) -> Outcome
+        ensures { Ends self.old result self.new (BegunAt self.old now (draw_of draw.now) self.new) }
+    {
+        match self.client.exchange(alloc, now, &draw.draw()) {
+            Ok(step) => {
+                self.last = Last::of(step);
+                Outcome::Done
+            }
+            Err(_) => Outcome::NoMemory,
+        }
+    }
+
+    /// Asks for this at a moment. Where it isn't begun, the step tells why.
+    fn ask_at<A: Ciphers>(
+        &mut self,
+        alloc: Global,
+        now: Moment,
+        request: &Request,
+        draw: &PlainDraw,
+    ) -> Outcome
+        requires { 0 < request.now.code.0 }
+        ensures { Ends self.old result self.new (AskedAt A.is_sealing A.TAG self.old now request.now (draw_of draw.now) self.new) }
+    {
+        match self.client.ask::<A>(alloc, now, request, &draw.draw()) {
+            Ok(step) => {
+                self.last = Last::of(step);
+                Outcome::Done
+            }
+            Err(_) => Outcome::NoMemory,
+        }
+    }
+
+    /// These bytes came from this peer as one datagram.
+    pub fn on_datagram<A: Ciphers>(
+        &mut self,
+        alloc: Global,
+        now: u64,
+        from: &PlainPeer,
+        bytes: &[u8],
+    ) -> Outcome
+        ensures { HeardBy A.is_sealing self.old now (peer_of from.now) bytes.now result self.new }
+    {
+        match moment(now) {
+            Ok(now) => self.hear::<A>(alloc, now, from, bytes),
+            Err(outcome) => outcome,
+        }
+    }
+
+    /// The same at a moment.
+    fn hear<A: Ciphers>(
+        &mut self,
+        alloc: Global,
+        now: Moment,
+        from: &PlainPeer,
+        bytes: &[u8],
+    ) -> Outcome
+        ensures { Ends self.old result self.new (HeardAt A.is_sealing self.old now (peer_of from.now) bytes.now self.new) }
+    {
+        match self.client.on_datagram::<A>(alloc, now, from.peer(), bytes) {
+            Ok(step) => {
+                self.last = Last::of(step);
+                Outcome::Done
+            }
+            Err(_) => Outcome::NoMemory,
+        }
+    }
+
+    /// What is due by now is done.
+    pub fn on_tick(&mut self, alloc: Global, now: u64) -> Outcome
+        ensures { TickedBy self.old now result self.new }
+    {
+        match moment(now) {
+            Ok(now) => self.tick(alloc, now),
+            Err(outcome) => outcome,
+        }
+    }
+
+    /// The same at a moment.
+    fn tick(&mut self, alloc: Global, now: Moment) -> Outcome
+        ensures { Ends self.old result self.new (TickedAt self.old now self.new) }
+    {
+        match self.client.on_tick(alloc, now) {
+            Ok(step) => {
+                self.last = Last::of(step);
+                Outcome::Done
+            }
+            Err(_) => Outcome::NoMemory,
+        }
+    }
+
+    /// The first moment at which a tick does anything.
+    pub fn next_deadline(&self, moment: &mut u64) -> Outcome
+        ensures { TellsDeadline self.now moment.old result moment.new }
+    {
+        tell(self.client.next_deadline(), moment)
+    }
+
+    /// Takes the next datagram of the last step.
+    pub fn next(&mut self, to: &mut PlainPeer, bytes: &mut [u8], size: &mut usize) -> Outcome
+        ensures handed { HandsOut self.old.last (record { to = to.old; bytes = bytes.old; size = size.old }) result self.new.last (record { to = to.new; bytes = bytes.new; size = size.new }) }
+        ensures kept { self.new.client ≡ self.old.client }
+    {
+        self.last.next(to, bytes, size)
+    }
+
+    /// The number that its next request takes, where it has a context.
+    pub fn context(&self, number: &mut u64) -> Outcome
+        ensures { TellsContext self.now number.old result number.new }
+    {
+        let next = match self.client.context() {
+            Some(context) => Some(context.sender().next_number()),
+            None => None,
+        };
+        tell(next, number)
+    }
+
+    /// Starts again: it forgets its context and what it heard.
+    pub fn restart(&mut self)
+        ensures { self.new ≡ record { client = restarted self.old.client; last = nothing } }
+    {
+        self.client.restart();
+        self.last = Last::nothing();
+    }
+}

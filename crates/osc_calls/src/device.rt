@@ -1,0 +1,120 @@
+//! A device by calls of plain numbers and bytes.
+ghost use Rattle.std.specs.Prelude.{◌≡◌, ◌≢◌, IfErr, IfOk, OnErr};
+ghost use Rattle.osc_device.specs.State.{State};
+ghost use Rattle.osc_client.specs.Sending.{restarted};
+ghost use Rattle.osc_message.specs.Endpoint.{fresh};
+ghost use Rattle.osc_calls.specs.Calls.{Ends};
+ghost use Rattle.osc_calls.specs.Device.{HeardAt, HeardBy, TellsDeadline, TickedAt, TickedBy, restarted_device};
+ghost use Rattle.osc_calls.specs.Last.{HandsOut, nothing};
+ghost use Rattle.osc_calls.specs.Plain.{draw_of, peer_of};
+
+use crate::arguments::{moment, tell};
+use crate::last::Last;
+use crate::outcome::Outcome;
+use crate::plain::{PlainDraw, PlainPeer};
+use osc_device::Device;
+use osc_model::Moment;
+use osc_protect::Ciphers;
+use std::alloc::Global;
+
+/// A device, and the step that its server made last for others.
+pub struct DeviceNode {
+    /// The device.
+    pub device: Device,
+    /// The last step.
+    pub last: Last,
+}
+
+// Proved once, and not anew at each exit of whoever owns one.
+impl Drop for DeviceNode {
+    fn drop(self) {
+        let DeviceNode { device: _, last: _ } = self;
+    }
+}
+
+impl DeviceNode {
+    /// These bytes came from this peer as one datagram.
+    pub fn on_datagram<A: Ciphers>(
+        &mut self,
+        alloc: Global,
+        now: u64,
+        from: &PlainPeer,
+        bytes: &[u8],
+        draw: &PlainDraw,
+    ) -> Outcome
+        ensures { HeardBy A.is_sealing self.old now (draw_of draw.now) (peer_of from.now) bytes.now result self.new }
+    {
+        match moment(now) {
+            Ok(now) => self.hear::<A>(alloc, now, from, bytes, draw),
+            Err(outcome) => outcome,
+        }
+    }
+
+    /// The same at a moment.
+    fn hear<A: Ciphers>(
+        &mut self,
+        alloc: Global,
+        now: Moment,
+        from: &PlainPeer,
+        bytes: &[u8],
+        draw: &PlainDraw,
+    ) -> Outcome
+        ensures { Ends self.old result self.new (HeardAt A.is_sealing self.old now (draw_of draw.now) (peer_of from.now) bytes.now self.new) }
+    {
+        let draw = draw.draw();
+        match self.device.on_datagram::<A>(alloc, now, from.peer(), bytes, &draw) {
+            Ok(step) => {
+                self.last = Last::of(step);
+                Outcome::Done
+            }
+            Err(_) => Outcome::NoMemory,
+        }
+    }
+
+    /// What is due by now is done.
+    pub fn on_tick<A: Ciphers>(&mut self, alloc: Global, now: u64, draw: &PlainDraw) -> Outcome
+        ensures { TickedBy A.is_sealing self.old now (draw_of draw.now) result self.new }
+    {
+        match moment(now) {
+            Ok(now) => self.tick::<A>(alloc, now, draw),
+            Err(outcome) => outcome,
+        }
+    }
+
+    /// The same at a moment. Nothing of it goes to others.
+    fn tick<A: Ciphers>(&mut self, alloc: Global, now: Moment, draw: &PlainDraw) -> Outcome
+        ensures { Ends self.old result self.new (TickedAt A.is_sealing self.old now (draw_of draw.now) self.new) }
+    {
+        match self.device.on_tick::<A>(alloc, now, &draw.draw()) {
+            Ok(round) => {
+                drop(round);
+                self.last = Last::nothing();
+                Outcome::Done
+            }
+            Err(_) => Outcome::NoMemory,
+        }
+    }
+
+    /// The first moment at which a tick does anything for the device itself.
+    pub fn next_deadline(&self, moment: &mut u64) -> Outcome
+        ensures { TellsDeadline self.now moment.old result moment.new }
+    {
+        tell(self.device.next_deadline(), moment)
+    }
+
+    /// Takes the next datagram of the last step.
+    pub fn next(&mut self, to: &mut PlainPeer, bytes: &mut [u8], size: &mut usize) -> Outcome
+        ensures handed { HandsOut self.old.last (record { to = to.old; bytes = bytes.old; size = size.old }) result self.new.last (record { to = to.new; bytes = bytes.new; size = size.new }) }
+        ensures kept { self.new.device ≡ self.old.device }
+    {
+        self.last.next(to, bytes, size)
+    }
+
+    /// Starts again: resources stay, and security contexts are gone.
+    pub fn restart(&mut self)
+        ensures { self.new ≡ record { device = restarted_device self.old.device; last = nothing } }
+    {
+        self.device.restart();
+        self.last = Last::nothing();
+    }
+}
