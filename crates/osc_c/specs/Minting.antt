@@ -9,5 +9,5 @@ use Rattle.osc_calls.specs.declared.outcome.Outcome.{Outcome}
 abbrev pub MintsBy : Sealing → List ℕ → List ℕ → List ℕ → List ℕ → List ℕ → Option (List ℕ) → List ℕ → ℕ → ℕ → ℕ → List ℕ → ℕ → Outcome → List ℕ → ℕ → Type 0
 MintsBy is_sealing key iv audience id secret context scope not_before expires algorithm room size outcome filled told =
     ((claims : Claims) × AreClaims audience id secret context scope not_before expires algorithm claims
-        × Mints is_sealing key iv claims room size outcome filled told)
+    × Mints is_sealing key iv claims room size outcome filled told)
     ⊎ (IsUnminted outcome × (filled ≡ room) × (told ≡ size))

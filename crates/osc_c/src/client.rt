@@ -102,8 +102,9 @@ pub extern "C" fn osc_client_ask(
     match client.take(alloc) {
         None => Outcome::Nothing.number(),
         Some(mut node) => {
-            let outcome = node
-                .ask::<(Ccm<8>, Ccm<16>)>(alloc, now, method, path, options, payload, draw);
+            let outcome = node.ask::<(Ccm<8>, Ccm<16>)>(
+                alloc, now, method, path, options, payload, draw,
+            );
             *client = ClientHandle::holding(node);
             outcome.number()
         }

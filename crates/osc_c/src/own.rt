@@ -63,8 +63,7 @@ pub extern "C" fn osc_device_put(
     match device.take(alloc) {
         None => Outcome::Nothing.number(),
         Some(mut node) => {
-            let told =
-                node.put::<(Ccm<8>, Ccm<16>)>(alloc, now, path, format, payload, draws);
+            let told = node.put::<(Ccm<8>, Ccm<16>)>(alloc, now, path, format, payload, draws);
             *device = DeviceHandle::holding(node);
             answer(told, code)
         }
@@ -88,8 +87,7 @@ pub extern "C" fn osc_device_append(
     match device.take(alloc) {
         None => Outcome::Nothing.number(),
         Some(mut node) => {
-            let told =
-                node.append::<(Ccm<8>, Ccm<16>)>(alloc, now, path, format, payload, draws);
+            let told = node.append::<(Ccm<8>, Ccm<16>)>(alloc, now, path, format, payload, draws);
             *device = DeviceHandle::holding(node);
             answer(told, code)
         }

@@ -64,7 +64,7 @@ module _ (is_sealing : Sealings) where
   abbrev pub AskedBy : Tags → ClientNode → ℕ → ℕ → List ℕ → PlainOptions → List ℕ → Draw → Outcome → ClientNode → Type 0
   AskedBy tag old ms method path options payload draw outcome new =
       ((now : Moment) × (request : Request) × (now.ms ≡ ms) × IsRequest method path options payload request
-          × Ends old outcome new (AskedAt tag old now request draw new))
+      × Ends old outcome new (AskedAt tag old now request draw new))
       ⊎ (IsUnfit outcome × (new ≡ old))
 
   abbrev pub HeardAt : ClientNode → Moment → Peer → List ℕ → ClientNode → Type 0

@@ -40,7 +40,7 @@ HasNone old out outcome new after = (outcome ≡ Nothing) × (new ≡ old) × (a
 abbrev pub HasOne : Datagram → LastStep → Out → Outcome → LastStep → Out → Type 0
 HasOne datagram old out outcome new after =
     ((outcome ≡ Done) × (length datagram.bytes ≤ length out.bytes) × (new ≡ after_next old)
-        × (after ≡ record { to = plain_peer datagram.to; bytes = written datagram.bytes out.bytes; size = length datagram.bytes }))
+    × (after ≡ record { to = plain_peer datagram.to; bytes = written datagram.bytes out.bytes; size = length datagram.bytes }))
     ⊎ ((outcome ≡ TooShort) × (length out.bytes < length datagram.bytes) × (new ≡ old) × (after ≡ record out { size = length datagram.bytes }))
 
 abbrev pub HandsOut : LastStep → Out → Outcome → LastStep → Out → Type 0

@@ -48,9 +48,9 @@ module _ (is_sealing : Sealings) where
   abbrev pub Opens : DeviceNode → Moment → PlainDraws → Round → DeviceNode → Type 0
   Opens old now draws round new =
       ((begun : Own) × Begins old.device.own now (draw_of draws.own) round.begun begun
-          × Carries is_sealing old.device.server begun now (draw_of draws.server) round new.device)
+      × Carries is_sealing old.device.server begun now (draw_of draws.server) round new.device)
       × ((claims : Claims) (entries : List Entry) → MayOpen is_sealing old.device now (draw_of draws.own) claims entries → IsWhole round
-          → IsOpen now entries new.device)
+      → IsOpen now entries new.device)
 
   abbrev pub OpensBy : DeviceNode → ℕ → PlainDraws → Told → DeviceNode → Type 0
   OpensBy old ms draws told new =
@@ -66,7 +66,7 @@ module _ (is_sealing : Sealings) where
     abbrev pub AsksBy : Method → DeviceNode → ℕ → List ℕ → ℤ → List ℕ → PlainDraws → Told → DeviceNode → Type 0
     AsksBy method old ms path number payload draws told new =
         ((now : Moment) × (format : Option ℕ) × (now.ms ≡ ms) × IsFormat number format
-            × ComesTo old told new (λ round. Asks method old now path format payload draws round new))
+        × ComesTo old told new (λ round. Asks method old now path format payload draws round new))
         ⊎ IsRejected old told new
 
     abbrev pub RemovesBy : DeviceNode → ℕ → List ℕ → PlainDraws → Told → DeviceNode → Type 0

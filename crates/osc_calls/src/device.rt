@@ -62,7 +62,10 @@ impl DeviceNode {
         ensures { Ends self.old result self.new (HeardAt A.is_sealing self.old now (draw_of draw.now) (peer_of from.now) bytes.now self.new) }
     {
         let draw = draw.draw();
-        match self.device.on_datagram::<A>(alloc, now, from.peer(), bytes, &draw) {
+        match self
+            .device
+            .on_datagram::<A>(alloc, now, from.peer(), bytes, &draw)
+        {
             Ok(step) => {
                 self.last = Last::of(step);
                 Outcome::Done

@@ -66,7 +66,12 @@ pub(crate) fn desk(
 }
 
 /// The way to the server: straight where the host is empty, and else through a proxy that knows it by this host and port.
-pub(crate) fn way(alloc: Global, next_hop: &PlainPeer, host: &[u8], port: u16) -> Result<Way, Outcome>
+pub(crate) fn way(
+    alloc: Global,
+    next_hop: &PlainPeer,
+    host: &[u8],
+    port: u16,
+) -> Result<Way, Outcome>
     ensures ok { IfOk result (λ way. way ≡ record { next_hop = peer_of next_hop.now; origin = origin_of host.now port }) }
     ensures err { IfErr result IsUnfit }
 {

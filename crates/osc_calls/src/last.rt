@@ -58,12 +58,7 @@ impl Last {
     }
 
     /// Takes the next datagram, where there is room for it: to whom it goes, its bytes, at the front, and how many they are.
-    pub fn next(
-        &mut self,
-        to: &mut PlainPeer,
-        bytes: &mut [u8],
-        size: &mut usize,
-    ) -> Outcome
+    pub fn next(&mut self, to: &mut PlainPeer, bytes: &mut [u8], size: &mut usize) -> Outcome
         ensures { HandsOut self.old (record { to = to.old; bytes = bytes.old; size = size.old }) result self.new (record { to = to.new; bytes = bytes.new; size = size.new }) }
     {
         let Some(datagram) = self.upcoming() else {

@@ -37,12 +37,7 @@ fn open_scope(alloc: Global, text: &[u8]) -> Result<Scope, Outcome>
 }
 
 /// A server without resources.
-fn parts(
-    alloc: Global,
-    key: &PlainKey,
-    name: &[u8],
-    open: &[u8],
-) -> Result<ServerParts, Outcome>
+fn parts(alloc: Global, key: &PlainKey, name: &[u8], open: &[u8]) -> Result<ServerParts, Outcome>
     ensures err { IfErr result IsUnminted }
 {
     let key = key.bytes;
@@ -59,7 +54,36 @@ fn iv_of(draw: &PlainDraw) -> [u8; 13]
     ensures { result ≡ take 13 (drop 16 draw.now.bytes) }
 {
     let [
-        _, _, _, _, _, _, _, _, _, _, _, _, _, _, _, _, a, b, c, d, e, f, g, h, i, j, k, l, m, ..,
+        _,
+        _,
+        _,
+        _,
+        _,
+        _,
+        _,
+        _,
+        _,
+        _,
+        _,
+        _,
+        _,
+        _,
+        _,
+        _,
+        a,
+        b,
+        c,
+        d,
+        e,
+        f,
+        g,
+        h,
+        i,
+        j,
+        k,
+        l,
+        m,
+        ..
     ] = draw.bytes;
     [a, b, c, d, e, f, g, h, i, j, k, l, m]
 }

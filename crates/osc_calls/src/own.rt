@@ -132,7 +132,12 @@ impl DeviceNode {
         }
     }
 
-    fn append_at<A: Ciphers>(&mut self, alloc: Global, given: GivenValue, draws: &PlainDraws) -> Told
+    fn append_at<A: Ciphers>(
+        &mut self,
+        alloc: Global,
+        given: GivenValue,
+        draws: &PlainDraws,
+    ) -> Told
         ensures { ComesTo self.old result self.new (λ round. Asks A.is_sealing A.TAG Post self.old given.now given.path given.format given.payload draws.now round self.new) }
     {
         let own = draws.own.bytes;
@@ -143,7 +148,15 @@ impl DeviceNode {
             format,
             payload,
         } = given;
-        match self.device.append::<A>(alloc, now, path, format, payload, &Draw(own), &Draw(server)) {
+        match self.device.append::<A>(
+            alloc,
+            now,
+            path,
+            format,
+            payload,
+            &Draw(own),
+            &Draw(server),
+        ) {
             Ok(round) => keep(&mut self.last, round),
             Err(_) => bare(Outcome::NoMemory),
         }
@@ -165,13 +178,21 @@ impl DeviceNode {
         }
     }
 
-    fn remove_at<A: Ciphers>(&mut self, alloc: Global, given: GivenValue, draws: &PlainDraws) -> Told
+    fn remove_at<A: Ciphers>(
+        &mut self,
+        alloc: Global,
+        given: GivenValue,
+        draws: &PlainDraws,
+    ) -> Told
         ensures { ComesTo self.old result self.new (λ round. Asks A.is_sealing A.TAG Delete self.old given.now given.path None [] draws.now round self.new) }
     {
         let own = draws.own.bytes;
         let server = draws.server.bytes;
         let GivenValue { now, path, .. } = given;
-        match self.device.remove::<A>(alloc, now, path, &Draw(own), &Draw(server)) {
+        match self
+            .device
+            .remove::<A>(alloc, now, path, &Draw(own), &Draw(server))
+        {
             Ok(round) => keep(&mut self.last, round),
             Err(_) => bare(Outcome::NoMemory),
         }

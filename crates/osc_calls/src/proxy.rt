@@ -110,13 +110,7 @@ impl ProxyNode {
     }
 
     /// Requests for this host and port go there from now on: `NotNow` behind its first event.
-    pub fn add_target(
-        &mut self,
-        alloc: Global,
-        host: &[u8],
-        port: u16,
-        to: &PlainPeer,
-    ) -> Outcome
+    pub fn add_target(&mut self, alloc: Global, host: &[u8], port: u16, to: &PlainPeer) -> Outcome
         ensures { AddsTarget (record { host = host.now; port = port; peer = peer_of to.now }) self.old result self.new }
     {
         match &mut self.forwarding {

@@ -65,7 +65,9 @@ fn tags(alloc: Global, options: &PlainOptions) -> Result<ETags, Outcome>
     if options.if_match_length > LONGEST_TAG {
         return Err(Outcome::BadArgument);
     }
-    let (tag, _) = options.if_match_bytes.split_at(options.if_match_length as usize);
+    let (tag, _) = options
+        .if_match_bytes
+        .split_at(options.if_match_length as usize);
     tags.push(alloc, Bytes::from_slice(alloc, tag)?)?;
     Ok(tags)
 }

@@ -9,11 +9,7 @@ use crate::plain::PlainResult;
 use osc_model::{ClientResult, StepNotes};
 
 /// Tells what was learnt, if anything was: its numbers, and its payload where there is room.
-pub(crate) fn tell_result(
-    notes: &StepNotes,
-    told: &mut PlainResult,
-    payload: &mut [u8],
-) -> Outcome
+pub(crate) fn tell_result(notes: &StepNotes, told: &mut PlainResult, payload: &mut [u8]) -> Outcome
     ensures { TellsResult notes.now.result told.old payload.old result told.new payload.new }
 {
     let Some(learnt) = notes.result() else {

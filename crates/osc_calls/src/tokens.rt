@@ -141,7 +141,11 @@ pub fn mint<A: Aead>(
             *size = token.len();
             let fits = fill(room, &token);
             drop(token);
-            if fits { Outcome::Done } else { Outcome::TooShort }
+            if fits {
+                Outcome::Done
+            } else {
+                Outcome::TooShort
+            }
         }
         Err(outcome) => outcome,
     }

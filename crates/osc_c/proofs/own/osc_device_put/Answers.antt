@@ -11,4 +11,4 @@ pub returns-in-Some : goal.returns-in-Some
 returns-in-Some c =
     tells c.args.code.now c.answer.new.code (λ old told new. AsksBy sealing tags Put old c.args.now c.args.path.now c.args.format c.args.payload.now c.args.draws.now told new) c.put-told.result c.in-Some.ensures.taken c.deref_mut.ensures.value (search rules) c.holding.ensures c.answer.ensures.code
     (subst (λ (format : ℤ). AsksBy sealing tags Put c.deref_mut.result.now c.args.now c.args.path.now format c.args.payload.now c.args.draws.now c.put-told.result c.put-told.new.self)
-      (to_z-of_z c.ranges.format) c.put-told.ensures)
+    (to_z-of_z c.ranges.format) c.put-told.ensures)

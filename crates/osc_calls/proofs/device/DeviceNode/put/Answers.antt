@@ -11,9 +11,14 @@ returns-in-Ok g c =
     let v = c.in-Ok.given in
     let is = c.in-Ok.ensures.ok in
     let new = c.put_at.new.self in
-    inl (v.now, v.format, is.0, subst (λ (number : ℤ). IsFormat number v.format) (to_z-of_z c.ranges.format) is.2,
+    inl (
+      v.now,
+      v.format,
+      is.0,
+      subst (λ (number : ℤ). IsFormat number v.format) (to_z-of_z c.ranges.format) is.2,
       subst (λ (path : List ℕ). ComesTo c.args.self.now c.put_at.result new
-        (λ round. Asks g.A.Ciphers.is_sealing g.A.Ciphers.TAG Put c.args.self.now v.now path v.format c.args.payload.now c.args.draws.now round new)) is.1
-      (subst (λ (payload : List ℕ). ComesTo c.args.self.now c.put_at.result new
-        (λ round. Asks g.A.Ciphers.is_sealing g.A.Ciphers.TAG Put c.args.self.now v.now v.path v.format payload c.args.draws.now round new)) is.3
-      c.put_at.ensures))
+          (λ round. Asks g.A.Ciphers.is_sealing g.A.Ciphers.TAG Put c.args.self.now v.now path v.format c.args.payload.now c.args.draws.now round new)) is.1
+          (subst (λ (payload : List ℕ). ComesTo c.args.self.now c.put_at.result new
+          (λ round. Asks g.A.Ciphers.is_sealing g.A.Ciphers.TAG Put c.args.self.now v.now v.path v.format payload c.args.draws.now round new)) is.3
+          c.put_at.ensures),
+    )

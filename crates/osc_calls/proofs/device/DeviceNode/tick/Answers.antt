@@ -8,10 +8,13 @@ pub returns-in-Ok : goal.returns-in-Ok
 returns-in-Ok g c =
     let old = c.args.self.now.device.server in
     let t = c.in-Ok.ensures.ticked in
-    inl (refl, record {
-      round = c.in-Ok.round;
-      ticked = t.0;
-      ticks = t.1;
-      carries = subst (λ draw. Carries g.A.Ciphers.is_sealing (record old { endpoint = after_tick c.args.now old.endpoint }) t.0 c.args.now draw c.in-Ok.round c.on_tick.new.self) c.draw.ensures t.3;
-      last = c.nothing.ensures;
-    })
+    inl (
+      refl,
+      record {
+        round = c.in-Ok.round;
+        ticked = t.0;
+        ticks = t.1;
+        carries = subst (λ draw. Carries g.A.Ciphers.is_sealing (record old { endpoint = after_tick c.args.now old.endpoint }) t.0 c.args.now draw c.in-Ok.round c.on_tick.new.self) c.draw.ensures t.3;
+        last = c.nothing.ensures;
+      },
+    )

@@ -1,0 +1,100 @@
+/* How many bytes of the heap a call holds, and how deep a stack of its own it writes. Link with -Wl,--wrap=malloc,--wrap=realloc,--wrap=calloc,--wrap=free. */
+#include <stddef.h>
+#include <stdint.h>
+#include <stdio.h>
+#include <stdlib.h>
+#include <string.h>
+#include <ucontext.h>
+
+void *__real_malloc(size_t size);
+void *__real_realloc(void *block, size_t size);
+void __real_free(void *block);
+void *__wrap_malloc(size_t size);
+void *__wrap_realloc(void *block, size_t size);
+void *__wrap_calloc(size_t count, size_t size);
+void __wrap_free(void *block);
+
+/* In front of each block: its size. */
+typedef union {
+    size_t size;
+    long double align;
+} header;
+
+static size_t live, peak;
+
+static void grow(size_t size) {
+    live += size;
+    if (live > peak) peak = live;
+}
+
+void *__wrap_malloc(size_t size) {
+    header *block = __real_malloc(sizeof(header) + size);
+    if (!block) return NULL;
+    block->size = size;
+    grow(size);
+    return block + 1;
+}
+
+void *__wrap_calloc(size_t count, size_t size) {
+    void *block = __wrap_malloc(count * size);
+    return block ? memset(block, 0, count * size) : NULL;
+}
+
+void __wrap_free(void *bytes) {
+    if (!bytes) return;
+    header *block = (header *)bytes - 1;
+    live -= block->size;
+    __real_free(block);
+}
+
+void *__wrap_realloc(void *bytes, size_t size) {
+    if (!bytes) return __wrap_malloc(size);
+    header *block = (header *)bytes - 1;
+    size_t before = block->size;
+    block = __real_realloc(block, sizeof(header) + size);
+    if (!block) return NULL;
+    block->size = size;
+    /* While the bytes move, both blocks may be held. */
+    if (live + size > peak) peak = live + size;
+    live = live - before + size;
+    return block + 1;
+}
+
+enum { STACK = 4 << 20, PAINT = 0xa5 };
+static uint8_t stack[STACK] __attribute__((aligned(64)));
+static ucontext_t outside, inside;
+static void (*called)(void);
+
+static void call(void) { called(); }
+
+/* What a call left held, what it held at the most beyond what was held before, and how much of the stack it wrote. */
+typedef struct {
+    size_t left, most, deep;
+} need;
+
+static need need_of(void (*of)(void)) {
+    memset(stack, PAINT, STACK);
+    called = of;
+    size_t before = live;
+    peak = live;
+    getcontext(&inside);
+    inside.uc_stack.ss_sp = stack;
+    inside.uc_stack.ss_size = STACK;
+    inside.uc_link = &outside;
+    makecontext(&inside, call, 0);
+    swapcontext(&outside, &inside);
+    size_t clean = 0;
+    while (clean < STACK && stack[clean] == PAINT) clean++;
+    need it = {live - before, peak - before, STACK - clean};
+    return it;
+}
+
+static void nothing(void) {}
+
+/* A line of the table; what the switch itself writes is taken off the stack. */
+static need row(const char *what, void (*of)(void)) {
+    size_t empty = need_of(nothing).deep;
+    need it = need_of(of);
+    printf("%-52s %8zu %8zu %8zu\n", what, it.left, it.most, it.deep - empty);
+    return it;
+}

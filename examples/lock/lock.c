@@ -1,0 +1,270 @@
+/* A lock on a network: the program that a door's maker writes round the library. It has a UDP socket, a clock and a generator; the library has none.
+ *
+ *   lock [--port N] [--seconds N]
+ *
+ * Holders of a token PUT `open` or `shut` at /lock/wanted. The lock moves its bolt, tells how it stands at /lock/actual, and writes each move to /log. */
+#define _POSIX_C_SOURCE 200809L
+#include "lock_settings.h"
+
+#include <arpa/inet.h>
+#include <errno.h>
+#include <inttypes.h>
+#include <netinet/in.h>
+#include <poll.h>
+#include <stdio.h>
+#include <stdlib.h>
+#include <string.h>
+#include <sys/random.h>
+#include <sys/socket.h>
+#include <time.h>
+#include <unistd.h>
+
+enum { DATAGRAM = 1152, SECOND = 1000, CREATED = 0x41, DELETED = 0x42, CHANGED = 0x44, TOO_LARGE = 0x8d };
+
+static const char WANTED[] = "/lock/wanted", ACTUAL[] = "/lock/actual", LOG[] = "/log";
+
+static osc_device device;
+static int udp = -1;
+
+/* How the bolt stands, whether /lock/actual says so by now, and the newest line, where /log hasn't got it yet. */
+static int is_open, is_told;
+static char line[96];
+
+/* ---- what is the maker's: errors, moments, draws */
+
+static void fail(const char *what, const char *why) {
+    fprintf(stderr, "lock: %s: %s\n", what, why);
+    exit(1);
+}
+
+/* A line where the library answered another number than OSC_DONE, or another code than was hoped for. */
+static void complain(const char *what, int32_t number, uint8_t code) {
+    fprintf(stderr, "lock: %s: number %" PRId32 ", code %d.%02d\n", what, number, code >> 5, code & 31);
+}
+
+/* Milliseconds since 1970. Where the clock is set back, the last moment stands until the clock has come there again. */
+static uint64_t now(void) {
+    static uint64_t last;
+    struct timespec it;
+    if (clock_gettime(CLOCK_REALTIME, &it) != 0) fail("clock_gettime", strerror(errno));
+    uint64_t moment = it.tv_sec < 0 ? 0 : (uint64_t)it.tv_sec * 1000 + (uint64_t)it.tv_nsec / 1000000;
+    if (moment > last) last = moment;
+    return last;
+}
+
+/* 32 bytes that nobody can guess. Without them the lock stops: it must not go on with bytes that came before. */
+static osc_draw draw(void) {
+    osc_draw it;
+    size_t filled = 0;
+    while (filled < sizeof it.bytes) {
+        ssize_t more = getrandom(it.bytes + filled, sizeof it.bytes - filled, 0);
+        if (more < 0 && errno != EINTR) fail("getrandom", strerror(errno));
+        if (more > 0) filled += (size_t)more;
+    }
+    return it;
+}
+
+static osc_draws two_draws(void) {
+    osc_draws it = {draw(), draw()};
+    return it;
+}
+
+/* ---- the socket */
+
+static void listen_on(uint16_t port) {
+    struct sockaddr_in here = {0};
+    here.sin_family = AF_INET;
+    here.sin_port = htons(port);
+    here.sin_addr.s_addr = htonl(INADDR_ANY);
+    udp = socket(AF_INET, SOCK_DGRAM, 0);
+    if (udp < 0) fail("socket", strerror(errno));
+    if (bind(udp, (struct sockaddr *)&here, sizeof here) != 0) fail("bind", strerror(errno));
+}
+
+/* What can't be sent is lost, as on the way: the client asks again. */
+static void send_all(void) {
+    osc_peer to;
+    uint8_t bytes[DATAGRAM];
+    size_t length;
+    int32_t number;
+    while ((number = osc_device_next(&device, &to, bytes, sizeof bytes, &length)) == OSC_DONE) {
+        struct sockaddr_in there = {0};
+        there.sin_family = AF_INET;
+        there.sin_port = htons(to.port);
+        memcpy(&there.sin_addr, to.address, sizeof to.address);
+        if (sendto(udp, bytes, length, 0, (struct sockaddr *)&there, sizeof there) < 0) fprintf(stderr, "lock: sendto: %s\n", strerror(errno));
+    }
+    if (number != OSC_NOTHING) complain("next", number, 0);
+}
+
+/* ---- the bolt, and what the lock says of itself */
+
+static int open_context(void) {
+    osc_draws draws = two_draws();
+    uint8_t code = 0;
+    int32_t number = osc_device_open(&device, now(), &draws, &code);
+    if (number != OSC_DONE) complain("open", number, code);
+    return number == OSC_DONE;
+}
+
+static int32_t put_actual(uint8_t *code) {
+    osc_draws draws = two_draws();
+    const char *text = is_open ? "open" : "shut";
+    return osc_device_put(&device, now(), (const uint8_t *)ACTUAL, strlen(ACTUAL), 0, (const uint8_t *)text, strlen(text), &draws, code);
+}
+
+static int32_t append_line(uint8_t *code) {
+    osc_draws draws = two_draws();
+    return osc_device_append(&device, now(), (const uint8_t *)LOG, strlen(LOG), 0, (const uint8_t *)line, strlen(line), &draws, code);
+}
+
+static int32_t remove_log(uint8_t *code) {
+    osc_draws draws = two_draws();
+    return osc_device_remove(&device, now(), (const uint8_t *)LOG, strlen(LOG), &draws, code);
+}
+
+/* Whether a write is done. Where the context is gone or used up, a new one is opened, and the write is made at the next call. */
+static int is_written(const char *what, int32_t number, const uint8_t *code) {
+    if (number == OSC_DONE && (*code == CREATED || *code == CHANGED || *code == DELETED)) return 1;
+    complain(what, number, number == OSC_DONE || number == OSC_UNVERIFIED ? *code : 0);
+    if (number == OSC_NO_CONTEXT || number == OSC_EXHAUSTED || number == OSC_UNVERIFIED) open_context();
+    return 0;
+}
+
+/* Tells what isn't told yet; what can't be told now is told behind a later datagram or tick. A full log is begun anew. */
+static void tell(void) {
+    uint8_t code = 0;
+    if (!is_told) is_told = is_written("put /lock/actual", put_actual(&code), &code);
+    if (line[0] == '\0') return;
+    int32_t number = append_line(&code);
+    if (number == OSC_DONE && code == TOO_LARGE && is_written("remove /log", remove_log(&code), &code)) number = append_line(&code);
+    if (is_written("append to /log", number, &code)) line[0] = '\0';
+}
+
+/* Moves the bolt, for a holder whose token has this id context. What isn't printable ASCII in it shows as `?`. */
+static void move(int to_open, const uint8_t *holder, size_t length) {
+    char name[65] = {0};
+    for (size_t at = 0; at < length && at < sizeof name - 1; at++) name[at] = holder[at] > 0x20 && holder[at] < 0x7f ? (char)holder[at] : '?';
+    is_open = to_open;
+    is_told = 0;
+    snprintf(line, sizeof line, "%s by %s\n", to_open ? "open" : "shut", name[0] == '\0' ? "someone" : name);
+    printf("bolt: %s", line);
+    fflush(stdout);
+}
+
+static int is_text(const uint8_t *bytes, size_t length, const char *text) { return length == strlen(text) && memcmp(bytes, text, length) == 0; }
+
+/* ---- one step */
+
+/* A PUT of /lock/wanted that was done moves the bolt: the library has judged by then that its holder may, and that it is no repeat. */
+static void heed_served(void) {
+    osc_served it;
+    uint8_t path[8 * 33], payload[DATAGRAM], holder[64];
+    int32_t number = osc_device_served(&device, &it, path, sizeof path, payload, sizeof payload, holder, sizeof holder);
+    if (number == OSC_NOTHING) return;
+    if (number != OSC_DONE) {
+        complain("served", number, 0);
+        return;
+    }
+    int is_put = it.method == 3 && (it.code == CREATED || it.code == CHANGED);
+    if (!is_put || !is_text(path, it.path_length, WANTED)) return;
+    if (is_text(payload, it.payload_length, "open")) move(1, holder, it.context_length);
+    if (is_text(payload, it.payload_length, "shut")) move(0, holder, it.context_length);
+}
+
+static void heed_refused(void) {
+    osc_refused it;
+    int32_t number = osc_device_refused(&device, &it);
+    if (number == OSC_NOTHING) return;
+    if (number != OSC_DONE) complain("refused", number, 0);
+    else printf("refused: %d.%02d, reason %d\n", it.code >> 5, it.code & 31, it.reason);
+    fflush(stdout);
+}
+
+/* Behind a call that was done: what its step left is taken before the lock writes for itself, which is a step of its own. Behind any other number the
+ * last step still stands, and was heeded by then: to look again would move the bolt twice. */
+static void heed(const char *what, int32_t number) {
+    if (number == OSC_DONE) {
+        send_all();
+        heed_served();
+        heed_refused();
+    } else {
+        complain(what, number, 0);
+    }
+    tell();
+}
+
+static void tick(void) {
+    osc_draw it = draw();
+    heed("tick", osc_device_on_tick(&device, now(), &it));
+}
+
+static void receive(void) {
+    struct sockaddr_in there;
+    socklen_t size = sizeof there;
+    uint8_t bytes[DATAGRAM + 1]; /* one more, so that a longer datagram isn't taken for one that fits */
+    ssize_t length = recvfrom(udp, bytes, sizeof bytes, MSG_DONTWAIT, (struct sockaddr *)&there, &size);
+    if (length < 0) {
+        if (errno != EAGAIN && errno != EINTR) fprintf(stderr, "lock: recvfrom: %s\n", strerror(errno));
+        return;
+    }
+    osc_peer from;
+    osc_draw it = draw();
+    memcpy(from.address, &there.sin_addr, sizeof from.address);
+    from.port = ntohs(there.sin_port);
+    heed("datagram", osc_device_on_datagram(&device, now(), &from, bytes, (size_t)length, &it));
+}
+
+/* ---- the whole */
+
+static void begin(void) {
+    osc_draw it = draw();
+    int32_t number = osc_device_new(&device, &LOCK_KEY, (const uint8_t *)LOCK_AUDIENCE, strlen(LOCK_AUDIENCE), (const uint8_t *)LOCK_OPEN,
+                                    strlen(LOCK_OPEN), (const uint8_t *)LOCK_OWN, strlen(LOCK_OWN), &it);
+    if (number != OSC_DONE) {
+        complain("new", number, 0);
+        exit(1);
+    }
+    if (!open_context()) exit(1);
+    tell();
+}
+
+/* Until this moment: a datagram that came, and a tick each second, also while datagrams come. */
+static void run(uint64_t end) {
+    uint64_t next = now() + SECOND;
+    for (uint64_t moment = now(); moment < end; moment = now()) {
+        struct pollfd it = {udp, POLLIN, 0};
+        int ready = poll(&it, 1, next > moment ? (int)(next - moment) : 0);
+        if (ready < 0 && errno != EINTR) fail("poll", strerror(errno));
+        if (ready > 0) receive();
+        if (ready == 0 || now() >= next) {
+            tick();
+            next = now() + SECOND;
+        }
+    }
+}
+
+static uint64_t number_of(const char *text, uint64_t most) {
+    char *end;
+    errno = 0;
+    unsigned long long it = strtoull(text, &end, 10);
+    if (text[0] < '0' || text[0] > '9' || *end != '\0' || errno != 0 || it > most) fail(text, "this is no number that fits here");
+    return it;
+}
+
+int main(int count, char **words) {
+    uint64_t port = 5683, seconds = UINT32_MAX;
+    for (int at = 1; at < count; at += 2) {
+        if (at + 1 < count && strcmp(words[at], "--port") == 0) port = number_of(words[at + 1], UINT16_MAX);
+        else if (at + 1 < count && strcmp(words[at], "--seconds") == 0) seconds = number_of(words[at + 1], UINT32_MAX);
+        else fail(words[at], "say lock [--port N] [--seconds N]");
+    }
+    listen_on((uint16_t)port);
+    begin();
+    printf("listening on port %d\n", (int)port);
+    fflush(stdout);
+    run(now() + seconds * SECOND);
+    osc_device_free(&device);
+    close(udp);
+    return 0;
+}
