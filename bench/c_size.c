@@ -84,13 +84,13 @@ static void device_open_get(void) {
 static void mint(void) {
     osc_iv iv = {{0}};
     iv.bytes[0] = holder;
-    must(osc_token_mint(&KEY, TEXT("door"), &holder, 1, &holder, 1, (const uint8_t *)"", -1, TEXT("/lock/wanted:GET+PUT"), 0, 0, 10, &iv, token, sizeof token,
+    must(osc_token_mint(&KEY, TEXT("door"), &holder, 1, &holder, 1, (const uint8_t *)"", 0, 0, TEXT("/lock/wanted:GET+PUT"), 0, 0, 10, &iv, token, sizeof token,
                         &token_length) == OSC_DONE, "token_mint");
 }
 
 static void client_new(void) {
     osc_peer hop = DEVICE_AT;
-    must(osc_client_new(&client, &hop, TEXT(""), 5683, token, token_length, &holder, 1, TEXT(""), (const uint8_t *)"", -1, 10) == OSC_DONE, "client_new");
+    must(osc_client_new(&client, &hop, TEXT(""), 5683, token, token_length, &holder, 1, TEXT(""), (const uint8_t *)"", 0, 0, 10) == OSC_DONE, "client_new");
 }
 
 static void client_taken(void) { must(osc_client_next(&client, &to, bytes, sizeof bytes, &length) == OSC_DONE, "client_next"); }

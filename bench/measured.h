@@ -95,6 +95,6 @@ static void nothing(void) {}
 static need row(const char *what, void (*of)(void)) {
     size_t empty = need_of(nothing).deep;
     need it = need_of(of);
-    printf("%-52s %8zu %8zu %8zu\n", what, it.left, it.most, it.deep - empty);
+    printf("%-52s %8td %8zu %8zu\n", what, (ptrdiff_t)it.left, it.most, it.deep - empty);
     return it;
 }

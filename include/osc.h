@@ -3,7 +3,7 @@
  * and random bytes, and sends what comes out.
  *
  * Calls. Each answers a number: OSC_DONE, or why not. After any other number than OSC_DONE the node is as it was before the call, unless the
- * call's own text says more.
+ * call's own text says more; its last step stands too, so look at what was served, refused or learnt only behind OSC_DONE.
  *
  * Pointers. None may be null, also where a length is 0 (hand in "" then). What they point to is not kept behind the call. What is written to
  * must not overlap with anything else that is handed in.
@@ -13,7 +13,8 @@
  * that made its node. A call on a handle that holds nothing answers OSC_NOTHING.
  *
  * Heap. Nodes are on the heap: by malloc, realloc and free of the program, or three functions of these names of its own. What a call may take
- * of it stands with the call; one that says nothing takes none.
+ * of it stands with the call; one that says nothing takes none. `on_datagram`, `on_tick`, `exchange` and `ask` take it for their step: what is
+ * sent, kept for repeats and noted.
  *
  * Moments are milliseconds since 1970, below 2^63, and do not fall from call to call. Draws are 32 bytes of a generator that nobody can guess,
  * new for each: what is promised of keys and nonces rests on their not coming twice.
@@ -89,8 +90,8 @@ typedef struct osc_refused {
 typedef struct osc_options {
     int32_t format;          /* Content-Format, 0 to 65535, or -1 for none */
     int32_t accept;          /* Accept, or -1 for none */
-    uint8_t if_none_match;   /* 1: If-None-Match is there */
-    uint8_t if_match;        /* 1: If-Match is there once, with the bytes below */
+    uint8_t if_none_match;   /* 1: If-None-Match is there; else 0 */
+    uint8_t if_match;        /* 1: If-Match is there once, with the bytes below; else 0 */
     uint8_t if_match_length; /* 0 to 8; 0 is any value */
     uint8_t if_match_bytes[8];
 } osc_options;
@@ -117,19 +118,21 @@ typedef struct osc_proxy { void *held; } osc_proxy;
 
 /* Makes a device without resources. Its server takes tokens that are sealed under `key` and for `audience` (UTF-8). GETs that `open` grants need
  * no protection ("" for none). The device itself may do what `own` grants: its own token, of the id "device", which no other token may have, is
- * minted here; its secret and its IV come of the draw. Heap: some 20 KiB, for as long as it is held.
+ * minted here; its secret and its IV come of the draw. An empty `own` is no scope. Heap: some 38 KB, for as long as it is held.
  * Also OSC_BAD_SCOPE, OSC_BAD_ARGUMENT, OSC_TOO_LONG, OSC_NO_MEMORY. */
 int32_t osc_device_new(osc_device *device, const osc_key *key, const uint8_t *audience, size_t audience_length, const uint8_t *open,
                        size_t open_length, const uint8_t *own, size_t own_length, const osc_draw *draw);
 
 /* Gives the device a security context with its server, which `put`, `append` and `remove` need; also behind `restart`. OSC_UNVERIFIED with the
- * code where the server refuses it. Also OSC_BUSY, OSC_LOST, OSC_BAD_ARGUMENT, OSC_NO_MEMORY. Heap: while the context lives, some 700 bytes. */
+ * code where the server refuses it; else `code` is 0. Also OSC_BUSY, OSC_LOST, OSC_BAD_ARGUMENT, OSC_NO_MEMORY. Heap: while the context lives,
+ * some 950 bytes. */
 int32_t osc_device_open(osc_device *device, uint64_t now, const osc_draws *draws, uint8_t *code);
 
 /* The device writes, appends to, or removes a resource of its own server, as a holder of its token: what is promised of holders holds of it.
  * `code` is the answer's, as 0x41 (2.01 Created) or 0x44 (2.04 Changed), where OSC_DONE or OSC_UNVERIFIED is answered, and else 0. `format` is
  * -1 for none.
- * Also OSC_TOO_LONG, OSC_BUSY, OSC_EXHAUSTED, OSC_NO_CONTEXT, OSC_LOST, OSC_BAD_ARGUMENT, OSC_NO_MEMORY. Heap: what is stored. */
+ * Also OSC_TOO_LONG, OSC_BUSY, OSC_EXHAUSTED, OSC_NO_CONTEXT, OSC_LOST, OSC_BAD_ARGUMENT, OSC_NO_MEMORY. Behind OSC_LOST a tick goes on, and what
+ * came of it is seen by `get`. Heap: what is stored. */
 int32_t osc_device_put(osc_device *device, uint64_t now, const uint8_t *path, size_t path_length, int32_t format, const uint8_t *payload,
                        size_t payload_length, const osc_draws *draws, uint8_t *code);
 int32_t osc_device_append(osc_device *device, uint64_t now, const uint8_t *path, size_t path_length, int32_t format, const uint8_t *payload,
@@ -141,7 +144,7 @@ int32_t osc_device_get(osc_device *device, const uint8_t *path, size_t path_leng
 
 /* These bytes came from there as one datagram. Any bytes return OSC_DONE, but for want of memory or a bad moment. What is to be sent is taken by
  * `next`, and what was served or refused is told by `served` and `refused`, until the next call of `on_datagram`, `on_tick`, `open`, `put`,
- * `append`, `remove` or `restart`. Heap: for the step. */
+ * `append`, `remove` or `restart`. `from` is not 0.0.0.0, which no datagram comes from: the device's own place. Heap: for the step. */
 int32_t osc_device_on_datagram(osc_device *device, uint64_t now, const osc_peer *from, const uint8_t *bytes, size_t length, const osc_draw *draw);
 
 /* What is due by now is done: at least each second, also while datagrams come. */
@@ -204,7 +207,8 @@ void osc_client_free(osc_client *client);
 /* Makes a proxy without targets. Heap: some 100 bytes, and from its first datagram or tick on some 105 KiB, for as long as it is held. */
 int32_t osc_proxy_new(osc_proxy *proxy);
 
-/* Requests for this host and port go there. Before its first datagram and tick only, else OSC_NOT_NOW. Heap: the host. */
+/* Requests for this host (1 to 255 bytes; nobody asks for another) and port go there. Before its first datagram and tick only, else OSC_NOT_NOW.
+ * Heap: the host. */
 int32_t osc_proxy_add_target(osc_proxy *proxy, const uint8_t *host, size_t host_length, uint16_t port, const osc_peer *to);
 
 int32_t osc_proxy_on_datagram(osc_proxy *proxy, uint64_t now, const osc_peer *from, const uint8_t *bytes, size_t length, const osc_draw *draw);

@@ -169,7 +169,7 @@ static int32_t mint(size_t client, uint8_t *token, size_t room, size_t *length) 
     osc_iv iv = {{0}};
     uint8_t id = (uint8_t)(client + 1);
     iv.bytes[12] = id;
-    return osc_token_mint(&KEY, TEXT("door"), &id, 1, SECRETS[client], 16, (const uint8_t *)NAMES[client], (int32_t)strlen(NAMES[client]),
+    return osc_token_mint(&KEY, TEXT("door"), &id, 1, SECRETS[client], 16, (const uint8_t *)NAMES[client], strlen(NAMES[client]), 1,
                           TEXT("/e:GET+PUT,/log:GET+POST+DELETE"), 0, 0, client ? 30 : 10, &iv, token, room, length);
 }
 
@@ -181,7 +181,7 @@ static int32_t new_client(osc_client *client, size_t which) {
     if (number != OSC_DONE) return number;
     const char *host = which ? "door" : "";
     return osc_client_new(client, &hop, (const uint8_t *)host, strlen(host), DEVICE_PORT, token, length, SECRETS[which], 16, TEXT(""),
-                          (const uint8_t *)NAMES[which], (int32_t)strlen(NAMES[which]), which ? 30 : 10);
+                          (const uint8_t *)NAMES[which], strlen(NAMES[which]), 1, which ? 30 : 10);
 }
 
 static int32_t new_proxy(osc_proxy *proxy) {
@@ -518,35 +518,35 @@ static void bad_requests(world *w) {
     ANSWERS(OSC_DONE, asks_with(w, 1, 65535, 0, 8, 0, 1));
 }
 
-static int32_t client_of(size_t host, size_t secret, size_t salt, int32_t context, uint8_t algorithm) {
+static int32_t client_of(size_t host, size_t secret, size_t salt, size_t context, uint8_t has_context, uint8_t algorithm) {
     static const uint8_t bytes[300] = {1};
     osc_client it = {0};
     osc_peer hop = peer(DEVICE_PORT);
-    int32_t number = osc_client_new(&it, &hop, bytes, host, 5683, bytes, 40, bytes, secret, bytes, salt, bytes, context, algorithm);
+    int32_t number = osc_client_new(&it, &hop, bytes, host, 5683, bytes, 40, bytes, secret, bytes, salt, bytes, context, has_context, algorithm);
     osc_client_free(&it);
     return number;
 }
 
 static void bad_clients(void) {
-    ANSWERS(OSC_DONE, client_of(0, 1, 0, -1, 10));
-    ANSWERS(OSC_DONE, client_of(255, 64, 64, 64, 30));
-    ANSWERS(OSC_BAD_ARGUMENT, client_of(256, 1, 0, -1, 10));
-    ANSWERS(OSC_BAD_ARGUMENT, client_of(0, 0, 0, -1, 10));
-    ANSWERS(OSC_BAD_ARGUMENT, client_of(0, 65, 0, -1, 10));
-    ANSWERS(OSC_BAD_ARGUMENT, client_of(0, 1, 65, -1, 10));
-    ANSWERS(OSC_BAD_ARGUMENT, client_of(0, 1, 0, 65, 10));
-    ANSWERS(OSC_BAD_ARGUMENT, client_of(0, 1, 0, -2, 10));
-    ANSWERS(OSC_BAD_ARGUMENT, client_of(0, 1, 0, -1, 11));
+    ANSWERS(OSC_DONE, client_of(0, 1, 0, 0, 0, 10));
+    ANSWERS(OSC_DONE, client_of(255, 64, 64, 64, 1, 30));
+    ANSWERS(OSC_BAD_ARGUMENT, client_of(256, 1, 0, 0, 0, 10));
+    ANSWERS(OSC_BAD_ARGUMENT, client_of(0, 0, 0, 0, 0, 10));
+    ANSWERS(OSC_BAD_ARGUMENT, client_of(0, 65, 0, 0, 0, 10));
+    ANSWERS(OSC_BAD_ARGUMENT, client_of(0, 1, 65, 0, 0, 10));
+    ANSWERS(OSC_BAD_ARGUMENT, client_of(0, 1, 0, 65, 1, 10));
+    ANSWERS(OSC_BAD_ARGUMENT, client_of(0, 1, 0, 0, 2, 10));
+    ANSWERS(OSC_BAD_ARGUMENT, client_of(0, 1, 0, 0, 0, 11));
     CLAIM(held == 0);
 }
 
-static int32_t token_of(size_t id, size_t secret, int32_t context, const char *scope, uint8_t algorithm) {
+static int32_t token_of(size_t id, size_t secret, size_t context, uint8_t has_context, const char *scope, uint8_t algorithm) {
     static const uint8_t bytes[100] = {1};
     static const osc_iv iv = {{1}};
     uint8_t token[512];
     size_t length = 0;
-    return osc_token_mint(&KEY, TEXT("door"), bytes, id, bytes, secret, bytes, context, (const uint8_t *)scope, strlen(scope), 0, 0, algorithm, &iv, token,
-                          sizeof token, &length);
+    return osc_token_mint(&KEY, TEXT("door"), bytes, id, bytes, secret, bytes, context, has_context, (const uint8_t *)scope, strlen(scope), 0, 0, algorithm, &iv,
+                          token, sizeof token, &length);
 }
 
 static void tokens(void) {
@@ -559,16 +559,16 @@ static void tokens(void) {
     ANSWERS(OSC_DONE, mint(0, one, needed, &length));
     ANSWERS(OSC_DONE, mint(0, other, sizeof other, &length));
     CLAIM(length == needed && memcmp(one, other, needed) == 0);
-    ANSWERS(OSC_DONE, token_of(0, 1, -1, "/e:GET", 10));
-    ANSWERS(OSC_BAD_SCOPE, token_of(0, 1, -1, "", 10));
-    ANSWERS(OSC_DONE, token_of(64, 64, 64, "/e:GET", 30));
-    ANSWERS(OSC_BAD_ARGUMENT, token_of(65, 1, -1, "/e:GET", 10));
-    ANSWERS(OSC_BAD_ARGUMENT, token_of(1, 0, -1, "/e:GET", 10));
-    ANSWERS(OSC_BAD_ARGUMENT, token_of(1, 65, -1, "/e:GET", 10));
-    ANSWERS(OSC_BAD_ARGUMENT, token_of(1, 1, 65, "/e:GET", 10));
-    ANSWERS(OSC_BAD_ARGUMENT, token_of(1, 1, -2, "/e:GET", 10));
-    ANSWERS(OSC_BAD_ARGUMENT, token_of(1, 1, -1, "/e:GET", 0));
-    ANSWERS(OSC_BAD_SCOPE, token_of(1, 1, -1, "/e", 10));
+    ANSWERS(OSC_DONE, token_of(0, 1, 0, 0, "/e:GET", 10));
+    ANSWERS(OSC_BAD_SCOPE, token_of(0, 1, 0, 0, "", 10));
+    ANSWERS(OSC_DONE, token_of(64, 64, 64, 1, "/e:GET", 30));
+    ANSWERS(OSC_BAD_ARGUMENT, token_of(65, 1, 0, 0, "/e:GET", 10));
+    ANSWERS(OSC_BAD_ARGUMENT, token_of(1, 0, 0, 0, "/e:GET", 10));
+    ANSWERS(OSC_BAD_ARGUMENT, token_of(1, 65, 0, 0, "/e:GET", 10));
+    ANSWERS(OSC_BAD_ARGUMENT, token_of(1, 1, 65, 1, "/e:GET", 10));
+    ANSWERS(OSC_BAD_ARGUMENT, token_of(1, 1, 0, 2, "/e:GET", 10));
+    ANSWERS(OSC_BAD_ARGUMENT, token_of(1, 1, 0, 0, "/e:GET", 0));
+    ANSWERS(OSC_BAD_SCOPE, token_of(1, 1, 0, 0, "/e", 10));
     CLAIM(held == 0);
 }
 
