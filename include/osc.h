@@ -174,7 +174,7 @@ void osc_device_free(osc_device *device);
 
 /* Makes a client that was granted this token, with the secret, the salt and the id context that the token has (`has_context` is 1; or 0 where it
  * has none), and the algorithm of its contexts, 10 or 30. It sends to `next_hop`: the server itself where `host_length` is 0, else a proxy that
- * knows the server by this host (1 to 255 bytes) and port. Heap: some 18 KiB, for as long as it is held.
+ * knows the server by this host (1 to 255 bytes) and port. Heap: some 19 KB, for as long as it is held.
  * Also OSC_BAD_ARGUMENT, OSC_NO_MEMORY. */
 int32_t osc_client_new(osc_client *client, const osc_peer *next_hop, const uint8_t *host, size_t host_length, uint16_t port, const uint8_t *token,
                        size_t token_length, const uint8_t *secret, size_t secret_length, const uint8_t *salt, size_t salt_length,
@@ -204,7 +204,7 @@ void osc_client_free(osc_client *client);
 
 /* ---- a forward proxy */
 
-/* Makes a proxy without targets. Heap: some 100 bytes, and from its first datagram or tick on some 105 KiB, for as long as it is held. */
+/* Makes a proxy without targets. Heap: some 750 bytes, and from its first datagram or tick on some 105 KiB, for as long as it is held. */
 int32_t osc_proxy_new(osc_proxy *proxy);
 
 /* Requests for this host (1 to 255 bytes; nobody asks for another) and port go there. Before its first datagram and tick only, else OSC_NOT_NOW.

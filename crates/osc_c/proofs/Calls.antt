@@ -1,11 +1,11 @@
 -- Calls on handles that hold something.
-use Rattle.std.proofs.Common.{◌≡◌, ℕ, ℤ, pos, subst}
+use Rattle.std.proofs.Common.{◌≡◌, ◌∙◌, ℕ, ℤ, ap, inl, inr, pos, refl, subst}
 use Rattle.std.specs.declared.option.Option.{Option}
 use Rattle.std.specs.declared.option.Option.TheVariants.{Some}
 use Rattle.osc_calls.specs.Outcome.{number_of}
 use Rattle.osc_calls.specs.declared.outcome.Outcome.{Outcome}
 use Rattle.osc_calls.specs.declared.round.Told.{Told}
-use Rattle.osc_c.specs.Calls.{Calls, Tells}
+use Rattle.osc_c.specs.Calls.{Calls, Makes, Tells}
 
 module _ {A : Type 0} {old new : Option A} {number : ℤ} {held lent after : A} where
   pub calls : (Does : A → Outcome → A → Type 0) (outcome : Outcome)
@@ -18,3 +18,12 @@ module _ {A : Type 0} {old new : Option A} {number : ℤ} {held lent after : A} 
       → Tells old before number new code Does
   tells before code Does told was is_lent is now coded does =
       subst (λ (o : Option A). Tells o before number new code Does) was (after, told, now, is, coded, subst (λ (h : A). Does h told after) is_lent does)
+
+-- ---- calls that make something
+
+module _ {A : Type 0} {old : Option A} {number : ℤ} (Is : A → Type 0) (IsWhyNot : Outcome → Type 0) where
+  pub made : {new : Option A} (boxed node : A) → number ≡ pos 0 → new ≡ Some boxed → boxed ≡ node → Is node → Makes old number new Is IsWhyNot
+  made boxed node is now same it = inl (node, is, now ∙ ap (λ (a : A). Some a) same, it)
+
+  pub not_made : (outcome : Outcome) → number ≡ pos (number_of outcome) → IsWhyNot outcome → Makes old number old Is IsWhyNot
+  not_made outcome is why = inr ((outcome, is, why), refl)

@@ -18,6 +18,10 @@ abbrev pub Looks : {A : Type 0} → Option A → ℤ → Option A → (A → Out
 Looks old number new Does =
     MatchOption old ((number ≡ pos 33) × (new ≡ None)) (λ held. (new ≡ Some held) × Answers number (λ outcome. Does held outcome))
 
+-- What is made is held, in the place of what was held; or nothing is made, for such a reason, and what was held is held.
+abbrev pub Makes : {A : Type 0} → Option A → ℤ → Option A → (A → Type 0) → (Outcome → Type 0) → Type 0
+Makes {A} old number new Is IsWhyNot = ((node : A) × (number ≡ pos 0) × (new ≡ Some node) × Is node) ⊎ (Answers number IsWhyNot × (new ≡ old))
+
 -- The same of a call that tells a code, too, where something is held.
 abbrev pub Tells : {A : Type 0} → Option A → ℕ → ℤ → Option A → ℕ → (A → Told → A → Type 0) → Type 0
 Tells {A} old before number new code Does =

@@ -1,13 +1,14 @@
 //! A client.
-ghost use Rattle.std.specs.Prelude.{◌≡◌, ◌⊎◌, pos};
+ghost use Rattle.std.specs.Prelude.{◌≡◌};
 ghost use Rattle.std.specs.declared.option.Option.TheVariants.{None};
 ghost use Rattle.osc_client.specs.Sending.{restarted};
-ghost use Rattle.osc_calls.specs.Client.{AskedBy, BegunBy, HeardBy, TellsContext, TellsDeadline, TickedBy};
+ghost use Rattle.osc_calls.specs.Client.{AskedBy, BegunBy, HeardBy, IsNewClient, TellsContext, TellsDeadline, TickedBy};
+ghost use Rattle.osc_calls.specs.Granted.{IsUnfit, id_context_of};
 ghost use Rattle.osc_calls.specs.Last.{HandsOut, nothing};
 ghost use Rattle.osc_calls.specs.Plain.{draw_of, peer_of};
 ghost use Rattle.osc_calls.specs.Results.{TellsResult, learnt_in};
 ghost use Rattle.osc_calls.specs.declared.outcome.Outcome.TheVariants.{Done};
-ghost use Rattle.osc_c.specs.Calls.{Calls, Looks};
+ghost use Rattle.osc_c.specs.Calls.{Calls, Looks, Makes};
 ghost use Rattle.osc_c.specs.Ciphers.{sealing, tags};
 
 use crate::client_handle::ClientHandle;
@@ -33,7 +34,7 @@ pub extern "C" fn osc_client_new(
     has_context: u8,
     algorithm: u8,
 ) -> i32
-    ensures { result ≡ pos 0 ⊎ (client.new.held ≡ client.old.held) }
+    ensures { Makes client.old.held result client.new.held (λ node. IsNewClient (peer_of next_hop.now) host.now port token.now secret.now salt.now (id_context_of has_context context.now) algorithm node) IsUnfit }
 {
     let made = ClientNode::new(
         alloc,

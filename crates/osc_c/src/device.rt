@@ -1,11 +1,13 @@
 //! A device.
-ghost use Rattle.std.specs.Prelude.{◌≡◌, ◌⊎◌, pos};
+ghost use Rattle.std.specs.Prelude.{◌≡◌};
 ghost use Rattle.std.specs.declared.option.Option.TheVariants.{None};
-ghost use Rattle.osc_calls.specs.Device.{HeardBy, TellsDeadline, TickedBy, restarted_device};
-ghost use Rattle.osc_calls.specs.Last.{HandsOut, nothing};
+ghost use Rattle.osc_calls.specs.Device.{HeardBy, Restarts, TellsDeadline, TickedBy};
+ghost use Rattle.osc_calls.specs.Last.{HandsOut};
+ghost use Rattle.osc_calls.specs.Making.{IsNewDevice};
+ghost use Rattle.osc_calls.specs.Tokens.{IsUnminted};
 ghost use Rattle.osc_calls.specs.Plain.{draw_of, peer_of};
 ghost use Rattle.osc_calls.specs.declared.outcome.Outcome.TheVariants.{Done};
-ghost use Rattle.osc_c.specs.Calls.{Calls, Looks};
+ghost use Rattle.osc_c.specs.Calls.{Calls, Looks, Makes};
 ghost use Rattle.osc_c.specs.Ciphers.{sealing};
 
 use crate::device_handle::DeviceHandle;
@@ -14,23 +16,23 @@ use osc_ccm::Ccm;
 use std::alloc::Global;
 
 /// Makes a device without resources, in the place of one that is held. Its server takes tokens that are sealed under `key` and for `audience`.
-/// GETs that `open` grants need no protection. The device itself may do what `own` grants.
+/// GETs that `free` grants need no protection. The device itself may do what `own` grants.
 ///
 /// Answers 0; or 9 without memory, 14 where its token is too long, 24 where a text is no scope, and 34 where the audience is no UTF-8. Then what
-/// was held is held. Heap: some 20 KiB, for as long as it is held.
+/// was held is held. Heap: some 38 KB, for as long as it is held.
 #[unsafe(no_mangle)]
 pub extern "C" fn osc_device_new(
     alloc: Global,
     device: &mut DeviceHandle,
     key: &PlainKey,
     audience: &[u8],
-    open: &[u8],
+    free: &[u8],
     own: &[u8],
     draw: &PlainDraw,
 ) -> i32
-    ensures { result ≡ pos 0 ⊎ (device.new.held ≡ device.old.held) }
+    ensures { Makes device.old.held result device.new.held (λ node. IsNewDevice sealing key.now.bytes audience.now free.now own.now draw.now.bytes node) IsUnminted }
 {
-    let made = DeviceNode::new::<(Ccm<8>, Ccm<16>)>(alloc, key, audience, open, own, draw);
+    let made = DeviceNode::new::<(Ccm<8>, Ccm<16>)>(alloc, key, audience, free, own, draw);
     match made {
         Ok(node) => match Box::new(alloc, node) {
             Ok(node) => {
@@ -139,7 +141,7 @@ pub extern "C" fn osc_device_next(
 /// Answers 0; or 33 where nothing is held. Heap: none.
 #[unsafe(no_mangle)]
 pub extern "C" fn osc_device_restart(alloc: Global, device: &mut DeviceHandle) -> i32
-    ensures { Calls device.old.held result device.new.held (λ old outcome new. (outcome ≡ Done) × (new ≡ record { device = restarted_device old.device; last = nothing })) }
+    ensures { Calls device.old.held result device.new.held (λ old outcome new. (outcome ≡ Done) × Restarts old new) }
 {
     match device.take(alloc) {
         None => Outcome::Nothing.number(),

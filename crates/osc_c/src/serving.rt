@@ -1,5 +1,6 @@
 //! What a device has, and what its server served and refused.
 ghost use Rattle.std.specs.Prelude.{◌≡◌};
+ghost use Rattle.osc_calls.specs.Serving.{TellsRefused, TellsServed, refused_by_last, served_by_last};
 ghost use Rattle.osc_calls.specs.Values.{TellsValueAt};
 ghost use Rattle.osc_c.specs.Calls.{Looks};
 
@@ -43,7 +44,7 @@ pub extern "C" fn osc_device_served(
     payload: &mut [u8],
     context: &mut [u8],
 ) -> i32
-    ensures { device.new.held ≡ device.old.held }
+    ensures { Looks device.old.held result device.new.held (λ node outcome. TellsServed (served_by_last node.last) served.old (record { path = path.old; payload = payload.old; context = context.old }) outcome served.new (record { path = path.new; payload = payload.new; context = context.new })) }
 {
     match device.take(alloc) {
         None => Outcome::Nothing.number(),
@@ -64,7 +65,7 @@ pub extern "C" fn osc_device_refused(
     device: &mut DeviceHandle,
     refused: &mut PlainRefused,
 ) -> i32
-    ensures { device.new.held ≡ device.old.held }
+    ensures { Looks device.old.held result device.new.held (λ node outcome. TellsRefused (refused_by_last node.last) refused.old outcome refused.new) }
 {
     match device.take(alloc) {
         None => Outcome::Nothing.number(),

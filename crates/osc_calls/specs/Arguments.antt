@@ -1,5 +1,5 @@
 -- What numbers and bytes stand for, as arguments.
-use Rattle.std.specs.Prelude.{◌≡◌, ℕ, ◌<◌, ◌^◌, ◌⊎◌, ℤ, ◌<ℤ◌, pos, negsuc, List, Option, Some, None, MatchOption}
+use Rattle.std.specs.Prelude.{◌≡◌, ℕ, ◌⊎◌, ℤ, ◌<ℤ◌, pos, negsuc, List, Option, Some, None, MatchOption}
 use Rattle.osc_model.specs.Path.{IsPath}
 use Rattle.osc_calls.specs.declared.outcome.Outcome.{Outcome}
 use Rattle.osc_calls.specs.declared.outcome.Outcome.TheVariants.{BadArgument, Done, NoMemory, Nothing}

@@ -1,5 +1,5 @@
 -- A client by calls.
-use Rattle.std.specs.Prelude.{◌≡◌, ℕ, ◌⊎◌, true, false, ◌↔◌, ◌≤◌, List, Option, Some, None, option_map}
+use Rattle.std.specs.Prelude.{◌≡◌, ℕ, ◌⊎◌, true, false, ◌↔◌, ◌≤◌, List, Option, None, option_map}
 use Rattle.osc_model.specs.declared.node.Draw.{Draw}
 use Rattle.osc_model.specs.declared.node.Moment.{Moment}
 use Rattle.osc_model.specs.declared.node.Peer.{Peer}
@@ -10,7 +10,8 @@ use Rattle.osc_authz.specs.declared.granted.ClientDesk.{ClientDesk}
 use Rattle.osc_protect.specs.Ciphers.{Sealings, Tags}
 use Rattle.osc_client.specs.Hearing.{Begins, Hears, Requests, Ticks}
 use Rattle.osc_client.specs.Sending.{acts_at}
-use Rattle.osc_client.specs.State.{State}
+use Rattle.osc_client.specs.State.{State, core}
+use Rattle.osc_run.specs.ClientKinds.{ClientStep}
 use Rattle.osc_client.specs.declared.way.Way.{Way}
 use Rattle.osc_calls.specs.Arguments.{Tells}
 use Rattle.osc_calls.specs.Calls.{At, Ends}
@@ -39,9 +40,10 @@ pub record IsNewClient (next_hop : Peer) (host : List ℕ) (port : ℕ) (token s
   pub is_alg : algorithm ≡ algorithm_number alg
   pub fresh : IsFresh desk (record { next_hop = next_hop; origin = origin_of host port }) node
 
--- the client makes a step of this kind, and it is the last one
+-- the client makes a step of this kind, as a holder does that keeps the rules, and it is the last one
 abbrev pub Makes : ClientNode → (State → Step → State → Type 0) → ClientNode → Type 0
-Makes old Does new = (step : Step) × Does old.client step new.client × (new.last ≡ since step)
+Makes old Does new =
+    (step : Step) × Does old.client step new.client × (new.last ≡ since step) × ClientStep false (core old.client) step.notes (core new.client)
 
 abbrev pub BegunAt : ClientNode → Moment → Draw → ClientNode → Type 0
 BegunAt old now draw new = Makes old (λ s step t. Begins s now draw step t) new

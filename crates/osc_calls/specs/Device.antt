@@ -1,5 +1,5 @@
 -- A device by calls.
-use Rattle.std.specs.Prelude.{◌≡◌, ℕ, ◌⊎◌, true, false, ◌↔◌, ◌≤◌, List, [], Option, Some, None}
+use Rattle.std.specs.Prelude.{◌≡◌, ℕ, ◌⊎◌, true, false, ◌↔◌, ◌≤◌, List, [], ◌∷◌}
 use Rattle.osc_model.specs.declared.node.Draw.{Draw}
 use Rattle.osc_model.specs.declared.node.Moment.{Moment}
 use Rattle.osc_model.specs.declared.node.Peer.{Peer}
@@ -11,7 +11,9 @@ use Rattle.osc_client.specs.Sending.{acts_at, restarted}
 use Rattle.osc_client.specs.State.{State as Own}
 use Rattle.osc_server.specs.Hearing.{Hears}
 use Rattle.osc_device.specs.Carrying.{Carries}
+use Rattle.osc_device.specs.Runs.{AllGoOn, IsOfAnEntry, noted, restarts}
 use Rattle.osc_device.specs.State.{State}
+use Rattle.osc_run.specs.Notes.{by_server}
 use Rattle.osc_device.specs.declared.round.Round.{Round}
 use Rattle.osc_calls.specs.Calls.{At}
 use Rattle.osc_calls.specs.Last.{nothing, since}
@@ -26,25 +28,33 @@ restarted_device old = record {
   own = restarted old.own;
 }
 
+-- it starts again so, and each run goes on by that
+abbrev pub Restarts : DeviceNode → DeviceNode → Type 0
+Restarts old new = (new ≡ record { device = restarted_device old.device; last = nothing }) × ((now : Moment) → AllGoOn old.device restarts new.device)
+
 -- `is_sealing algorithm` is the relation of the algorithm's cipher
 module _ (is_sealing : Sealings) where
-  -- the server hears these bytes, and its step is the last one; the device itself isn't changed by it
+  -- The server hears these bytes, and its step is the last one; the device itself isn't changed by it. Each run goes on by that step.
   pub record HeardAt (old : DeviceNode) (now : Moment) (draw : Draw) (from : Peer) (bytes : List ℕ) (new : DeviceNode) : Type 0 where
     pub step : Step
     pub hears : Hears is_sealing old.device.server now draw from bytes step new.device.server
     pub own : new.device.own ≡ old.device.own
     pub last : new.last ≡ since step
+    pub run : AllGoOn old.device (λ number. by_server step.notes ∷ []) new.device
 
   abbrev pub HeardBy : DeviceNode → ℕ → Draw → Peer → List ℕ → Outcome → DeviceNode → Type 0
   HeardBy old ms draw from bytes outcome new = At ms old outcome new (λ now. HeardAt old now draw from bytes new)
 
-  -- the device itself ticks, what it sends is carried to its server and back, and nothing goes to others
+  -- The device itself ticks, what it sends is carried to its server and back, and nothing goes to others. Each run goes on by these steps, and a
+  -- reply that it learns is that of an entry of the history.
   pub record TickedAt (old : DeviceNode) (now : Moment) (draw : Draw) (new : DeviceNode) : Type 0 where
     pub round : Round
     pub ticked : Own
     pub ticks : Ticks old.device.own now round.begun ticked
     pub carries : Carries is_sealing (record old.device.server { endpoint = after_tick now old.device.server.endpoint }) ticked now draw round new.device
     pub last : new.last ≡ nothing
+    pub run : AllGoOn old.device (λ number. noted number round) new.device
+    pub entry : IsOfAnEntry old.device round
 
   abbrev pub TickedBy : DeviceNode → ℕ → Draw → Outcome → DeviceNode → Type 0
   TickedBy old ms draw outcome new = At ms old outcome new (λ now. TickedAt old now draw new)

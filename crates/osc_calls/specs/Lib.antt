@@ -15,3 +15,5 @@ pub mod Told
 pub mod Device
 pub mod Own
 pub mod Values
+pub mod Making
+pub mod Serving

@@ -1,10 +1,10 @@
 -- What a device does at its own server, by calls.
-use Rattle.std.specs.Prelude.{◌≡◌, ℕ, ◌⊎◌, Bool, true, false, if◌then◌else◌, ℤ, List, [], Option, Some, None}
+use Rattle.std.specs.Prelude.{◌≡◌, ℕ, ◌⊎◌, Bool, true, false, if◌then◌else◌, ℤ, List, [], Option, Some, None, ⊤}
 use Rattle.osc_model.specs.declared.code.Method.{Method}
 use Rattle.osc_model.specs.declared.code.Method.TheVariants.{Delete}
 use Rattle.osc_model.specs.declared.node.Moment.{Moment}
 use Rattle.osc_model.specs.declared.step.ClientResult.{ClientResult}
-use Rattle.osc_model.specs.declared.step.ClientResult.TheVariants.{Made, Answer, Unverified, TimedOut, Refused}
+use Rattle.osc_model.specs.declared.step.ClientResult.TheVariants.{Refused}
 use Rattle.osc_client.specs.Hearing.{Begins}
 use Rattle.osc_client.specs.State.{State as Own}
 use Rattle.osc_protect.specs.Ciphers.{Sealings, Tags}
@@ -12,6 +12,7 @@ use Rattle.osc_scope.specs.Entries.{Entry}
 use Rattle.osc_token.specs.declared.claims.Claims.{Claims}
 use Rattle.osc_device.specs.Answered.{IsAnsweredWhereReady, IsOpen, IsWhole, MayOpen, own_request}
 use Rattle.osc_device.specs.Carrying.{AsksItsServer, Carries}
+use Rattle.osc_device.specs.Runs.{AllGoOn, IsOfAnEntry, noted}
 use Rattle.osc_device.specs.declared.round.Round.{Round}
 use Rattle.osc_calls.specs.Arguments.{IsFormat}
 use Rattle.osc_calls.specs.Granted.{IsUnfit}
@@ -19,7 +20,8 @@ use Rattle.osc_calls.specs.Last.{LastStep, nothing}
 use Rattle.osc_calls.specs.Plain.{draw_of}
 use Rattle.osc_calls.specs.Told.{bare, told_of}
 use Rattle.osc_calls.specs.declared.device.DeviceNode.{DeviceNode}
-use Rattle.osc_calls.specs.declared.outcome.Outcome.TheVariants.{NoMemory}
+use Rattle.osc_calls.specs.declared.outcome.Outcome.{Outcome}
+use Rattle.osc_calls.specs.declared.outcome.Outcome.TheVariants as outcome
 use Rattle.osc_calls.specs.declared.plain.PlainDraws.{PlainDraws}
 use Rattle.osc_calls.specs.declared.round.Told.{Told}
 
@@ -32,11 +34,21 @@ is_refused_by result = false
 abbrev pub last_after : Round → LastStep → LastStep
 last_after round last = if is_refused_by round.begun.notes.result then last else nothing
 
--- It comes to a round of this kind, of which the caller is told; or there was no memory, and nothing changes.
+-- nothing was begun: something is open, there is no context, its numbers are used up, or it would be too long
+abbrev pub IsRefusal : Outcome → Type 0
+IsRefusal outcome.Busy = ⊤
+IsRefusal outcome.NoContext = ⊤
+IsRefusal outcome.Exhausted = ⊤
+IsRefusal outcome.TooLong = ⊤
+IsRefusal other = ⊥
+
+-- It comes to a round of this kind, of which the caller is told; where nothing was begun, nothing changes. Or there was no memory, and nothing
+-- changes.
 abbrev pub ComesTo : DeviceNode → Told → DeviceNode → (Round → Type 0) → Type 0
 ComesTo old told new Does =
-    ((round : Round) × Does round × (told ≡ told_of round) × (new.last ≡ last_after round old.last))
-    ⊎ ((told ≡ bare NoMemory) × (new ≡ old))
+    ((round : Round) × Does round × (told ≡ told_of round) × (new.last ≡ last_after round old.last)
+    × (IsRefusal told.outcome → new ≡ old))
+    ⊎ ((told ≡ bare outcome.NoMemory) × (new ≡ old))
 
 -- an argument is out of its range, or there was no memory for them: nothing changes
 abbrev pub IsRejected : DeviceNode → Told → DeviceNode → Type 0
@@ -44,24 +56,29 @@ IsRejected old told new = IsUnfit told.outcome × (told.code ≡ 0) × (new ≡ 
 
 -- `is_sealing algorithm` is the relation of the algorithm's cipher, and `tag algorithm` how long its tag is
 module _ (is_sealing : Sealings) where
-  -- the device posts its token, and what it sends is carried to its server and back; where it may, and no step wants memory, it has a context
+  -- The device posts its token, and what it sends is carried to its server and back; where it may, and no step wants memory, it has a context.
+  -- Each run goes on by these steps.
   abbrev pub Opens : DeviceNode → Moment → PlainDraws → Round → DeviceNode → Type 0
   Opens old now draws round new =
       ((begun : Own) × Begins old.device.own now (draw_of draws.own) round.begun begun
       × Carries is_sealing old.device.server begun now (draw_of draws.server) round new.device)
       × ((claims : Claims) (entries : List Entry) → MayOpen is_sealing old.device now (draw_of draws.own) claims entries → IsWhole round
       → IsOpen now entries new.device)
+      × AllGoOn old.device (λ number. noted number round) new.device
 
   abbrev pub OpensBy : DeviceNode → ℕ → PlainDraws → Told → DeviceNode → Type 0
   OpensBy old ms draws told new =
       ((now : Moment) × (now.ms ≡ ms) × ComesTo old told new (λ round. Opens old now draws round new)) ⊎ IsRejected old told new
 
   module _ (tag : Tags) where
-    -- the device asks its server so; where it may, and no step wants memory, it is answered
+    -- The device asks its server so; where it may, and no step wants memory, it is answered. Each run goes on by these steps, and a reply that
+    -- it learns is that of an entry of the history.
     abbrev pub Asks : Method → DeviceNode → Moment → List ℕ → Option ℕ → List ℕ → PlainDraws → Round → DeviceNode → Type 0
     Asks method old now path format payload draws round new =
         AsksItsServer is_sealing tag old.device now (draw_of draws.own) (draw_of draws.server) (own_request method path format payload) round new.device
         × IsAnsweredWhereReady old.device now (draw_of draws.own) (own_request method path format payload) round new.device
+        × AllGoOn old.device (λ number. noted number round) new.device
+        × IsOfAnEntry old.device round
 
     abbrev pub AsksBy : Method → DeviceNode → ℕ → List ℕ → ℤ → List ℕ → PlainDraws → Told → DeviceNode → Type 0
     AsksBy method old ms path number payload draws told new =

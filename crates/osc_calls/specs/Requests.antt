@@ -1,5 +1,5 @@
 -- Requests of numbers and bytes.
-use Rattle.std.specs.Prelude.{◌≡◌, ℕ, ◌==◌, if◌then◌else◌, List, [], ◌∷◌, take, Option, Some, None}
+use Rattle.std.specs.Prelude.{◌≡◌, ℕ, ◌==◌, if◌then◌else◌, List, [], ◌∷◌, take, Some}
 use Rattle.osc_model.specs.declared.request.Request.{Request}
 use Rattle.osc_calls.specs.Arguments.{IsFormat}
 use Rattle.osc_calls.specs.declared.plain.PlainOptions.{PlainOptions}

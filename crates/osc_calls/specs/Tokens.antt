@@ -1,5 +1,5 @@
 -- Tokens of numbers and bytes.
-use Rattle.std.specs.Prelude.{◌≡◌, ℕ, ◌⊎◌, ◌==◌, if◌then◌else◌, List, [], ◌++◌, length, map, Option, Some, None}
+use Rattle.std.specs.Prelude.{◌≡◌, ℕ, ◌⊎◌, ◌==◌, if◌then◌else◌, List, [], length, map, Option, Some, None}
 use Rattle.osc_model.specs.Algorithm.{algorithm_number}
 use Rattle.osc_cbor.specs.Data.{array}
 use Rattle.osc_cbor.specs.Spelling.{spelling}

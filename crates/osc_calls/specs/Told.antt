@@ -1,5 +1,5 @@
 -- What a caller is told of what a device did at its own server.
-use Rattle.std.specs.Prelude.{◌≡◌, ℕ, ◌==◌, if◌then◌else◌, Option, Some, None}
+use Rattle.std.specs.Prelude.{ℕ, ◌==◌, if◌then◌else◌, Option, Some, None}
 use Rattle.osc_model.specs.declared.step.ClientResult.{ClientResult}
 use Rattle.osc_model.specs.declared.step.ClientResult.TheVariants.{Made, Answer, Unverified, TimedOut, Refused}
 use Rattle.osc_model.specs.declared.step.Step.{Step}

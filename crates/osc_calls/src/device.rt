@@ -4,7 +4,7 @@ ghost use Rattle.osc_device.specs.State.{State};
 ghost use Rattle.osc_client.specs.Sending.{restarted};
 ghost use Rattle.osc_message.specs.Endpoint.{fresh};
 ghost use Rattle.osc_calls.specs.Calls.{Ends};
-ghost use Rattle.osc_calls.specs.Device.{HeardAt, HeardBy, TellsDeadline, TickedAt, TickedBy, restarted_device};
+ghost use Rattle.osc_calls.specs.Device.{HeardAt, HeardBy, TellsDeadline, TickedAt, TickedBy, Restarts};
 ghost use Rattle.osc_calls.specs.Last.{HandsOut, nothing};
 ghost use Rattle.osc_calls.specs.Plain.{draw_of, peer_of};
 
@@ -115,7 +115,7 @@ impl DeviceNode {
 
     /// Starts again: resources stay, and security contexts are gone.
     pub fn restart(&mut self)
-        ensures { self.new ≡ record { device = restarted_device self.old.device; last = nothing } }
+        ensures { Restarts self.old self.new }
     {
         self.device.restart();
         self.last = Last::nothing();

@@ -1,5 +1,6 @@
 //! A device of keys, names and scopes.
-ghost use Rattle.std.specs.Prelude.{◌≡◌, IfErr, drop, take};
+ghost use Rattle.std.specs.Prelude.{◌≡◌, IfErr, IfOk, drop, take};
+ghost use Rattle.osc_calls.specs.Making.{AreParts, IsNewDevice, IsOpenScope, IsOwnToken};
 ghost use Rattle.osc_calls.specs.Tokens.{IsUnminted};
 
 use crate::device::DeviceNode;
@@ -23,6 +24,7 @@ const SECRET: usize = 16;
 
 /// The scope of what needs no protection: none where the text is empty.
 fn open_scope(alloc: Global, text: &[u8]) -> Result<Scope, Outcome>
+    ensures ok { IfOk result (IsOpenScope text.now) }
     ensures err { IfErr result IsUnminted }
 {
     if text.is_empty() {
@@ -37,13 +39,14 @@ fn open_scope(alloc: Global, text: &[u8]) -> Result<Scope, Outcome>
 }
 
 /// A server without resources.
-fn parts(alloc: Global, key: &PlainKey, name: &[u8], open: &[u8]) -> Result<ServerParts, Outcome>
+fn parts(alloc: Global, key: &PlainKey, name: &[u8], free: &[u8]) -> Result<ServerParts, Outcome>
+    ensures ok { IfOk result (AreParts key.now.bytes name.now free.now) }
     ensures err { IfErr result IsUnminted }
 {
     let key = key.bytes;
     Ok(ServerParts {
         tree: Tree::new(alloc),
-        open_scope: open_scope(alloc, open)?,
+        open_scope: open_scope(alloc, free)?,
         key,
         audience: audience(alloc, name)?,
     })
@@ -90,6 +93,7 @@ fn iv_of(draw: &PlainDraw) -> [u8; 13]
 
 /// The device's own token, for this scope: its secret and its IV are of the draw.
 fn own_token(alloc: Global, scope: &[u8], draw: &PlainDraw) -> Result<OwnToken, Outcome>
+    ensures ok { IfOk result (IsOwnToken scope.now draw.now.bytes) }
     ensures err { IfErr result IsUnminted }
 {
     let iv = iv_of(draw);
@@ -117,18 +121,19 @@ fn refused(error: NewError) -> Outcome
 }
 
 impl DeviceNode {
-    /// A device without resources.
+    /// A device without resources. What `free` grants needs no protection, of which GETs alone count.
     pub fn new<A: Ciphers>(
         alloc: Global,
         key: &PlainKey,
         audience: &[u8],
-        open: &[u8],
+        free: &[u8],
         own: &[u8],
         draw: &PlainDraw,
     ) -> Result<DeviceNode, Outcome>
+        ensures ok { IfOk result (λ node. IsNewDevice A.is_sealing key.now.bytes audience.now free.now own.now draw.now.bytes node) }
         ensures err { IfErr result IsUnminted }
     {
-        let parts = parts(alloc, key, audience, open)?;
+        let parts = parts(alloc, key, audience, free)?;
         let own = own_token(alloc, own, draw)?;
         match Device::new::<A>(alloc, parts, own) {
             Ok(device) => Ok(DeviceNode {

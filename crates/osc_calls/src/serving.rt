@@ -2,6 +2,8 @@
 ghost use Rattle.std.specs.Prelude.{◌≡◌};
 ghost use Rattle.std.specs.FinMap as map;
 ghost use Rattle.osc_calls.specs.Values.{HasValue, TellsValue, TellsValueAt};
+ghost use Rattle.osc_calls.specs.Serving.{HasServed, TellsRefused, TellsServed, bytes_of, first_of, flag_of, method_number_of, plain_refused, plain_served, refused_by_last, served_by_last};
+ghost use Rattle.osc_device.specs.Words.{refused_in, served_in};
 
 use crate::arguments;
 use crate::arguments::format_number;
@@ -39,36 +41,88 @@ fn tell_resource(resource: &Resource, payload: &mut [u8], value: &mut PlainValue
     }
 }
 
-/// The numbers of what was served.
-fn numbers(served: &Served<'_>) -> PlainServed {
-    PlainServed {
-        method: match served.method() {
-            Some(method) => method.code().0,
-            None => 0,
-        },
-        code: served.reply.code.0,
-        kid: served.by.kid.first().copied().unwrap_or(0),
-        has_context: served.by.kid_context.is_some() as u8,
-        number: served.number,
-        path_length: path_of(served).len(),
-        payload_length: served.payload().len(),
-        context_length: context_of(served).len(),
+/// The number of the method; 0 for none.
+fn method_of(served: &Served<'_>) -> u8
+    ensures { result ≡ method_number_of served.now.method }
+{
+    match served.method() {
+        Some(method) => method.code().0,
+        None => 0,
     }
 }
 
 /// The text of the path, or nothing.
-fn path_of<'a>(served: &'a Served<'_>) -> &'a [u8] {
+fn path_of<'a>(served: &'a Served<'_>) -> &'a [u8]
+    ensures { result.now ≡ bytes_of served.now.path }
+{
     match served.path() {
         Some(path) => path.text(),
         None => &[],
     }
 }
 
+/// The first byte of the kid, which is the whole of it where a server gave it.
+#[tactic(auto, using(crate::proofs::ServedParts::by_of))]
+fn kid_of(served: &Served<'_>) -> u8
+    ensures { result ≡ first_of served.now.by.kid }
+{
+    match served.by.kid {
+        [kid, ..] => *kid,
+        [] => 0,
+    }
+}
+
+/// Whether there is an id context.
+#[tactic(auto, using(crate::proofs::ServedParts::by_of))]
+fn has_context(served: &Served<'_>) -> u8
+    ensures { result ≡ flag_of served.now.by.kid_context }
+{
+    match served.by.kid_context {
+        Some(_) => 1,
+        None => 0,
+    }
+}
+
 /// The id context, or nothing.
-fn context_of<'a>(served: &'a Served<'_>) -> &'a [u8] {
+#[tactic(auto, using(crate::proofs::ServedParts::by_of))]
+fn context_of<'a>(served: &'a Served<'_>) -> &'a [u8]
+    ensures { result.now ≡ bytes_of served.now.by.kid_context }
+{
     match served.by.kid_context {
         Some(context) => context,
         None => &[],
+    }
+}
+
+/// The Partial IV.
+#[tactic(auto, using(crate::proofs::ServedParts::number_of))]
+fn number_of(served: &Served<'_>) -> u64
+    ensures { result ≡ served.now.number }
+{
+    served.number
+}
+
+/// The code of the reply.
+#[tactic(auto, using(crate::proofs::ServedParts::reply_of))]
+fn code_of(served: &Served<'_>) -> u8
+    ensures { result ≡ served.now.reply.code.0 }
+{
+    served.reply.code.0
+}
+
+/// The numbers of what was served.
+fn numbers(served: &Served<'_>) -> PlainServed
+    ensures { result ≡ plain_served served.now }
+{
+    PlainServed {
+        method: method_of(served),
+        code: code_of(served),
+        kid: kid_of(served),
+        has_context: has_context(served),
+        number: number_of(served),
+        path_length: path_of(served).len(),
+        payload_length: served.payload().len(),
+        context_length: context_of(served).len(),
     }
 }
 
@@ -79,7 +133,9 @@ fn tell_served(
     path: &mut [u8],
     payload: &mut [u8],
     context: &mut [u8],
-) -> Outcome {
+) -> Outcome
+    ensures { HasServed from.now (record { path = path.old; payload = payload.old; context = context.old }) result served.new (record { path = path.new; payload = payload.new; context = context.new }) }
+{
     *served = numbers(from);
     let path_fits = fill(path, path_of(from));
     let payload_fits = fill(payload, from.payload());
@@ -99,7 +155,9 @@ fn tell_step(
     path: &mut [u8],
     payload: &mut [u8],
     context: &mut [u8],
-) -> Outcome {
+) -> Outcome
+    ensures { TellsServed (served_in step.now.notes) served.old (record { path = path.old; payload = payload.old; context = context.old }) result served.new (record { path = path.new; payload = payload.new; context = context.new }) }
+{
     match Served::in_step(alloc, step) {
         Ok(Some(from)) => {
             let outcome = tell_served(&from, served, path, payload, context);
@@ -112,17 +170,29 @@ fn tell_step(
 }
 
 /// What a step refused.
-fn tell_refused(step: &Step, refused: &mut PlainRefused) -> Outcome {
+fn tell_refused(step: &Step, refused: &mut PlainRefused) -> Outcome
+    ensures { TellsRefused (refused_in step.now) refused.old result refused.new }
+{
     match Refused::in_step(step) {
         Some(from) => {
-            *refused = PlainRefused {
-                from: PlainPeer::of(from.from),
-                code: from.why.code.0,
-                reason: from.why.reason.unwrap_or(0),
-            };
+            *refused = refused_numbers(from);
             Outcome::Done
         }
         None => Outcome::Nothing,
+    }
+}
+
+/// The numbers of what was refused.
+fn refused_numbers(refused: Refused) -> PlainRefused
+    ensures { result ≡ plain_refused (refused.from, refused.why) }
+{
+    PlainRefused {
+        from: PlainPeer::of(refused.from),
+        code: refused.why.code.0,
+        reason: match refused.why.reason {
+            Some(reason) => reason,
+            None => 0,
+        },
     }
 }
 
@@ -155,7 +225,9 @@ impl DeviceNode {
         path: &mut [u8],
         payload: &mut [u8],
         context: &mut [u8],
-    ) -> Outcome {
+    ) -> Outcome
+        ensures { TellsServed (served_by_last self.now.last) served.old (record { path = path.old; payload = payload.old; context = context.old }) result served.new (record { path = path.new; payload = payload.new; context = context.new }) }
+    {
         match self.last.step() {
             Some(step) => tell_step(alloc, step, served, path, payload, context),
             None => Outcome::Nothing,
@@ -163,7 +235,9 @@ impl DeviceNode {
     }
 
     /// The request that the last step refused.
-    pub fn refused(&self, refused: &mut PlainRefused) -> Outcome {
+    pub fn refused(&self, refused: &mut PlainRefused) -> Outcome
+        ensures { TellsRefused (refused_by_last self.now.last) refused.old result refused.new }
+    {
         match self.last.step() {
             Some(step) => tell_refused(step, refused),
             None => Outcome::Nothing,

@@ -1,5 +1,5 @@
 -- What was granted, and the algorithm.
-use Rattle.std.proofs.Common.{◌≡◌, ◌∙◌, subst}
+use Rattle.std.proofs.Common.{◌∙◌, subst}
 use Rattle.osc_calls.specs.Client.{IsFresh}
 use Rattle.osc_calls.proofs.client.ClientNode.new.Goals as goal
 

@@ -1,6 +1,23 @@
 -- What came of it.
 use Rattle.std.proofs.Common.{inl}
+use Rattle.osc_model.specs.declared.code.Method.TheVariants.{Post}
+use Rattle.osc_device.specs.Answered.{own_request}
+use Rattle.osc_calls.specs.Plain.{draw_of}
+use Rattle.osc_calls.proofs.Refused.{asked_kept, kept}
 use Rattle.osc_calls.proofs.device.DeviceNode.append_at.Goals as goal
 
 pub returns-in-Ok : goal.returns-in-Ok
-returns-in-Ok g c = inl (c.in-Ok.round, (c.in-Ok.ensures.asked, c.in-Ok.ensures.answered), c.keep.ensures.told, c.keep.ensures.kept)
+returns-in-Ok g c =
+    let old = c.args.self.now in
+    let new = c.append.new.self in
+    let round = c.in-Ok.round in
+    let asked = c.in-Ok.ensures.asked in
+    inl (
+      round,
+      (asked, c.in-Ok.ensures.answered, c.in-Ok.ensures.run, c.in-Ok.ensures.entry),
+      c.keep.ensures.told,
+      c.keep.ensures.kept,
+      kept old new c.keep.new.last round c.keep.result c.keep.ensures.told c.keep.ensures.kept
+          (λ number told. asked_kept g.A.Ciphers.is_sealing g.A.Ciphers.TAG old.device c.args.given.now (draw_of c.args.draws.now.own) (draw_of c.args.draws.now.server)
+          (own_request Post c.args.given.path c.args.given.format c.args.given.payload) round new number told asked),
+    )

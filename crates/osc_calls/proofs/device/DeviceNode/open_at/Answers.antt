@@ -1,8 +1,21 @@
 -- What came of it.
 use Rattle.std.proofs.Common.{inl}
+use Rattle.osc_calls.specs.Plain.{draw_of}
+use Rattle.osc_calls.proofs.Refused.{begun_kept, kept}
 use Rattle.osc_calls.proofs.device.DeviceNode.open_at.Goals as goal
 
 pub returns-in-Ok : goal.returns-in-Ok
 returns-in-Ok g c =
+    let old = c.args.self.now in
+    let new = c.open.new.self in
+    let round = c.in-Ok.round in
     let b = c.in-Ok.ensures.begun in
-    inl (c.in-Ok.round, ((b.0, b.1, b.3), c.in-Ok.ensures.made), c.keep.ensures.told, c.keep.ensures.kept)
+    inl (
+      round,
+      ((b.0, b.1, b.3), c.in-Ok.ensures.made, c.in-Ok.ensures.run),
+      c.keep.ensures.told,
+      c.keep.ensures.kept,
+      kept old new c.keep.new.last round c.keep.result c.keep.ensures.told c.keep.ensures.kept
+          (λ number told. begun_kept g.A.Ciphers.is_sealing old.device c.args.now (draw_of c.args.draws.now.own) (draw_of c.args.draws.now.server) round new number told
+          b.0 b.1.exchanges b.3),
+    )

@@ -1,6 +1,23 @@
 -- What came of it.
-use Rattle.std.proofs.Common.{inl}
+use Rattle.std.proofs.Common.{inl, [], None}
+use Rattle.osc_model.specs.declared.code.Method.TheVariants.{Delete}
+use Rattle.osc_device.specs.Answered.{own_request}
+use Rattle.osc_calls.specs.Plain.{draw_of}
+use Rattle.osc_calls.proofs.Refused.{asked_kept, kept}
 use Rattle.osc_calls.proofs.device.DeviceNode.remove_at.Goals as goal
 
 pub returns-in-Ok : goal.returns-in-Ok
-returns-in-Ok g c = inl (c.in-Ok.round, (c.in-Ok.ensures.asked, c.in-Ok.ensures.answered), c.keep.ensures.told, c.keep.ensures.kept)
+returns-in-Ok g c =
+    let old = c.args.self.now in
+    let new = c.remove.new.self in
+    let round = c.in-Ok.round in
+    let asked = c.in-Ok.ensures.asked in
+    inl (
+      round,
+      (asked, c.in-Ok.ensures.answered, c.in-Ok.ensures.run, c.in-Ok.ensures.entry),
+      c.keep.ensures.told,
+      c.keep.ensures.kept,
+      kept old new c.keep.new.last round c.keep.result c.keep.ensures.told c.keep.ensures.kept
+          (λ number told. asked_kept g.A.Ciphers.is_sealing g.A.Ciphers.TAG old.device c.args.given.now (draw_of c.args.draws.now.own) (draw_of c.args.draws.now.server)
+          (own_request Delete c.args.given.path None []) round new number told asked),
+    )

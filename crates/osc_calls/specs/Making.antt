@@ -1,0 +1,41 @@
+-- Devices that are made of keys, names and scopes.
+use Rattle.std.specs.Prelude.{◌≡◌, ℕ, ◌⊎◌, List, [], take, drop, codes}
+use Rattle.std.specs.FinMap as map
+use Rattle.std.specs.FinSet as set
+use Rattle.osc_model.specs.Scope.{Scope}
+use Rattle.osc_protect.specs.Ciphers.{Sealings}
+use Rattle.osc_scope.specs.Entries.{Entry, IsScope, scope_of}
+use Rattle.osc_device.specs.Begun.{IsBegun, IsGranted, own_claims}
+use Rattle.osc_device.specs.declared.own_token.OwnToken.{OwnToken}
+use Rattle.osc_device.specs.declared.own_token.ServerParts.{ServerParts}
+use Rattle.osc_calls.specs.Last.{nothing}
+use Rattle.osc_calls.specs.Tokens.{IsScopeOf}
+use Rattle.osc_calls.specs.declared.device.DeviceNode.{DeviceNode}
+
+-- what a text grants to all: nothing where it is empty
+abbrev pub IsOpenScope : List ℕ → Scope → Type 0
+IsOpenScope text scope =
+    ((text ≡ []) × (scope ≡ set.empty))
+    ⊎ ((bytes : List ℕ) × (entries : List Entry) × IsScopeOf text bytes × IsScope bytes entries × (scope ≡ scope_of entries))
+
+-- a server without resources
+abbrev pub AreParts : List ℕ → List ℕ → List ℕ → ServerParts → Type 0
+AreParts key audience free parts =
+    (parts.tree ≡ map.empty) × IsOpenScope free parts.open_scope × (parts.key ≡ key) × (parts.audience ≡ audience)
+
+-- the device's own token: its secret are the first 16 bytes of the draw, and its IV the 13 behind them
+abbrev pub IsOwnToken : List ℕ → List ℕ → OwnToken → Type 0
+IsOwnToken scope draw own =
+    (own.id ≡ codes "device") × (own.secret ≡ take 16 draw) × IsScopeOf scope own.scope × (own.iv ≡ take 13 (drop 16 draw))
+
+-- `is_sealing algorithm` is the relation of the algorithm's cipher
+module _ (is_sealing : Sealings) where
+  -- It begins with these parts and this token, which counts at its server, and has made no step.
+  pub record IsNewDevice (key audience free own draw : List ℕ) (node : DeviceNode) : Type 0 where
+    pub parts : ServerParts
+    pub token : OwnToken
+    pub are_parts : AreParts key audience free parts
+    pub is_token : IsOwnToken own draw token
+    pub begun : IsBegun is_sealing parts token node.device
+    pub granted : (entries : List Entry) × IsScope token.scope entries × IsGranted is_sealing node.device (own_claims parts token) entries
+    pub last : node.last ≡ nothing
