@@ -19,7 +19,7 @@ use std::alloc::Global;
 /// GETs that `free` grants need no protection. The device itself may do what `own` grants.
 ///
 /// Answers 0; or 9 without memory, 14 where its token is too long, 24 where a text is no scope, and 34 where the audience is no UTF-8. Then what
-/// was held is held. Heap: some 38 KB, for as long as it is held.
+/// was held is held. Heap: some 38 KiB, for as long as it is held.
 #[unsafe(no_mangle)]
 pub extern "C" fn osc_device_new(
     alloc: Global,

@@ -14,7 +14,7 @@ use std::alloc::Global;
 
 /// Makes a proxy without targets, in the place of one that is held.
 ///
-/// Answers 0; or 9 without memory: then what was held is held. Heap: some 100 bytes, and from the first event on some 105 KiB.
+/// Answers 0; or 9 without memory: then what was held is held. Heap: some 750 bytes, and from the first event on some 105 KiB.
 #[unsafe(no_mangle)]
 pub extern "C" fn osc_proxy_new(alloc: Global, proxy: &mut ProxyHandle) -> i32
     ensures { ((result ≡ pos 0) × (proxy.new.held ≡ Some (record { forwarding = Setting []; last = nothing }))) ⊎ ((result ≡ pos 9) × (proxy.new.held ≡ proxy.old.held)) }
