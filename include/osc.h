@@ -132,7 +132,7 @@ int32_t osc_device_open(osc_device *device, uint64_t now, const osc_draws *draws
  * `code` is the answer's, as 0x41 (2.01 Created) or 0x44 (2.04 Changed), where OSC_DONE or OSC_UNVERIFIED is answered, and else 0. `format` is
  * -1 for none.
  * Also OSC_TOO_LONG, OSC_BUSY, OSC_EXHAUSTED, OSC_NO_CONTEXT, OSC_LOST, OSC_BAD_ARGUMENT, OSC_NO_MEMORY. Behind OSC_LOST a tick goes on, and what
- * came of it is seen by `get`. Heap: what is stored. */
+ * came of it is told by `learnt`. Heap: what is stored. */
 int32_t osc_device_put(osc_device *device, uint64_t now, const uint8_t *path, size_t path_length, int32_t format, const uint8_t *payload,
                        size_t payload_length, const osc_draws *draws, uint8_t *code);
 int32_t osc_device_append(osc_device *device, uint64_t now, const uint8_t *path, size_t path_length, int32_t format, const uint8_t *payload,
@@ -149,6 +149,10 @@ int32_t osc_device_on_datagram(osc_device *device, uint64_t now, const osc_peer 
 
 /* What is due by now is done: at least each second, also while datagrams come. */
 int32_t osc_device_on_tick(osc_device *device, uint64_t now, const osc_draw *draw);
+
+/* What the last tick learnt of what `open`, `put`, `append` or `remove` left open where it answered OSC_LOST: OSC_DONE, or OSC_UNVERIFIED, and the
+ * code, as that call would have answered; OSC_NOTHING where it learnt nothing: then it is open still, or nothing was. */
+int32_t osc_device_learnt(osc_device *device, uint8_t *code);
 
 /* The first moment at which a tick does more than let go of what was heard long ago; OSC_NOTHING where none would. */
 int32_t osc_device_next_deadline(osc_device *device, uint64_t *moment);

@@ -373,6 +373,7 @@ static void nothing_of_a_device(void) {
     ANSWERS(OSC_NOTHING, osc_device_next(&none, &from, bytes, sizeof bytes, &length));
     ANSWERS(OSC_NOTHING, osc_device_served(&none, &served, bytes, 0, bytes, 0, bytes, 0));
     ANSWERS(OSC_NOTHING, osc_device_refused(&none, &why));
+    ANSWERS(OSC_NOTHING, osc_device_learnt(&none, &code));
     ANSWERS(OSC_NOTHING, osc_device_restart(&none));
     osc_device_free(&none);
 }
@@ -750,6 +751,7 @@ static void without_heap(world *w) {
     ANSWERS(OSC_NOTHING, osc_device_next(&w->device, &to, bytes, sizeof bytes, &length));
     ANSWERS(OSC_NOTHING, osc_device_next_deadline(&w->device, &moment));
     ANSWERS(OSC_NOTHING, osc_device_refused(&w->device, &why));
+    ANSWERS(OSC_NOTHING, osc_device_learnt(&w->device, &code));
     ANSWERS(OSC_NOTHING, osc_client_next(&w->clients[0], &to, bytes, sizeof bytes, &length));
     ANSWERS(OSC_NOTHING, osc_client_next_deadline(&w->clients[0], &moment));
     ANSWERS(OSC_DONE, osc_client_result(&w->clients[0], &result, bytes, sizeof bytes));
@@ -802,6 +804,46 @@ static void restarted(world *w) {
     CLAIM(exchange(w, 0) && asks(w, 0, 1, "/e", "", 0x45));
 }
 
+/* With block `at` refused a write is left open, or isn't: where it is, the next tick that is due ends it, and tells what the write would have told. Nothing is
+ * appended twice. Whether that block was asked for; `lost` counts. */
+static size_t one_lost(world *w, size_t at, size_t *lost) {
+    uint8_t code = 0xee;
+    osc_draw it = draw();
+    CLAIM(opens(w));
+    plan(at, 0);
+    int32_t number = writes(w, 2, "/d", "a", &code);
+    size_t reached = refused;
+    plan(0, 0);
+    if (number != OSC_LOST) return reached;
+    (*lost)++;
+    CLAIM(code == 0);
+    ANSWERS(OSC_NOTHING, osc_device_learnt(&w->device, &code));
+    ANSWERS(OSC_BUSY, writes(w, 2, "/d", "b", &code));
+    ANSWERS(OSC_DONE, osc_device_next_deadline(&w->device, &w->now));
+    ANSWERS(OSC_DONE, osc_device_on_tick(&w->device, w->now, &it));
+    code = 0xee;
+    ANSWERS(OSC_DONE, osc_device_learnt(&w->device, &code));
+    CLAIM(code == 0x41 && reads(w, "/d", "a"));
+    ANSWERS(OSC_NOTHING, osc_device_next_deadline(&w->device, &w->now));
+    ANSWERS(OSC_DONE, osc_device_on_tick(&w->device, w->now, &it));
+    code = 0xee;
+    ANSWERS(OSC_NOTHING, osc_device_learnt(&w->device, &code));
+    CLAIM(code == 0xee);
+    return reached;
+}
+
+static void learnt_later(void) {
+    static world w;
+    size_t lost = 0, reached = 1;
+    for (size_t at = 1; reached > 0; at++) {
+        if (!make_world(&w)) return;
+        reached = one_lost(&w, at, &lost);
+        free_world(&w);
+        CLAIM(held == 0);
+    }
+    CLAIM(lost > 0);
+}
+
 static void targets(world *w) {
     osc_peer to = peer(DEVICE_PORT);
     ANSWERS(OSC_DONE, osc_proxy_add_target(&w->proxy, TEXT("gate"), 5683, &to));
@@ -845,6 +887,7 @@ static void all_claims(void) {
     in_a_world(timed_out);
     in_a_world(restarted);
     in_a_world(targets);
+    learnt_later();
 }
 
 /* ---- a day with each block refused in turn */
@@ -959,6 +1002,7 @@ static void some_call_of_a_device(world *w) {
     case 2: tell(osc_device_get(&w->device, (const uint8_t *)path, strlen(path), bytes, room, &value)); break;
     case 3: tell(osc_device_next(&w->device, &to, bytes, small, &length)); break;
     case 4: tell(osc_device_served(&w->device, &served, bytes, small, others, smaller, w->context, smallest)); break;
+    case 5: tell(osc_device_learnt(&w->device, &code)); break;
     default: tell(writes(w, method, path, payload, &code)); break;
     }
     heed_device(w);

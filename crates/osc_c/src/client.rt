@@ -3,7 +3,8 @@ ghost use Rattle.std.specs.Prelude.{◌≡◌};
 ghost use Rattle.std.specs.declared.option.Option.TheVariants.{None};
 ghost use Rattle.osc_client.specs.Sending.{restarted};
 ghost use Rattle.osc_calls.specs.Client.{AskedBy, BegunBy, HeardBy, IsNewClient, TellsContext, TellsDeadline, TickedBy};
-ghost use Rattle.osc_calls.specs.Granted.{IsUnfit, id_context_of};
+ghost use Rattle.osc_calls.specs.Arguments.{IsUnfit};
+ghost use Rattle.osc_calls.specs.Granted.{IsNoClient};
 ghost use Rattle.osc_calls.specs.Last.{HandsOut, nothing};
 ghost use Rattle.osc_calls.specs.Plain.{draw_of, peer_of};
 ghost use Rattle.osc_calls.specs.Results.{TellsResult, learnt_in};
@@ -34,7 +35,7 @@ pub extern "C" fn osc_client_new(
     has_context: u8,
     algorithm: u8,
 ) -> i32
-    ensures { Makes client.old.held result client.new.held (λ node. IsNewClient (peer_of next_hop.now) host.now port token.now secret.now salt.now (id_context_of has_context context.now) algorithm node) IsUnfit }
+    ensures { Makes client.old.held result client.new.held (λ node. IsNewClient (peer_of next_hop.now) host.now port token.now secret.now salt.now context.now has_context algorithm node) (IsUnfit (IsNoClient host.now secret.now salt.now context.now has_context algorithm)) }
 {
     let made = ClientNode::new(
         alloc,

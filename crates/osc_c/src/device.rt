@@ -3,8 +3,7 @@ ghost use Rattle.std.specs.Prelude.{◌≡◌};
 ghost use Rattle.std.specs.declared.option.Option.TheVariants.{None};
 ghost use Rattle.osc_calls.specs.Device.{HeardBy, Restarts, TellsDeadline, TickedBy};
 ghost use Rattle.osc_calls.specs.Last.{HandsOut};
-ghost use Rattle.osc_calls.specs.Making.{IsNewDevice};
-ghost use Rattle.osc_calls.specs.Tokens.{IsUnminted};
+ghost use Rattle.osc_calls.specs.Making.{IsNewDevice, IsNoNewDevice};
 ghost use Rattle.osc_calls.specs.Plain.{draw_of, peer_of};
 ghost use Rattle.osc_calls.specs.declared.outcome.Outcome.TheVariants.{Done};
 ghost use Rattle.osc_c.specs.Calls.{Calls, Looks, Makes};
@@ -30,7 +29,7 @@ pub extern "C" fn osc_device_new(
     own: &[u8],
     draw: &PlainDraw,
 ) -> i32
-    ensures { Makes device.old.held result device.new.held (λ node. IsNewDevice sealing key.now.bytes audience.now free.now own.now draw.now.bytes node) IsUnminted }
+    ensures { Makes device.old.held result device.new.held (λ node. IsNewDevice sealing key.now.bytes audience.now free.now own.now draw.now.bytes node) (IsNoNewDevice key.now.bytes audience.now free.now own.now draw.now.bytes) }
 {
     let made = DeviceNode::new::<(Ccm<8>, Ccm<16>)>(alloc, key, audience, free, own, draw);
     match made {

@@ -1,6 +1,7 @@
 //! What a device has, and what its server served and refused.
 ghost use Rattle.std.specs.Prelude.{◌≡◌};
 ghost use Rattle.osc_calls.specs.Serving.{TellsRefused, TellsServed, refused_by_last, served_by_last};
+ghost use Rattle.osc_calls.specs.Told.{TellsLearnt};
 ghost use Rattle.osc_calls.specs.Values.{TellsValueAt};
 ghost use Rattle.osc_c.specs.Calls.{Looks};
 
@@ -50,6 +51,23 @@ pub extern "C" fn osc_device_served(
         None => Outcome::Nothing.number(),
         Some(node) => {
             let outcome = node.served(alloc, served, path, payload, context);
+            *device = DeviceHandle::holding(node);
+            outcome.number()
+        }
+    }
+}
+
+/// What the last tick learnt of what a call left open where it answered 35. `code` is the answer's.
+///
+/// Answers 0 or 36, as that call would have; or 33 where it learnt nothing, or nothing is held. Heap: none.
+#[unsafe(no_mangle)]
+pub extern "C" fn osc_device_learnt(alloc: Global, device: &mut DeviceHandle, code: &mut u8) -> i32
+    ensures { Looks device.old.held result device.new.held (λ node outcome. TellsLearnt node.last.own code.old outcome code.new) }
+{
+    match device.take(alloc) {
+        None => Outcome::Nothing.number(),
+        Some(node) => {
+            let outcome = node.learnt(code);
             *device = DeviceHandle::holding(node);
             outcome.number()
         }

@@ -1,5 +1,4 @@
 //! Tokens.
-ghost use Rattle.osc_calls.specs.Granted.{id_context_of};
 ghost use Rattle.osc_c.specs.Calls.{Answers};
 ghost use Rattle.osc_c.specs.Minting.{MintsBy};
 ghost use Rattle.osc_c.specs.Ciphers.{short_tag};
@@ -29,7 +28,7 @@ pub extern "C" fn osc_token_mint(
     token: &mut [u8],
     length: &mut usize,
 ) -> i32
-    ensures { Answers result (λ outcome. MintsBy short_tag key.now.bytes iv.now.bytes audience.now id.now secret.now (id_context_of has_context context.now) scope.now not_before expires algorithm token.old length.old outcome token.new length.new) }
+    ensures { Answers result (λ outcome. MintsBy short_tag key.now.bytes iv.now.bytes audience.now id.now secret.now context.now has_context scope.now not_before expires algorithm token.old length.old outcome token.new length.new) }
 {
     let claims = claims(
         alloc,

@@ -1,6 +1,5 @@
 -- What numbers and bytes stand for, as arguments.
-use Rattle.std.specs.Prelude.{◌≡◌, ℕ, ◌⊎◌, ℤ, ◌<ℤ◌, pos, negsuc, List, Option, Some, None, MatchOption}
-use Rattle.osc_model.specs.Path.{IsPath}
+use Rattle.std.specs.Prelude.{◌≡◌, ℕ, ◌⊎◌, ℤ, ◌<ℤ◌, pos, negsuc, Option, Some, None, MatchOption}
 use Rattle.osc_calls.specs.declared.outcome.Outcome.{Outcome}
 use Rattle.osc_calls.specs.declared.outcome.Outcome.TheVariants.{BadArgument, Done, NoMemory, Nothing}
 
@@ -15,9 +14,9 @@ IsFormat number format = number ≡ format_number format
 abbrev pub IsNoFormat : ℤ → Type 0
 IsNoFormat number = (number <ℤ negsuc 0) ⊎ (pos 65535 <ℤ number)
 
--- a text that is no path, or want of memory for one
-abbrev pub IsNoPath : List ℕ → Outcome → Type 0
-IsNoPath text outcome = ((outcome ≡ BadArgument) × ¬ (IsPath text)) ⊎ (outcome ≡ NoMemory)
+-- an argument is out of its range, for this reason; or there was no memory
+abbrev pub IsUnfit : Type 0 → Outcome → Type 0
+IsUnfit Why outcome = ((outcome ≡ BadArgument) × Why) ⊎ (outcome ≡ NoMemory)
 
 -- a number is told, where there is one
 abbrev pub Tells : Option ℕ → ℕ → Outcome → ℕ → Type 0

@@ -1,5 +1,5 @@
 -- A client by calls.
-use Rattle.std.specs.Prelude.{◌≡◌, ℕ, ◌⊎◌, true, false, ◌↔◌, ◌≤◌, List, Option, None, option_map}
+use Rattle.std.specs.Prelude.{◌≡◌, ℕ, ◌⊎◌, true, false, ◌↔◌, ◌<◌, ◌≤◌, ◌^◌, List, None, option_map}
 use Rattle.osc_model.specs.declared.node.Draw.{Draw}
 use Rattle.osc_model.specs.declared.node.Moment.{Moment}
 use Rattle.osc_model.specs.declared.node.Peer.{Peer}
@@ -13,10 +13,10 @@ use Rattle.osc_client.specs.Sending.{acts_at}
 use Rattle.osc_client.specs.State.{State, core}
 use Rattle.osc_run.specs.ClientKinds.{ClientStep}
 use Rattle.osc_client.specs.declared.way.Way.{Way}
-use Rattle.osc_calls.specs.Arguments.{Tells}
+use Rattle.osc_calls.specs.Arguments.{IsUnfit, Tells}
 use Rattle.osc_calls.specs.Calls.{At, Ends}
-use Rattle.osc_calls.specs.Granted.{IsDesk, IsUnfit, origin_of}
-use Rattle.osc_calls.specs.Requests.{IsRequest}
+use Rattle.osc_calls.specs.Granted.{IsDesk, IsLawfulGrant, IsWay, id_context_of, origin_of}
+use Rattle.osc_calls.specs.Requests.{AreOptions, IsNoRequest, IsRequest}
 use Rattle.osc_calls.specs.declared.plain.PlainOptions.{PlainOptions}
 use Rattle.osc_model.specs.Algorithm.{algorithm_number}
 use Rattle.osc_model.specs.declared.algorithm.Algorithm.{Algorithm}
@@ -32,12 +32,15 @@ IsFresh desk way node = node ≡ record {
   last = nothing;
 }
 
--- it was granted this, and has done nothing
-pub record IsNewClient (next_hop : Peer) (host : List ℕ) (port : ℕ) (token secret salt : List ℕ) (context : Option (List ℕ)) (algorithm : ℕ) (node : ClientNode) : Type 0 where
+-- It was granted this, and has done nothing. Its way and its input material are such as can be, and the flag is 0 or 1.
+pub record IsNewClient (next_hop : Peer) (host : List ℕ) (port : ℕ) (token secret salt context : List ℕ) (has_context algorithm : ℕ) (node : ClientNode) : Type 0 where
   pub desk : ClientDesk
   pub alg : Algorithm
-  pub is_desk : IsDesk token secret salt context alg desk
+  pub is_desk : IsDesk token secret salt (id_context_of has_context context) alg desk
   pub is_alg : algorithm ≡ algorithm_number alg
+  pub is_flag : has_context ≤ 1
+  pub is_way : IsWay host
+  pub is_lawful : IsLawfulGrant secret salt (id_context_of has_context context)
   pub fresh : IsFresh desk (record { next_hop = next_hop; origin = origin_of host port }) node
 
 -- the client makes a step of this kind, as a holder does that keeps the rules, and it is the last one
@@ -66,8 +69,8 @@ module _ (is_sealing : Sealings) where
   abbrev pub AskedBy : Tags → ClientNode → ℕ → ℕ → List ℕ → PlainOptions → List ℕ → Draw → Outcome → ClientNode → Type 0
   AskedBy tag old ms method path options payload draw outcome new =
       ((now : Moment) × (request : Request) × (now.ms ≡ ms) × IsRequest method path options payload request
-      × Ends old outcome new (AskedAt tag old now request draw new))
-      ⊎ (IsUnfit outcome × (new ≡ old))
+      × Ends old outcome new (AskedAt tag old now request draw new) × (0 < request.code.0) × (method ≤ 4) × AreOptions options)
+      ⊎ (IsUnfit (¬ (ms < 2 ^ 63) ⊎ IsNoRequest method path options) outcome × (new ≡ old))
 
   abbrev pub HeardAt : ClientNode → Moment → Peer → List ℕ → ClientNode → Type 0
   HeardAt old now from bytes new = Makes old (λ s step t. Hears is_sealing s now from bytes step t) new

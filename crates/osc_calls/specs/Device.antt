@@ -16,7 +16,7 @@ use Rattle.osc_device.specs.State.{State}
 use Rattle.osc_run.specs.Notes.{by_server}
 use Rattle.osc_device.specs.declared.round.Round.{Round}
 use Rattle.osc_calls.specs.Calls.{At}
-use Rattle.osc_calls.specs.Last.{nothing, since}
+use Rattle.osc_calls.specs.Last.{nothing, since, since_tick}
 use Rattle.osc_calls.specs.declared.device.DeviceNode.{DeviceNode}
 use Rattle.osc_calls.specs.declared.outcome.Outcome.{Outcome}
 use Rattle.osc_calls.specs.declared.outcome.Outcome.TheVariants.{Done, Nothing}
@@ -45,14 +45,14 @@ module _ (is_sealing : Sealings) where
   abbrev pub HeardBy : DeviceNode → ℕ → Draw → Peer → List ℕ → Outcome → DeviceNode → Type 0
   HeardBy old ms draw from bytes outcome new = At ms old outcome new (λ now. HeardAt old now draw from bytes new)
 
-  -- The device itself ticks, what it sends is carried to its server and back, and nothing goes to others. Each run goes on by these steps, and a
-  -- reply that it learns is that of an entry of the history.
+  -- The device itself ticks, what it sends is carried to its server and back, and nothing goes to others; what it learns is kept to be told. Each
+  -- run goes on by these steps, and a reply that it learns is that of an entry of the history.
   pub record TickedAt (old : DeviceNode) (now : Moment) (draw : Draw) (new : DeviceNode) : Type 0 where
     pub round : Round
     pub ticked : Own
     pub ticks : Ticks old.device.own now round.begun ticked
     pub carries : Carries is_sealing (record old.device.server { endpoint = after_tick now old.device.server.endpoint }) ticked now draw round new.device
-    pub last : new.last ≡ nothing
+    pub last : new.last ≡ since_tick round
     pub run : AllGoOn old.device (λ number. noted number round) new.device
     pub entry : IsOfAnEntry old.device round
 

@@ -2,22 +2,30 @@
 use Rattle.std.specs.Prelude.{◌≡◌, ℕ, ◌+◌, ◌<◌, ◌≤◌, ◌⊎◌, List, length, Option, Some, None, MatchOption, slice_get, option_and_then}
 use Rattle.osc_model.specs.declared.step.Datagram.{Datagram}
 use Rattle.osc_model.specs.declared.step.Step.{Step}
+use Rattle.osc_device.specs.declared.round.Round.{Round}
 use Rattle.osc_calls.specs.Filling.{written}
 use Rattle.osc_calls.specs.Plain.{plain_peer}
+use Rattle.osc_calls.specs.Told.{came_of}
 use Rattle.osc_calls.specs.declared.outcome.Outcome.{Outcome}
 use Rattle.osc_calls.specs.declared.outcome.Outcome.TheVariants.{Done, TooShort, Nothing}
 use Rattle.osc_calls.specs.declared.plain.PlainPeer.{PlainPeer}
+use Rattle.osc_calls.specs.declared.round.Told.{Told}
 
--- the step, where there was one that sends to others, and how many of its datagrams were taken
+-- the step, where there was one that sends to others, and how many of its datagrams were taken; and what a device's own tick learnt, where it did
 pub record LastStep : Type 0 where
   pub step : Option Step
   pub taken : ℕ
+  pub own : Option Told
 
 abbrev pub nothing : LastStep
-nothing = record { step = None; taken = 0 }
+nothing = record { step = None; taken = 0; own = None }
 
 abbrev pub since : Step → LastStep
-since step = record { step = Some step; taken = 0 }
+since step = record { step = Some step; taken = 0; own = None }
+
+-- a tick of the device itself, of which nothing goes to others
+abbrev pub since_tick : Round → LastStep
+since_tick round = record { step = None; taken = 0; own = came_of round }
 
 -- the datagram that is taken next: they are taken in their order
 abbrev pub upcoming : LastStep → Option Datagram

@@ -1,16 +1,23 @@
 -- Devices that are made of keys, names and scopes.
 use Rattle.std.specs.Prelude.{◌≡◌, ℕ, ◌⊎◌, List, [], take, drop, codes}
+use Rattle.std.specs.Str.{IsUtf8}
 use Rattle.std.specs.FinMap as map
 use Rattle.std.specs.FinSet as set
 use Rattle.osc_model.specs.Scope.{Scope}
 use Rattle.osc_protect.specs.Ciphers.{Sealings}
 use Rattle.osc_scope.specs.Entries.{Entry, IsScope, scope_of}
-use Rattle.osc_device.specs.Begun.{IsBegun, IsGranted, own_claims}
+use Rattle.osc_device.specs.Begun.{IsBegun, IsGranted, IsNoDevice, own_claims}
+use Rattle.osc_device.specs.declared.error.NewError.{NewError}
+use Rattle.osc_device.specs.declared.error.NewError.TheVariants.{Token}
 use Rattle.osc_device.specs.declared.own_token.OwnToken.{OwnToken}
 use Rattle.osc_device.specs.declared.own_token.ServerParts.{ServerParts}
+use Rattle.osc_world.specs.declared.error.EnrollError.TheVariants as enroll
+use Rattle.osc_calls.specs.Arguments.{IsUnfit}
 use Rattle.osc_calls.specs.Last.{nothing}
-use Rattle.osc_calls.specs.Tokens.{IsScopeOf}
+use Rattle.osc_calls.specs.Tokens.{IsNoScope, IsNoScopeText, IsScopeOf}
 use Rattle.osc_calls.specs.declared.device.DeviceNode.{DeviceNode}
+use Rattle.osc_calls.specs.declared.outcome.Outcome.{Outcome}
+use Rattle.osc_calls.specs.declared.outcome.Outcome.TheVariants.{BadArgument, BadScope, NoMemory, TooLong}
 
 -- what a text grants to all: nothing where it is empty
 abbrev pub IsOpenScope : List ℕ → Scope → Type 0
@@ -27,6 +34,32 @@ AreParts key audience free parts =
 abbrev pub IsOwnToken : List ℕ → List ℕ → OwnToken → Type 0
 IsOwnToken scope draw own =
     (own.id ≡ codes "device") × (own.secret ≡ take 16 draw) × IsScopeOf scope own.scope × (own.iv ≡ take 13 (drop 16 draw))
+
+-- ---- why there is none
+
+-- a text says no scope, or what it says is none
+abbrev pub SaysNoScope : List ℕ → Type 0
+SaysNoScope text = IsNoScopeText text ⊎ ((bytes : List ℕ) × IsScopeOf text bytes × ((entries : List Entry) → ¬ (IsScope bytes entries)))
+
+abbrev pub IsNoOpenScope : List ℕ → Outcome → Type 0
+IsNoOpenScope text outcome = ((outcome ≡ BadScope) × ¬ (text ≡ []) × SaysNoScope text) ⊎ (outcome ≡ NoMemory)
+
+-- why these are no parts of a server: what needs no protection, or its name
+abbrev pub IsNoServer : List ℕ → List ℕ → Outcome → Type 0
+IsNoServer audience free outcome = IsNoOpenScope free outcome ⊎ IsUnfit (¬ (IsUtf8 audience)) outcome
+
+-- why a device isn't made of parts and a token
+abbrev pub unmade_as : NewError → Outcome
+unmade_as (Token enroll.Memory) = NoMemory
+unmade_as (Token enroll.BadScope) = BadScope
+unmade_as (Token enroll.TooLong) = TooLong
+unmade_as other = BadArgument
+
+abbrev pub IsNoNewDevice : List ℕ → List ℕ → List ℕ → List ℕ → List ℕ → Outcome → Type 0
+IsNoNewDevice key audience free own draw outcome =
+    IsNoServer audience free outcome ⊎ IsNoScope own outcome
+    ⊎ ((parts : ServerParts) × (token : OwnToken) × (error : NewError) × AreParts key audience free parts × IsOwnToken own draw token
+    × IsNoDevice parts token error × (outcome ≡ unmade_as error))
 
 -- `is_sealing algorithm` is the relation of the algorithm's cipher
 module _ (is_sealing : Sealings) where

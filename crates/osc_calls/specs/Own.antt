@@ -1,5 +1,6 @@
 -- What a device does at its own server, by calls.
-use Rattle.std.specs.Prelude.{◌≡◌, ℕ, ◌⊎◌, Bool, true, false, if◌then◌else◌, ℤ, List, [], Option, Some, None, ⊤}
+use Rattle.std.specs.Prelude.{◌≡◌, ℕ, ◌<◌, ◌^◌, ◌⊎◌, Bool, true, false, if◌then◌else◌, ℤ, List, [], Option, Some, None, ⊤}
+use Rattle.osc_model.specs.Path.{IsPath}
 use Rattle.osc_model.specs.declared.code.Method.{Method}
 use Rattle.osc_model.specs.declared.code.Method.TheVariants.{Delete}
 use Rattle.osc_model.specs.declared.node.Moment.{Moment}
@@ -14,8 +15,7 @@ use Rattle.osc_device.specs.Answered.{IsAnsweredWhereReady, IsOpen, IsWhole, May
 use Rattle.osc_device.specs.Carrying.{AsksItsServer, Carries}
 use Rattle.osc_device.specs.Runs.{AllGoOn, IsOfAnEntry, noted}
 use Rattle.osc_device.specs.declared.round.Round.{Round}
-use Rattle.osc_calls.specs.Arguments.{IsFormat}
-use Rattle.osc_calls.specs.Granted.{IsUnfit}
+use Rattle.osc_calls.specs.Arguments.{IsFormat, IsNoFormat, IsUnfit}
 use Rattle.osc_calls.specs.Last.{LastStep, nothing}
 use Rattle.osc_calls.specs.Plain.{draw_of}
 use Rattle.osc_calls.specs.Told.{bare, told_of}
@@ -50,9 +50,13 @@ ComesTo old told new Does =
     × (IsRefusal told.outcome → new ≡ old))
     ⊎ ((told ≡ bare outcome.NoMemory) × (new ≡ old))
 
--- an argument is out of its range, or there was no memory for them: nothing changes
-abbrev pub IsRejected : DeviceNode → Told → DeviceNode → Type 0
-IsRejected old told new = IsUnfit told.outcome × (told.code ≡ 0) × (new ≡ old)
+-- it is no moment, no path, or no format
+abbrev pub IsNoValue : ℕ → List ℕ → ℤ → Type 0
+IsNoValue ms path format = ¬ (ms < 2 ^ 63) ⊎ ¬ (IsPath path) ⊎ IsNoFormat format
+
+-- an argument is out of its range, for this reason, or there was no memory for them: nothing changes
+abbrev pub IsRejected : Type 0 → DeviceNode → Told → DeviceNode → Type 0
+IsRejected Why old told new = IsUnfit Why told.outcome × (told.code ≡ 0) × (new ≡ old)
 
 -- `is_sealing algorithm` is the relation of the algorithm's cipher, and `tag algorithm` how long its tag is
 module _ (is_sealing : Sealings) where
@@ -68,7 +72,7 @@ module _ (is_sealing : Sealings) where
 
   abbrev pub OpensBy : DeviceNode → ℕ → PlainDraws → Told → DeviceNode → Type 0
   OpensBy old ms draws told new =
-      ((now : Moment) × (now.ms ≡ ms) × ComesTo old told new (λ round. Opens old now draws round new)) ⊎ IsRejected old told new
+      ((now : Moment) × (now.ms ≡ ms) × ComesTo old told new (λ round. Opens old now draws round new)) ⊎ IsRejected (¬ (ms < 2 ^ 63)) old told new
 
   module _ (tag : Tags) where
     -- The device asks its server so; where it may, and no step wants memory, it is answered. Each run goes on by these steps, and a reply that
@@ -84,9 +88,9 @@ module _ (is_sealing : Sealings) where
     AsksBy method old ms path number payload draws told new =
         ((now : Moment) × (format : Option ℕ) × (now.ms ≡ ms) × IsFormat number format
         × ComesTo old told new (λ round. Asks method old now path format payload draws round new))
-        ⊎ IsRejected old told new
+        ⊎ IsRejected (IsNoValue ms path number) old told new
 
     abbrev pub RemovesBy : DeviceNode → ℕ → List ℕ → PlainDraws → Told → DeviceNode → Type 0
     RemovesBy old ms path draws told new =
         ((now : Moment) × (now.ms ≡ ms) × ComesTo old told new (λ round. Asks Delete old now path None [] draws round new))
-        ⊎ IsRejected old told new
+        ⊎ IsRejected (¬ (ms < 2 ^ 63) ⊎ ¬ (IsPath path)) old told new

@@ -1,5 +1,6 @@
 -- Tokens of numbers and bytes.
-use Rattle.std.specs.Prelude.{◌≡◌, ℕ, ◌⊎◌, ◌==◌, if◌then◌else◌, List, [], length, map, Option, Some, None}
+use Rattle.std.specs.Prelude.{◌≡◌, ℕ, ◌⊎◌, ◌==◌, ◌<◌, ◌≤◌, if◌then◌else◌, List, [], length, map, Option, Some, None}
+use Rattle.std.specs.Str.{IsUtf8}
 use Rattle.osc_model.specs.Algorithm.{algorithm_number}
 use Rattle.osc_cbor.specs.Data.{array}
 use Rattle.osc_cbor.specs.Spelling.{spelling}
@@ -7,22 +8,42 @@ use Rattle.osc_cose.specs.Encrypt0.{enc_structure, object_item}
 use Rattle.osc_protect.specs.Ciphers.{Sealing}
 use Rattle.osc_scope.specs.Entries.{entry_items}
 use Rattle.osc_scope.specs.Text.{IsScopeText, Written, entry_of}
+use Rattle.osc_token.specs.Minted.{most_claims}
 use Rattle.osc_token.specs.Token.{algorithm_header, claims_item, token_object}
 use Rattle.osc_token.specs.declared.claims.Claims.{Claims}
+use Rattle.osc_calls.specs.Arguments.{IsUnfit}
 use Rattle.osc_calls.specs.Filling.{if_fits, written}
+use Rattle.osc_calls.specs.Granted.{IsNoAlgorithm}
 use Rattle.osc_calls.specs.declared.outcome.Outcome.{Outcome}
-use Rattle.osc_calls.specs.declared.outcome.Outcome.TheVariants.{BadArgument, BadScope, NoMemory, TooLong}
+use Rattle.osc_calls.specs.declared.outcome.Outcome.TheVariants.{BadScope, NoMemory, TooLong}
 
 -- the bytes of the scope that a text says
 abbrev pub IsScopeOf : List ℕ → List ℕ → Type 0
 IsScopeOf text bytes = (entries : List Written) × IsScopeText text entries × (bytes ≡ spelling (array (entry_items (map entry_of entries))))
 
-abbrev pub IsNoScope : Outcome → Type 0
-IsNoScope outcome = (outcome ≡ BadScope) ⊎ (outcome ≡ NoMemory)
+abbrev pub IsNoScopeText : List ℕ → Type 0
+IsNoScopeText text = (entries : List Written) → ¬ (IsScopeText text entries)
 
--- why no token is minted
-abbrev pub IsUnminted : Outcome → Type 0
-IsUnminted outcome = (outcome ≡ BadArgument) ⊎ (outcome ≡ NoMemory) ⊎ (outcome ≡ BadScope) ⊎ (outcome ≡ TooLong)
+-- the text says no scope, or there was no memory for it
+abbrev pub IsNoScope : List ℕ → Outcome → Type 0
+IsNoScope text outcome = ((outcome ≡ BadScope) × IsNoScopeText text) ⊎ (outcome ≡ NoMemory)
+
+-- a name, a secret and an id context of lengths that a reader takes (RFC 9203 section 3.2.1 leaves them open)
+abbrev pub HaveLengths : List ℕ → List ℕ → List ℕ → Type 0
+HaveLengths id secret context = (length id ≤ 64) × (1 ≤ length secret) × (length secret ≤ 64) × (length context ≤ 64)
+
+abbrev pub HaveNoLengths : List ℕ → List ℕ → List ℕ → Type 0
+HaveNoLengths id secret context = (64 < length id) ⊎ (length secret < 1) ⊎ (64 < length secret) ⊎ (64 < length context)
+
+-- why these numbers and bytes are no claims
+abbrev pub IsNoClaims : List ℕ → List ℕ → List ℕ → List ℕ → ℕ → List ℕ → ℕ → Outcome → Type 0
+IsNoClaims audience id secret context has_context scope algorithm outcome =
+    IsUnfit (HaveNoLengths id secret context ⊎ IsNoAlgorithm algorithm ⊎ (1 < has_context) ⊎ ¬ (IsUtf8 audience)) outcome
+    ⊎ ((outcome ≡ BadScope) × IsNoScopeText scope)
+
+-- why no token of these claims is minted: they are too long, or there was no memory
+abbrev pub IsUnminted : Claims → Outcome → Type 0
+IsUnminted claims outcome = ((outcome ≡ TooLong) × (most_claims < length (spelling (claims_item claims)))) ⊎ (outcome ≡ NoMemory)
 
 abbrev pub date_of : ℕ → Option ℕ
 date_of seconds = if seconds == 0 then None else Some seconds
@@ -46,4 +67,4 @@ module _ (is_sealing : Sealing) where
   abbrev pub Mints : List ℕ → List ℕ → Claims → List ℕ → ℕ → Outcome → List ℕ → ℕ → Type 0
   Mints key iv claims room size outcome filled told =
       ((token : List ℕ) × IsMinted key iv claims token × (outcome ≡ if_fits token room) × (filled ≡ written token room) × (told ≡ length token))
-      ⊎ (IsUnminted outcome × (filled ≡ room) × (told ≡ size))
+      ⊎ (IsUnminted claims outcome × (filled ≡ room) × (told ≡ size))

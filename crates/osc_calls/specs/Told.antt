@@ -1,5 +1,5 @@
 -- What a caller is told of what a device did at its own server.
-use Rattle.std.specs.Prelude.{ℕ, ◌==◌, if◌then◌else◌, Option, Some, None}
+use Rattle.std.specs.Prelude.{◌≡◌, ℕ, ◌==◌, if◌then◌else◌, Option, Some, None, MatchOption, option_and_then, option_map}
 use Rattle.osc_model.specs.declared.step.ClientResult.{ClientResult}
 use Rattle.osc_model.specs.declared.step.ClientResult.TheVariants.{Made, Answer, Unverified, TimedOut, Refused}
 use Rattle.osc_model.specs.declared.step.Step.{Step}
@@ -36,3 +36,19 @@ told_by result learnt = begun_as learnt
 
 abbrev pub told_of : Round → Told
 told_of round = told_by round.begun.notes.result round.learnt
+
+-- what a result tells, where there is one
+abbrev pub came_by : Option ClientResult → Option Told
+came_by result = option_map (λ result. learnt_as (Some result)) result
+
+-- A tick learns that what is open has ended without an answer, or what the answer says that was carried to it; or nothing.
+abbrev pub first_of : Option Told → Option Told → Option Told
+first_of (Some told) other = Some told
+first_of None other = other
+
+abbrev pub came_of : Round → Option Told
+came_of round = first_of (came_by round.begun.notes.result) (option_and_then (λ step. came_by step.notes.result) round.learnt)
+
+-- It tells what was learnt: the outcome and the code; where nothing was, the code stays.
+abbrev pub TellsLearnt : Option Told → ℕ → Outcome → ℕ → Type 0
+TellsLearnt own old answer new = MatchOption own ((answer ≡ outcome.Nothing) × (new ≡ old)) (λ told. (answer ≡ told.outcome) × (new ≡ told.code))

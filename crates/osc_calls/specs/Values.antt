@@ -1,8 +1,9 @@
 -- What stands at a path, as include/osc.h tells it.
 use Rattle.std.specs.Prelude.{◌≡◌, ℕ, ◌⊎◌, List, length, Option, MatchOption}
 use Rattle.std.specs.FinMap as map
+use Rattle.osc_model.specs.Path.{IsPath}
 use Rattle.osc_model.specs.declared.resource.Resource.{Resource}
-use Rattle.osc_calls.specs.Arguments.{IsNoPath, format_number}
+use Rattle.osc_calls.specs.Arguments.{IsUnfit, format_number}
 use Rattle.osc_calls.specs.Filling.{if_fits, written}
 use Rattle.osc_calls.specs.declared.device.DeviceNode.{DeviceNode}
 use Rattle.osc_calls.specs.declared.outcome.Outcome.{Outcome}
@@ -22,4 +23,4 @@ TellsValue found room old outcome filled new =
 abbrev pub TellsValueAt : DeviceNode → List ℕ → List ℕ → PlainValue → Outcome → List ℕ → PlainValue → Type 0
 TellsValueAt node path room old outcome filled new =
     TellsValue (map.get node.device.server.tree path) room old outcome filled new
-    ⊎ (IsNoPath path outcome × (filled ≡ room) × (new ≡ old))
+    ⊎ (IsUnfit (¬ (IsPath path)) outcome × (filled ≡ room) × (new ≡ old))

@@ -1,6 +1,6 @@
 //! Arguments that a caller hands in as numbers and bytes.
-ghost use Rattle.std.specs.Prelude.{◌≡◌, ◌<◌, ◌^◌, if◌then◌else◌, IfOk, IfErr, None, Some};
-ghost use Rattle.osc_calls.specs.Arguments.{IsFormat, IsNoFormat, IsNoPath, Tells};
+ghost use Rattle.std.specs.Prelude.{◌≡◌, ◌==◌, ◌<◌, ◌≤◌, ◌^◌, if◌then◌else◌, IfOk, IfErr, None, Some};
+ghost use Rattle.osc_calls.specs.Arguments.{IsFormat, IsNoFormat, IsUnfit, Tells};
 ghost use Rattle.osc_calls.specs.declared.outcome.Outcome.TheVariants.{BadArgument};
 ghost use Rattle.osc_model.specs.Path.{IsPath};
 
@@ -22,7 +22,7 @@ pub(crate) fn moment(ms: u64) -> Result<Moment, Outcome>
 /// The path of this text.
 pub(crate) fn path(alloc: Global, text: &[u8]) -> Result<Path, Outcome>
     ensures ok { IfOk result (λ path. (path ≡ text.now) × IsPath text.now) }
-    ensures err { IfErr result (IsNoPath text.now) }
+    ensures err { IfErr result (IsUnfit (¬ (IsPath text.now))) }
 {
     match Path::from_text(alloc, text)? {
         Some(path) => Ok(path),
@@ -71,14 +71,13 @@ pub(crate) fn optional(
 
 /// Whether this flag is set: 1 is, 0 isn't.
 pub(crate) fn flag(number: u8) -> Result<bool, Outcome>
-    ensures set { IfOk result (λ set. number ≡ (if set then 1 else 0)) }
-    ensures err { IfErr result (λ outcome. outcome ≡ BadArgument) }
+    ensures set { IfOk result (λ set. (set ≡ (number == 1)) × (number ≤ 1)) }
+    ensures err { IfErr result (λ outcome. (outcome ≡ BadArgument) × (1 < number)) }
 {
-    match number {
-        0 => Ok(false),
-        1 => Ok(true),
-        _ => Err(Outcome::BadArgument),
+    if number > 1 {
+        return Err(Outcome::BadArgument);
     }
+    Ok(number == 1)
 }
 
 /// Tells a number, where there is one.

@@ -2,7 +2,8 @@
 ghost use Rattle.std.specs.Prelude.{◌≡◌, ◌<◌, IfErr, IfOk};
 ghost use Rattle.osc_calls.specs.Calls.{Ends};
 ghost use Rattle.osc_calls.specs.Client.{AskedAt, AskedBy, BegunAt, BegunBy, HeardAt, HeardBy, IsFresh, IsNewClient, TellsContext, TellsDeadline, TickedAt, TickedBy};
-ghost use Rattle.osc_calls.specs.Granted.{IsUnfit, id_context_of};
+ghost use Rattle.osc_calls.specs.Arguments.{IsUnfit};
+ghost use Rattle.osc_calls.specs.Granted.{IsNoClient};
 ghost use Rattle.osc_calls.specs.Last.{HandsOut, nothing};
 ghost use Rattle.osc_calls.specs.Results.{TellsResult, learnt_in};
 ghost use Rattle.osc_calls.specs.Plain.{draw_of, peer_of};
@@ -60,8 +61,8 @@ impl ClientNode {
         has_context: u8,
         algorithm: u8,
     ) -> Result<ClientNode, Outcome>
-        ensures ok { IfOk result (λ node. IsNewClient (peer_of next_hop.now) host.now port token.now secret.now salt.now (id_context_of has_context context.now) algorithm node) }
-        ensures err { IfErr result IsUnfit }
+        ensures ok { IfOk result (λ node. IsNewClient (peer_of next_hop.now) host.now port token.now secret.now salt.now context.now has_context algorithm node) }
+        ensures err { IfErr result (IsUnfit (IsNoClient host.now secret.now salt.now context.now has_context algorithm)) }
     {
         let alg = granted::algorithm(algorithm)?;
         let way = granted::way(alloc, next_hop, host, port)?;

@@ -7,6 +7,7 @@ ghost use Rattle.osc_calls.specs.Calls.{Ends};
 ghost use Rattle.osc_calls.specs.Device.{HeardAt, HeardBy, TellsDeadline, TickedAt, TickedBy, Restarts};
 ghost use Rattle.osc_calls.specs.Last.{HandsOut, nothing};
 ghost use Rattle.osc_calls.specs.Plain.{draw_of, peer_of};
+ghost use Rattle.osc_calls.specs.Told.{TellsLearnt};
 
 use crate::arguments::{moment, tell};
 use crate::last::Last;
@@ -84,14 +85,14 @@ impl DeviceNode {
         }
     }
 
-    /// The same at a moment. Nothing of it goes to others.
+    /// The same at a moment. Nothing of it goes to others, and what the device learns by it is kept to be told.
     fn tick<A: Ciphers>(&mut self, alloc: Global, now: Moment, draw: &PlainDraw) -> Outcome
         ensures { Ends self.old result self.new (TickedAt A.is_sealing self.old now (draw_of draw.now) self.new) }
     {
         match self.device.on_tick::<A>(alloc, now, &draw.draw()) {
             Ok(round) => {
+                self.last = Last::ticked(&round);
                 drop(round);
-                self.last = Last::nothing();
                 Outcome::Done
             }
             Err(_) => Outcome::NoMemory,
@@ -111,6 +112,19 @@ impl DeviceNode {
         ensures kept { self.new.device ≡ self.old.device }
     {
         self.last.next(to, bytes, size)
+    }
+
+    /// What the last tick learnt of what an earlier call left open: how it ended, and the code of its answer.
+    pub fn learnt(&self, code: &mut u8) -> Outcome
+        ensures { TellsLearnt self.now.last.own code.old result code.new }
+    {
+        match self.last.learnt() {
+            Some(told) => {
+                *code = told.code;
+                told.outcome
+            }
+            None => Outcome::Nothing,
+        }
     }
 
     /// Starts again: resources stay, and security contexts are gone.

@@ -1,7 +1,8 @@
 //! What a client was granted, and the way to its server.
-ghost use Rattle.std.specs.Prelude.{◌≡◌, IfErr, IfOk};
+ghost use Rattle.std.specs.Prelude.{◌≡◌, ◌<◌, ◌≤◌, IfErr, IfOk};
+ghost use Rattle.osc_calls.specs.Arguments.{IsUnfit};
 ghost use Rattle.osc_calls.specs.Plain.{peer_of};
-ghost use Rattle.osc_calls.specs.Granted.{IsDesk, IsUnfit, id_context_of, origin_of};
+ghost use Rattle.osc_calls.specs.Granted.{IsDesk, IsLawfulGrant, IsNoAlgorithm, IsWay, id_context_of, origin_of};
 ghost use Rattle.osc_calls.specs.declared.outcome.Outcome.TheVariants.{BadArgument};
 ghost use Rattle.osc_model.specs.Algorithm.{algorithm_number};
 
@@ -16,7 +17,7 @@ use std::alloc::{AllocError, Global};
 /// The algorithm of this number: 10 or 30.
 pub(crate) fn algorithm(number: u8) -> Result<Algorithm, Outcome>
     ensures ok { IfOk result (λ algorithm. number ≡ algorithm_number algorithm) }
-    ensures err { IfErr result (λ outcome. outcome ≡ BadArgument) }
+    ensures err { IfErr result (λ outcome. (outcome ≡ BadArgument) × IsNoAlgorithm number) }
 {
     match Algorithm::from_number(number as u64) {
         Some(algorithm) => Ok(algorithm),
@@ -30,8 +31,8 @@ pub(crate) fn id_context(
     is_there: u8,
     bytes: &[u8],
 ) -> Result<Option<Bytes>, Outcome>
-    ensures ok { IfOk result (λ context. context ≡ id_context_of is_there bytes.now) }
-    ensures err { IfErr result IsUnfit }
+    ensures ok { IfOk result (λ context. (context ≡ id_context_of is_there bytes.now) × (is_there ≤ 1)) }
+    ensures err { IfErr result (IsUnfit (1 < is_there)) }
 {
     let is_there = flag(is_there)?;
     Ok(optional(alloc, is_there, bytes)?)
@@ -55,7 +56,8 @@ pub(crate) fn desk(
     alg: Algorithm,
 ) -> Result<ClientDesk, Outcome>
     ensures ok { IfOk result (λ desk. IsDesk token.now secret.now salt.now context alg desk) }
-    ensures err { IfErr result IsUnfit }
+    ensures lawful { IfOk result (λ desk. IsLawfulGrant secret.now salt.now context) }
+    ensures err { IfErr result (IsUnfit (¬ (IsLawfulGrant secret.now salt.now context))) }
 {
     let (secret, salt) = keying(alloc, secret, salt)?;
     let token = Bytes::from_slice(alloc, token)?;
@@ -73,7 +75,8 @@ pub(crate) fn way(
     port: u16,
 ) -> Result<Way, Outcome>
     ensures ok { IfOk result (λ way. way ≡ record { next_hop = peer_of next_hop.now; origin = origin_of host.now port }) }
-    ensures err { IfErr result IsUnfit }
+    ensures lawful { IfOk result (λ way. IsWay host.now) }
+    ensures err { IfErr result (IsUnfit (¬ (IsWay host.now))) }
 {
     if host.is_empty() {
         return Ok(Way {

@@ -1,23 +1,31 @@
 //! The step that a node made last.
 ghost use Rattle.std.specs.Prelude.{◌≡◌, ◌+◌, ◌<◌, ◌^◌, IsSome, option_copied, option_map, slice_get};
-ghost use Rattle.osc_calls.specs.Last.{HandsOut, after_next, nothing, since, upcoming};
+ghost use Rattle.osc_calls.specs.Last.{HandsOut, after_next, nothing, since, since_tick, upcoming};
 
 use crate::filling::fill;
 use crate::outcome::Outcome;
 use crate::plain::PlainPeer;
+use crate::round::{Told, what_came};
+use osc_device::Round;
 use osc_model::{Datagram, Step};
 use std::marker::Model;
 
-/// The step that a node made last, where it made one that sends to others, and how many of its datagrams were taken.
+/// The step that a node made last, where it made one that sends to others, and how many of its datagrams were taken; and what the device itself
+/// learnt by it, where it was its tick and it learnt something.
 pub struct Last {
     step: Option<Step>,
     taken: usize,
+    own: Option<Told>,
 }
 
 // Proved once, and not anew at each exit of whoever owns one.
 impl Drop for Last {
     fn drop(self) {
-        let Last { step: _, taken: _ } = self;
+        let Last {
+            step: _,
+            taken: _,
+            own: _,
+        } = self;
     }
 }
 
@@ -26,7 +34,7 @@ impl Model for Last {
 
     ghost Value = { LastStep };
 
-    ghost view = { λ l. record { step = l.step; taken = l.taken } };
+    ghost view = { λ l. record { step = l.step; taken = l.taken; own = l.own } };
 }
 
 impl Last {
@@ -37,6 +45,7 @@ impl Last {
         Last {
             step: None,
             taken: 0,
+            own: None,
         }
     }
 
@@ -47,7 +56,26 @@ impl Last {
         Last {
             step: Some(step),
             taken: 0,
+            own: None,
         }
+    }
+
+    /// A tick of a device's own, of which nothing goes to others.
+    pub(crate) fn ticked(round: &Round) -> Last
+        ensures { result ≡ since_tick round.now }
+    {
+        Last {
+            step: None,
+            taken: 0,
+            own: what_came(round),
+        }
+    }
+
+    /// What the device itself learnt by a tick: the outcome of what it had begun, and the code of its answer.
+    pub fn learnt(&self) -> Option<Told>
+        ensures { result ≡ self.now.own }
+    {
+        self.own
     }
 
     /// The step.

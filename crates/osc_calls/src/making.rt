@@ -1,7 +1,7 @@
 //! A device of keys, names and scopes.
 ghost use Rattle.std.specs.Prelude.{◌≡◌, IfErr, IfOk, drop, take};
-ghost use Rattle.osc_calls.specs.Making.{AreParts, IsNewDevice, IsOpenScope, IsOwnToken};
-ghost use Rattle.osc_calls.specs.Tokens.{IsUnminted};
+ghost use Rattle.osc_calls.specs.Making.{AreParts, IsNewDevice, IsNoNewDevice, IsNoOpenScope, IsNoServer, IsOpenScope, IsOwnToken, unmade_as};
+ghost use Rattle.osc_calls.specs.Tokens.{IsNoScope};
 
 use crate::device::DeviceNode;
 use crate::last::Last;
@@ -25,7 +25,7 @@ const SECRET: usize = 16;
 /// The scope of what needs no protection: none where the text is empty.
 fn open_scope(alloc: Global, text: &[u8]) -> Result<Scope, Outcome>
     ensures ok { IfOk result (IsOpenScope text.now) }
-    ensures err { IfErr result IsUnminted }
+    ensures err { IfErr result (IsNoOpenScope text.now) }
 {
     if text.is_empty() {
         return Ok(Scope::new(alloc));
@@ -41,7 +41,7 @@ fn open_scope(alloc: Global, text: &[u8]) -> Result<Scope, Outcome>
 /// A server without resources.
 fn parts(alloc: Global, key: &PlainKey, name: &[u8], free: &[u8]) -> Result<ServerParts, Outcome>
     ensures ok { IfOk result (AreParts key.now.bytes name.now free.now) }
-    ensures err { IfErr result IsUnminted }
+    ensures err { IfErr result (IsNoServer name.now free.now) }
 {
     let key = key.bytes;
     Ok(ServerParts {
@@ -94,7 +94,7 @@ fn iv_of(draw: &PlainDraw) -> [u8; 13]
 /// The device's own token, for this scope: its secret and its IV are of the draw.
 fn own_token(alloc: Global, scope: &[u8], draw: &PlainDraw) -> Result<OwnToken, Outcome>
     ensures ok { IfOk result (IsOwnToken scope.now draw.now.bytes) }
-    ensures err { IfErr result IsUnminted }
+    ensures err { IfErr result (IsNoScope scope.now) }
 {
     let iv = iv_of(draw);
     let (secret, _) = draw.bytes.split_at(SECRET);
@@ -110,7 +110,7 @@ fn own_token(alloc: Global, scope: &[u8], draw: &PlainDraw) -> Result<OwnToken, 
 
 /// Why there is no device.
 fn refused(error: NewError) -> Outcome
-    ensures { IsUnminted result }
+    ensures { result ≡ unmade_as error }
 {
     match error {
         NewError::Token(EnrollError::Memory) => Outcome::NoMemory,
@@ -131,7 +131,7 @@ impl DeviceNode {
         draw: &PlainDraw,
     ) -> Result<DeviceNode, Outcome>
         ensures ok { IfOk result (λ node. IsNewDevice A.is_sealing key.now.bytes audience.now free.now own.now draw.now.bytes node) }
-        ensures err { IfErr result IsUnminted }
+        ensures err { IfErr result (IsNoNewDevice key.now.bytes audience.now free.now own.now draw.now.bytes) }
     {
         let parts = parts(alloc, key, audience, free)?;
         let own = own_token(alloc, own, draw)?;

@@ -1,9 +1,8 @@
 //! What a device does at its own server.
 ghost use Rattle.std.specs.Prelude.{◌≡◌, [], IfErr, IfOk, None};
 ghost use Rattle.osc_model.specs.declared.code.Method.TheVariants.{Delete, Post, Put};
-ghost use Rattle.osc_calls.specs.Arguments.{IsFormat};
-ghost use Rattle.osc_calls.specs.Granted.{IsUnfit};
-ghost use Rattle.osc_calls.specs.Own.{Asks, AsksBy, ComesTo, Opens, OpensBy, RemovesBy, is_refused_by, last_after};
+ghost use Rattle.osc_calls.specs.Arguments.{IsFormat, IsUnfit};
+ghost use Rattle.osc_calls.specs.Own.{Asks, AsksBy, ComesTo, IsNoValue, Opens, OpensBy, RemovesBy, is_refused_by, last_after};
 ghost use Rattle.osc_calls.specs.Plain.{draw_of};
 ghost use Rattle.osc_calls.specs.Told.{told_of};
 
@@ -37,7 +36,7 @@ fn given(
     payload: &[u8],
 ) -> Result<GivenValue, Outcome>
     ensures ok { IfOk result (λ given. (given.now.ms ≡ now) × (given.path ≡ path.now) × IsFormat format given.format × (given.payload ≡ payload.now)) }
-    ensures err { IfErr result IsUnfit }
+    ensures err { IfErr result (IsUnfit (IsNoValue now path.now format)) }
 {
     let now = moment(now)?;
     let path = arguments::path(alloc, path)?;

@@ -1,7 +1,8 @@
 //! Requests of numbers and bytes.
-ghost use Rattle.std.specs.Prelude.{◌≡◌, ◌<◌, IfErr, IfOk};
-ghost use Rattle.osc_calls.specs.Granted.{IsUnfit};
-ghost use Rattle.osc_calls.specs.Requests.{IsRequest, tags_of};
+ghost use Rattle.std.specs.Prelude.{◌≡◌, ◌<◌, ◌≤◌, IfErr, IfOk};
+ghost use Rattle.osc_calls.specs.Arguments.{IsUnfit};
+ghost use Rattle.osc_calls.specs.Requests.{AreOptions, IsNoMethod, IsNoRequest, IsNoTag, IsRequest, tags_of};
+ghost use Rattle.osc_calls.specs.declared.outcome.Outcome.TheVariants.{BadArgument};
 
 use crate::arguments;
 use crate::arguments::flag;
@@ -22,8 +23,9 @@ pub(crate) fn request(
     payload: &[u8],
 ) -> Result<Request, Outcome>
     ensures ok { IfOk result (λ request. IsRequest method text.now options.now payload.now request) }
-    ensures code { IfOk result (λ request. 0 < request.code.0) }
-    ensures err { IfErr result IsUnfit }
+    ensures code { IfOk result (λ request. (0 < request.code.0) × (method ≤ 4)) }
+    ensures options { IfOk result (λ request. AreOptions options.now) }
+    ensures err { IfErr result (IsUnfit (IsNoRequest method text.now options.now)) }
 {
     let code = code(method)?;
     let path = arguments::path(alloc, text)?;
@@ -44,19 +46,20 @@ pub(crate) fn request(
 
 /// The code of the method of this number.
 fn code(method: u8) -> Result<Code, Outcome>
-    ensures ok { IfOk result (λ code. (code.0 ≡ method) × (0 < method)) }
-    ensures err { IfErr result IsUnfit }
+    ensures ok { IfOk result (λ code. (code.0 ≡ method) × (0 < method) × (method ≤ 4)) }
+    ensures err { IfErr result (λ outcome. (outcome ≡ BadArgument) × IsNoMethod method) }
 {
-    match method {
-        1..=4 => Ok(Code(method)),
-        _ => Err(Outcome::BadArgument),
+    if method == 0 || method > 4 {
+        return Err(Outcome::BadArgument);
     }
+    Ok(Code(method))
 }
 
 /// The values of If-Match: none, or one of 0 to 8 bytes.
 fn tags(alloc: Global, options: &PlainOptions) -> Result<ETags, Outcome>
     ensures ok { IfOk result (λ tags. tags ≡ tags_of options.now) }
-    ensures err { IfErr result IsUnfit }
+    ensures range { IfOk result (λ tags. (options.now.if_match ≤ 1) × ((options.now.if_match ≡ 1) → options.now.if_match_length ≤ 8)) }
+    ensures err { IfErr result (IsUnfit (IsNoTag options.now)) }
 {
     let mut tags = ETags::new(alloc);
     if !flag(options.if_match)? {

@@ -1,6 +1,6 @@
 //! What came of what a device did at its own server.
 ghost use Rattle.std.specs.Prelude.{◌≡◌, option_map};
-ghost use Rattle.osc_calls.specs.Told.{begun_as, learnt_as, refused_as, told_of};
+ghost use Rattle.osc_calls.specs.Told.{begun_as, came_by, came_of, learnt_as, refused_as, told_of};
 
 use crate::outcome::Outcome;
 use osc_device::Round;
@@ -69,5 +69,28 @@ fn learnt_by(learnt: Option<&ClientResult>) -> Told
         },
         Some(_) => bare(Outcome::Unverified),
         None => bare(Outcome::Lost),
+    }
+}
+
+/// What a tick learnt of what was open: that it ended, or what its answer says; or nothing.
+pub(crate) fn what_came(round: &Round) -> Option<Told>
+    ensures { result ≡ came_of round.now }
+{
+    match came(round.begun.notes.result()) {
+        Some(told) => Some(told),
+        None => match &round.learnt {
+            Some(step) => came(step.notes.result()),
+            None => None,
+        },
+    }
+}
+
+/// What a result tells, where there is one.
+fn came(learnt: Option<&ClientResult>) -> Option<Told>
+    ensures { result ≡ came_by (option_map (λ learnt. learnt.now) learnt.entry) }
+{
+    match learnt {
+        Some(_) => Some(learnt_by(learnt)),
+        None => None,
     }
 }

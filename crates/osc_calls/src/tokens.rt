@@ -1,7 +1,10 @@
 //! Tokens of numbers and bytes.
-ghost use Rattle.std.specs.Prelude.{◌≡◌, ◌≤◌, [], length, IfErr, IfOk, IsTrue};
-ghost use Rattle.osc_calls.specs.Granted.{IsUnfit, id_context_of};
-ghost use Rattle.osc_calls.specs.Tokens.{AreClaims, IsMinted, IsNoScope, IsScopeOf, IsUnminted, Mints, date_of};
+ghost use Rattle.std.specs.Prelude.{◌≡◌, ◌≤◌, [], IfErr, IfOk, OnOk};
+ghost use Rattle.std.specs.Str.{IsUtf8};
+ghost use Rattle.osc_calls.specs.Arguments.{IsUnfit};
+ghost use Rattle.osc_calls.specs.Granted.{id_context_of};
+ghost use Rattle.osc_calls.specs.Tokens.{AreClaims, HaveLengths, HaveNoLengths, IsMinted, IsNoClaims, IsNoScope, IsScopeOf, IsUnminted, Mints, date_of};
+ghost use Rattle.osc_calls.specs.declared.outcome.Outcome.TheVariants.{BadArgument};
 
 use crate::filling::fill;
 use crate::granted;
@@ -20,7 +23,7 @@ const LONGEST: usize = 64;
 /// The bytes of the scope that a text says.
 pub(crate) fn scope_bytes(alloc: Global, text: &[u8]) -> Result<Bytes, Outcome>
     ensures ok { IfOk result (λ bytes. IsScopeOf text.now bytes) }
-    ensures err { IfErr result IsNoScope }
+    ensures err { IfErr result (IsNoScope text.now) }
 {
     let mut bytes = Vec::new(alloc);
     match text_to_cbor(alloc, text, &mut bytes) {
@@ -33,7 +36,7 @@ pub(crate) fn scope_bytes(alloc: Global, text: &[u8]) -> Result<Bytes, Outcome>
 /// The audience of this name.
 pub(crate) fn audience(alloc: Global, name: &[u8]) -> Result<Audience, Outcome>
     ensures ok { IfOk result (λ audience. audience ≡ name.now) }
-    ensures err { IfErr result IsUnfit }
+    ensures err { IfErr result (IsUnfit (¬ (IsUtf8 name.now))) }
 {
     match str::from_utf8(name) {
         Ok(name) => Ok(Audience::new(alloc, name)?),
@@ -68,11 +71,15 @@ fn date(seconds: u64) -> Option<u64>
     if seconds == 0 { None } else { Some(seconds) }
 }
 
-/// Whether a reader takes input material of these lengths (RFC 9203 section 3.2.1 leaves them open).
-fn are_short(id: &[u8], secret: &[u8], context: &[u8]) -> bool
-    ensures { IsTrue result → (length id.now ≤ 64) × (1 ≤ length secret.now) × (length secret.now ≤ 64) × (length context.now ≤ 64) }
+/// Refuses input material of lengths that a reader doesn't take (RFC 9203 section 3.2.1 leaves them open).
+fn lengths(id: &[u8], secret: &[u8], context: &[u8]) -> Result<(), Outcome>
+    ensures ok { OnOk result (HaveLengths id.now secret.now context.now) }
+    ensures err { IfErr result (λ outcome. (outcome ≡ BadArgument) × HaveNoLengths id.now secret.now context.now) }
 {
-    id.len() <= LONGEST && !secret.is_empty() && secret.len() <= LONGEST && context.len() <= LONGEST
+    if id.len() > LONGEST || secret.len() < 1 || secret.len() > LONGEST || context.len() > LONGEST {
+        return Err(Outcome::BadArgument);
+    }
+    Ok(())
 }
 
 /// What a token is to claim.
@@ -89,11 +96,10 @@ pub fn claims(
     algorithm: u8,
 ) -> Result<Claims, Outcome>
     ensures ok { IfOk result (λ claims. AreClaims audience.now id.now secret.now (id_context_of has_context context.now) scope.now not_before expires algorithm claims) }
-    ensures err { IfErr result IsUnminted }
+    ensures lengths { OnOk result (HaveLengths id.now secret.now context.now × (has_context ≤ 1)) }
+    ensures err { IfErr result (IsNoClaims audience.now id.now secret.now context.now has_context scope.now algorithm) }
 {
-    if !are_short(id, secret, context) {
-        return Err(Outcome::BadArgument);
-    }
+    lengths(id, secret, context)?;
     let alg = granted::algorithm(algorithm)?;
     let id_context = granted::id_context(alloc, has_context, context)?;
     let material = material(alloc, id, secret, id_context, alg)?;
@@ -115,7 +121,7 @@ fn minted<A: Aead>(
     iv: &PlainIv,
 ) -> Result<Vec<u8>, Outcome>
     ensures ok { IfOk result (λ token. IsMinted A.is_sealing key.now.bytes iv.now.bytes claims.now token.items) }
-    ensures err { IfErr result IsUnminted }
+    ensures err { IfErr result (IsUnminted claims.now) }
 {
     let mut token = Vec::new(alloc);
     match osc_token::mint::<A>(alloc, claims, &key.bytes, &iv.bytes, &mut token) {

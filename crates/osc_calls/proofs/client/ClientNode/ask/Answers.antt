@@ -3,4 +3,4 @@ use Rattle.std.proofs.Common.{inl}
 use Rattle.osc_calls.proofs.client.ClientNode.ask.Goals as goal
 
 pub returns-in-Ok-request : goal.returns-in-Ok-request
-returns-in-Ok-request g c = inl (c.in-Ok.now, c.in-Ok-request.request, c.in-Ok.ensures.ok, c.in-Ok-request.ensures.ok, c.ask_at.ensures)
+returns-in-Ok-request g c = inl (c.in-Ok.now, c.in-Ok-request.request, c.in-Ok.ensures.ok, c.in-Ok-request.ensures.ok, c.ask_at.ensures, c.in-Ok-request.ensures.code.0, c.in-Ok-request.ensures.code.1, c.in-Ok-request.ensures.options)

@@ -15,7 +15,7 @@ returns-in-Ok g c =
         ticked = t.0;
         ticks = t.1;
         carries = subst (λ draw. Carries g.A.Ciphers.is_sealing (record old { endpoint = after_tick c.args.now old.endpoint }) t.0 c.args.now draw c.in-Ok.round c.on_tick.new.self) c.draw.ensures t.3;
-        last = c.nothing.ensures;
+        last = c.ticked.ensures;
         run = c.in-Ok.ensures.run;
         entry = c.in-Ok.ensures.entry;
       },
