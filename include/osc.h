@@ -211,8 +211,8 @@ void osc_client_free(osc_client *client);
 /* Makes a proxy without targets. Heap: some 750 bytes, and from its first datagram or tick on some 105 KiB, for as long as it is held. */
 int32_t osc_proxy_new(osc_proxy *proxy);
 
-/* Requests for this host (1 to 255 bytes; nobody asks for another) and port go there. Before its first datagram and tick only, else OSC_NOT_NOW.
- * Heap: the host. */
+/* Requests for this host (1 to 255 bytes) and port go there. Before its first datagram and tick only, else OSC_NOT_NOW. Also OSC_BAD_ARGUMENT,
+ * OSC_NO_MEMORY. Heap: the host. */
 int32_t osc_proxy_add_target(osc_proxy *proxy, const uint8_t *host, size_t host_length, uint16_t port, const osc_peer *to);
 
 int32_t osc_proxy_on_datagram(osc_proxy *proxy, uint64_t now, const osc_peer *from, const uint8_t *bytes, size_t length, const osc_draw *draw);

@@ -846,7 +846,12 @@ static void learnt_later(void) {
 
 static void targets(world *w) {
     osc_peer to = peer(DEVICE_PORT);
+    uint8_t host[256];
+    memset(host, 'h', sizeof host);
     ANSWERS(OSC_DONE, osc_proxy_add_target(&w->proxy, TEXT("gate"), 5683, &to));
+    ANSWERS(OSC_DONE, osc_proxy_add_target(&w->proxy, host, 255, 5683, &to));
+    ANSWERS(OSC_BAD_ARGUMENT, osc_proxy_add_target(&w->proxy, host, 256, 5683, &to));
+    ANSWERS(OSC_BAD_ARGUMENT, osc_proxy_add_target(&w->proxy, host, 0, 5683, &to));
     CLAIM(exchange(w, 1));
     ANSWERS(OSC_NOT_NOW, osc_proxy_add_target(&w->proxy, TEXT("yard"), 5683, &to));
     ANSWERS(OSC_DONE, osc_proxy_restart(&w->proxy));

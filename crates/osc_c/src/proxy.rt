@@ -30,7 +30,8 @@ pub extern "C" fn osc_proxy_new(alloc: Global, proxy: &mut ProxyHandle) -> i32
 
 /// Requests for this host and port go there.
 ///
-/// Answers 0; or 37 behind the first event, 9 without memory, and 33 where nothing is held: then what was held is held. Heap: the host.
+/// Answers 0; or 34 where the host hasn't 1 to 255 bytes, 37 behind the first event, 9 without memory, and 33 where nothing is held: then what was
+/// held is held. Heap: the host.
 #[unsafe(no_mangle)]
 pub extern "C" fn osc_proxy_add_target(
     alloc: Global,

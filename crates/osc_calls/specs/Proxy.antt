@@ -5,6 +5,7 @@ use Rattle.osc_model.specs.declared.node.Moment.{Moment}
 use Rattle.osc_model.specs.declared.node.Peer.{Peer}
 use Rattle.osc_model.specs.declared.step.Step.{Step}
 use Rattle.osc_message.specs.Endpoint.{fresh}
+use Rattle.osc_client.specs.Way.{IsHost}
 use Rattle.osc_proxy.specs.Exchanges.{none_open}
 use Rattle.osc_proxy.specs.Hearing.{Hears}
 use Rattle.osc_proxy.specs.State.{State, restarted}
@@ -13,7 +14,7 @@ use Rattle.osc_proxy.specs.declared.targets.Target.{Target}
 use Rattle.osc_calls.specs.Calls.{At, Stays}
 use Rattle.osc_calls.specs.Last.{since}
 use Rattle.osc_calls.specs.declared.outcome.Outcome.{Outcome}
-use Rattle.osc_calls.specs.declared.outcome.Outcome.TheVariants.{Done, NoMemory, NotNow, Nothing}
+use Rattle.osc_calls.specs.declared.outcome.Outcome.TheVariants.{BadArgument, Done, NoMemory, NotNow, Nothing}
 use Rattle.osc_calls.specs.declared.proxy.Forwarding.{Forwarding}
 use Rattle.osc_calls.specs.declared.proxy.Forwarding.TheVariants.{Setting, Running}
 use Rattle.osc_calls.specs.declared.proxy.ProxyNode.{ProxyNode}
@@ -36,8 +37,10 @@ AddsTargetTo target (Setting targets) old outcome new =
     ((outcome ≡ Done) × (new ≡ record old { forwarding = Setting (targets ++ target ∷ []) })) ⊎ Stays NoMemory old outcome new
 AddsTargetTo target (Running proxy) old outcome new = Stays NotNow old outcome new
 
+-- It has a host that a request can name (RFC 7252 section 5.10); else nothing changes.
 abbrev pub AddsTarget : Target → ProxyNode → Outcome → ProxyNode → Type 0
-AddsTarget target old outcome new = AddsTargetTo target old.forwarding old outcome new
+AddsTarget target old outcome new =
+    (IsHost target.host × AddsTargetTo target old.forwarding old outcome new) ⊎ (¬ (IsHost target.host) × Stays BadArgument old outcome new)
 
 -- the proxy makes a step of this kind, and it is the last one
 abbrev pub Makes : ProxyNode → (State → Step → State → Type 0) → ProxyNode → Type 0

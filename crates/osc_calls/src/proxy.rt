@@ -1,9 +1,10 @@
 //! A proxy by calls of plain numbers and bytes.
-ghost use Rattle.std.specs.Prelude.{◌≡◌, [], IfOk, OnOk, OnErr};
+ghost use Rattle.std.specs.Prelude.{◌≡◌, ◌↔◌, [], IfOk, IsTrue, OnOk, OnErr};
+ghost use Rattle.osc_client.specs.Way.{IsHost};
 ghost use Rattle.osc_calls.specs.Calls.{Ends};
 ghost use Rattle.osc_calls.specs.Last.{HandsOut, nothing};
 ghost use Rattle.osc_calls.specs.Plain.{draw_of, peer_of};
-ghost use Rattle.osc_calls.specs.Proxy.{AddsTarget, HeardAt, HeardBy, IsRunning, TellsDeadline, TickedAt, TickedBy, proxy_of, restarted_from};
+ghost use Rattle.osc_calls.specs.Proxy.{AddsTarget, AddsTargetTo, HeardAt, HeardBy, IsRunning, TellsDeadline, TickedAt, TickedBy, proxy_of, restarted_from};
 ghost use Rattle.osc_proxy.specs.Hearing.{Hears};
 ghost use Rattle.osc_proxy.specs.Ticks.{Ticks};
 ghost use Rattle.osc_calls.specs.declared.proxy.Forwarding.TheVariants.{Setting};
@@ -16,6 +17,16 @@ use crate::setting::Settings;
 use osc_model::{Moment, Peer, Step};
 use osc_proxy::Proxy;
 use std::alloc::{AllocError, Global};
+
+/// The most bytes of a host that Uri-Host can hold (RFC 7252 section 5.10).
+const LONGEST_HOST: usize = 255;
+
+/// Whether a request can name this host.
+fn is_host(host: &[u8]) -> bool
+    ensures { IsTrue result ↔ IsHost host.now }
+{
+    !host.is_empty() && host.len() <= LONGEST_HOST
+}
 
 /// A proxy before its first event, and behind it.
 pub enum Forwarding {
@@ -109,9 +120,19 @@ impl ProxyNode {
         }
     }
 
-    /// Requests for this host and port go there from now on: `NotNow` behind its first event.
+    /// Requests for this host and port go there from now on: `NotNow` behind its first event, and `BadArgument` for a host that no request can name.
     pub fn add_target(&mut self, alloc: Global, host: &[u8], port: u16, to: &PlainPeer) -> Outcome
         ensures { AddsTarget (record { host = host.now; port = port; peer = peer_of to.now }) self.old result self.new }
+    {
+        if is_host(host) {
+            self.add(alloc, host, port, to)
+        } else {
+            Outcome::BadArgument
+        }
+    }
+
+    fn add(&mut self, alloc: Global, host: &[u8], port: u16, to: &PlainPeer) -> Outcome
+        ensures { AddsTargetTo (record { host = host.now; port = port; peer = peer_of to.now }) self.old.forwarding self.old result self.new }
     {
         match &mut self.forwarding {
             Forwarding::Setting(targets) => match targets.add(alloc, host, port, to.peer()) {

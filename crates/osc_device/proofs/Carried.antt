@@ -17,7 +17,7 @@ use Rattle.osc_server.specs.Hearing.{Hears as ServerHears, Ticks as ServerTicks}
 use Rattle.osc_server.specs.State.{State as Server, core as server_core}
 use Rattle.osc_device.specs.Carrying.{ClientTakesMemory, ComesBack, Reaches, ServerTakesMemory}
 use Rattle.osc_device.specs.State.{own_address, server_address}
-use Rattle.osc_device.proofs.Way.{hears_same}
+use Rattle.osc_world.proofs.Way.{hears_same}
 
 -- a list of one
 pub one_only : (seen out : List Datagram) (one : Datagram) → seen ≡ out → 1 ≤ length seen → length seen < 2 → one ≡ slice_index_or seen 0 one → out ≡ one ∷ []

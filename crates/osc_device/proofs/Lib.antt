@@ -1,6 +1,5 @@
 -- Proofs.
 pub mod Carried
-pub mod Way
 pub mod Answering
 pub mod Slots
 pub mod Going

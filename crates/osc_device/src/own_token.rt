@@ -28,7 +28,7 @@ pub struct OwnToken {
     pub secret: Bytes,
     /// What the device may do, as the bytes of a scope (`osc_scope::text_to_cbor` writes them).
     pub scope: Bytes,
-    /// The IV under which the token is sealed: under a key, one is used for one token alone.
+    /// The IV under which the token is sealed: under a key, one is used for one token alone, so that a new secret wants a new one.
     pub iv: [u8; 13],
 }
 

@@ -1,5 +1,5 @@
 //! What a program takes from its clock and its generator: here both are written out, so that it prints the same at each run.
-ghost use Rattle.std.specs.Prelude.{◌≡◌, ◌+◌, ◌*◌};
+ghost use Rattle.std.specs.Prelude.{◌≡◌, ◌+◌, ◌*◌, ◌%◌, ◌^◌};
 
 use osc_ccm::Ccm;
 use osc_model::{Draw, Moment};
@@ -37,8 +37,11 @@ impl Draws {
         Draws { node, drawn: 0 }
     }
 
-    /// A new one.
-    pub fn draw(&mut self) -> Draw {
+    /// A new one: it counts on.
+    pub fn draw(&mut self) -> Draw
+        ensures counted { self.new.drawn ≡ (self.old.drawn + 1) % 2 ^ 32 }
+        ensures node { self.new.node ≡ self.old.node }
+    {
         self.drawn = self.drawn.wrapping_add(1);
         let n = self.node;
         let [a, b, c, d] = self.drawn.to_be_bytes();

@@ -18,7 +18,7 @@ mod AskThroughWorld
 mod Posted
 mod ExchangeWorld
 mod ExchangeThroughWorld
-mod Way
+pub mod Way
 mod StillHeld
 mod MayAsk
 mod Premises
