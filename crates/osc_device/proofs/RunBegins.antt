@@ -8,14 +8,14 @@ use Rattle.osc_client.specs.State.{State as Client, core as client_core, outstan
 use Rattle.osc_model.specs.Grant.{Grant}
 use Rattle.osc_protect.specs.Ciphers.{Sealings}
 use Rattle.osc_cbor.specs.Spelling.{spelling}
-use Rattle.osc_run.specs.Runs.{Holds, IsNewClient, IsReached, IsStart, IsTextOf}
+use Rattle.osc_run.specs.Runs.{IsNewClient, IsReached, IsStart, IsTextOf}
 use Rattle.osc_run.specs.States.{ClientState, Minted}
 use Rattle.osc_scope.specs.Entries.{Entry, IsScope, scope_of}
 use Rattle.osc_server.specs.State.{State as Server}
 use Rattle.osc_token.specs.Minted.{FitTheirTypes, HasLawfulParts}
 use Rattle.osc_token.specs.Token.{claims_item}
 use Rattle.osc_token.specs.declared.claims.Claims.{Claims}
-use Rattle.osc_world.specs.Starts.{Beginning, first_nodes, minted_of}
+use Rattle.osc_world.specs.Starts.{Beginning, minted_of}
 use Rattle.osc_device.specs.Begun.{IsBegun, own_claims}
 use Rattle.osc_device.specs.Runs.{AreOthers, IsIn, first_run}
 use Rattle.osc_device.specs.State.{State}
