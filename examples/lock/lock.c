@@ -30,6 +30,12 @@ static int udp = -1;
 static int is_open, is_told;
 static char line[96];
 
+/* What the lock does at its own server. Where memory was wanting on the way it is left open: a tick goes on with it, and tells what came of it. */
+typedef enum { NONE, OPEN, PUT, APPEND, REMOVE } doing;
+static const char *const DOING[] = {"nothing", "open", "put /lock/actual", "append to /log", "remove /log"};
+static doing left_open;
+static int has_moved; /* since then */
+
 /* ---- what is the maker's: errors, moments, draws */
 
 static void fail(const char *what, const char *why) {
@@ -103,7 +109,8 @@ static int open_context(void) {
     osc_draws draws = two_draws();
     uint8_t code = 0;
     int32_t number = osc_device_open(&device, now(), &draws, &code);
-    if (number != OSC_DONE) complain("open", number, code);
+    if (number == OSC_LOST) left_open = OPEN;
+    if (number != OSC_DONE) complain(DOING[OPEN], number, code);
     return number == OSC_DONE;
 }
 
@@ -123,22 +130,49 @@ static int32_t remove_log(uint8_t *code) {
     return osc_device_remove(&device, now(), (const uint8_t *)LOG, strlen(LOG), &draws, code);
 }
 
-/* Whether a write is done. Where the context is gone or used up, a new one is opened, and the write is made at the next call. */
-static int is_written(const char *what, int32_t number, const uint8_t *code) {
-    if (number == OSC_DONE && (*code == CREATED || *code == CHANGED || *code == DELETED)) return 1;
-    complain(what, number, number == OSC_DONE || number == OSC_UNVERIFIED ? *code : 0);
+/* Whether it is done. Where the context is gone or used up, a new one is opened, and the write is made at the next call. */
+static int is_done(doing what, int32_t number, uint8_t code) {
+    if (number == OSC_DONE && (what == OPEN || code == CREATED || code == CHANGED || code == DELETED)) return 1;
+    complain(DOING[what], number, number == OSC_DONE || number == OSC_UNVERIFIED ? code : 0);
+    if (number == OSC_LOST) {
+        left_open = what;
+        has_moved = 0;
+    }
     if (number == OSC_NO_CONTEXT || number == OSC_EXHAUSTED || number == OSC_UNVERIFIED) open_context();
     return 0;
 }
 
+static void write_line(void) {
+    uint8_t code = 0;
+    int32_t number = append_line(&code);
+    if (number == OSC_DONE && code == TOO_LARGE) {
+        number = remove_log(&code);
+        if (!is_done(REMOVE, number, code)) return;
+        number = append_line(&code);
+    }
+    if (is_done(APPEND, number, code)) line[0] = '\0';
+}
+
 /* Tells what isn't told yet; what can't be told now is told behind a later datagram or tick. A full log is begun anew. */
 static void tell(void) {
+    if (left_open == NONE && !is_told) {
+        uint8_t code = 0;
+        int32_t number = put_actual(&code);
+        is_told = is_done(PUT, number, code);
+    }
+    if (left_open == NONE && line[0] != '\0') write_line();
+}
+
+/* What came of what was left open. It says nothing of how the bolt stands where that has moved since. */
+static void heed_learnt(void) {
     uint8_t code = 0;
-    if (!is_told) is_told = is_written("put /lock/actual", put_actual(&code), &code);
-    if (line[0] == '\0') return;
-    int32_t number = append_line(&code);
-    if (number == OSC_DONE && code == TOO_LARGE && is_written("remove /log", remove_log(&code), &code)) number = append_line(&code);
-    if (is_written("append to /log", number, &code)) line[0] = '\0';
+    int32_t number = osc_device_learnt(&device, &code);
+    if (number == OSC_NOTHING) return;
+    doing what = left_open;
+    left_open = NONE;
+    if (!is_done(what, number, code) || has_moved) return;
+    if (what == PUT) is_told = 1;
+    if (what == APPEND) line[0] = '\0';
 }
 
 /* Moves the bolt, for a holder whose token has this id context. What isn't printable ASCII in it shows as `?`. */
@@ -147,6 +181,7 @@ static void move(int to_open, const uint8_t *holder, size_t length) {
     for (size_t at = 0; at < length && at < sizeof name - 1; at++) name[at] = holder[at] > 0x20 && holder[at] < 0x7f ? (char)holder[at] : '?';
     is_open = to_open;
     is_told = 0;
+    has_moved = 1;
     snprintf(line, sizeof line, "%s by %s\n", to_open ? "open" : "shut", name[0] == '\0' ? "someone" : name);
     printf("bolt: %s", line);
     fflush(stdout);
@@ -188,6 +223,7 @@ static void heed(const char *what, int32_t number) {
         send_all();
         heed_served();
         heed_refused();
+        heed_learnt();
     } else {
         complain(what, number, 0);
     }
