@@ -261,7 +261,7 @@ static void begin(void) {
         complain("new", number, 0);
         exit(1);
     }
-    if (!open_context()) exit(1);
+    if (!open_context() && left_open == NONE) exit(1);
     tell();
 }
 
