@@ -150,8 +150,9 @@ int32_t osc_device_on_datagram(osc_device *device, uint64_t now, const osc_peer 
 /* What is due by now is done: at least each second, also while datagrams come. */
 int32_t osc_device_on_tick(osc_device *device, uint64_t now, const osc_draw *draw);
 
-/* What the last tick learnt of what `open`, `put`, `append` or `remove` left open where it answered OSC_LOST: OSC_DONE, or OSC_UNVERIFIED, and the
- * code, as that call would have answered; OSC_NOTHING where it learnt nothing: then it is open still, or nothing was. */
+/* What the last step learnt, where it was a tick, of what `open`, `put`, `append` or `remove` left open where it answered OSC_LOST: OSC_DONE, or
+ * OSC_UNVERIFIED, and the code, as that call would have answered; else OSC_NOTHING: it is open still, or nothing was. It is told as long as what was
+ * served is, so ask behind each tick. */
 int32_t osc_device_learnt(osc_device *device, uint8_t *code);
 
 /* The first moment at which a tick does more than let go of what was heard long ago; OSC_NOTHING where none would. */

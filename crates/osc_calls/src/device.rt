@@ -114,7 +114,7 @@ impl DeviceNode {
         self.last.next(to, bytes, size)
     }
 
-    /// What the last tick learnt of what an earlier call left open: how it ended, and the code of its answer.
+    /// What the last step learnt, where it was a tick, of what an earlier call left open: how that ended, and the code of its answer.
     pub fn learnt(&self, code: &mut u8) -> Outcome
         ensures { TellsLearnt self.now.last.own code.old result code.new }
     {

@@ -76,7 +76,11 @@ fn lengths(id: &[u8], secret: &[u8], context: &[u8]) -> Result<(), Outcome>
     ensures ok { OnOk result (HaveLengths id.now secret.now context.now) }
     ensures err { IfErr result (λ outcome. (outcome ≡ BadArgument) × HaveNoLengths id.now secret.now context.now) }
 {
-    if id.len() > LONGEST || secret.len() < 1 || secret.len() > LONGEST || context.len() > LONGEST {
+    if id.len() > LONGEST
+        || secret.is_empty()
+        || secret.len() > LONGEST
+        || context.len() > LONGEST
+    {
         return Err(Outcome::BadArgument);
     }
     Ok(())
