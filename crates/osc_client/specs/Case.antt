@@ -4,19 +4,15 @@ use Rattle.osc_model.specs.declared.node.Peer.{Peer}
 use Rattle.osc_coap.specs.Code.{is_request_code}
 use Rattle.osc_coap.specs.Message.{Message as CoapMessage}
 use Rattle.osc_coap.specs.declared.kind.Kind.{Kind}
-use Rattle.osc_coap.specs.declared.kind.Kind.TheVariants.{Acknowledgement, Reset as ResetKind}
+use Rattle.osc_coap.specs.declared.kind.Kind.TheVariants.{Reset as ResetKind}
 use Rattle.osc_options.specs.Recognised.{unrecognised_critical}
 use Rattle.osc_message.specs.Confirmables.{same_peer}
-use Rattle.osc_message.specs.Sending.{is_confirmable}
+use Rattle.osc_message.specs.Sending.{is_acknowledgement, is_confirmable}
 use Rattle.osc_message.specs.declared.heard.Heard.{Heard}
 use Rattle.osc_message.specs.declared.heard.Heard.TheVariants as heard
 use Rattle.osc_client.specs.declared.case.Case.{Case}
 use Rattle.osc_client.specs.declared.case.Case.TheVariants.{Ignored, Reset, Repeated, Empty, Refused, Rejected, Dropped, Counted}
 use Rattle.osc_client.specs.declared.waiting.Waiting.{Waiting}
-
-abbrev pub is_acknowledgement : Kind → Bool
-is_acknowledgement Acknowledgement = true
-is_acknowledgement kind = false
 
 abbrev pub is_reset : Kind → Bool
 is_reset ResetKind = true

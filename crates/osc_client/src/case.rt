@@ -1,7 +1,5 @@
 //! Which case a datagram is to a client.
-ghost use Rattle.std.specs.Prelude.{◌≡◌, Option, is_some};
-ghost use Rattle.osc_message.specs.Confirmables.{same_peer as same_peer_of};
-ghost use Rattle.osc_options.specs.Recognised.{unrecognised_critical};
+ghost use Rattle.std.specs.Prelude.{◌≡◌, Option};
 ghost use Rattle.osc_client.specs.Bounds.{AsksFor};
 ghost use Rattle.osc_client.specs.Case as spec;
 ghost use Rattle.osc_client.specs.declared.waiting.Waiting.{Waiting as AnyWaiting};
@@ -9,7 +7,7 @@ ghost use Rattle.osc_model.specs.declared.node.Peer.{Peer as AnyPeer};
 
 use crate::waiting::Waiting;
 use osc_coap::{Kind, MessageRef, is_request_code};
-use osc_message::{Heard, is_confirmable};
+use osc_message::{Heard, is_acknowledgement, is_confirmable};
 use osc_model::Peer;
 use osc_options::unrecognised_critical;
 
@@ -34,28 +32,11 @@ pub enum Case<'a> {
     Counted(MessageRef<'a>),
 }
 
-/// Whether two peers have the same address and port.
-fn same_peer(a: Peer, b: Peer) -> bool
-    ensures { result ≡ same_peer_of a b }
-{
-    a.address == b.address && a.port == b.port
-}
-
-/// Whether the message is an acknowledgement.
-fn is_acknowledgement(kind: Kind) -> bool
-    ensures { result ≡ spec.is_acknowledgement kind }
-{
-    match kind {
-        Kind::Acknowledgement => true,
-        _ => false,
-    }
-}
-
 /// Whether the response counts for what waits.
 fn is_for(next_hop: Peer, from: Peer, message: &MessageRef<'_>, waiting: &Waiting) -> bool
     ensures { result ≡ spec.is_for next_hop from message.now waiting.now }
 {
-    same_peer(next_hop, from)
+    next_hop == from
         && waiting.token.as_slice() == message.token()
         && (!is_acknowledgement(message.kind()) || waiting.id == message.id())
 }
@@ -82,13 +63,6 @@ fn unused<'a>(message: MessageRef<'a>) -> Case<'a>
     }
 }
 
-/// Whether the message has a critical option that isn't recognised.
-fn has_bad_option(message: &MessageRef<'_>) -> bool
-    ensures { result ≡ is_some (unrecognised_critical 0 message.now.options) }
-{
-    unrecognised_critical(message).is_some()
-}
-
 fn message_case<'a>(
     next_hop: Peer,
     from: Peer,
@@ -99,7 +73,7 @@ fn message_case<'a>(
     ensures asks { AsksFor next_hop from waiting.now result }
 {
     let is_request = is_request_code(message.code());
-    if has_bad_option(&message) {
+    if unrecognised_critical(&message).is_some() {
         if is_request && is_confirmable(message.kind()) {
             Case::Refused(message)
         } else {
@@ -144,7 +118,7 @@ pub(crate) fn is_ended(
     ensures { result ≡ spec.is_ended next_hop from kind id waiting.now }
 {
     match (kind, waiting) {
-        (Kind::Reset, Some(waiting)) => same_peer(next_hop, from) && waiting.id == id,
+        (Kind::Reset, Some(waiting)) => next_hop == from && waiting.id == id,
         _ => false,
     }
 }

@@ -40,7 +40,7 @@ use osc_authz::{ClientContext, ClientDesk};
 use osc_coap::{Kind, MessageBuilder, MessageRef};
 use osc_context::NUMBER_LIMIT;
 use osc_message::laws::ticks_at_rest;
-use osc_message::{Handling, Heard, ReplyRoom, noted, reset, sending_message};
+use osc_message::{Handling, Heard, ReplyRoom, noted, sending_reset};
 use osc_model::{ClientResult, Code, Datagrams, Draw, Moment, Peer, Request, Step, StepNotes};
 use osc_protect::Ciphers;
 use osc_run::kinds;
@@ -275,6 +275,7 @@ impl Client {
     }
 
     /// The request as a message, and room for it; or the number of what hinders it.
+    #[inline(never)]
     fn prepared<A: Ciphers>(
         &self,
         alloc: Global,
@@ -376,11 +377,11 @@ impl Client {
     {
         match case {
             Case::Ignored => Ok(Step::sending(Datagrams::new(alloc))),
-            Case::Reset(id) => sending_message(alloc, from, &reset(id)),
+            Case::Reset(id) => sending_reset(alloc, from, id),
             Case::Repeated(id) => self.endpoint.repeat(alloc, now, from, id),
             Case::Empty(kind, id) => Ok(self.settle_empty(alloc, now, from, kind, id)),
             Case::Refused(message) => self.refuse(alloc, now, from, message),
-            Case::Rejected(message) => sending_message(alloc, from, &reset(message.id())),
+            Case::Rejected(message) => sending_reset(alloc, from, message.id()),
             Case::Dropped(message) => Ok(self.ignore(alloc, now, from, message)),
             Case::Counted(message) => self.count::<A>(alloc, now, from, message),
         }

@@ -18,6 +18,10 @@ abbrev pub is_confirmable : Kind → Bool
 is_confirmable Confirmable = true
 is_confirmable kind = false
 
+abbrev pub is_acknowledgement : Kind → Bool
+is_acknowledgement Acknowledgement = true
+is_acknowledgement kind = false
+
 -- a Reset, which rejects the message of this ID (section 4.2)
 abbrev pub reset : ℕ → Message
 reset id = bare ResetKind 0 id []

@@ -32,7 +32,7 @@ pub use outbox::{Buffer, Outbox, ReplyRoom};
 pub use queue::MOST_OPEN;
 pub use received::{Received, receive};
 pub use sending::{
-    acknowledgement, empty_acknowledgement, is_confirmable, noted, reply_kind, reset,
-    sending_bytes, sending_message,
+    acknowledgement, empty_acknowledgement, is_acknowledgement, is_confirmable, noted, reply_kind,
+    reset, sending_bytes, sending_message, sending_reset,
 };
 pub use tick::Ticked;

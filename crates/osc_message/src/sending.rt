@@ -2,7 +2,7 @@
 ghost use Rattle.std.specs.Prelude.{◌≡◌, [], ◌∷◌, IfOk};
 ghost use Rattle.osc_coap.specs.Message.{HasSpelling, spelling};
 ghost use Rattle.osc_model.specs.Step.{sends};
-ghost use Rattle.osc_message.specs.Sending.{is_confirmable as is_confirmable_of, reset as reset_message, empty_acknowledgement as empty_acknowledgement_of, acknowledgement as acknowledgement_of, AreSendable, FitsDatagram, datagram, reply_kind as reply_kind_of};
+ghost use Rattle.osc_message.specs.Sending.{is_acknowledgement as is_acknowledgement_of, is_confirmable as is_confirmable_of, reset as reset_message, empty_acknowledgement as empty_acknowledgement_of, acknowledgement as acknowledgement_of, AreSendable, FitsDatagram, datagram, reply_kind as reply_kind_of};
 
 use crate::outbox::ReplyRoom;
 use osc_coap::{Kind, MessageBuilder, MessageRef};
@@ -15,6 +15,16 @@ pub fn is_confirmable(kind: Kind) -> bool
 {
     match kind {
         Kind::Confirmable => true,
+        _ => false,
+    }
+}
+
+/// Whether the kind is that of an acknowledgement.
+pub fn is_acknowledgement(kind: Kind) -> bool
+    ensures { result ≡ is_acknowledgement_of kind }
+{
+    match kind {
+        Kind::Acknowledgement => true,
         _ => false,
     }
 }
@@ -77,6 +87,17 @@ pub fn sending_message(
     ensures fits { IfOk result (λ step. AreSendable step.out) }
 {
     sending_bytes(alloc, to, Bytes::from_slice(alloc, message.bytes())?)
+}
+
+/// The step that rejects the message of this ID by a Reset.
+// It isn't inlined, since a message under construction is a buffer of 1,152 bytes: a node's other steps have no place for it.
+#[inline(never)]
+pub fn sending_reset(alloc: Global, to: Peer, id: u16) -> Result<Step, AllocError>
+    ensures sent { IfOk result (λ step. step ≡ sends (datagram to (reset_message id) ∷ [])) }
+    ensures lawful { IfOk result (λ _. HasSpelling (reset_message id)) }
+    ensures fits { IfOk result (λ step. AreSendable step.out) }
+{
+    sending_message(alloc, to, &reset(id))
 }
 
 /// A message's datagram, and its bytes to be noted.

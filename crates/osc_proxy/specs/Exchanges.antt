@@ -7,11 +7,8 @@ use Rattle.osc_coap.specs.Message.{Message as CoapMessage}
 use Rattle.osc_coap.specs.declared.kind.Kind.{Kind}
 use Rattle.osc_coap.specs.declared.kind.Kind.TheVariants.{Acknowledgement, Reset as ResetKind}
 use Rattle.osc_message.specs.Confirmables.{same_peer}
+use Rattle.osc_message.specs.Sending.{is_acknowledgement}
 use Rattle.osc_proxy.specs.declared.exchanges.Exchange.{Exchange}
-
-abbrev pub is_acknowledgement : Kind → Bool
-is_acknowledgement Acknowledgement = true
-is_acknowledgement kind = false
 
 -- what stands under each key, from 0 on, and the key of the next exchange that is opened
 pub record Table : Type 0 where

@@ -2,14 +2,13 @@
 ghost use Rattle.std.specs.Prelude.{◌≡◌, ◌+◌, ◌≤◌, ◌∷◌, ℕ, List, length, None, Some, IfOk, OnSome, IfNone, IsSome, option_map, option_copied, slice_set};
 ghost use Rattle.osc_model.specs.declared.node.Moment.{Moment as AnyMoment};
 ghost use Rattle.osc_message.specs.Bounds.{is_reached};
-ghost use Rattle.osc_message.specs.Confirmables.{same_peer as same_peer_of};
 ghost use Rattle.osc_proxy.specs.Exchanges as spec;
 ghost use Rattle.osc_proxy.specs.Ticks.{any_overdue, is_given_up as is_given_up_of, is_over as is_over_by};
 
 use crate::deadline::first_of;
 use crate::token::Token;
 use osc_coap::{Kind, MessageRef};
-use osc_message::{Buffer, MessageName};
+use osc_message::{Buffer, MessageName, is_acknowledgement};
 use osc_model::{Bytes, Moment, Peer};
 use slab::Slab;
 use std::alloc::{AllocError, Global};
@@ -113,28 +112,11 @@ impl Model for Exchanges {
     ghost invariant = { λ e. (64 ≤ e.open.capacity) × HasOwnTokens (record { slots = e.open.slots; next = e.open.vacant_key }) };
 }
 
-/// Whether two peers have the same address and port.
-fn same_peer(a: Peer, b: Peer) -> bool
-    ensures { result ≡ same_peer_of a b }
-{
-    a.address == b.address && a.port == b.port
-}
-
-/// Whether the message is an acknowledgement.
-fn is_acknowledgement(kind: Kind) -> bool
-    ensures { result ≡ spec.is_acknowledgement kind }
-{
-    match kind {
-        Kind::Acknowledgement => true,
-        _ => false,
-    }
-}
-
 /// Whether the response, which came from this peer, answers the request of the exchange.
 fn answers(from: Peer, message: &MessageRef<'_>, exchange: &Exchange) -> bool
     ensures { result ≡ spec.answers from message.now exchange.now }
 {
-    same_peer(exchange.target, from)
+    exchange.target == from
         && exchange.token.as_slice() == message.token()
         && (!is_acknowledgement(message.kind()) || exchange.id == message.id())
 }
@@ -143,7 +125,7 @@ fn answers(from: Peer, message: &MessageRef<'_>, exchange: &Exchange) -> bool
 fn is_named(from: Peer, id: u16, exchange: &Exchange) -> bool
     ensures { result ≡ spec.is_named from id exchange.now }
 {
-    exchange.confirmable && same_peer(exchange.target, from) && exchange.id == id
+    exchange.confirmable && exchange.target == from && exchange.id == id
 }
 
 /// When no answer is awaited any more, in ms; none while no end is counted.

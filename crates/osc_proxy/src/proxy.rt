@@ -32,7 +32,7 @@ use crate::ticking::{finish, rest, room_for};
 use osc_coap::{Kind, MessageBuilder, MessageRef};
 use osc_message::laws::{ticks_send_few, what_nodes_send};
 use osc_message::{
-    Arrival, Handling, Heard, MessageName, Outbox, is_confirmable, noted, reset, sending_message,
+    Arrival, Handling, Heard, MessageName, Outbox, is_confirmable, noted, sending_reset,
 };
 use osc_model::{Code, Datagrams, Draw, Moment, Peer, RefusedRequest, Step};
 use std::alloc::{AllocError, Global};
@@ -149,14 +149,14 @@ impl Proxy {
         };
         match case {
             Case::Ignored => Ok(Step::sending(Datagrams::new(alloc))),
-            Case::Reset(id) => sending_message(alloc, from, &reset(id)),
+            Case::Reset(id) => sending_reset(alloc, from, id),
             Case::Repeated(id) => self.endpoint.repeat(alloc, now, from, id),
             Case::Empty(kind, id) => Ok(self.settle_empty(alloc, now, from, kind, id)),
             Case::Ended(id, key) => self.end(alloc, now, draw, MessageName { peer: from, id }, key),
             Case::Refused(message, why) => self.refuse(alloc, came(message), why),
             Case::Forwarded(message, to) => self.forward(alloc, came(message), to),
             Case::Counted(message, key) => self.count(alloc, came(message), key),
-            Case::Rejected(message) => sending_message(alloc, from, &reset(message.id())),
+            Case::Rejected(message) => sending_reset(alloc, from, message.id()),
             Case::Dropped(message) => Ok(self.ignore(alloc, now, from, message)),
         }
     }
