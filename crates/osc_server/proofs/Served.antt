@@ -5,9 +5,11 @@ use Rattle.osc_model.specs.Tree.{Tree}
 use Rattle.osc_model.specs.declared.node.Draw.{Draw}
 use Rattle.osc_model.specs.declared.node.Moment.{Moment}
 use Rattle.osc_model.specs.declared.node.Peer.{Peer}
+use Rattle.osc_model.specs.declared.bytes.Bytes.{Bytes}
+use Rattle.osc_model.specs.declared.step.Datagram.{Datagram}
 use Rattle.osc_model.specs.declared.step.Note.{Note}
 use Rattle.osc_model.specs.declared.step.Step.{Step}
-use Rattle.osc_coap.specs.Message.{Message, Spells, spelling}
+use Rattle.osc_coap.specs.Message.{Message}
 use Rattle.osc_authz.specs.Desk.{DeskState}
 use Rattle.osc_authz.specs.Held.{Held}
 use Rattle.osc_authz.specs.Table.{accepted, taking}
@@ -17,24 +19,23 @@ use Rattle.osc_run.specs.ServerKinds.{opening_note, Replies as AppliesTo}
 use Rattle.osc_run.specs.Texts.{read_request}
 use Rattle.osc_message.specs.Sending.{datagram}
 use Rattle.osc_message.specs.Endpoint.{EndpointState}
-use Rattle.osc_server.specs.Parts.{IsReplied, IsServedAs}
+use Rattle.osc_server.specs.Parts.{IsReplied, IsServedAs, noted_by}
 use Rattle.osc_server.specs.State.{State}
-use Rattle.osc_server.specs.Table.{IsOpened, Serves, answered}
+use Rattle.osc_server.specs.Table.{IsOpened, Serves}
 use Rattle.osc_server.specs.declared.serving.Served.{Served}
 
 pub serves : (is_sealing : Sealings)
     (old : State) (now : Moment) (from : Peer) (draw : Draw) (message : Message) (request : SealedRequest) (served : Served) (tree : Tree) (step : Step) (new : State)
-    → IsServedAs is_sealing old.tree old.desk old.endpoint now draw message request served tree
-    → step ≡ record { out = datagram from served.answer ∷ []; notes = served.notes }
+    → IsServedAs is_sealing old.tree old.desk old.endpoint now from draw message request served tree
+    → step ≡ record { out = served.out; notes = served.notes }
     → new ≡ record {
       tree = tree;
       desk = record old.desk { table = accepted request.kid request.number old.desk.table };
       open_scope = old.open_scope;
-      endpoint = answered old.endpoint now from draw message served.answer;
+      endpoint = noted_by old.endpoint now from draw message served.reply;
     }
-    → Spells (spelling served.answer) served.answer
     → Serves is_sealing old now from draw message step new
-serves is_sealing old now from draw message request served tree step new is sent kept spelled =
+serves is_sealing old now from draw message request served tree step new is sent kept =
     let same : tree ≡ new.tree = sym (ap (λ s. s.tree) kept) in
     record {
       request = request;
@@ -44,31 +45,37 @@ serves is_sealing old now from draw message request served tree step new is sent
       reply = is.replied.reply;
       within = is.replied.within;
       applied = subst (λ t. AppliesTo old.tree (apply_read old.tree is.held.scope (read_request is.text)) is.replied.reply t) same is.replied.applied;
-      answer = served.answer;
+      answer = is.replied.answer;
       protected = is.replied.protected;
       sent = record {
-        spelled = spelled;
-        sent = sent ∙ ap (λ notes. record { out = datagram from served.answer ∷ []; notes = notes }) is.replied.noted;
+        spelled = is.replied.sends.spelled;
+        sent = sent ∙ ap (λ (out : List Datagram). record { out = out; notes = served.notes }) is.replied.sends.sent
+            ∙ ap (λ notes. record { out = datagram from is.replied.answer ∷ []; notes = notes }) is.replied.noted;
         kept = kept ∙ ap (λ t. record {
           tree = t;
           desk = record old.desk { table = accepted request.kid request.number old.desk.table };
           open_scope = old.open_scope;
-          endpoint = answered old.endpoint now from draw message served.answer;
-        }) same;
+          endpoint = noted_by old.endpoint now from draw message served.reply;
+        }) same ∙ ap (λ (reply : Bytes). record {
+          tree = new.tree;
+          desk = record old.desk { table = accepted request.kid request.number old.desk.table };
+          open_scope = old.open_scope;
+          endpoint = noted_by old.endpoint now from draw message reply;
+        }) is.replied.sends.kept;
       };
     }
 
 -- what becomes of it under the context as it is once it took the number
 pub served_as : (is_sealing : Sealings)
-    (old : Tree) (desk : DeskState) (endpoint : EndpointState) (now : Moment) (draw : Draw) (message : Message) (request : SealedRequest)
+    (old : Tree) (desk : DeskState) (endpoint : EndpointState) (now : Moment) (from : Peer) (draw : Draw) (message : Message) (request : SealedRequest)
     (held context : Held) (taken number : ℕ) (text : List ℕ) (served : Served) (new : Tree)
     → IsOpened is_sealing desk now message request held text → context ≡ taking taken held → number ≡ request.number
-    → IsReplied is_sealing old endpoint now draw message context number text served new
-    → IsServedAs is_sealing old desk endpoint now draw message request served new
-served_as is_sealing old desk endpoint now draw message request held context taken number text served new opened is same replied =
-    let it : IsReplied is_sealing old endpoint now draw message (taking taken held) request.number text served new =
-    subst (λ (c : Held). IsReplied is_sealing old endpoint now draw message c request.number text served new) is
-    (subst (λ (n : ℕ). IsReplied is_sealing old endpoint now draw message context n text served new) same replied)
+    → IsReplied is_sealing old endpoint now from draw message context number text served new
+    → IsServedAs is_sealing old desk endpoint now from draw message request served new
+served_as is_sealing old desk endpoint now from draw message request held context taken number text served new opened is same replied =
+    let it : IsReplied is_sealing old endpoint now from draw message (taking taken held) request.number text served new =
+    subst (λ (c : Held). IsReplied is_sealing old endpoint now from draw message c request.number text served new) is
+    (subst (λ (n : ℕ). IsReplied is_sealing old endpoint now from draw message context n text served new) same replied)
     in
     record {
       held = held;
@@ -78,9 +85,10 @@ served_as is_sealing old desk endpoint now draw message request held context tak
         reply = it.reply;
         within = it.within;
         applied = it.applied;
+        answer = it.answer;
         protected = it.protected;
+        sends = it.sends;
         noted = it.noted;
-        room = it.room;
       };
     }
 

@@ -1,5 +1,5 @@
 -- What private functions owe one another; no public contract rests on it.
-use Rattle.std.specs.Prelude.{◌≡◌, ℕ, ◌+◌, ◌<◌, ◌≤◌, ◌==◌, if◌then◌else◌, List, [], length, Option, Some, None, Result, Ok, Err, IfErr}
+use Rattle.std.specs.Prelude.{◌≡◌, ℕ, ◌+◌, ◌<◌, ◌≤◌, ◌==◌, if◌then◌else◌, List, [], ◌∷◌, length, Option, Some, None, Result, Ok, Err, IfErr}
 use Rattle.std.specs.FinMap as map
 use Rattle.std.specs.List.{All}
 use Rattle.std.specs.Option.{ForSome}
@@ -18,8 +18,10 @@ use Rattle.osc_model.specs.declared.step.Datagram.{Datagram}
 use Rattle.osc_context.specs.Algorithm.{algorithm_of}
 use Rattle.osc_authz.specs.Desk.{DeskState}
 use Rattle.osc_authz.specs.Held.{Held}
-use Rattle.osc_message.specs.Endpoint.{EndpointState}
-use Rattle.osc_message.specs.Sending.{AreSendable}
+use Rattle.osc_message.specs.Endpoint.{EndpointState, settled}
+use Rattle.osc_message.specs.Sending.{AreSendable, FitsDatagram, datagram, replied}
+use Rattle.osc_message.specs.declared.handling.Handling.TheVariants.{Answered}
+use Rattle.osc_message.specs.declared.heard.Heard.TheVariants as heard
 use Rattle.osc_protect.specs.Ciphers.{Sealings, Tags}
 use Rattle.osc_protect.specs.Protection.{SealedRequest, IsProtectedResponse}
 use Rattle.osc_run.specs.ServerKinds.{Replies as AppliesTo}
@@ -88,19 +90,32 @@ pub record SendsTo (peer : Peer) (out : List Datagram) : Type 0 where
   pub fits : AreSendable out
   pub addressed : All (λ sent. sent.to ≡ peer) out
 
--- What becomes of a request of this number that was opened to this text under a context: the tree, and the protected reply, for
--- which there is room.
-pub record IsReplied (is_sealing : Sealings) (old : Tree) (endpoint : EndpointState) (now : Moment) (draw : Draw) (message : Message) (held : Held) (number : ℕ) (text : List ℕ) (served : Served) (new : Tree) : Type 0 where
+-- the message, in the one datagram that goes to this peer, and as its bytes are kept for a repeat
+pub record IsSentAs (peer : Peer) (message : Message) (out : List Datagram) (reply : Bytes) : Type 0 where
+  pub spelled : Spells (spelling message) message
+  pub sent : out ≡ datagram peer message ∷ []
+  pub kept : reply ≡ spelling message
+  pub fits : FitsDatagram reply
+  pub sendable : SendsTo peer out
+
+-- the message layer once a request is answered by these bytes
+abbrev pub noted_by : EndpointState → Moment → Peer → Draw → Message → Bytes → EndpointState
+noted_by endpoint now from draw request reply = settled (replied draw request endpoint) now from (heard.Message request) (Answered (Some reply))
+
+-- What becomes of a request of this number that was opened to this text under a context: the tree, and the protected reply, which
+-- goes to the peer.
+pub record IsReplied (is_sealing : Sealings) (old : Tree) (endpoint : EndpointState) (now : Moment) (from : Peer) (draw : Draw) (message : Message) (held : Held) (number : ℕ) (text : List ℕ) (served : Served) (new : Tree) : Type 0 where
   pub reply : Reply
   pub within : IsWithinRanges reply
   pub applied : AppliesTo old (apply_read old held.scope (read_request text)) reply new
-  pub protected : IsProtectedResponse is_sealing held.name number None (reply_to endpoint draw message reply) served.answer
+  pub answer : Message
+  pub protected : IsProtectedResponse is_sealing held.name number None (reply_to endpoint draw message reply) answer
+  pub sends : IsSentAs from answer served.out served.reply
   pub noted : served.notes ≡ notes_of_request now held number text reply
-  pub room : length (spelling served.answer) ≤ served.room
 
 -- the same of a request that came protected
-pub record IsServedAs (is_sealing : Sealings) (old : Tree) (desk : DeskState) (endpoint : EndpointState) (now : Moment) (draw : Draw) (message : Message) (request : SealedRequest) (served : Served) (new : Tree) : Type 0 where
+pub record IsServedAs (is_sealing : Sealings) (old : Tree) (desk : DeskState) (endpoint : EndpointState) (now : Moment) (from : Peer) (draw : Draw) (message : Message) (request : SealedRequest) (served : Served) (new : Tree) : Type 0 where
   pub held : Held
   pub text : List ℕ
   pub opened : IsOpened is_sealing desk now message request held text
-  pub replied : IsReplied is_sealing old endpoint now draw message held request.number text served new
+  pub replied : IsReplied is_sealing old endpoint now from draw message held request.number text served new

@@ -1,14 +1,15 @@
 //! The messages that answer.
-ghost use Rattle.std.specs.Prelude.{◌≡◌};
-ghost use Rattle.osc_server.specs.Parts.{FitsAResource};
+ghost use Rattle.std.specs.Prelude.{◌≡◌, ◌≤◌, length};
+ghost use Rattle.osc_coap.specs.Message.{spelling};
+ghost use Rattle.osc_server.specs.Parts.{FitsAResource, IsSentAs};
 ghost use Rattle.osc_server.specs.Table.{reply_to as reply_to_of, refusal_to as refusal_to_of};
 
 use crate::Endpoint;
 use crate::refusal::Refusal;
 use osc_coap::MessageBuilder;
 use osc_coap::laws::length_of_spelling;
-use osc_message::{Arrival, reply_kind};
-use osc_model::Reply;
+use osc_message::{Arrival, ReplyRoom, reply_kind};
+use osc_model::{Bytes, Datagrams, Peer, Reply};
 use osc_options::{error_message, reply_message};
 
 /// The message that carries the reply: the acknowledgement of a confirmable request (RFC 7252 section 5.2.1), and a message
@@ -22,6 +23,14 @@ pub fn reply_to(endpoint: &Endpoint, came: &Arrival<'_>, reply: &Reply) -> Messa
     let kind = reply_kind(request.kind());
     let id = endpoint.reply_id(came.draw, request);
     reply_message(kind, id, request.token(), reply).unwrap()
+}
+
+/// The message, as it goes to the peer and as its bytes are kept for a repeat, in room that was taken for it; takes no memory.
+pub fn sent_as(room: ReplyRoom, peer: Peer, message: &MessageBuilder) -> (Datagrams, Bytes)
+    requires { length (spelling message.now) ≤ room }
+    ensures { IsSentAs peer message.now result.0 result.1 }
+{
+    room.fill(peer, message.bytes())
 }
 
 /// The message that says why a protected request isn't served.

@@ -1,7 +1,5 @@
 //! Which case a datagram is.
-ghost use Rattle.std.specs.Prelude.{◌≡◌, ◌||◌, is_some, option_map, if◌then◌else◌, IfOk, OnErr, IsTrue};
-ghost use Rattle.osc_options.specs.Requests.{request_of};
-ghost use Rattle.osc_options.specs.Recognised.{unrecognised_critical};
+ghost use Rattle.std.specs.Prelude.{◌≡◌, ◌||◌, option_map, if◌then◌else◌, IfOk, OnErr, IsTrue};
 ghost use Rattle.osc_server.specs.Case as spec;
 ghost use Rattle.osc_server.specs.Parts.{AsksGet};
 
@@ -67,13 +65,6 @@ fn is_open(open_scope: &Scope, request: &Request) -> bool
         && open_scope.verdict(request.path.as_ref(), request.code) == Verdict::Granted
 }
 
-/// Whether the request has a critical option that isn't recognised.
-fn has_bad_option(message: &MessageRef<'_>) -> bool
-    ensures { result ≡ is_some (unrecognised_critical 0 message.now.options) }
-{
-    unrecognised_critical(message).is_some()
-}
-
 /// What is made of a request with an option that isn't understood.
 fn refused_option<'a>(message: MessageRef<'a>) -> Case<'a>
     ensures case { result ≡ spec.refused_option message.entry }
@@ -121,7 +112,7 @@ fn request_case<'a>(
     ensures get { IfOk result AsksGet }
     ensures needs_memory { OnErr result (spec.IsAnsweredAnew (spec.request_case open_scope.now message.entry)) }
 {
-    if has_bad_option(&message) {
+    if unrecognised_critical(&message).is_some() {
         Ok(refused_option(message))
     } else if asks_proxy(&message) {
         Ok(Case::ProxyAsked(message))

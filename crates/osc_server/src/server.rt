@@ -3,9 +3,7 @@ ghost use Rattle.std.specs.Prelude.{◌≡◌, ◌≤◌, ◌<◌, [], ◌∷◌
 ghost use Rattle.std.specs.List.{All};
 ghost use Rattle.osc_authz.specs.Table.{IsTable};
 ghost use Rattle.osc_coap.specs.Message.{Message, Spells, spelling};
-ghost use Rattle.osc_message.specs.declared.handling.Handling.TheVariants.{Dropped};
-ghost use Rattle.osc_message.specs.declared.heard.Heard.TheVariants as heard;
-ghost use Rattle.osc_message.specs.Endpoint.{fresh, settled};
+ghost use Rattle.osc_message.specs.Endpoint.{fresh};
 ghost use Rattle.osc_message.specs.Heard.{heard as heard_as, noted_reply as noted_reply_of};
 ghost use Rattle.osc_message.specs.Received.{Receives};
 ghost use Rattle.osc_message.specs.declared.received.Received.{Received as AnyReceived};
@@ -14,16 +12,16 @@ ghost use Rattle.osc_model.specs.Step.{sends};
 ghost use Rattle.osc_model.specs.StepNotes.{quiet};
 ghost use Rattle.osc_model.specs.declared.node.Moment.{Moment as AnyMoment};
 ghost use Rattle.osc_run.specs.ServerKinds.{ServerStep};
-ghost use Rattle.osc_message.specs.Sending.{again, datagram};
+ghost use Rattle.osc_message.specs.Sending.{FitsDatagram, again, datagram};
 ghost use Rattle.osc_server.specs.Case.{IsAnswered, case_of as case_in};
 ghost use Rattle.osc_message.specs.Ticks.{acts};
 ghost use Rattle.osc_server.specs.Hearing.{Hears, Ticks};
-ghost use Rattle.osc_server.specs.Parts.{AsksGet, FitsAResource, SendsTo};
+ghost use Rattle.osc_server.specs.Parts.{AsksGet, FitsAResource, IsMessage, SendsTo, noted_by};
 ghost use Rattle.osc_server.specs.State.{core};
 ghost use Rattle.osc_server.specs.Table.{Answers, AnswersGet, AnswersPost, AnswersProtected, AnswersWith, Refuses, Sends, answered, refusal_code, refusal_number, refusal_to as refusal_to_of, refused_for as refused_for_of};
 
 use crate::Endpoint;
-use crate::answer::{refusal_to, reply_to};
+use crate::answer::{refusal_to, reply_to, sent_as};
 use crate::case::{Case, case_of};
 use crate::posting::{POST_ANSWER, POST_PAYLOAD, notes_of, post_answer};
 use crate::refusal::{Refusal, refused_for};
@@ -31,8 +29,8 @@ use crate::serving::{ProtectedRequest, Served, serve};
 use osc_authz::{Post, ServerDesk};
 use osc_coap::MessageBuilder;
 use osc_message::laws::what_is_heard;
-use osc_message::{Arrival, Buffer, Handling, Heard, ReplyRoom, reset, sending_message};
-use osc_model::{Code, Datagrams, Draw, Moment, Peer, Reply, Request, Step, StepNotes};
+use osc_message::{Arrival, Buffer, Handling, Heard, ReplyRoom, sending_reset};
+use osc_model::{Bytes, Code, Datagrams, Draw, Moment, Peer, Reply, Request, Step, StepNotes};
 use osc_protect::{Ciphers, TokenCipher, read_request};
 use osc_run::kinds;
 use osc_scope::Scope;
@@ -178,7 +176,7 @@ impl Server {
         };
         match case {
             Case::Ignored => Ok(Step::sending(Datagrams::new(alloc))),
-            Case::Reset(id) => sending_message(alloc, from, &reset(id)),
+            Case::Reset(id) => sending_reset(alloc, from, id),
             Case::Repeated(id) => self.repeat(alloc, now, from, id),
             Case::Empty(kind, id) => {
                 self.endpoint.settle_empty(now, from, kind, id);
@@ -289,21 +287,30 @@ impl Server {
         ensures spelled { Spells (spelling answer.now) answer.now }
         ensures sent { SendsTo came.entry.from result.out }
     {
+        let (out, reply) = sent_as(room, came.from, answer);
+        self.note(came, reply);
+        Step { out, notes }
+    }
+
+    /// Notes the request with the bytes that answered it, for a repeat; takes no memory.
+    fn note(&mut self, came: Arrival<'_>, reply: Bytes)
+        requires message { IsMessage reply }
+        requires fits { FitsDatagram reply }
+        ensures { self.new ≡ record self.old { endpoint = noted_by self.old.endpoint came.entry.at came.entry.from came.entry.draw.now came.entry.message reply } }
+    {
         let Arrival {
             at,
             from,
             draw,
             message,
         } = came;
-        let (out, noted) = room.fill(from, answer.bytes());
         self.endpoint.take_reply_id(draw, &message);
         self.endpoint.settle(
             at,
             from,
             &Heard::Message(message),
-            Handling::Answered(Some(noted)),
+            Handling::Answered(Some(reply)),
         );
-        Step { out, notes }
     }
 
     /// Judges a post to authz-info, and answers it. All memory is taken before the desk changes.
@@ -347,13 +354,10 @@ impl Server {
             &self.endpoint,
             &request,
         )? {
-            Ok(
-                Served {
-                    answer,
-                    notes,
-                    room,
-                },
-            ) => Ok(self.send(room, came, &answer, notes)),
+            Ok(Served { out, reply, notes }) => {
+                self.note(came, reply);
+                Ok(Step { out, notes })
+            }
             Err(refusal) => self.complain(alloc, came, refusal),
         }
     }

@@ -1,7 +1,7 @@
 //! Protected requests (RFC 8613 sections 8.2 and 8.3): a request is opened without memory until it is known to be genuine, then all
 //! memory is taken before the number is accepted, and nothing fails from there but what is answered by 5.00.
 ghost use Rattle.std.specs.Prelude.{◌≡◌, ◌<◌, ◌≤◌, ◌+◌, ℕ, List, length, Some, None, IfOk, IfErr, IfSome, IfNone, OnErr, OnOk};
-ghost use Rattle.osc_coap.specs.Message.{spelling};
+ghost use Rattle.osc_coap.specs.Message.{Message as AnyMessage, spelling};
 ghost use Rattle.osc_authz.specs.Held.{Held};
 ghost use Rattle.osc_authz.specs.Table.{accepted, meant};
 ghost use Rattle.osc_context.specs.Algorithm.{algorithm_of};
@@ -13,21 +13,20 @@ ghost use Rattle.osc_protect.specs.Protection.{IsFor, IsRequest, IsProtectedResp
 ghost use Rattle.osc_run.specs.ServerKinds.{opening_note, reply_note, Replies as AppliesTo};
 ghost use Rattle.osc_run.specs.Texts.{read_request, IsWithinRanges};
 ghost use Rattle.osc_model.specs.Tree.{Tree as AnyTree};
-ghost use Rattle.osc_server.specs.Parts.{FitsAResource, IsReplyOf, IsServedAs, IsTakenFor, reply_length, read_length as read_length_of};
+ghost use Rattle.osc_server.specs.Parts.{FitsAResource, IsReplyOf, IsSentAs, IsServedAs, IsTakenFor, reply_length, read_length as read_length_of};
 ghost use Rattle.osc_server.specs.Table.{IsMeant, IsOpened, IsRefused, IsSealed, notes_of_request, reply_to as reply_to_of};
 ghost use Rattle.osc_window.specs.Window.{IsFresh};
 
 use crate::Endpoint;
-use crate::answer::reply_to;
+use crate::answer::{reply_to, sent_as};
 use crate::case::GET;
 use crate::refusal::Refusal;
 use osc_authz::laws::meant_contexts;
 use osc_authz::{ServerContext, ServerDesk};
-use osc_coap::MessageBuilder;
 use osc_coap::laws::{length_of_plaintext, length_of_spelling};
 use osc_context::AcceptedNumber;
 use osc_message::{Arrival, ReplyRoom};
-use osc_model::{Bytes, Code, Entry, Note, Path, Reply, Request, SharedName, StepNotes};
+use osc_model::{Bytes, Code, Datagrams, Entry, Note, Path, Reply, Request, SharedName, StepNotes};
 use osc_protect::{
     Ciphers, ProtectedResponse, Room, SealedRequestRef, open_request, protect_reply,
 };
@@ -36,15 +35,16 @@ use osc_scope::Scope;
 use osc_tree::Tree;
 use std::alloc::{AllocError, Global};
 
-/// What a protected request came to: the protected reply with room for it, and what is noted.
+/// What a protected request came to: the protected reply, and what is noted. The message itself isn't handed on, since it is a
+/// buffer of 1,152 bytes.
 #[derive(Drop)]
 pub struct Served {
-    /// The protected reply.
-    pub answer: MessageBuilder,
+    /// The datagram of the protected reply.
+    pub out: Datagrams,
+    /// Its bytes, for a repeat of the request.
+    pub reply: Bytes,
     /// What is noted of the step.
     pub notes: StepNotes,
-    /// Room for the reply.
-    pub room: ReplyRoom,
 }
 
 /// The most bytes of a reply's plaintext beside its payload: a code, an ETag, a Content-Format, and the payload marker.
@@ -216,10 +216,10 @@ impl Taken {
         requires number { number ≡ accepted_of context.now.name Server number.number }
         requires noted { self.note ≡ opening_note context.now.name number.number self.note.plaintext }
         requires taken { (tree : AnyTree) × IsTakenFor A.TAG tree self × IsReplyOf (reply_length tree self.read) reply }
-        ensures protected { IsProtectedResponse A.is_sealing context.now.name number.number None
-            (reply_to_of endpoint.now came.now.draw.now came.now.message reply) result.answer }
+        ensures protected { (answer : AnyMessage) × IsProtectedResponse A.is_sealing context.now.name number.number None
+            (reply_to_of endpoint.now came.now.draw.now came.now.message reply) answer
+            × IsSentAs came.now.from answer result.out result.reply }
         ensures noted { result.notes ≡ notes_of_request came.now.at context.now number.number self.note.plaintext reply }
-        ensures room { length (spelling result.answer) ≤ result.room }
     {
         let Taken {
             note,
@@ -238,13 +238,14 @@ impl Taken {
             moment: came.at,
             reply,
         };
+        let (out, reply) = sent_as(reply_room, came.from, &sealed.message);
         Served {
-            answer: sealed.message,
+            out,
+            reply,
             notes: StepNotes::quiet()
                 .with_seal(sealed.note)
                 .with_open(note)
                 .with_entry(entry),
-            room: reply_room,
         }
     }
 }
@@ -262,7 +263,7 @@ fn serve_opened<A: Ciphers>(
     requires opened { (held : Held) × IsOpened A.is_sealing desk.old request.now.came.now.at request.now.came.now.message request.now.says held taken.note.plaintext
         × (taken.note ≡ opening_note held.name request.now.says.number taken.note.plaintext) }
     requires taken { IsTakenFor A.TAG tree.old taken }
-    ensures served { IsServedAs A.is_sealing tree.old desk.old endpoint.now request.now.came.now.at request.now.came.now.draw.now request.now.came.now.message request.now.says result tree.new }
+    ensures served { IsServedAs A.is_sealing tree.old desk.old endpoint.now request.now.came.now.at request.now.came.now.from request.now.came.now.draw.now request.now.came.now.message request.now.says result tree.new }
     ensures accepted { desk.new ≡ record desk.old { table = accepted request.now.says.kid request.now.says.number desk.old.table } }
 {
     let says = &request.says;
@@ -322,7 +323,7 @@ pub fn serve<A: Ciphers>(
 ) -> Result<Result<Served, Refusal>, AllocError>
     requires { IsRequest request.now.came.now.message request.now.says }
     ensures served { IfOk result (λ outcome. IfOk outcome (λ served.
-        IsServedAs A.is_sealing tree.old desk.old endpoint.now request.now.came.now.at request.now.came.now.draw.now request.now.came.now.message request.now.says served tree.new)) }
+        IsServedAs A.is_sealing tree.old desk.old endpoint.now request.now.came.now.at request.now.came.now.from request.now.came.now.draw.now request.now.came.now.message request.now.says served tree.new)) }
     ensures accepted { IfOk result (λ outcome. OnOk outcome
         (desk.new ≡ record desk.old { table = accepted request.now.says.kid request.now.says.number desk.old.table })) }
     ensures refused { IfOk result (λ outcome. IfErr outcome (λ refusal. IsRefused A.is_sealing desk.old request.now.came.now.at request.now.came.now.message refusal)) }

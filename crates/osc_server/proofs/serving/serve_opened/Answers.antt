@@ -1,4 +1,4 @@
-use Rattle.std.proofs.Common.{◌≡◌, ℕ, List, Some, ap, ◌∙◌, sym}
+use Rattle.std.proofs.Common.{◌≡◌, Some, ap, ◌∙◌}
 use Rattle.std.proofs.lemmas.Option.{same_Some}
 use Rattle.osc_authz.specs.Held.{Held}
 use Rattle.osc_authz.specs.Table.{confirmed_at, taking, with_id}
@@ -32,16 +32,17 @@ returns-clause-served g c =
     let number : c.accept-number.result.0.number ≡ c.args.request.now.says.number = ap (λ (r : Accepted). r.number) right ∙ c.number.ensures.value in
     let came = c.args.request.now.came.now in
     let text = c.args.taken.note.plaintext in
-    let replied : IsReplied g.A.Ciphers.is_sealing c.args.tree.now c.args.endpoint.now came.at came.draw.now came.message
+    let replied : IsReplied g.A.Ciphers.is_sealing c.args.tree.now c.args.endpoint.now came.at came.from came.draw.now came.message
     c.unwrap-context.result.now c.accept-number.result.0.number text c.answered.result c.applied-reply.new.tree = record {
       reply = c.applied-reply.result;
       within = c.applied-reply.ensures.within;
       applied = rw (c.scope.ensures, c.requires.taken.read) at c.applied-reply.ensures.applied;
-      protected = c.answered.ensures.protected;
+      answer = c.answered.ensures.protected.0;
+      protected = c.answered.ensures.protected.1;
+      sends = c.answered.ensures.protected.2;
       noted = c.answered.ensures.noted;
-      room = c.answered.ensures.room;
     } in
-    served_as g.A.Ciphers.is_sealing c.args.tree.now c.args.desk.now c.args.endpoint.now came.at came.draw.now came.message c.args.request.now.says
+    served_as g.A.Ciphers.is_sealing c.args.tree.now c.args.desk.now c.args.endpoint.now came.at came.from came.draw.now came.message c.args.request.now.says
     held c.unwrap-context.result.now c.number.result c.accept-number.result.0.number text c.answered.result c.applied-reply.new.tree
     opened.1 context number replied
 

@@ -1,9 +1,9 @@
-use Rattle.std.proofs.Common.{◌≡◌, subst, sym}
+use Rattle.std.proofs.Common.{◌≡◌, refl, subst, sym}
 use Rattle.std.proofs.lemmas.Result.{IfOk-at_ok, IfOk-weaker}
 use Rattle.std.specs.Result.{IfOk}
 use Rattle.osc_authz.specs.Table.{accepted}
-use Rattle.osc_server.specs.Parts.{IsServedAs}
-use Rattle.osc_server.specs.Table.{AnswersProtected, IsRefused, answered, refused, served}
+use Rattle.osc_server.specs.Parts.{IsServedAs, noted_by}
+use Rattle.osc_server.specs.Table.{AnswersProtected, IsRefused, refused, served}
 use Rattle.osc_server.specs.declared.refusal.Refusal.TheVariants.{Malformed}
 use Rattle.osc_server.proofs.Served.{serves}
 use Rattle.osc_server.proofs.server.Server.protected.Goals as goal
@@ -16,27 +16,27 @@ returns-in_default-clause-answered g c =
 
 pub returns-in-Ok-2-clause-answered : goal.returns-in-Ok-2-clause-answered
 returns-in-Ok-2-clause-answered g c =
-    let as_served = IfOk-at_ok (λ it. IsServedAs g.A.Ciphers.is_sealing c.self.inside.tree c.self.inside.desk c.self.inside.endpoint c.args.came.at c.args.came.draw.now c.args.came.message c.in-Ok.says it c.serve.new.tree) c.in-Ok-2.is c.in_ok-answer.ensures.served in
+    let as_served = IfOk-at_ok (λ it. IsServedAs g.A.Ciphers.is_sealing c.self.inside.tree c.self.inside.desk c.self.inside.endpoint c.args.came.at c.args.came.from c.args.came.draw.now c.args.came.message c.in-Ok.says it c.serve.new.tree) c.in-Ok-2.is c.in_ok-out.ensures.served in
     let desk : c.serve.new.desk ≡ record c.self.inside.desk { table = accepted c.in-Ok.says.kid c.in-Ok.says.number c.self.inside.desk.table } =
-    rw c.in-Ok-2.is at c.in_ok-answer.ensures.accepted
+    rw c.in-Ok-2.is at c.in_ok-out.ensures.accepted
     in
-    let kept : c.send.new.self ≡ record {
+    let kept : c.note.new.self ≡ record {
       tree = c.serve.new.tree;
       desk = record c.self.inside.desk { table = accepted c.in-Ok.says.kid c.in-Ok.says.number c.self.inside.desk.table };
       open_scope = c.self.inside.open_scope;
-      endpoint = answered c.self.inside.endpoint c.args.came.at c.args.came.from c.args.came.draw.now c.args.came.message c.in-Ok-2.field-0.answer;
-    } = rw (sym desk) c.send.ensures.kept in
-    subst (λ old. AnswersProtected g.A.Ciphers.is_sealing old c.args.came.at c.args.came.from c.args.came.draw.now c.args.came.message c.send.result c.send.new.self) c.self.view_is
+      endpoint = noted_by c.self.inside.endpoint c.args.came.at c.args.came.from c.args.came.draw.now c.args.came.message c.in-Ok-2.field-0.reply;
+    } = rw (sym desk) c.note.ensures in
+    subst (λ old. AnswersProtected g.A.Ciphers.is_sealing old c.args.came.at c.args.came.from c.args.came.draw.now c.args.came.message (record { out = c.in-Ok-2.field-0.out; notes = c.in-Ok-2.field-0.notes }) c.note.new.self) c.self.view_is
     (served
     (serves g.A.Ciphers.is_sealing
     (record { tree = c.self.inside.tree; desk = c.self.inside.desk; open_scope = c.self.inside.open_scope; endpoint = c.self.inside.endpoint })
-    c.args.came.at c.args.came.from c.args.came.draw.now c.args.came.message c.in-Ok.says c.in-Ok-2.field-0 c.serve.new.tree c.send.result c.send.new.self
-    as_served c.send.ensures.step kept c.send.ensures.spelled))
+    c.args.came.at c.args.came.from c.args.came.draw.now c.args.came.message c.in-Ok.says c.in-Ok-2.field-0 c.serve.new.tree (record { out = c.in-Ok-2.field-0.out; notes = c.in-Ok-2.field-0.notes }) c.note.new.self
+    as_served refl kept))
 
 pub returns-in-Err-clause-answered : goal.returns-in-Err-clause-answered
 returns-in-Err-clause-answered g c =
-    let same : (c.serve.new.desk ≡ c.self.inside.desk) × (c.serve.new.tree ≡ c.self.inside.tree) = rw c.in-Err.is at c.in_ok-answer.ensures.same in
-    let why : IsRefused g.A.Ciphers.is_sealing c.self.inside.desk c.args.came.at c.args.came.message c.in-Err.refusal = rw c.in-Err.is at c.in_ok-answer.ensures.refused in
+    let same : (c.serve.new.desk ≡ c.self.inside.desk) × (c.serve.new.tree ≡ c.self.inside.tree) = rw c.in-Err.is at c.in_ok-out.ensures.same in
+    let why : IsRefused g.A.Ciphers.is_sealing c.self.inside.desk c.args.came.at c.args.came.message c.in-Err.refusal = rw c.in-Err.is at c.in_ok-out.ensures.refused in
     let sends = rw (same.0, same.1) at c.complain-in-Err.ensures.sends in
     subst (λ old. IfOk c.complain-in-Err.result (λ step. AnswersProtected g.A.Ciphers.is_sealing old c.args.came.at c.args.came.from c.args.came.draw.now c.args.came.message step c.complain-in-Err.new.self)) c.self.view_is
     (IfOk-weaker c.complain-in-Err.result _ _ (λ step it. refused c.in-Err.refusal why it) sends)
