@@ -59,14 +59,29 @@ pub(crate) fn fitting<A: Ciphers>(
 {
     merged_options();
     protected_messages_are_longer();
-    // For the proof alone: the call tells how long the ID is.
-    let _id = context.sender().id();
     let plain = plain_message(origin, id, token, request).ok()?;
-    let number = context.sender().next_number();
-    match request_size::<A>(context.name(), number, &plain.message()) {
+    match size_of::<A>(context, &plain) {
         Some(size) => Some((plain, size)),
         None => None,
     }
+}
+
+/// How long the message is under the context's next number, where it fits a datagram once it is protected.
+#[inline(never)]
+fn size_of<A: Ciphers>(context: &ClientContext, plain: &MessageBuilder) -> Option<RequestSize>
+    requires number { context.now.next ≤ greatest_number }
+    requires short { HasShortContext context.now.name }
+    ensures size { IfSome result (λ size. size
+        ≡ record { plaintext = length (plain_bytes plain.now); message = request_length A.TAG context.now.name context.now.next plain.now }) }
+    ensures fits { IsSome result ↔ (request_length A.TAG context.now.name context.now.next plain.now ≤ longest_message) }
+{
+    // For the proof alone: the call tells how long the ID is.
+    let _id = context.sender().id();
+    request_size::<A>(
+        context.name(),
+        context.sender().next_number(),
+        &plain.message(),
+    )
 }
 
 /// The memory of a protected request, taken before its number.
@@ -119,6 +134,7 @@ pub(crate) struct Asked {
 }
 
 /// Protects the request under the context's next number, which is taken; takes no memory.
+#[inline(never)]
 pub(crate) fn protected<A: Ciphers>(
     context: &mut ClientContext,
     room: AskRoom,
