@@ -7,7 +7,8 @@ use Rattle.osc_model.specs.declared.step.Datagram.{Datagram}
 use Rattle.osc_model.specs.declared.step.Step.{Step}
 use Rattle.osc_programs.specs.Ended.{IsFault, NoSettings, EndsLab, EndsNode, EndsTurns, EndsTold, EndsClient, CannotLab, CannotTalk, CannotAsk}
 use Rattle.osc_programs.specs.Log.{Tells, Told}
-use Rattle.osc_programs.specs.Turning.{GoesOn, IsSeeded, Running, Runs, Supply, Turns}
+use Rattle.osc_supply.specs.Supply.{IsSeeded, SupplyState}
+use Rattle.osc_programs.specs.Turning.{GoesOn, Running, Runs, Turns}
 use Rattle.osc_programs.specs.Turning as turning
 use Rattle.osc_programs.specs.declared.ended.Ended.{Ended}
 use Rattle.osc_programs.specs.declared.ended.Ended.TheVariants.{Done, BadCommandLine, BadLine, BadSettings, OutOfMemory, Failed, PortFailed, NotDone}
@@ -203,7 +204,7 @@ one_more is_step n first between last out more_out log text taken turn =
     subst (λ (k : ℕ). Turns is_step k first (out ++ more_out) (log ++ text) last) (sym (add-one n)) (turning.more n first between last out more_out log text taken turn)
 
 -- who ended well took all turns
-pub runs : {N : Type 0} (is_step : N → Moment → Draw → Option Arrival → Step → N → Type 0) (turns taken : ℕ) (old new : N) (start : Supply) (out : List Datagram) (log : List ℕ) (last : Running N) (ended : Ended)
+pub runs : {N : Type 0} (is_step : N → Moment → Draw → Option Arrival → Step → N → Type 0) (turns taken : ℕ) (old new : N) (start : SupplyState) (out : List Datagram) (log : List ℕ) (last : Running N) (ended : Ended)
     → IsSeeded start → Turns is_step taken (record { node = old; busy = None; supply = start }) out log last → new ≡ last.node
     → ((ended ≡ Done) × (taken ≡ turns)) ⊎ ((ended ≢ Done) × (taken < turns)) → ended ≡ Done → Runs is_step turns log old new
 runs is_step turns taken old new start out log last ended seeded all is_last (inl done) e = record {

@@ -17,7 +17,8 @@ use Rattle.osc_turn.specs.Ports.{Arrival}
 use Rattle.osc_simulation.specs.Records.{learnt_text}
 use Rattle.osc_simulation.specs.Simulation.{is_sealing, tag_of}
 use Rattle.osc_simulation.specs.Text.{line}
-use Rattle.osc_programs.specs.Turning.{Supply, IsSeeded, Running, Gives, TakesTurn}
+use Rattle.osc_supply.specs.Supply.{Gives, IsSeeded, SupplyState}
+use Rattle.osc_programs.specs.Turning.{Running, TakesTurn}
 use Rattle.osc_programs.specs.declared.asking.Outcome.{Outcome}
 use Rattle.osc_programs.specs.declared.asking.Outcome.TheVariants.{Told, Open}
 use Rattle.osc_programs.specs.declared.ended.Ended.{Ended}
@@ -91,7 +92,7 @@ pub record Converses (turns : ℕ) (request : Request) (old : Running Client) (s
 
 -- the same from the start on
 pub record Talks (turns : ℕ) (request : Request) (old : Client) (outcome : Outcome) (new : Client) : Type 0 where
-  pub start : Supply
+  pub start : SupplyState
   pub seeded : IsSeeded start
   pub sent : List Datagram
   pub last : Running Client

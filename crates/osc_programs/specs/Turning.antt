@@ -1,48 +1,13 @@
 -- The turns that a node takes in a program: its moments, its draws, and its ticks.
-use Rattle.std.specs.Prelude.{◌≡◌, ◌^◌, ◌/◌, ◌&&◌, ◌++◌, ◌∷◌, ℕ, suc, true, List, [], length, Option, None, if◌then◌else◌, nat_le, nat_lt, is_some}
-use Rattle.rand_chacha.specs.ChaCha.{ChaCha, next_word, of_seed}
-use Rattle.rand_core.specs.Steps.{steps_u32, stream_of}
-use Rattle.rand_core.specs.Stream.{Stream, fill_bytes}
+use Rattle.std.specs.Prelude.{◌≡◌, ◌++◌, ℕ, suc, true, List, [], Option, None, is_some}
 use Rattle.osc_model.specs.declared.node.Draw.{Draw}
 use Rattle.osc_model.specs.declared.node.Moment.{Moment}
 use Rattle.osc_model.specs.declared.step.Datagram.{Datagram}
 use Rattle.osc_model.specs.declared.step.Step.{Step}
 use Rattle.osc_turn.specs.Pace.{busy_after, is_due}
-use Rattle.osc_turn.specs.Ports.{Arrival, grown}
+use Rattle.osc_turn.specs.Ports.{Arrival}
+use Rattle.osc_supply.specs.Supply.{Gives, IsSeeded, SupplyState}
 use Rattle.osc_programs.specs.Log.{IsStepText, lost_text}
-
--- ---- what a node is handed with each event
-
--- The milliseconds of a clock's reading, which counts nanoseconds since 1970 (tokens count seconds from there, RFC 7519 section 2). The
--- last moment's, where that is later, or where no moment is so late.
-abbrev pub not_before : ℕ → ℕ → ℕ
-not_before last reading = if nat_lt (reading / 1000000) (2 ^ 63) && nat_le last (reading / 1000000) then reading / 1000000 else last
-
--- what the generator still gives: the key stream of ChaCha with 12 rounds
-abbrev pub stream_from : ChaCha → Stream
-stream_from generator = stream_of (steps_u32 (next_word 6)) generator
-
--- what hands a node its moments and draws: the last moment, the generator, and the clock's readings so far, where contracts see them
-pub record Supply : Type 0 where
-  pub last : Moment
-  pub generator : ChaCha
-  pub told : Option (List ℕ)
-
--- its generator is that of a seed of 32 bytes
-abbrev pub IsSeeded : Supply → Type 0
-IsSeeded supply = (seed : List ℕ) × (length seed ≡ 32) × (supply.generator ≡ of_seed seed)
-
--- The clock was read once more, and the moment is that reading's, or still the last one.
-pub record Reads (old : Supply) (now : Moment) (new : Supply) : Type 0 where
-  pub reading : ℕ
-  pub told : new.told ≡ grown old.told (reading ∷ [])
-  pub is_moment : now.ms ≡ not_before old.last.ms reading
-  pub kept : new.last ≡ now
-
--- The next moment, and the next draw: the generator's next 32 bytes.
-pub record Gives (old : Supply) (now : Moment) (draw : Draw) (new : Supply) : Type 0 where
-  pub reads : Reads old now new
-  pub drawn : (draw.0, stream_from new.generator) ≡ fill_bytes 32 (stream_from old.generator)
 
 -- ---- turns
 
@@ -50,7 +15,7 @@ pub record Gives (old : Supply) (now : Moment) (draw : Draw) (new : Supply) : Ty
 pub record Running (N : Type 0) : Type 0 where
   pub node : N
   pub busy : Option Moment
-  pub supply : Supply
+  pub supply : SupplyState
 
 module _ {N : Type 0} (is_step : N → Moment → Draw → Option Arrival → Step → N → Type 0) where
   -- a turn of the next moment and draw: a step of the node, which is a tick where one is due
@@ -84,7 +49,7 @@ module _ {N : Type 0} (is_step : N → Moment → Draw → Option Arrival → St
 
   -- The node takes so many turns from the start on, and this is told of them.
   pub record Runs (turns : ℕ) (log : List ℕ) (old new : N) : Type 0 where
-    pub start : Supply
+    pub start : SupplyState
     pub seeded : IsSeeded start
     pub sent : List Datagram
     pub last : Running N

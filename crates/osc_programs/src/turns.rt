@@ -8,8 +8,9 @@ ghost use Rattle.osc_programs.specs.Turning as spec;
 
 use crate::ended::Ended;
 use crate::log::Log;
-use crate::supply::{Supply, Watch, moment_and_draw};
+use crate::supply::moment_and_draw;
 use osc_ccm::Ccm;
+use osc_supply::{Supply, Watch};
 use osc_turn::{Node, Pace, Port, TurnError, Turned, paced_turn};
 use std::alloc::Global;
 
