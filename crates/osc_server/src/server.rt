@@ -353,12 +353,13 @@ impl Server {
             &mut self.tree,
             &self.endpoint,
             &request,
-        )? {
-            Ok(Served { out, reply, notes }) => {
+        ) {
+            Ok(Ok(Served { out, reply, notes })) => {
                 self.note(came, reply);
                 Ok(Step { out, notes })
             }
-            Err(refusal) => self.complain(alloc, came, refusal),
+            Ok(Err(refusal)) => self.complain(alloc, came, refusal),
+            Err(error) => Err(error),
         }
     }
 

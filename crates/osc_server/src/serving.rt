@@ -26,7 +26,9 @@ use osc_authz::{ServerContext, ServerDesk};
 use osc_coap::laws::{length_of_plaintext, length_of_spelling};
 use osc_context::AcceptedNumber;
 use osc_message::{Arrival, ReplyRoom};
-use osc_model::{Bytes, Code, Datagrams, Entry, Note, Path, Reply, Request, SharedName, StepNotes};
+use osc_model::{
+    Bytes, Code, Datagrams, Entry, Note, Path, Peer, Reply, Request, SharedName, StepNotes,
+};
 use osc_protect::{
     Ciphers, ProtectedResponse, Room, SealedRequestRef, open_request, protect_reply,
 };
@@ -176,8 +178,24 @@ fn protected<A: Ciphers>(
     length_of_plaintext();
     // For the proof alone: the call tells how long the token is.
     let _token = came.message.token();
-    let plain = reply_to(endpoint, came, reply);
-    protect_reply::<A>(room, number, context.sender(), &plain.message()).unwrap()
+    protect_reply::<A>(
+        room,
+        number,
+        context.sender(),
+        &reply_to(endpoint, came, reply).message(),
+    )
+    .unwrap()
+}
+
+/// The protected reply, as it goes to the peer and as its bytes are kept for a repeat, and the note of its seal; takes no memory.
+#[inline(never)]
+fn sent(room: ReplyRoom, peer: Peer, sealed: ProtectedResponse) -> ((Datagrams, Bytes), Note)
+    requires { length (spelling sealed.message) ≤ room }
+    ensures sent { IsSentAs peer sealed.message result.0.0 result.0.1 }
+    ensures noted { result.1 ≡ sealed.note }
+{
+    let sent = sent_as(room, peer, &sealed.message);
+    (sent, sealed.note)
 }
 
 impl Taken {
@@ -230,7 +248,11 @@ impl Taken {
             reply: reply_room,
         } = self;
         let accepted = number.get();
-        let sealed = protected::<A>(room, number, context, endpoint, came, &reply);
+        let ((out, bytes), sealed) = sent(
+            reply_room,
+            came.from,
+            protected::<A>(room, number, context, endpoint, came, &reply),
+        );
         let entry = Entry {
             context: name,
             number: accepted,
@@ -238,12 +260,11 @@ impl Taken {
             moment: came.at,
             reply,
         };
-        let (out, reply) = sent_as(reply_room, came.from, &sealed.message);
         Served {
             out,
-            reply,
+            reply: bytes,
             notes: StepNotes::quiet()
-                .with_seal(sealed.note)
+                .with_seal(sealed)
                 .with_open(note)
                 .with_entry(entry),
         }

@@ -1,6 +1,7 @@
 use Rattle.std.proofs.Common.{◌≡◌, refl, subst, sym}
-use Rattle.std.proofs.lemmas.Result.{IfOk-at_ok, IfOk-weaker}
+use Rattle.std.proofs.lemmas.Result.{IfOk-weaker}
 use Rattle.std.specs.Result.{IfOk}
+use Rattle.osc_model.specs.declared.step.Step.{Step}
 use Rattle.osc_authz.specs.Table.{accepted}
 use Rattle.osc_server.specs.Parts.{IsServedAs, noted_by}
 use Rattle.osc_server.specs.Table.{AnswersProtected, IsRefused, refused, served}
@@ -14,29 +15,33 @@ returns-in_default-clause-answered g c =
     (λ step sends. refused Malformed (λ request is. absurd (cc (c.in_default.is, c.read_request.ensures.only request is))) sends)
     c.complain.ensures.sends
 
-pub returns-in-Ok-2-clause-answered : goal.returns-in-Ok-2-clause-answered
-returns-in-Ok-2-clause-answered g c =
-    let as_served = IfOk-at_ok (λ it. IsServedAs g.A.Ciphers.is_sealing c.self.inside.tree c.self.inside.desk c.self.inside.endpoint c.args.came.at c.args.came.from c.args.came.draw.now c.args.came.message c.in-Ok.says it c.serve.new.tree) c.in-Ok-2.is c.in_ok-out.ensures.served in
+pub returns-in-Ok-Ok-clause-answered : goal.returns-in-Ok-Ok-clause-answered
+returns-in-Ok-Ok-clause-answered g c =
+    let it = c.in-Ok-Ok.field-0-0 in
+    let step : Step = record { out = it.out; notes = it.notes } in
+    let as_served : IsServedAs g.A.Ciphers.is_sealing c.self.inside.tree c.self.inside.desk c.self.inside.endpoint c.args.came.at c.args.came.from c.args.came.draw.now c.args.came.message c.in-Ok.says it c.serve.new.tree =
+    rw c.in-Ok-Ok.field-0-is at c.in-Ok-Ok.ensures.served
+    in
     let desk : c.serve.new.desk ≡ record c.self.inside.desk { table = accepted c.in-Ok.says.kid c.in-Ok.says.number c.self.inside.desk.table } =
-    rw c.in-Ok-2.is at c.in_ok-out.ensures.accepted
+    rw c.in-Ok-Ok.field-0-is at c.in-Ok-Ok.ensures.accepted
     in
     let kept : c.note.new.self ≡ record {
       tree = c.serve.new.tree;
       desk = record c.self.inside.desk { table = accepted c.in-Ok.says.kid c.in-Ok.says.number c.self.inside.desk.table };
       open_scope = c.self.inside.open_scope;
-      endpoint = noted_by c.self.inside.endpoint c.args.came.at c.args.came.from c.args.came.draw.now c.args.came.message c.in-Ok-2.field-0.reply;
+      endpoint = noted_by c.self.inside.endpoint c.args.came.at c.args.came.from c.args.came.draw.now c.args.came.message it.reply;
     } = rw (sym desk) c.note.ensures in
-    subst (λ old. AnswersProtected g.A.Ciphers.is_sealing old c.args.came.at c.args.came.from c.args.came.draw.now c.args.came.message (record { out = c.in-Ok-2.field-0.out; notes = c.in-Ok-2.field-0.notes }) c.note.new.self) c.self.view_is
+    subst (λ old. AnswersProtected g.A.Ciphers.is_sealing old c.args.came.at c.args.came.from c.args.came.draw.now c.args.came.message step c.note.new.self) c.self.view_is
     (served
     (serves g.A.Ciphers.is_sealing
     (record { tree = c.self.inside.tree; desk = c.self.inside.desk; open_scope = c.self.inside.open_scope; endpoint = c.self.inside.endpoint })
-    c.args.came.at c.args.came.from c.args.came.draw.now c.args.came.message c.in-Ok.says c.in-Ok-2.field-0 c.serve.new.tree (record { out = c.in-Ok-2.field-0.out; notes = c.in-Ok-2.field-0.notes }) c.note.new.self
+    c.args.came.at c.args.came.from c.args.came.draw.now c.args.came.message c.in-Ok.says it c.serve.new.tree step c.note.new.self
     as_served refl kept))
 
-pub returns-in-Err-clause-answered : goal.returns-in-Err-clause-answered
-returns-in-Err-clause-answered g c =
-    let same : (c.serve.new.desk ≡ c.self.inside.desk) × (c.serve.new.tree ≡ c.self.inside.tree) = rw c.in-Err.is at c.in_ok-out.ensures.same in
-    let why : IsRefused g.A.Ciphers.is_sealing c.self.inside.desk c.args.came.at c.args.came.message c.in-Err.refusal = rw c.in-Err.is at c.in_ok-out.ensures.refused in
-    let sends = rw (same.0, same.1) at c.complain-in-Err.ensures.sends in
-    subst (λ old. IfOk c.complain-in-Err.result (λ step. AnswersProtected g.A.Ciphers.is_sealing old c.args.came.at c.args.came.from c.args.came.draw.now c.args.came.message step c.complain-in-Err.new.self)) c.self.view_is
-    (IfOk-weaker c.complain-in-Err.result _ _ (λ step it. refused c.in-Err.refusal why it) sends)
+pub returns-in-Ok-Err-clause-answered : goal.returns-in-Ok-Err-clause-answered
+returns-in-Ok-Err-clause-answered g c =
+    let same : (c.serve.new.desk ≡ c.self.inside.desk) × (c.serve.new.tree ≡ c.self.inside.tree) = rw c.in-Ok-Err.field-0-is at c.in-Ok-Err.ensures.same in
+    let why : IsRefused g.A.Ciphers.is_sealing c.self.inside.desk c.args.came.at c.args.came.message c.in-Ok-Err.refusal = rw c.in-Ok-Err.field-0-is at c.in-Ok-Err.ensures.refused in
+    let sends = rw (same.0, same.1) at c.complain-in-Ok-Err.ensures.sends in
+    subst (λ old. IfOk c.complain-in-Ok-Err.result (λ step. AnswersProtected g.A.Ciphers.is_sealing old c.args.came.at c.args.came.from c.args.came.draw.now c.args.came.message step c.complain-in-Ok-Err.new.self)) c.self.view_is
+    (IfOk-weaker c.complain-in-Ok-Err.result _ _ (λ step it. refused c.in-Ok-Err.refusal why it) sends)
