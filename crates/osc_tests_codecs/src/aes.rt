@@ -37,7 +37,7 @@ const EXAMPLES: [(u128, u128, u128); 6] = [
 
 #[test]
 fn published_examples(rt: HostRuntime) {
-    for (key, block, want) in EXAMPLES {
+    for &(key, block, want) in &EXAMPLES {
         let cipher = Aes128::new(&key.to_be_bytes());
         let got = cipher.encrypt(block.to_be_bytes());
         assert!(rt; u128::from_be_bytes(got) == want, "block {block}");

@@ -245,7 +245,7 @@ const TAKEN: [&[u8]; 4] = [
 
 #[test]
 fn what_is_taken(rt: HostRuntime) {
-    for bytes in TAKEN {
+    for &bytes in &TAKEN {
         let outcome = (extent(bytes), refusal(rt.alloc(), bytes), is_whole(bytes));
         assert!(rt; outcome == (Ok(bytes.len()), None, true), "at {bytes:?}");
     }

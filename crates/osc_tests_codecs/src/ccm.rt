@@ -131,7 +131,7 @@ fn nothing_else_is_genuine(rt: HostRuntime) {
     sealed.copy_from_slice(PACKETS[0].sealed);
     assert!(rt; opens(&rt, &sealed));
     for index in 0..31 {
-        for bit in [1, 2, 4, 8, 16, 32, 64, 128] {
+        for &bit in &[1, 2, 4, 8, 16, 32, 64, 128] {
             sealed[index] ^= bit;
             assert!(rt; !opens(&rt, &sealed));
             sealed[index] ^= bit;

@@ -248,7 +248,7 @@ const NO_PLAINTEXTS: [&[u8]; 3] = [b"", b"\x01\xff", b"\x01\x0f"];
 
 #[test]
 fn no_plaintexts(rt: HostRuntime) {
-    for bytes in NO_PLAINTEXTS {
+    for &bytes in &NO_PLAINTEXTS {
         assert!(rt; PlaintextRef::parse(bytes).is_none(), "at {bytes:?}");
     }
 }

@@ -100,7 +100,7 @@ fn parses(rt: HostRuntime) {
     for case in &OBJECTS {
         assert!(rt; is_parsed(&rt, rt.alloc(), case));
     }
-    for bytes in NO_OBJECTS {
+    for &bytes in &NO_OBJECTS {
         assert!(rt; refusal(rt.alloc(), bytes) == Some(10), "at {bytes:?}");
     }
 }
@@ -121,7 +121,7 @@ const STRUCTURES: [(&[u8], &[u8], &[u8]); 2] = [
 
 #[test]
 fn structures(rt: HostRuntime) {
-    for (protected, external_aad, structure) in STRUCTURES {
+    for &(protected, external_aad, structure) in &STRUCTURES {
         let mut out = Vec::new(rt.alloc());
         enc_structure(protected, external_aad, &mut out).expect(&rt, "memory");
         assert!(rt; out.as_slice() == structure);
@@ -178,7 +178,7 @@ fn seals(rt: HostRuntime) {
 
 #[test]
 fn seals_and_opens(rt: HostRuntime) {
-    for (protected, right, other) in HEADERS {
+    for &(protected, right, other) in &HEADERS {
         let object = sealed(&rt, rt.alloc(), protected);
         assert!(rt; is_under(&object, protected));
         assert!(rt; opened(rt.alloc(), &object, EXTERNAL_AAD) == right);

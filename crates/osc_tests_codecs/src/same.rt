@@ -97,7 +97,7 @@ fn long_texts(rt: HostRuntime) -> Result<(), Fail> {
     let (mut aad, mut text) = ([0; 20], [0; 1400]);
     let seed = fill(fill(5, &mut key), &mut nonce);
     fill(fill(seed, &mut aad), &mut text);
-    for length in [
+    for &length in &[
         1023, 1024, 1136, 1151, 1152, 1153, 1168, 1169, 1184, 1185, 1399, 1400,
     ] {
         let text = text.get(..length).ok_or("a text")?;

@@ -21,7 +21,7 @@ fn verdict(rt: &impl Abort, alloc: Global, scope: &Scope, text: &[u8], code: u8)
 #[test]
 fn a_scope_grants_what_it_was_given(rt: HostRuntime) {
     let mut scope = Scope::new(rt.alloc());
-    for method in [Method::Get, Method::Put, Method::Get] {
+    for &method in &[Method::Get, Method::Put, Method::Get] {
         allow(&rt, rt.alloc(), &mut scope, method);
     }
     let rows: [(&[u8], u8, Verdict); 8] = [
@@ -97,10 +97,10 @@ fn refused_text(rt: &impl Abort, alloc: Global, text: &[u8]) -> Option<u8> {
 
 #[test]
 fn texts_are_written(rt: HostRuntime) {
-    for (text, bytes) in WRITTEN {
+    for &(text, bytes) in &WRITTEN {
         assert!(rt; is_written(&rt, rt.alloc(), text, bytes));
     }
-    for text in NO_TEXTS {
+    for &text in &NO_TEXTS {
         assert!(rt;
             refused_text(&rt, rt.alloc(), text) == Some(24),
             "at {text:?}"
@@ -190,10 +190,10 @@ fn refused_bytes(alloc: Global, bytes: &[u8]) -> Option<u8> {
 
 #[test]
 fn bytes_are_read(rt: HostRuntime) {
-    for (bytes, path, granted) in READ {
+    for &(bytes, path, granted) in &READ {
         assert!(rt; grants(&rt, rt.alloc(), bytes, path, granted));
     }
-    for bytes in NO_SCOPES {
+    for &bytes in &NO_SCOPES {
         assert!(rt;
             refused_bytes(rt.alloc(), bytes) == Some(24),
             "at {bytes:?}"

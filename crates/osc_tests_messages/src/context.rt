@@ -272,7 +272,7 @@ fn refusal_of(alloc: Global, name: &ContextName, side: Side) -> Option<DeriveErr
 
 #[test]
 fn refused_ids(rt: HostRuntime) {
-    for (client_id, server_id, refusal) in IDS {
+    for &(client_id, server_id, refusal) in &IDS {
         let name = name(&rt, rt.alloc(), b"", None, client_id, server_id);
         assert!(rt; refusal_of(rt.alloc(), &name, Side::Client) == refusal);
         assert!(rt; refusal_of(rt.alloc(), &name, Side::Server) == refusal);

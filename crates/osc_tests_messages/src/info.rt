@@ -66,7 +66,7 @@ fn both_infos(
 
 #[test]
 fn infos(rt: HostRuntime) -> Result<(), Fail> {
-    for (id, label, size, [short, long]) in INFOS {
+    for &(id, label, size, [short, long]) in &INFOS {
         let infos = both_infos(rt.alloc(), id, label, size)?;
         assert!(rt; infos.0.as_slice() == short);
         assert!(rt; infos.1.as_slice() == long);

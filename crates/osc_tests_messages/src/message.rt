@@ -107,7 +107,7 @@ const ROWS: [(&[u8], Is, Is); 30] = [
 /// that ID was.
 fn all_are(endpoint: &Endpoint, at: u32, from: Peer) -> (bool, bool) {
     let (mut all_new, mut all_repeated) = (true, true);
-    for (datagram, new, repeated) in ROWS {
+    for &(datagram, new, repeated) in &ROWS {
         let is = hear(endpoint, at, from, datagram);
         all_new = is == (new, 7) && all_new;
         all_repeated = is == (repeated, 7) && all_repeated;
@@ -152,7 +152,7 @@ fn heard_after(alloc: Global, datagram: &[u8], at: u32) -> Result<(Is, u16), All
 
 #[test]
 fn what_is_noted_and_how_long(rt: HostRuntime) {
-    for (datagram, until) in LIVES {
+    for &(datagram, until) in &LIVES {
         let before = until.saturating_sub(1);
         let is = if until == 0 { Is::Message } else { Is::Repeat };
         assert!(rt; heard_after(rt.alloc(), datagram, before).ok() == Some((is, 7)));
@@ -276,7 +276,7 @@ fn is_run(alloc: Global, byte: u8, waiting: u16, run: Run) -> Result<bool, Alloc
 
 #[test]
 fn what_ticks_do(rt: HostRuntime) {
-    for (byte, waiting, run) in RUNS {
+    for &(byte, waiting, run) in &RUNS {
         assert!(rt; is_run(rt.alloc(), byte, waiting, run).ok() == Some(true));
     }
 }
@@ -387,7 +387,7 @@ fn left_open(
 
 #[test]
 fn what_ends_repeats(rt: HostRuntime) {
-    for (from, datagram, request, left) in ENDS {
+    for &(from, datagram, request, left) in &ENDS {
         assert!(rt; left_open(rt.alloc(), from, datagram, request).ok() == Some(left));
     }
 }
@@ -443,7 +443,7 @@ fn is_spelled(message: Option<MessageBuilder>, bytes: Option<&[u8]>) -> bool {
 
 #[test]
 fn responses_are_acknowledged(rt: HostRuntime) {
-    for (kind, acknowledges) in ACKNOWLEDGED {
+    for &(kind, acknowledges) in &ACKNOWLEDGED {
         let response = MessageBuilder::start(kind, 69, 7, b"t");
         assert!(rt; is_spelled(acknowledgement(&response.message()), acknowledges));
     }

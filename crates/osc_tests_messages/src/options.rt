@@ -44,7 +44,7 @@ fn is_row(number: u16, marks: &[u8; 3], shortest: u16, longest: u16) -> bool {
 
 #[test]
 fn the_table(rt: HostRuntime) {
-    for (number, marks, shortest, longest) in ROWS {
+    for &(number, marks, shortest, longest) in &ROWS {
         assert!(rt; is_row(number, marks, shortest, longest), "{number}");
     }
     assert!(rt; class_of(numbers::URI_HOST) == Class::U);
@@ -71,7 +71,7 @@ const DATAGRAMS: [(&[u8], Option<u16>); 9] = [
 
 #[test]
 fn what_is_not_recognised(rt: HostRuntime) {
-    for (datagram, expected) in DATAGRAMS {
+    for &(datagram, expected) in &DATAGRAMS {
         assert!(rt;
             unrecognised_critical(&parsed(&rt, datagram)) == expected,
             "at {datagram:?}"
@@ -137,7 +137,7 @@ const REPLIES: [(Option<u16>, &[u8]); 4] = [
 
 #[test]
 fn replies(rt: HostRuntime) {
-    for (format, expected) in REPLIES {
+    for &(format, expected) in &REPLIES {
         let reply = Reply {
             code: Code::CONTENT,
             etag: Some(*b"abcdefgh"),
@@ -320,7 +320,7 @@ fn is_a_get(alloc: Global, plaintext: &[u8]) -> bool {
 #[test]
 fn an_encrypted_request(rt: HostRuntime) {
     assert!(rt; is_a_get(rt.alloc(), PLAINTEXT));
-    for (plaintext, error) in REQUESTS {
+    for &(plaintext, error) in &REQUESTS {
         assert!(rt;
             request_of(rt.alloc(), plaintext).err() == error,
             "at {plaintext:?}"
@@ -384,7 +384,7 @@ fn an_encrypted_reply(rt: HostRuntime) {
     assert!(rt; is_the_reply(rt.alloc(), REPLY).ok() == Some(true));
     assert!(rt; is_the_reply(rt.alloc(), REPLY_WITH_CLASS_U).ok() == Some(true));
     assert!(rt; etag_in(rt.alloc(), b"\x45\x41a").is_none());
-    for (plaintext, error) in NO_REPLIES {
+    for &(plaintext, error) in &NO_REPLIES {
         assert!(rt;
             reply_of(rt.alloc(), plaintext).err() == error,
             "at {plaintext:?}"
@@ -395,7 +395,7 @@ fn an_encrypted_reply(rt: HostRuntime) {
 #[test]
 fn printed(rt: HostRuntime) {
     let alloc = rt.alloc();
-    for (error, text) in [
+    for &(error, text) in &[
         (
             PlaintextError::Format,
             "13 the plaintext is no such message",

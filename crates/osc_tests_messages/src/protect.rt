@@ -281,7 +281,7 @@ fn is_as_published(rt: &impl Abort, alloc: Global, example: &Example) -> bool {
 
 #[test]
 fn requests(rt: HostRuntime) {
-    for example in REQUESTS {
+    for &example in &REQUESTS {
         assert!(rt; is_as_published(&rt, rt.alloc(), &example));
     }
 }
@@ -318,7 +318,7 @@ fn is_sealed_with(
 
 #[test]
 fn the_nonce_and_the_associated_data(rt: HostRuntime) {
-    for (context, nonce, aad) in NONCES {
+    for &(context, nonce, aad) in &NONCES {
         let name = name_of(&rt, rt.alloc(), &CONTEXTS[context.min(3)]);
         assert!(rt; is_sealed_with(&rt, rt.alloc(), &name, &nonce, aad));
         drop(name);
@@ -438,7 +438,7 @@ fn is_published(made: &ProtectedResponse, example: &Example) -> bool {
 
 #[test]
 fn sealed_responses(rt: HostRuntime) {
-    for (request, response) in [(0, 0), (3, 2)] {
+    for &(request, response) in &[(0, 0), (3, 2)] {
         let example: &Example = &RESPONSES[response];
         let made = replied(&rt, rt.alloc(), &REQUESTS[request], example.message);
         assert!(rt; is_published(&made, example));
@@ -523,7 +523,7 @@ fn is_response(rt: &impl Abort, datagram: &[u8]) -> bool {
 /// To another request they are no responses, and the plain one is none.
 #[test]
 fn opened_responses(rt: HostRuntime) {
-    for example in RESPONSES {
+    for &example in &RESPONSES {
         assert!(rt; opened_as(&rt, rt.alloc(), &example) == (Some(true), None));
         assert!(rt; !is_response(&rt, example.message));
     }
@@ -562,7 +562,7 @@ fn number_in(rt: &impl Abort, alloc: Global, options: &[u8]) -> Option<u64> {
 
 #[test]
 fn what_is_a_request(rt: HostRuntime) {
-    for (options, number) in ARRIVING {
+    for &(options, number) in &ARRIVING {
         assert!(rt; number_in(&rt, rt.alloc(), options) == number);
     }
 }
@@ -595,7 +595,7 @@ fn names(rt: &impl Abort, alloc: Global, context: usize, options: &[u8]) -> bool
 
 #[test]
 fn what_is_named(rt: HostRuntime) {
-    for (context, options, is_named) in NAMED {
+    for &(context, options, is_named) in &NAMED {
         assert!(rt; names(&rt, rt.alloc(), context, options) == is_named);
     }
 }
@@ -715,7 +715,7 @@ fn size_of(plaintext: usize, message: usize) -> Option<RequestSize> {
 /// Under tags of 16 bytes 8 bytes less of payload do.
 #[test]
 fn what_fits(rt: HostRuntime) {
-    for (context, size, whole) in [
+    for &(context, size, whole) in &[
         (0, 0, size_of(1, 17)),
         (0, 1134, size_of(1136, 1152)),
         (0, 1135, None),

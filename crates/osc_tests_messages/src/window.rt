@@ -50,7 +50,7 @@ const NEAR_END: [(u64, bool); 4] = [
 
 #[test]
 fn each_number_is_accepted_once(rt: HostRuntime) {
-    for rows in [
+    for &rows in &[
         &A_WIDTH_APART[..],
         &HALF_A_WIDTH_APART[..],
         &SCATTERED[..],

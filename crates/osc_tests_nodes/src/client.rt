@@ -210,7 +210,7 @@ fn takes_answers(rt: &impl Abort, alloc: Global, client: &mut Client) -> Result<
     let agreed = answering(alloc, 0x41, &post, AGREED)?;
     assert!(rt; heard(alloc, client, &agreed) == 1);
     let protected = asked(alloc, client, &get, 2);
-    for (text, told) in RESPONSES {
+    for &(text, told) in &RESPONSES {
         let response = responding(alloc, &protected, text)?;
         assert!(rt; heard(alloc, client, &response) == told, "at {text:?}");
     }
@@ -269,7 +269,7 @@ fn waits_in_vain(rt: &impl Abort, alloc: Global, client: &mut Client) {
     let post = begun(alloc, client, 0);
     assert!(rt; post.starts_with(b"\x48\x02\0\0"));
     assert!(rt; client.next_deadline() == Some(2_000));
-    for ms in [1_999, 2_000, 6_000, 14_000, 30_000, 61_999] {
+    for &ms in &[1_999, 2_000, 6_000, 14_000, 30_000, 61_999] {
         assert!(rt; ticked(alloc, client, ms) == 0);
     }
     assert!(rt; client.next_deadline() == Some(62_000));

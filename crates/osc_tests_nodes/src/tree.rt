@@ -101,7 +101,7 @@ const CONDITIONS: [(Asked, Code); 10] = [
 #[test]
 fn conditions_are_heeded(rt: HostRuntime) -> Result<(), Fail> {
     let scope = scope_of(rt.alloc(), EVERY_METHOD)?;
-    for (asked, code) in CONDITIONS {
+    for &(asked, code) in &CONDITIONS {
         let (answered, _, _) = first_answer(rt.alloc(), &scope, asked)?;
         assert!(rt; answered == code);
     }
@@ -150,7 +150,7 @@ fn requests_change_the_tree(rt: HostRuntime) -> Result<(), Fail> {
     let alloc = rt.alloc();
     let scope = scope_of(alloc, EVERY_METHOD)?;
     let mut tree = small_tree(alloc, &scope)?;
-    for (asked, want) in IN_A_ROW {
+    for &(asked, want) in &IN_A_ROW {
         assert_eq!(rt; answer(alloc, &mut tree, &scope, asked)?, want);
     }
     Ok(())
@@ -174,7 +174,7 @@ fn the_scope_comes_first(rt: HostRuntime) -> Result<(), Fail> {
     let alloc = rt.alloc();
     let scope = scope_of(alloc, GET_ON_E)?;
     let mut tree = Tree::new(alloc);
-    for (asked, code) in UNDER_A_SCOPE {
+    for &(asked, code) in &UNDER_A_SCOPE {
         let (answered, _, _) = answer(alloc, &mut tree, &scope, asked)?;
         assert!(rt; answered == code);
     }

@@ -61,7 +61,7 @@ const SERVERS: [(&str, &str); 9] = [
 
 #[test]
 fn the_key_of_a_server_is_named(rt: HostRuntime) -> Result<(), Fail> {
-    for (lines, why) in SERVERS {
+    for &(lines, why) in &SERVERS {
         let text = format!(in rt.alloc(); "{KEY}{lines}")?;
         let run = served(&rt, text.as_bytes())?;
         assert!(rt; is_told(&rt, &run, why)?, "{lines}");
@@ -123,7 +123,7 @@ const PROXIES: [(&str, &str); 8] = [
 
 #[test]
 fn the_key_of_a_proxy_is_named(rt: HostRuntime) -> Result<(), Fail> {
-    for (text, why) in PROXIES {
+    for &(text, why) in &PROXIES {
         let run = forwarded(&rt, text.as_bytes())?;
         assert!(rt; is_told(&rt, &run, why)?, "{text}");
     }
@@ -170,7 +170,7 @@ const CLIENTS: [(&str, &str); 9] = [
 #[test]
 fn the_key_of_a_client_is_named(rt: HostRuntime) -> Result<(), Fail> {
     let alloc = rt.alloc();
-    for (lines, why) in CLIENTS {
+    for &(lines, why) in &CLIENTS {
         let text = format!(in alloc; "bind = '127.0.0.1:1'\npeer = '127.0.0.1:2'\n{lines}")?;
         let wanted = format!(in alloc; "settings: {why}\n")?;
         let told = match read_client_settings(alloc, text.as_str()) {

@@ -60,7 +60,7 @@ const BAD: [(&str, u64); 6] = [
 
 #[test]
 fn lines_that_a_lab_does_not_heed(rt: HostRuntime) {
-    for (script, line) in BAD {
+    for &(script, line) in &BAD {
         assert!(rt; writes(&rt, script, 1, Ended::BadLine(line), ""));
     }
 }
@@ -86,7 +86,7 @@ fn tells(rt: &HostRuntime, ended: Ended, line: Option<&str>) -> Result<bool, All
 
 #[test]
 fn what_is_told(rt: HostRuntime) -> Result<(), Fail> {
-    for (ended, line) in TOLD {
+    for &(ended, line) in &TOLD {
         assert!(rt; tells(&rt, ended, line)?);
     }
     Ok(())

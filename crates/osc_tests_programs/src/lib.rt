@@ -1,4 +1,4 @@
-//! Tests of settings, scripts and programs, by what callers see. They stand apart, so that a test that changes has no crate below proved
+//! Tests of settings, scripts, simulations and programs, by what callers see. They stand apart, so that a test that changes has no crate below proved
 //! anew.
 #![tactic(auto)]
 
@@ -16,6 +16,8 @@ mod programs;
 mod scripts;
 #[cfg(test)]
 mod settings;
+#[cfg(test)]
+mod sweeps;
 #[cfg(test)]
 mod token_files;
 #[cfg(test)]

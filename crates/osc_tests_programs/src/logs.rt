@@ -154,7 +154,7 @@ const REFUSED: [(Code, Option<u8>, &str); 16] = [
 
 #[test]
 fn what_is_refused(rt: HostRuntime) -> Result<(), Fail> {
-    for (code, reason, what) in REFUSED {
+    for &(code, reason, what) in &REFUSED {
         let step = refusing(rt.alloc(), code, reason)?;
         assert!(rt; tells(rt.alloc(), &step, what)?, "{what}");
     }
@@ -175,7 +175,7 @@ const SERVED: [(&[u8], &str); 7] = [
 
 #[test]
 fn what_is_served(rt: HostRuntime) -> Result<(), Fail> {
-    for (plaintext, what) in SERVED {
+    for &(plaintext, what) in &SERVED {
         let step = serving(rt.alloc(), plaintext)?;
         assert!(rt; tells(rt.alloc(), &step, what)?, "{what}");
     }

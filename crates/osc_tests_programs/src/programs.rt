@@ -71,7 +71,7 @@ fn writes(alloc: Global, script: &str, with_bytes: bool, ended: Ended, text: &st
 
 #[test]
 fn scripts_have_their_traces(rt: HostRuntime) -> Result<(), Fail> {
-    for (script, with_bytes, trace) in [
+    for &(script, with_bytes, trace) in &[
         ("", false, "history 0\npremise: held\n"),
         (FIRST_RUN, true, FIRST_TRACE),
         (REJECTED, false, REJECTED_TRACE),
@@ -99,7 +99,7 @@ const COMMENTED_TRACE: &str =
 
 #[test]
 fn a_trace_may_have_the_numbers_of_its_lines(rt: HostRuntime) {
-    for (lines, trace) in [(false, COMMENTED_TRACE), (true, NUMBERED_TRACE)] {
+    for &(lines, trace) in &[(false, COMMENTED_TRACE), (true, NUMBERED_TRACE)] {
         let form = TraceForm {
             bytes: false,
             lines,
@@ -170,7 +170,7 @@ fn behind_premise(text: &[u8]) -> Option<&[u8]> {
 
 #[test]
 fn a_client_is_answered_alone(rt: HostRuntime) -> Result<(), Fail> {
-    for (digit, lines) in [
+    for &(digit, lines) in &[
         (0, ""),
         (1, "alone c1 0 2.01\n"),
         (2, "alone c2 0 2.01\n"),
@@ -183,7 +183,7 @@ fn a_client_is_answered_alone(rt: HostRuntime) -> Result<(), Fail> {
 
 #[test]
 fn a_bad_line_is_all_that_is_written(rt: HostRuntime) -> Result<(), Fail> {
-    for (script, number, text) in [
+    for &(script, number, text) in &[
         ("grant c1", 1, "line 1: bad\n"),
         ("\nput e none -", 2, "line 2: bad\n"),
         ("put /e 65536 -", 1, "line 1: bad\n"),
@@ -212,7 +212,7 @@ fn a_bad_line_is_all_that_is_written(rt: HostRuntime) -> Result<(), Fail> {
 // Lines whose event is nobody's, or that are no events: what isn't there neither comes nor changes anything.
 #[test]
 fn what_is_not_there_does_nothing(rt: HostRuntime) -> Result<(), Fail> {
-    for (script, trace) in [
+    for &(script, trace) in &[
         (
             "grant c1 /t:GET\ndraw 0011223344556677\ndrop 1\nskip c1 5\nquiet\n",
             "",
@@ -277,7 +277,7 @@ fn a_broken_input_or_output_fails(rt: HostRuntime) -> Result<(), Fail> {
     );
     assert_eq!(rt; written.len(), 0);
     // The event is written as it comes, and the end lines behind it.
-    for (writes, ended) in [(0, Ended::Failed), (1, Ended::Failed), (2, Ended::Done)] {
+    for &(writes, ended) in &[(0, Ended::Failed), (1, Ended::Failed), (2, Ended::Done)] {
         let mut script = FIRST_RUN.as_bytes();
         let mut writer = BrokenWriter { writes };
         assert_eq!(rt;
@@ -317,7 +317,7 @@ impl Write for FlushedWriter {
 #[test]
 fn lines_stand_as_they_are_done(rt: HostRuntime) -> Result<(), Fail> {
     let alloc = rt.alloc();
-    for (flushes, stands) in [
+    for &(flushes, stands) in &[
         (0, ""),
         (1, "nothing\n"),
         (2, "nothing\nnothing\n"),
@@ -338,7 +338,7 @@ fn lines_stand_as_they_are_done(rt: HostRuntime) -> Result<(), Fail> {
 
 #[test]
 fn endings_have_their_statuses(rt: HostRuntime) {
-    for (ended, wanted) in [
+    for &(ended, wanted) in &[
         (Ended::Done, 0),
         (Ended::BadCommandLine, 2),
         (Ended::BadLine(7), 2),

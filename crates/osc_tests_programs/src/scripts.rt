@@ -2,6 +2,7 @@
 use osc_model::{Algorithm, Bytes, Code, Peer, Request};
 use osc_script::{Line, Node, ScriptError, TOKEN_KEY, grant_claims, read_script, token_iv};
 use std::alloc::{AllocError, Global};
+use std::process::Abort;
 use std::test::Fail;
 
 const SCRIPT: &[u8] =
@@ -67,11 +68,18 @@ fn each_kind_of_line(rt: HostRuntime) -> Result<(), Fail> {
 }
 
 /// The number of the bad line, or 0 where memory ran out.
-fn bad_line(rt: &HostRuntime, text: &[u8]) -> Option<u64> {
-    match read_script(rt.alloc(), text) {
+fn bad_line(alloc: Global, text: &[u8]) -> Option<u64> {
+    match read_script(alloc, text) {
         Ok(_) => None,
         Err(ScriptError::BadLine(n)) => Some(n),
         Err(ScriptError::OutOfMemory) => Some(0),
+    }
+}
+
+/// Asserts of each of these scripts that this is its first bad line.
+fn have_their_bad_lines(rt: &impl Abort, alloc: Global, scripts: &[(&[u8], Option<u64>)]) {
+    for &(text, want) in scripts {
+        assert_eq!(rt; bad_line(alloc, text), want, "at {text:?}");
     }
 }
 
@@ -98,9 +106,7 @@ const MOMENTS: [(&[u8], Option<u64>); 17] = [
 
 #[test]
 fn comments_and_moments(rt: HostRuntime) {
-    for (text, want) in MOMENTS {
-        assert_eq!(rt; bad_line(&rt, text), want, "at {text:?}");
-    }
+    have_their_bad_lines(&rt, rt.alloc(), &MOMENTS);
 }
 
 /// Scripts of the first tree, and the first bad line of each.
@@ -120,9 +126,7 @@ const RESOURCES: [(&[u8], Option<u64>); 11] = [
 
 #[test]
 fn resources(rt: HostRuntime) {
-    for (text, want) in RESOURCES {
-        assert_eq!(rt; bad_line(&rt, text), want, "at {text:?}");
-    }
+    have_their_bad_lines(&rt, rt.alloc(), &RESOURCES);
 }
 
 /// Scripts of injected datagrams, and the first bad line of each.
@@ -143,9 +147,7 @@ const INJECTED: [(&[u8], Option<u64>); 12] = [
 
 #[test]
 fn injections(rt: HostRuntime) {
-    for (text, want) in INJECTED {
-        assert_eq!(rt; bad_line(&rt, text), want, "at {text:?}");
-    }
+    have_their_bad_lines(&rt, rt.alloc(), &INJECTED);
 }
 
 /// Scripts of proxies, and the first bad line of each.
@@ -189,9 +191,7 @@ const PROXIES: [(&[u8], Option<u64>); 29] = [
 
 #[test]
 fn proxies(rt: HostRuntime) {
-    for (text, want) in PROXIES {
-        assert_eq!(rt; bad_line(&rt, text), want, "at {text:?}");
-    }
+    have_their_bad_lines(&rt, rt.alloc(), &PROXIES);
 }
 
 /// Scripts whose lines stand where they may, or not, and the first bad line of each.
@@ -213,9 +213,7 @@ const PLACES: [(&[u8], Option<u64>); 10] = [
 
 #[test]
 fn places(rt: HostRuntime) {
-    for (text, want) in PLACES {
-        assert_eq!(rt; bad_line(&rt, text), want, "at {text:?}");
-    }
+    have_their_bad_lines(&rt, rt.alloc(), &PLACES);
 }
 
 /// Scripts of grants, and the first bad line of each.
@@ -251,9 +249,7 @@ const GRANTS: [(&[u8], Option<u64>); 27] = [
 
 #[test]
 fn grants(rt: HostRuntime) {
-    for (text, want) in GRANTS {
-        assert_eq!(rt; bad_line(&rt, text), want, "at {text:?}");
-    }
+    have_their_bad_lines(&rt, rt.alloc(), &GRANTS);
 }
 
 /// Scripts of what clients do, and the first bad line of each.
@@ -283,9 +279,7 @@ const CLIENTS: [(&[u8], Option<u64>); 21] = [
 
 #[test]
 fn clients(rt: HostRuntime) {
-    for (text, want) in CLIENTS {
-        assert_eq!(rt; bad_line(&rt, text), want, "at {text:?}");
-    }
+    have_their_bad_lines(&rt, rt.alloc(), &CLIENTS);
 }
 
 /// Scripts of what befalls nodes and datagrams, and the first bad line of each.
@@ -317,9 +311,7 @@ const NETWORK: [(&[u8], Option<u64>); 23] = [
 
 #[test]
 fn nodes_and_datagrams(rt: HostRuntime) {
-    for (text, want) in NETWORK {
-        assert_eq!(rt; bad_line(&rt, text), want, "at {text:?}");
-    }
+    have_their_bad_lines(&rt, rt.alloc(), &NETWORK);
 }
 
 /// A script of each kind of line that comes behind a grant.
@@ -481,7 +473,7 @@ fn addresses(rt: HostRuntime) {
         assert!(rt; node.name() == name);
         assert!(rt; node.address() == peer);
     }
-    for port in [6000, 6010, 7000, 7010] {
+    for &port in &[6000, 6010, 7000, 7010] {
         let peer = Peer {
             address: [127, 0, 0, 1],
             port,
@@ -533,9 +525,9 @@ fn long_grant(alloc: Global, last: usize) -> Result<Vec<u8>, AllocError> {
 #[test]
 fn claims_have_65535_bytes_at_most(rt: HostRuntime) {
     let fits = long_grant(rt.alloc(), 228).expect(&rt, "memory");
-    assert!(rt; bad_line(&rt, &fits) == None);
+    assert!(rt; bad_line(rt.alloc(), &fits) == None);
     drop(fits);
     let too_long = long_grant(rt.alloc(), 229).expect(&rt, "memory");
-    assert!(rt; bad_line(&rt, &too_long) == Some(1));
+    assert!(rt; bad_line(rt.alloc(), &too_long) == Some(1));
     drop(too_long);
 }

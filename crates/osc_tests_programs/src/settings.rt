@@ -79,10 +79,10 @@ const ADDRESSES: [&str; 18] = [
 
 #[test]
 fn bad_addresses(rt: HostRuntime) -> Result<(), Fail> {
-    for line in ADDRESSES {
+    for &line in &ADDRESSES {
         assert!(rt; is_bad_for_a_server(rt.alloc(), line, NO_BIND)?, "{line}");
     }
-    for line in ["bind = '0.0.0.0:1'", "bind = '255.255.255.255:65535'"] {
+    for &line in &["bind = '0.0.0.0:1'", "bind = '255.255.255.255:65535'"] {
         assert!(rt; !is_bad_for_a_server(rt.alloc(), line, NO_BIND)?, "{line}");
     }
     Ok(())
@@ -102,7 +102,7 @@ const KEYS: [&str; 7] = [
 
 #[test]
 fn bad_keys(rt: HostRuntime) -> Result<(), Fail> {
-    for line in KEYS {
+    for &line in &KEYS {
         assert!(rt; is_bad_for_a_server(rt.alloc(), line, NO_KEY)?, "{line}");
     }
     Ok(())
@@ -127,7 +127,7 @@ const OTHER_LINES: [&str; 12] = [
 
 #[test]
 fn bad_servers(rt: HostRuntime) -> Result<(), Fail> {
-    for lines in OTHER_LINES {
+    for &lines in &OTHER_LINES {
         assert!(rt;
             is_bad_for_a_server(rt.alloc(), BIND_AND_KEY, lines)?,
             "{lines}"
@@ -188,7 +188,7 @@ const TARGETS: [&str; 16] = [
 
 #[test]
 fn bad_targets(rt: HostRuntime) -> Result<(), Fail> {
-    for lines in TARGETS {
+    for &lines in &TARGETS {
         assert!(rt;
             is_bad_for_a_proxy(rt.alloc(), "bind = '127.0.0.1:1'", lines)?,
             "{lines}"
@@ -208,7 +208,7 @@ fn with_host(alloc: Global, length: usize) -> Result<String, AllocError> {
 
 #[test]
 fn hosts_have_at_most_255_bytes(rt: HostRuntime) -> Result<(), Fail> {
-    for (length, is_bad) in [(255, false), (256, true)] {
+    for &(length, is_bad) in &[(255, false), (256, true)] {
         let lines = with_host(rt.alloc(), length)?;
         assert!(rt;
             is_bad_for_a_proxy(rt.alloc(), "bind = '127.0.0.1:1'", lines.as_str())? == is_bad
@@ -269,7 +269,7 @@ fn client_at(alloc: Global, bind: &str, peer: &str) -> Result<ClientSettings, Se
 fn a_client_at_any_port(rt: HostRuntime) -> Result<(), Fail> {
     let settings = client_at(rt.alloc(), "127.0.0.1:0", "127.0.0.1:2")?;
     assert!(rt; is_local(settings.bind, 0));
-    for (bind, peer) in [
+    for &(bind, peer) in &[
         ("127.0.0.1:00", "127.0.0.1:2"),
         ("127.0.0.1:", "127.0.0.1:2"),
         ("127.0.0.1:1", "127.0.0.1:0"),
@@ -327,7 +327,7 @@ const CLIENTS: [&str; 20] = [
 
 #[test]
 fn bad_clients(rt: HostRuntime) {
-    for lines in CLIENTS {
+    for &lines in &CLIENTS {
         assert!(rt; is_bad_for_a_client(rt.alloc(), lines), "{lines}");
     }
 }
@@ -340,7 +340,7 @@ fn with_bytes(alloc: Global, key: &str, length: usize) -> Result<String, AllocEr
 
 #[test]
 fn material_has_at_most_64_bytes(rt: HostRuntime) -> Result<(), Fail> {
-    for (key, length, is_bad) in [
+    for &(key, length, is_bad) in &[
         ("secret", 64, false),
         ("secret", 65, true),
         ("secret = '01'\nsalt", 64, false),
@@ -370,7 +370,7 @@ fn secrets_are_not_printed(rt: HostRuntime) -> Result<(), Fail> {
 
 #[test]
 fn errors_are_told(rt: HostRuntime) -> Result<(), Fail> {
-    for (error, wanted) in [
+    for (error, wanted) in &[
         (SettingsError::NotToml, "settings: bad"),
         (
             SettingsError::Key(KeyFault::Wrong(SettingsKey::Bind)),
@@ -383,7 +383,7 @@ fn errors_are_told(rt: HostRuntime) -> Result<(), Fail> {
         (SettingsError::Memory, "out of memory"),
     ] {
         let text = format!(in rt.alloc(); "{error}")?;
-        assert_eq!(rt; text.as_str(), wanted);
+        assert_eq!(rt; text.as_str(), *wanted);
     }
     Ok(())
 }

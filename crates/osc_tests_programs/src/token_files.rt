@@ -91,7 +91,7 @@ fn with_end(alloc: Global, text: &[u8], end: &[u8]) -> Result<Vec<u8>, AllocErro
 
 #[test]
 fn a_line_may_end_what_a_file_holds(rt: HostRuntime) -> Result<(), Fail> {
-    for end in [b"".as_slice(), b"\n".as_slice(), b"\r\n".as_slice()] {
+    for &end in &[b"".as_slice(), b"\n".as_slice(), b"\r\n".as_slice()] {
         let key = with_end(rt.alloc(), KEY, end)?;
         let secret = with_end(rt.alloc(), SECRET, end)?;
         assert!(rt;
@@ -112,13 +112,13 @@ const BAD_ENDS: [&[u8]; 5] = [b"\n\n", b"\r", b"\n\r", b" \n", b"\xff"];
 
 #[test]
 fn nothing_else_may_stand_in_a_file(rt: HostRuntime) -> Result<(), Fail> {
-    for end in BAD_ENDS {
+    for &end in &BAD_ENDS {
         let key = with_end(rt.alloc(), KEY, end)?;
         assert!(rt; is_bad_key(rt.alloc(), &key)?);
         let secret = with_end(rt.alloc(), SECRET, end)?;
         assert!(rt; is_bad_secret(rt.alloc(), &secret)?);
     }
-    for text in [b"".as_slice(), b"\n".as_slice(), b"4".as_slice()] {
+    for &text in &[b"".as_slice(), b"\n".as_slice(), b"4".as_slice()] {
         assert!(rt; is_bad_key(rt.alloc(), text)?);
         assert!(rt; is_bad_secret(rt.alloc(), text)?);
     }

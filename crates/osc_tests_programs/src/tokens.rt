@@ -22,7 +22,7 @@ pub(crate) const TOKEN_LINE: &str =
 
 // Adds the options but for this one.
 fn add_others<'a>(words: &mut Vec<&'a str>, option: &'a str) -> Result<(), AllocError> {
-    for (name, usual) in OPTIONS {
+    for &(name, usual) in &OPTIONS {
         if name != option {
             words.push(name)?;
             words.push(usual)?;
@@ -87,7 +87,7 @@ pub(crate) fn run_words<W: Write>(alloc: Global, words: &TokenWords, writer: &mu
 #[test]
 fn a_token_is_printed(rt: HostRuntime) -> Result<(), Fail> {
     let long = "s".repeat(rt.alloc(), 65536)?;
-    for (audience, ended, line) in [
+    for &(audience, ended, line) in &[
         ("s", Ended::Done, TOKEN_LINE),
         (long.as_str(), Ended::BadCommandLine, ""),
     ] {
@@ -104,7 +104,7 @@ const LONG_TAG_LINE: &str =
 
 #[test]
 fn a_token_names_an_algorithm(rt: HostRuntime) -> Result<(), Fail> {
-    for (value, line) in [("10", TOKEN_LINE), ("30", LONG_TAG_LINE)] {
+    for &(value, line) in &[("10", TOKEN_LINE), ("30", LONG_TAG_LINE)] {
         let mut written = Vec::new(rt.alloc());
         assert_eq!(rt;
             run_with(rt.alloc(), "--alg", value, &mut written)?,
@@ -248,7 +248,7 @@ fn is_refused(alloc: Global, option: &str, text: &str, count: usize) -> Result<b
 
 #[test]
 fn values_within_their_bounds(rt: HostRuntime) -> Result<(), Fail> {
-    for (option, text, count) in GOOD {
+    for &(option, text, count) in &GOOD {
         assert!(rt;
             refused_value(rt.alloc(), option, text, count)?.is_none(),
             "{option} {text}"
@@ -259,7 +259,7 @@ fn values_within_their_bounds(rt: HostRuntime) -> Result<(), Fail> {
 
 #[test]
 fn values_beyond_their_bounds(rt: HostRuntime) -> Result<(), Fail> {
-    for (option, text, count) in BAD {
+    for &(option, text, count) in &BAD {
         assert!(rt;
             is_refused(rt.alloc(), option, text, count)?,
             "{option} {text}"

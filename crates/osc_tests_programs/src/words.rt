@@ -24,7 +24,7 @@ fn digit_of(client: Option<ClientName>) -> u8 {
 
 #[test]
 fn a_script_is_run(rt: HostRuntime) {
-    for (words, asked) in [
+    for &(words, asked) in &[
         (&["osc", "sim"].as_slice(), Some((false, false, 0))),
         (
             &["osc", "sim", "--bytes"].as_slice(),
@@ -71,7 +71,7 @@ fn turns_of(words: &Words) -> Option<(&'static str, u64)> {
 
 #[test]
 fn turns_are_counted(rt: HostRuntime) {
-    for (subcommand, text, turns) in [
+    for &(subcommand, text, turns) in &[
         ("server", "0", 0),
         ("server", "18446744073709551615", u64::MAX),
         ("proxy", "7", 7),
@@ -88,7 +88,7 @@ fn turns_are_counted(rt: HostRuntime) {
 
 #[test]
 fn a_server_and_a_proxy_go_on_by_default(rt: HostRuntime) {
-    for subcommand in ["server", "proxy"] {
+    for &subcommand in &["server", "proxy"] {
         assert_eq!(rt;
             turns_asked(rt.alloc(), &["osc", subcommand]),
             Some((subcommand, u64::MAX))
@@ -106,8 +106,8 @@ fn log_asked(alloc: Global, words: &[&str]) -> Option<bool> {
 
 #[test]
 fn a_server_and_a_proxy_tell_where_that_is_wanted(rt: HostRuntime) {
-    for subcommand in ["server", "proxy"] {
-        for (words, log) in [
+    for &subcommand in &["server", "proxy"] {
+        for &(words, log) in &[
             (["osc", subcommand].as_slice(), Some(false)),
             (["osc", subcommand, "--turns", "1"].as_slice(), Some(false)),
             (["osc", subcommand, "--log"].as_slice(), Some(true)),
@@ -129,8 +129,8 @@ fn a_server_and_a_proxy_tell_where_that_is_wanted(rt: HostRuntime) {
 #[test]
 fn turns_beyond_their_bounds(rt: HostRuntime) -> Result<(), Fail> {
     let line = "error: --turns is not a number of 64 bits in decimal digits";
-    for subcommand in ["server", "proxy", "lab"] {
-        for text in ["", "+1", "1.", "0x1", "18446744073709551616"] {
+    for &subcommand in &["server", "proxy", "lab"] {
+        for &text in &["", "+1", "1.", "0x1", "18446744073709551616"] {
             assert!(rt;
                 is_told(rt.alloc(), &["osc", subcommand, "--turns", text], line)?,
                 "{subcommand} {text}"
@@ -146,7 +146,7 @@ const USUAL: [(&str, &str); 3] = [("--turns", "5"), ("--method", "GET"), ("--pat
 
 // Adds the options that a client needs, but for this one.
 fn add_others<'a>(words: &mut Vec<&'a str>, option: &'a str) -> Result<(), AllocError> {
-    for (name, usual) in USUAL {
+    for &(name, usual) in &USUAL {
         if name != option {
             words.push(name)?;
             words.push(usual)?;
@@ -205,7 +205,7 @@ fn asks(
 
 #[test]
 fn a_client_asks_by_a_method(rt: HostRuntime) -> Result<(), Fail> {
-    for (method, code) in [("GET", 1), ("POST", 2), ("PUT", 3), ("DELETE", 4)] {
+    for &(method, code) in &[("GET", 1), ("POST", 2), ("PUT", 3), ("DELETE", 4)] {
         let words = client_command(rt.alloc(), "--method", method)?;
         assert!(rt; asks(rt.alloc(), &words, code, "/a", None, b""), "{method}");
     }
@@ -214,7 +214,7 @@ fn a_client_asks_by_a_method(rt: HostRuntime) -> Result<(), Fail> {
 
 #[test]
 fn a_client_names_a_resource(rt: HostRuntime) -> Result<(), Fail> {
-    for path in [
+    for &path in &[
         "/log",
         "/a/b",
         "/1/2/3/4/5/6/7/8",
@@ -229,7 +229,7 @@ fn a_client_names_a_resource(rt: HostRuntime) -> Result<(), Fail> {
 
 #[test]
 fn a_client_sends_bytes(rt: HostRuntime) -> Result<(), Fail> {
-    for (text, payload) in [
+    for &(text, payload) in &[
         ("", b"".as_slice()),
         ("61", b"a".as_slice()),
         ("0aFf", b"\n\xff".as_slice()),
@@ -242,7 +242,7 @@ fn a_client_sends_bytes(rt: HostRuntime) -> Result<(), Fail> {
 
 #[test]
 fn a_client_names_a_format(rt: HostRuntime) -> Result<(), Fail> {
-    for (text, format) in [("0", 0), ("042", 42), ("65535", 65535)] {
+    for &(text, format) in &[("0", 0), ("042", 42), ("65535", 65535)] {
         let words = client_command(rt.alloc(), "--format", text)?;
         assert!(rt;
             asks(rt.alloc(), &words, 1, "/a", Some(format), b""),
@@ -308,7 +308,7 @@ fn are_refused(
 
 #[test]
 fn values_of_a_client_beyond_their_bounds(rt: HostRuntime) -> Result<(), Fail> {
-    for (option, values, form) in BAD {
+    for &(option, values, form) in &BAD {
         assert!(rt; are_refused(rt.alloc(), option, values, form)?, "{option}");
     }
     Ok(())
@@ -483,7 +483,7 @@ const WRONG: [(&[&str], &str); 24] = [
 
 #[test]
 fn one_line_tells_of_wrong_words(rt: HostRuntime) -> Result<(), Fail> {
-    for (words, line) in WRONG {
+    for &(words, line) in &WRONG {
         assert!(rt; is_told(rt.alloc(), words, line)?, "{line}");
     }
     Ok(())
@@ -528,7 +528,7 @@ const SHOWN: [(&[&str], &str); 20] = [
 
 #[test]
 fn help_and_the_version_are_shown(rt: HostRuntime) -> Result<(), Fail> {
-    for (words, part) in SHOWN {
+    for &(words, part) in &SHOWN {
         assert!(rt; shows(rt.alloc(), words, part)?, "{part}");
     }
     Ok(())

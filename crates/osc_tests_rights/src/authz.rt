@@ -241,7 +241,7 @@ fn refused_answer(client: &ClientDesk, alloc: Global, code: Code, payload: &[u8]
 #[test]
 fn other_answers_make_none(rt: HostRuntime) {
     let client = client_of(&rt, rt.alloc(), 1, RIGHT);
-    for (code, payload, number) in NO_CONTEXTS {
+    for &(code, payload, number) in &NO_CONTEXTS {
         assert!(rt; refused_answer(&client, rt.alloc(), code, payload) == Some(number));
     }
     drop(client);
@@ -295,7 +295,7 @@ fn salt_end(desk: &ServerDesk, id: u8) -> Option<u8> {
 
 /// Takes each step, and sees what it makes.
 fn take_steps(rt: &impl Abort, alloc: Global, desk: &mut ServerDesk) {
-    for (event, id, salts) in STEPS {
+    for &(event, id, salts) in &STEPS {
         let made = step(desk, alloc, event).expect(rt, "memory");
         assert!(rt; made == Some(id));
         assert!(rt; [1, 2, 3].map(|id| salt_end(desk, id)) == salts);
@@ -333,7 +333,7 @@ fn refused_grant(
 
 #[test]
 fn lengths_of_grants(rt: HostRuntime) {
-    for (secret, salt, id_context, refusal) in [
+    for &(secret, salt, id_context, refusal) in &[
         (1, 0, 0, None),
         (64, 64, 64, None),
         (0, 65, 65, Some(GrantError::Secret)),
@@ -364,7 +364,7 @@ const FURTHER: [(u8, Option<u64>, u64, Result<u8, u8>); 3] = [
 
 /// Posts the further tokens to the full desk.
 fn post_further(rt: &impl Abort, alloc: Global, desk: &mut ServerDesk) {
-    for (id, expires, at, answer) in FURTHER {
+    for &(id, expires, at, answer) in &FURTHER {
         let body = post_of(rt, alloc, id, until(expires));
         let outcome = posted(desk, alloc, at, &body).expect(rt, "memory");
         assert!(rt; outcome == (answer, true));
@@ -420,7 +420,7 @@ const OFFERED: [(u8, u64, &[u8], u64, u8); 8] = [
 
 /// Posts each, and sees which recipient ID it gets.
 fn post_offered(rt: &impl Abort, alloc: Global, desk: &mut ServerDesk) {
-    for (token, expires, client_id, at, id) in OFFERED {
+    for &(token, expires, client_id, at, id) in &OFFERED {
         let body = post_from(rt, alloc, token, expires, client_id);
         let outcome = posted(desk, alloc, at, &body).expect(rt, "memory");
         assert!(rt; outcome == (Ok(id), true));
@@ -492,7 +492,7 @@ fn posted_beside_one(rt: &impl Abort, alloc: Global, body: &[u8]) -> (Outcome, b
 
 #[test]
 fn no_posts_change_nothing(rt: HostRuntime) {
-    for (body, number) in NO_POSTS {
+    for &(body, number) in &NO_POSTS {
         let posted = posted_beside_one(&rt, rt.alloc(), body);
         assert!(rt; posted == ((Err(number), false), true));
     }
@@ -500,7 +500,7 @@ fn no_posts_change_nothing(rt: HostRuntime) {
 
 #[test]
 fn refused_tokens_change_nothing(rt: HostRuntime) {
-    for (said, number) in REFUSED {
+    for &(said, number) in &REFUSED {
         let body = post_of(&rt, rt.alloc(), 2, said);
         let posted = posted_beside_one(&rt, rt.alloc(), &body);
         assert!(rt; posted == ((Err(number), true), true));

@@ -47,7 +47,7 @@ fn verdict_of(rt: &impl Abort, alloc: Global, code: Code) -> Verdict {
 
 #[test]
 fn what_a_text_grants(rt: HostRuntime) {
-    for (code, verdict) in [
+    for &(code, verdict) in &[
         (1, Verdict::Granted),
         (2, Verdict::Granted),
         (3, Verdict::NoMethod),

@@ -48,7 +48,7 @@ const OTHERS: [Use; 4] = [
 /// What opened was sealed otherwise, or not at all, or only later, or by the end that opens it.
 #[test]
 fn what_opens_was_sealed(rt: HostRuntime) {
-    for other in OTHERS {
+    for &other in &OTHERS {
         assert!(rt; !holds_with(&rt, rt.alloc(), 5, Row::Served(other)));
     }
     // The text of a reply is its own.

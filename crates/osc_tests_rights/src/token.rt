@@ -210,7 +210,7 @@ const NO_TOKENS: [&[u8]; 3] = [
 
 #[test]
 fn refuses_other_bytes(rt: HostRuntime) {
-    for bytes in NO_TOKENS {
+    for &bytes in &NO_TOKENS {
         assert!(rt; !opens(&rt, rt.alloc(), bytes, &KEY));
     }
 }
@@ -242,7 +242,7 @@ fn sealed_with(rt: &impl Abort, alloc: Global, protected: &[u8]) -> Vec<u8> {
 
 #[test]
 fn asks_for_the_algorithm(rt: HostRuntime) {
-    for (protected, genuine) in HEADERS {
+    for &(protected, genuine) in &HEADERS {
         let bytes = sealed_with(&rt, rt.alloc(), protected);
         assert!(rt; opens(&rt, rt.alloc(), &bytes, &KEY) == genuine);
     }

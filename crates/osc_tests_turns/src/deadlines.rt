@@ -63,7 +63,7 @@ const DUE: [(Row<'static>, Option<u64>); 11] = [
 
 fn are_due(rt: &impl Abort, alloc: Global, proxy: &mut Proxy) {
     assert!(rt; proxy.next_deadline().is_none());
-    for (row, deadline) in DUE {
+    for &(row, deadline) in &DUE {
         goes(rt, alloc, proxy, &[row]);
         assert!(rt; proxy.next_deadline() == deadline, "behind {row:?}");
     }

@@ -1,9 +1,11 @@
-//! Tests of proxies and turns, by what callers see: a port of queues in memory, and nodes that run at such ports. They stand apart, so that a test that changes has no crate below proved
+//! Tests of proxies, devices and turns, by what callers see: a device, a port of queues in memory, and nodes that run at such ports. They stand apart, so that a test that changes has no crate below proved
 //! anew.
 #![tactic(auto)]
 
 #[cfg(test)]
 mod deadlines;
+#[cfg(test)]
+mod device;
 #[cfg(test)]
 mod flooded;
 #[cfg(test)]

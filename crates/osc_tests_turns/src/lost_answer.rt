@@ -100,7 +100,7 @@ fn goes<R: Abort>(
 {
     let mut again = 0usize;
     let mut last = 0;
-    for (ms, doing) in ROW {
+    for &(ms, doing) in &ROW {
         let mut told = network.does(client, proxy, server, request, ms, doing);
         if told == None {
             again = again.saturating_add(1);

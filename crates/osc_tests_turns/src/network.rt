@@ -75,7 +75,7 @@ impl<'a, R: Abort> Network<'a, R> {
     /// Each datagram that a port was asked to send, port by port, each behind the port to which it goes.
     pub fn all_sent(&self) -> Vec<u8> {
         let mut all = Vec::new(self.alloc);
-        for port in [&self.client, &self.proxy, &self.server] {
+        for &port in &[&self.client, &self.proxy, &self.server] {
             for datagram in &port.sent {
                 all.extend_from_slice(&datagram.to.port.to_be_bytes())
                     .expect(self.rt, "memory");

@@ -51,7 +51,7 @@ const OTHERS: [&[u8]; 20] = [
 ];
 
 fn names_nothing(rt: &impl Abort) {
-    for uri in OTHERS {
+    for &uri in &OTHERS {
         assert!(rt; is_another_form(uri));
     }
 }

@@ -129,7 +129,7 @@ fn all_owners_are_served(rt: HostRuntime) -> Result<(), Fail> {
 /// Whether each of the datagrams comes there, twice.
 fn all_come(alloc: Global, world: &mut World, number: u8, to: Peer) -> bool {
     let mut whole = true;
-    for bytes in DATAGRAMS {
+    for &bytes in &DATAGRAMS {
         whole = whole && injects(alloc, world, number, NOWHERE, to, bytes);
         whole = whole && injects(alloc, world, number, NOWHERE, to, bytes);
     }

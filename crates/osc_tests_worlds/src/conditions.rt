@@ -114,7 +114,7 @@ fn is_answered(alloc: Global, scope: &Scope, plaintext: &[u8], code: Code, paylo
 #[test]
 fn conditions_in_plaintexts(rt: HostRuntime) {
     let scope = scope_of(rt.alloc(), EVERY_METHOD).expect(&rt, "a scope");
-    for (plaintext, code, payload) in CASES {
+    for &(plaintext, code, payload) in &CASES {
         assert!(rt;
             is_answered(rt.alloc(), &scope, plaintext, code, payload),
             "at {plaintext:?}"

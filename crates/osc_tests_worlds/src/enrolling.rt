@@ -101,7 +101,7 @@ fn begins(rt: &impl Abort, alloc: Global, start: Start) {
 #[test]
 fn who_is_refused(rt: HostRuntime) {
     let mut start = start(rt.alloc(), Tree::new(rt.alloc()), "a").expect(&rt, "memory");
-    for (row, error) in REFUSED {
+    for &(row, error) in &REFUSED {
         assert!(rt;
             refusal(rt.alloc(), &mut start, CLIENT, row) == Some(error),
             "{error}"
@@ -123,9 +123,9 @@ fn takes_no_second(rt: &impl Abort, alloc: Global, start: &mut Start) {
     assert!(rt; !start.is_taken(CLIENT));
     assert!(rt; refusal(alloc, start, CLIENT, GOOD) == None);
     assert!(rt; placed(alloc, start, PROXY) == Ok(()));
-    for at in [SERVER, CLIENT, PROXY] {
+    for &at in &[SERVER, CLIENT, PROXY] {
         assert!(rt; start.is_taken(at));
-        for row in [GOOD, REFUSED[0].0] {
+        for &row in &[GOOD, REFUSED[0].0] {
             assert!(rt; refusal(alloc, start, at, row) == Some(EnrollError::AddressTaken));
         }
         assert!(rt; placed(alloc, start, at) == Err(PlaceError::AddressTaken));

@@ -143,7 +143,7 @@ fn skips(rt: &impl Abort, alloc: Global, world: &mut World) {
     world.skip(0, 9);
     exchanged(rt, alloc, world);
     assert!(rt; number_asked(alloc, world) == Some(0));
-    for (client, number, next) in [
+    for &(client, number, next) in &[
         (0, 7, 7),
         (0, 3, 8),
         (1, 20, 9),

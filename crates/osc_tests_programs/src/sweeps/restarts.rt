@@ -1,6 +1,6 @@
 //! A node starts again between two events of a run: what is assumed holds still, and what was asked to be put is there once, or not.
 
-use crate::traces::{holds_one_letter, is_held, trace_of};
+use crate::sweeps::traces::{holds_one_letter, is_held, trace_of};
 use std::alloc::{AllocError, Global};
 use std::process::Abort;
 use std::test::*;
@@ -98,7 +98,7 @@ fn goes_well(alloc: Global, script: Result<String, AllocError>) -> bool {
 fn sweeps(rt: &impl Abort, alloc: Global, first: &str, events: &[&str], nodes: &[&str]) {
     for node in nodes {
         for place in 0..events.len() {
-            for quiet in [false, true] {
+            for &quiet in &[false, true] {
                 assert!(rt;
                     goes_well(alloc, script(alloc, first, events, node, place, quiet)),
                     "{node} before event {place}"

@@ -1,6 +1,6 @@
 //! The first exchange through the desk to its answer: the token, the 2.01, a protected POST and its reply, in four datagrams.
 
-use crate::traces::{last_word, trace_of};
+use crate::sweeps::traces::{last_word, trace_of};
 use std::alloc::Global;
 
 /// One of the four datagrams.

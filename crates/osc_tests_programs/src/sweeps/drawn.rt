@@ -1,8 +1,8 @@
 //! Scripts that are drawn, with lies, restarts, losses, copies that are altered and grafted, and datagrams that nobody sent: where there is memory,
 //! none lacks it, and the server answers 5.00 to nobody.
 
-use crate::drawing::{Draws, script};
-use crate::traces::{count_lines, trace_of};
+use crate::sweeps::drawing::{Draws, script};
+use crate::sweeps::traces::{count_lines, trace_of};
 use std::alloc::Global;
 use std::process::Abort;
 use std::test::*;

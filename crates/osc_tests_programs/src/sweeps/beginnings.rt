@@ -1,8 +1,8 @@
 //! Each proper beginning of the four datagrams from the token to the first answer, from who sent the whole: it serves nothing, and
 //! gives the client neither a context nor an answer. The run goes on to one answer, or to none.
 
-use crate::first_answer::{DATAGRAMS, Waiting, digits};
-use crate::traces::{count_lines, is_all_or_nothing, joined, trace_of};
+use crate::sweeps::first_answer::{DATAGRAMS, Waiting, digits};
+use crate::sweeps::traces::{count_lines, is_all_or_nothing, joined, trace_of};
 use std::alloc::{AllocError, Global};
 use std::test::*;
 

@@ -1,8 +1,8 @@
 //! Each bit of the four datagrams from the token to the first answer, altered in a copy that comes just before the datagram itself: the
 //! request is served once, or nothing is.
 
-use crate::first_answer::{DATAGRAMS, Waiting, digits};
-use crate::traces::{is_all_or_nothing, joined, trace_of};
+use crate::sweeps::first_answer::{DATAGRAMS, Waiting, digits};
+use crate::sweeps::traces::{is_all_or_nothing, joined, trace_of};
 use std::alloc::{AllocError, Global};
 use std::test::*;
 
@@ -47,7 +47,7 @@ fn each_bit_of_the_first_datagrams(rt: HostRuntime) {
         let length = length(rt.alloc(), waiting);
         assert!(rt; length > 20, "datagram {number}");
         for offset in 0..length {
-            for bit in BITS {
+            for &bit in &BITS {
                 assert!(rt;
                     goes_well(rt.alloc(), waiting, offset, bit),
                     "datagram {number}, byte {offset}, bit {bit}"
