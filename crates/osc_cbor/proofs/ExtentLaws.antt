@@ -1,18 +1,17 @@
 -- Where items end.
-use Rattle.std.proofs.Common.{◌≡◌, ◌≢◌, ℕ, suc, ◌+◌, ◌-◌, ◌<◌, ◌≤◌, true, false, List, [], ◌++◌, length, Result, Ok, Err, refl, sym, ap, subst, ◌∙◌, append_assoc, arith}
+use Rattle.std.proofs.Common.{◌≡◌, ℕ, suc, ◌+◌, ◌-◌, ◌<◌, ◌≤◌, false, List, [], ◌++◌, Ok, Err, refl, sym, ap, ◌∙◌, append_assoc, arith}
 use Rattle.std.proofs.lemmas.List.{append-nil}
-use Rattle.osc_cbor.specs.Data.{DataItem, Items, no_items, Pairs, no_pairs, pair, pair_count, nesting, most_nesting}
+use Rattle.osc_cbor.specs.Data.{DataItem, Items, Pairs, no_pairs, pair, pair_count, nesting, most_nesting}
 use Rattle.osc_cbor.specs.Same.{has_key}
 use Rattle.osc_cbor.specs.Spelling.{Spells, SpellsPairs}
 use Rattle.osc_cbor.specs.Faults.{Fails}
 use Rattle.osc_cbor.specs.Ends.{Passed}
 use Rattle.osc_cbor.specs.Reading.{Found, push_pair, items_from, pairs_from, item_at}
 use Rattle.osc_cbor.specs.declared.error.ReadError.{ReadError}
-use Rattle.osc_cbor.proofs.Steps.{AreBytes, ok_is, err_is, ok_or_err}
+use Rattle.osc_cbor.proofs.Steps.{AreBytes, err_is, ok_or_err}
 use Rattle.osc_cbor.proofs.FoundLaws.{Takes, in_a_row}
 use Rattle.osc_cbor.proofs.ReadSteps.{pairs_more}
 use Rattle.osc_cbor.proofs.AgainLaws.{item_again}
-use Rattle.osc_cbor.proofs.RefuseLaws.{item_refuses}
 use Rattle.osc_cbor.proofs.FailLaws.{item_fails}
 
 pub all_left : (inner : List ℕ → Found) (before : Items) (count : ℕ) (bytes : List ℕ) → items_from inner before (count - 0) bytes ≡ items_from inner before count bytes

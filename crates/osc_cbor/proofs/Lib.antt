@@ -13,3 +13,7 @@ pub mod OneItem
 pub mod TokenLaws
 pub mod ExtentLaws
 pub mod WholeLemmas
+pub mod RowLaws
+pub mod NoteLaws
+pub mod PassLaws
+pub mod AnyLaws

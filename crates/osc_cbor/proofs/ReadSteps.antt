@@ -1,8 +1,8 @@
 -- One step of the reader, as the code makes it.
-use Rattle.std.proofs.Common.{◌≡◌, ℕ, zero, suc, ◌+◌, ◌-◌, ◌<◌, ◌≤◌, ◌/◌, ◌%◌, true, false, cond, List, [], ◌∷◌, Some, None, Result, Ok, Err, refl, arith}
+use Rattle.std.proofs.Common.{◌≡◌, ℕ, zero, suc, ◌+◌, ◌-◌, ◌<◌, ◌≤◌, ◌/◌, ◌%◌, true, false, List, [], ◌∷◌, Some, None, Result, Ok, Err, refl, arith}
 use Rattle.osc_cbor.specs.Data.{DataItem, Items, Pairs}
 use Rattle.osc_cbor.specs.Same.{has_key}
-use Rattle.osc_cbor.specs.Reading.{◌>>=◌, Refuses, Found, argument_at, major_of, push_item, push_pair, items_from, pairs_from, simple_at, content_at, item_at}
+use Rattle.osc_cbor.specs.Reading.{◌>>=◌, Refuses, Found, argument_at, major_of, push_item, push_pair, items_from, pairs_from, simple_at, content_at, item_at, any_pairs_from, any_content_at, any_item_at}
 use Rattle.osc_cbor.specs.declared.heads.Major.{Major}
 use Rattle.osc_cbor.specs.declared.error.ReadError.{ReadError}
 use Rattle.osc_cbor.specs.declared.error.ReadError.TheVariants.{Truncated, Unsupported, DuplicateKey, TooDeep, Memory}
@@ -47,13 +47,6 @@ pairs_more inner before count i bytes k v behind_key after lt h new g =
     let n : count - i ≡ suc (count - (i + 1)) = omega arith in
     rw (n, h, new, g) refl
 
-pub pairs_key_refused : (e : ReadError) (inner : List ℕ → Found) (before : Pairs) (count i : ℕ) (bytes : List ℕ) → i < count → Refuses e (inner bytes)
-    → Refuses e (pairs_from inner before (count - i) bytes)
-unfolding pairs_from
-pairs_key_refused e inner before count i bytes lt h =
-    let n : count - i ≡ suc (count - (i + 1)) = omega arith in
-    rw n (Refuses-then e (inner bytes) (λ k. cond (has_key k.0 before) (Err DuplicateKey) (inner k.1 >>= λ v. pairs_from inner (push_pair before k.0 v.0) (count - (i + 1)) v.1)) h)
-
 pub pairs_again : (inner : List ℕ → Found) (before : Pairs) (count i : ℕ) (bytes : List ℕ) (k : DataItem) (behind_key : List ℕ) → i < count
     → inner bytes ≡ Ok (k, behind_key) → has_key k before ≡ true → pairs_from inner before (count - i) bytes ≡ Err DuplicateKey
 unfolding pairs_from
@@ -61,16 +54,39 @@ pairs_again inner before count i bytes k behind_key lt h old =
     let n : count - i ≡ suc (count - (i + 1)) = omega arith in
     rw (n, h, old) refl
 
-pub pairs_value_refused : (e : ReadError) (inner : List ℕ → Found) (before : Pairs) (count i : ℕ) (bytes : List ℕ) (k : DataItem) (behind_key : List ℕ) → i < count
-    → inner bytes ≡ Ok (k, behind_key) → has_key k before ≡ false → Refuses e (inner behind_key) → Refuses e (pairs_from inner before (count - i) bytes)
-unfolding pairs_from
-pairs_value_refused e inner before count i bytes k behind_key lt h new g =
-    let n : count - i ≡ suc (count - (i + 1)) = omega arith in
-    rw (n, h, new) (Refuses-then e (inner behind_key) (λ v. pairs_from inner (push_pair before k v.0) (count - (i + 1)) v.1) g)
-
 pub pairs_done : (inner : List ℕ → Found) (before : Pairs) (count i : ℕ) (bytes : List ℕ) → count ≤ i → pairs_from inner before (count - i) bytes ≡ Ok (before, bytes)
 unfolding pairs_from
 pairs_done inner before count i bytes le =
+    let n : count - i ≡ 0 = omega arith in
+    rw n refl
+
+-- ---- pairs whatever their keys
+
+pub any_pairs_more : (inner : List ℕ → Found) (before : Pairs) (count i : ℕ) (bytes : List ℕ) (k v : DataItem) (behind_key after : List ℕ) → i < count
+    → inner bytes ≡ Ok (k, behind_key) → inner behind_key ≡ Ok (v, after)
+    → any_pairs_from inner before (count - i) bytes ≡ any_pairs_from inner (push_pair before k v) (count - (i + 1)) after
+unfolding any_pairs_from
+any_pairs_more inner before count i bytes k v behind_key after lt h g =
+    let n : count - i ≡ suc (count - (i + 1)) = omega arith in
+    rw (n, h, g) refl
+
+pub any_key_refused : (e : ReadError) (inner : List ℕ → Found) (before : Pairs) (count i : ℕ) (bytes : List ℕ) → i < count → Refuses e (inner bytes)
+    → Refuses e (any_pairs_from inner before (count - i) bytes)
+unfolding any_pairs_from
+any_key_refused e inner before count i bytes lt h =
+    let n : count - i ≡ suc (count - (i + 1)) = omega arith in
+    rw n (Refuses-then e (inner bytes) (λ k. inner k.1 >>= λ v. any_pairs_from inner (push_pair before k.0 v.0) (count - (i + 1)) v.1) h)
+
+pub any_value_refused : (e : ReadError) (inner : List ℕ → Found) (before : Pairs) (count i : ℕ) (bytes : List ℕ) (k : DataItem) (behind_key : List ℕ) → i < count
+    → inner bytes ≡ Ok (k, behind_key) → Refuses e (inner behind_key) → Refuses e (any_pairs_from inner before (count - i) bytes)
+unfolding any_pairs_from
+any_value_refused e inner before count i bytes k behind_key lt h g =
+    let n : count - i ≡ suc (count - (i + 1)) = omega arith in
+    rw (n, h) (Refuses-then e (inner behind_key) (λ v. any_pairs_from inner (push_pair before k v.0) (count - (i + 1)) v.1) g)
+
+pub any_pairs_done : (inner : List ℕ → Found) (before : Pairs) (count i : ℕ) (bytes : List ℕ) → count ≤ i → any_pairs_from inner before (count - i) bytes ≡ Ok (before, bytes)
+unfolding any_pairs_from
+any_pairs_done inner before count i bytes le =
     let n : count - i ≡ 0 = omega arith in
     rw n refl
 
@@ -101,3 +117,17 @@ item_headed zero first bytes m lt is = absurd (omega arith)
 item_headed (suc left) first bytes m lt is =
     let k : suc left - 1 ≡ left = omega arith in
     rw k (item_behind left first bytes m is)
+
+-- ---- the first byte, whatever the keys
+
+any_item_behind : (left first : ℕ) (bytes : List ℕ) (m : Major) → major_of (first / 32) ≡ Some m
+    → any_item_at (suc left) (first ∷ bytes) ≡ (argument_at (first % 32) bytes >>= λ n. any_content_at (any_item_at left) m n.0 n.1)
+unfolding any_item_at
+any_item_behind left first bytes m is = rw is refl
+
+pub any_item_headed : (left first : ℕ) (bytes : List ℕ) (m : Major) → 0 < left → major_of (first / 32) ≡ Some m
+    → any_item_at left (first ∷ bytes) ≡ (argument_at (first % 32) bytes >>= λ n. any_content_at (any_item_at (left - 1)) m n.0 n.1)
+any_item_headed zero first bytes m lt is = absurd (omega arith)
+any_item_headed (suc left) first bytes m lt is =
+    let k : suc left - 1 ≡ left = omega arith in
+    rw k (any_item_behind left first bytes m is)

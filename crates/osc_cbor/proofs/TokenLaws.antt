@@ -1,5 +1,5 @@
 -- Items as rows of tokens.
-use Rattle.std.proofs.Common.{◌≡◌, ◌≢◌, ℕ, zero, suc, ◌+◌, ◌-◌, ◌*◌, ◌/◌, ◌%◌, ◌<◌, ◌≤◌, Bool, true, false, ◌==◌, ◌||◌, cond, ltb, nat_eq, List, [], ◌∷◌, ◌++◌, length, take, drop, Result, Ok, Err, refl, sym, ap, ap₂, subst, ◌∙◌, append_assoc, arith, inl, inr}
+use Rattle.std.proofs.Common.{◌≡◌, ◌≢◌, ℕ, suc, ◌+◌, ◌-◌, ◌*◌, ◌/◌, ◌%◌, ◌<◌, ◌≤◌, true, false, ◌==◌, ◌||◌, cond, ltb, nat_eq, List, [], ◌∷◌, ◌++◌, length, take, drop, Ok, Err, refl, sym, ap, ap₂, subst, ◌∙◌, append_assoc, arith, inl, inr}
 use Rattle.std.specs.Int.{Width, w8, w16, w32, w64, byte_len, from_be_bytes}
 use Rattle.std.proofs.lemmas.Bool.{ne_eqb, or_left, false≢true, false_from_ne_true}
 use Rattle.std.proofs.lemmas.List.{append-nil, length-append, length-drop}
@@ -12,7 +12,7 @@ use Rattle.osc_cbor.specs.Tokens.{Token, token_behind, token_at, Stream, tokens,
 use Rattle.osc_cbor.specs.declared.error.ReadError.{ReadError}
 use Rattle.osc_cbor.specs.declared.error.ReadError.TheVariants.{Truncated, Unsupported}
 use Rattle.osc_cbor.proofs.Steps.{bind_ok, chosen, ok_is, ok_or_err}
-use Rattle.osc_cbor.proofs.HeadLaws.{BitsCase, below_24, is_24, is_25, is_26, is_27, from_28, bits_case, argument_inline, argument_24, argument_25, argument_26, argument_27, argument_reserved, argument_again, major_part, bits_part}
+use Rattle.osc_cbor.proofs.HeadLaws.{below_24, is_24, is_25, is_26, is_27, from_28, bits_case, argument_inline, argument_24, argument_25, argument_26, argument_27, argument_reserved, argument_again, major_part, bits_part}
 use Rattle.osc_cbor.proofs.KeyLaws.{same_means, same_itself}
 use Rattle.osc_cbor.proofs.AgainLaws.{string_again}
 use Rattle.osc_cbor.proofs.OneItem.{one_item, spells, has}

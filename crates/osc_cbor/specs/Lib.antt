@@ -10,3 +10,4 @@ pub mod Same
 pub mod Reading
 pub mod Tokens
 pub mod Ends
+pub mod Notes

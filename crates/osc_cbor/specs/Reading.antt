@@ -118,3 +118,29 @@ unfoldable pub item_at : ℕ → List ℕ → Found
 item_at left [] = Err Truncated
 item_at zero (first ∷ bytes) = Err TooDeep
 item_at (suc left) (first ∷ bytes) = behind_first (item_at left) (major_of (first / 32)) (first % 32) bytes
+
+-- ---- the same whatever the keys of maps
+
+unfoldable pub any_pairs_from : (List ℕ → Found) → Pairs → ℕ → List ℕ → Result (Pairs × List ℕ) ReadError
+any_pairs_from inner before zero bytes = Ok (before, bytes)
+any_pairs_from inner before (suc n) bytes = do
+  k ← inner bytes
+  inner k.1 >>= λ v. any_pairs_from inner (push_pair before k.0 v.0) n v.1
+
+unfoldable pub any_content_at : (List ℕ → Found) → Major → ℕ → List ℕ → Found
+any_content_at inner Unsigned n bytes = Ok (unsigned n, bytes)
+any_content_at inner Negative n bytes = Ok (negative n, bytes)
+any_content_at inner Bytes n bytes = string_at n bytes >>= λ x. Ok (byte_string x.0, x.1)
+any_content_at inner Text n bytes = text_at n bytes >>= λ x. Ok (text_string x.0, x.1)
+any_content_at inner Array n bytes = items_from inner no_items n bytes >>= λ x. Ok (array x.0, x.1)
+any_content_at inner Map n bytes = any_pairs_from inner no_pairs n bytes >>= λ x. Ok (map x.0, x.1)
+any_content_at inner Tag n bytes = inner bytes >>= λ x. Ok (tag n x.0, x.1)
+
+abbrev pub any_behind_first : (List ℕ → Found) → Option Major → ℕ → List ℕ → Found
+any_behind_first inner None bits bytes = simple_at bits bytes
+any_behind_first inner (Some major) bits bytes = argument_at bits bytes >>= λ n. any_content_at inner major n.0 n.1
+
+unfoldable pub any_item_at : ℕ → List ℕ → Found
+any_item_at left [] = Err Truncated
+any_item_at zero (first ∷ bytes) = Err TooDeep
+any_item_at (suc left) (first ∷ bytes) = any_behind_first (any_item_at left) (major_of (first / 32)) (first % 32) bytes

@@ -10,8 +10,11 @@ ghost use Rattle.osc_cbor.specs.declared.error.ReadError.{ReadError as AnyError}
 
 use crate::error::ReadError;
 use crate::heads::Major;
+use crate::keys::Stop;
+use crate::pass::pass;
 use crate::reader::{MOST_LEVELS, argument_of, major_of, simple_of, string_of, text_of};
 use crate::tokens::{has_spelled_key, taken};
+use arrayvec::ArrayVec;
 
 /// The bytes behind so many items, each with so many levels left.
 #[cycle(extent)]
@@ -85,7 +88,7 @@ fn behind_content(left: u8, major: Major, argument: u64, bytes: &[u8]) -> Result
 /// The bytes behind the item at their beginning, with so many levels left.
 #[cycle(extent)]
 #[tactic(auto, unfolding(crate::specs::Reading::item_at))]
-pub(crate) fn behind(left: u8, bytes: &[u8]) -> Result<&[u8], ReadError>
+fn behind(left: u8, bytes: &[u8]) -> Result<&[u8], ReadError>
     ensures { Ends (λ x. x.now) result (item_at left bytes.now) }
 {
     let Some((first, rest)) = bytes.split_first() else {
@@ -103,8 +106,23 @@ pub(crate) fn behind(left: u8, bytes: &[u8]) -> Result<&[u8], ReadError>
     }
 }
 
-/// How many bytes the item at the beginning of the bytes takes; none of it is kept. The time is linear in the bytes, but that each
-/// key of a map is compared with those before it.
+/// The bytes behind the item at their beginning, with all levels left.
+///
+/// One pass finds them. Where it can't tell, of items longer than a datagram, each key of a map is compared with those before it.
+pub(crate) fn behind_first(bytes: &[u8]) -> Result<&[u8], ReadError>
+    ensures { Ends (λ x. x.now) result (item_at 9 bytes.now) }
+{
+    let mut spelled = ArrayVec::new();
+    let mut keys = ArrayVec::new();
+    match pass(MOST_LEVELS, bytes, &mut spelled, &mut keys) {
+        Ok(rest) => Ok(rest),
+        Err(Stop::Fault(fault)) => Err(fault),
+        Err(Stop::Unsure) => behind(MOST_LEVELS, bytes),
+    }
+}
+
+/// How many bytes the item at the beginning of the bytes takes; none of it is kept. The time is near linear: the bytes, and sorting
+/// each map's keys. Of items of more than 1,152 bytes each key of a map is compared with those before it.
 ///
 /// # Errors
 ///
@@ -118,6 +136,6 @@ pub fn extent(bytes: &[u8]) -> Result<usize, ReadError>
     // A fault is the first one, and the first one is answered.
     ensures fault { (fault : AnyError) → (result ≡ Err fault) ↔ Fails 9 bytes.now fault }
 {
-    let rest = behind(MOST_LEVELS, bytes)?;
+    let rest = behind_first(bytes)?;
     Ok(bytes.len() - rest.len())
 }

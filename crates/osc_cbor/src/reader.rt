@@ -7,15 +7,14 @@ ghost use Rattle.osc_cbor.specs.Spelling.{Spells, Begins};
 ghost use Rattle.osc_cbor.specs.Faults.{Fails};
 ghost use Rattle.osc_cbor.specs.Errors.{GivesItem};
 ghost use Rattle.osc_cbor.specs.Reading as spec;
-ghost use Rattle.osc_cbor.specs.Reading.{Gives, Reads, number_at, argument_at, simple_at, string_at, text_at, items_from, pairs_from, content_at, item_at};
+ghost use Rattle.osc_cbor.specs.Reading.{Gives, Reads, number_at, argument_at, simple_at, string_at, text_at, items_from, any_pairs_from, any_content_at, any_item_at};
 ghost use Rattle.osc_cbor.specs.View.{view, items_view, pairs_view};
 ghost use Rattle.osc_cbor.specs.declared.error.ReadError.{ReadError as AnyError};
 
 use crate::error::ReadError;
-use crate::extents::behind;
+use crate::extents::behind_first;
 use crate::heads::Major;
 use crate::item::Item;
-use crate::same::has_key;
 use std::alloc::Global;
 
 /// How many levels there are: an item stands in at most 8 arrays, maps and tags.
@@ -140,9 +139,10 @@ fn items_of(
     count: u64,
     bytes: &[u8],
 ) -> Result<(Vec<Item>, &[u8]), ReadError>
-    ensures { Gives (λ x. (items_view x.0.items, x.1.now)) result (items_from (item_at left) no_items count bytes.now) }
+    ensures { Gives (λ x. (items_view x.0.items, x.1.now)) result (items_from (any_item_at left) no_items count bytes.now) }
 {
-    let mut items = Vec::new(alloc);
+    // Each takes a byte at least.
+    let mut items = Vec::with_capacity(alloc, count.min(bytes.len() as u64) as usize)?;
     let mut rest = bytes;
     for _ in 0..count {
         let (item, after) = item_of(alloc, left, rest)?;
@@ -152,7 +152,7 @@ fn items_of(
     Ok((items, rest))
 }
 
-/// So many keys, each with its value. No key comes twice.
+/// So many keys, each with its value.
 #[cycle(read)]
 fn pairs_of(
     alloc: Global,
@@ -160,15 +160,13 @@ fn pairs_of(
     count: u64,
     bytes: &[u8],
 ) -> Result<(Vec<(Item, Item)>, &[u8]), ReadError>
-    ensures { Gives (λ x. (pairs_view x.0.items, x.1.now)) result (pairs_from (item_at left) no_pairs count bytes.now) }
+    ensures { Gives (λ x. (pairs_view x.0.items, x.1.now)) result (any_pairs_from (any_item_at left) no_pairs count bytes.now) }
 {
-    let mut pairs = Vec::new(alloc);
+    // Each takes two bytes at least.
+    let mut pairs = Vec::with_capacity(alloc, count.min(bytes.len() as u64 / 2) as usize)?;
     let mut rest = bytes;
     for _ in 0..count {
         let (key, behind_key) = item_of(alloc, left, rest)?;
-        if has_key(&key, &pairs) {
-            return Err(ReadError::DuplicateKey);
-        }
         let (value, after) = item_of(alloc, left, behind_key)?;
         pairs.push((key, value))?;
         rest = after;
@@ -178,7 +176,7 @@ fn pairs_of(
 
 /// What follows a head. Items inside have so many levels left.
 #[cycle(read)]
-#[tactic(auto, unfolding(crate::specs::Reading::content_at))]
+#[tactic(auto, unfolding(crate::specs::Reading::any_content_at))]
 fn content_of(
     alloc: Global,
     left: u8,
@@ -186,7 +184,7 @@ fn content_of(
     argument: u64,
     bytes: &[u8],
 ) -> Result<(Item, &[u8]), ReadError>
-    ensures { Gives (λ x. (view x.0, x.1.now)) result (content_at (item_at left) major argument bytes.now) }
+    ensures { Gives (λ x. (view x.0, x.1.now)) result (any_content_at (any_item_at left) major argument bytes.now) }
 {
     match major {
         Major::Unsigned => Ok((Item::Unsigned(argument), bytes)),
@@ -214,11 +212,11 @@ fn content_of(
     }
 }
 
-/// The item at the beginning of the bytes, with so many levels left, and the bytes after it.
+/// The item at the beginning of the bytes, with so many levels left, and the bytes after it. The keys of maps aren't compared.
 #[cycle(read)]
-#[tactic(auto, unfolding(crate::specs::Reading::item_at))]
-fn item_of(alloc: Global, left: u8, bytes: &[u8]) -> Result<(Item, &[u8]), ReadError>
-    ensures { Gives (λ x. (view x.0, x.1.now)) result (item_at left bytes.now) }
+#[tactic(auto, unfolding(crate::specs::Reading::any_item_at))]
+pub(crate) fn item_of(alloc: Global, left: u8, bytes: &[u8]) -> Result<(Item, &[u8]), ReadError>
+    ensures { Gives (λ x. (view x.0, x.1.now)) result (any_item_at left bytes.now) }
 {
     let Some((first, rest)) = bytes.split_first() else {
         return Err(ReadError::Truncated);
@@ -238,8 +236,8 @@ fn item_of(alloc: Global, left: u8, bytes: &[u8]) -> Result<(Item, &[u8]), ReadE
 /// Reads the item at the beginning of the bytes, and answers it with the number of bytes that it takes. Bytes may follow.
 ///
 /// Its end is found first, so that nothing is allocated for bytes that are no item. The item holds at most 192 bytes of
-/// memory for each byte that it takes, whatever lengths its heads claim. The time is linear in the bytes, but that each key of
-/// a map is compared with those before it.
+/// memory for each byte that it takes, whatever lengths its heads claim. The time is near linear, as that of [`crate::extent`]:
+/// the bytes, and sorting each map's keys.
 ///
 /// # Errors
 ///
@@ -255,7 +253,7 @@ pub fn read(alloc: Global, bytes: &[u8]) -> Result<(Item, usize), ReadError>
     // .. for want of memory too: that is told only where an item stands.
     ensures memory { result ≡ Err ReadError.Memory → (d : DataItem) × (count : ℕ) × Begins bytes.now d count }
 {
-    behind(MOST_LEVELS, bytes)?;
+    behind_first(bytes)?;
     let (item, rest) = item_of(alloc, MOST_LEVELS, bytes)?;
     Ok((item, bytes.len() - rest.len()))
 }

@@ -54,15 +54,3 @@ fn same_pairs(a: &[(Item, Item)], b: &[(Item, Item)]) -> bool
     }
     true
 }
-
-/// Whether one of the pairs has this key.
-pub(crate) fn has_key(key: &Item, pairs: &[(Item, Item)]) -> bool
-    ensures { result ≡ spec.has_key (view key.now) (pairs_view pairs.now) }
-{
-    for (earlier, _) in pairs {
-        if same(key, earlier) {
-            return true;
-        }
-    }
-    false
-}

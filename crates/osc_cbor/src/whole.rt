@@ -7,7 +7,7 @@ ghost use Rattle.osc_cbor.specs.View.{view};
 
 use crate::extents::extent;
 use crate::item::Item;
-use crate::reader::read;
+use crate::reader::{MOST_LEVELS, item_of};
 use crate::tokens::is_spelled_map;
 use std::alloc::{AllocError, Global};
 
@@ -29,7 +29,7 @@ pub fn is_whole_map(bytes: &[u8]) -> bool
 }
 
 /// The item that the bytes are, all of them, where they are one. An error is want of memory, and comes only where they are
-/// one; memory and time are those of [`read`].
+/// one; memory and time are those of [`crate::read`].
 pub fn read_whole(alloc: Global, bytes: &[u8]) -> Result<Option<Item>, AllocError>
     ensures { MatchResult result
         (λ found. MatchOption found
@@ -40,8 +40,8 @@ pub fn read_whole(alloc: Global, bytes: &[u8]) -> Result<Option<Item>, AllocErro
     if !is_whole(bytes) {
         return Ok(None);
     }
-    match read(alloc, bytes) {
-        Ok((item, count)) => Ok((count == bytes.len()).then_some(item)),
+    match item_of(alloc, MOST_LEVELS, bytes) {
+        Ok((item, _)) => Ok(Some(item)),
         Err(_) => Err(AllocError),
     }
 }

@@ -1,7 +1,7 @@
-use Rattle.std.proofs.Common.{◌≡◌, ◌+◌, ◌-◌, ℕ, List, true, false, refl, sym, ap, subst, ◌∙◌, arith}
+use Rattle.std.proofs.Common.{◌≡◌, ℕ, List, true, false, refl, sym, subst, ◌∙◌, arith}
 use Rattle.std.proofs.lemmas.Result.{err_from_is_err_and}
-use Rattle.osc_cbor.specs.Data.{unsigned, negative, no_items, no_pairs}
-use Rattle.osc_cbor.specs.Reading.{content_at, items_from, pairs_from, push_item, item_at}
+use Rattle.osc_cbor.specs.Data.{unsigned, negative, no_items}
+use Rattle.osc_cbor.specs.Reading.{content_at, push_item, item_at}
 use Rattle.osc_cbor.specs.Same.{has_key}
 use Rattle.osc_cbor.specs.Spelling.{Spells}
 use Rattle.osc_cbor.proofs.FoundLaws.{item_takes}

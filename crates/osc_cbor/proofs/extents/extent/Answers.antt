@@ -1,4 +1,4 @@
-use Rattle.std.proofs.Common.{◌≡◌, Ok, refl, sym, ap, subst, ◌∙◌, arith}
+use Rattle.std.proofs.Common.{Ok, refl, sym, ap, subst, ◌∙◌, arith}
 use Rattle.std.proofs.lemmas.Result.{err_from_is_err_and}
 use Rattle.osc_cbor.specs.Faults.{Fails}
 use Rattle.osc_cbor.proofs.ReadLaws.{rest_within, found_begins, found_only, found_first, same_err}

@@ -1,6 +1,6 @@
 use Rattle.std.proofs.Common.{◌≡◌, ◌-◌, ◌+◌, ◌*◌}
 use Rattle.osc_cbor.specs.Data.{no_items, no_pairs}
-use Rattle.osc_cbor.specs.Reading.{items_from, pairs_from, item_at}
+use Rattle.osc_cbor.specs.Reading.{items_from, any_pairs_from, any_item_at}
 use Rattle.osc_cbor.specs.View.{items_view, pairs_view}
 use Rattle.osc_cbor.proofs.reader.+read.Given as goal
 
@@ -17,7 +17,7 @@ abbrev pub decreases-content_of : goal.decreases-content_of
 decreases-content_of l = 3 * l.left + 2
 
 abbrev pub invariant-items_of-loop : goal.invariant-items_of-loop
-invariant-items_of-loop l = items_from (item_at l.left) (items_view l.items.items) (l.count - l.counter) l.rest ≡ items_from (item_at l.left) no_items l.count l.bytes
+invariant-items_of-loop l = items_from (any_item_at l.left) (items_view l.items.items) (l.count - l.counter) l.rest ≡ items_from (any_item_at l.left) no_items l.count l.bytes
 
 abbrev pub invariant-pairs_of-loop : goal.invariant-pairs_of-loop
-invariant-pairs_of-loop l = pairs_from (item_at l.left) (pairs_view l.pairs.items) (l.count - l.counter) l.rest ≡ pairs_from (item_at l.left) no_pairs l.count l.bytes
+invariant-pairs_of-loop l = any_pairs_from (any_item_at l.left) (pairs_view l.pairs.items) (l.count - l.counter) l.rest ≡ any_pairs_from (any_item_at l.left) no_pairs l.count l.bytes

@@ -1,5 +1,4 @@
-use Rattle.std.proofs.Common.{◌≡◌, ℕ, ◌-◌, ◌+◌, ◌<◌, sym, ap, subst, ◌∙◌, arith}
-use Rattle.osc_cbor.specs.Tokens.{Pending}
+use Rattle.std.proofs.Common.{arith}
 use Rattle.osc_cbor.proofs.TokenLaws.{token_shorter, pending_start, pending_bound, pending_step, pending_refused, pending_done}
 use Rattle.osc_cbor.proofs.tokens.behind_item.Goals as goal
 

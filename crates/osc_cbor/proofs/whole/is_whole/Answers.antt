@@ -1,4 +1,4 @@
-use Rattle.std.proofs.Common.{◌≡◌, ℕ, [], sym, ap, subst, eqb-true, eq-eqb, length}
+use Rattle.std.proofs.Common.{[], sym, eqb-true, eq-eqb, length}
 use Rattle.std.proofs.lemmas.List.{append-nil}
 use Rattle.osc_cbor.proofs.Steps.{ok_is, ok_or_err}
 use Rattle.osc_cbor.proofs.WholeLemmas.{whole_from_begins}

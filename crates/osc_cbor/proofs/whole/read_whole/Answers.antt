@@ -1,6 +1,8 @@
-use Rattle.std.proofs.Common.{Ok, sym, ◌∙◌}
+use Rattle.std.proofs.Common.{sym, subst, ◌∙◌}
 use Rattle.std.proofs.lemmas.Bool.{false≢true}
-use Rattle.osc_cbor.proofs.WholeLemmas.{whole_found, whole_is_given}
+use Rattle.osc_cbor.specs.Spelling.{IsWhole}
+use Rattle.osc_cbor.specs.View.{view}
+use Rattle.osc_cbor.proofs.WholeLemmas.{whole_is_read}
 use Rattle.osc_cbor.proofs.whole.read_whole.Goals as goal
 
 pub returns-then-not-is_whole : goal.returns-then-not-is_whole
@@ -9,7 +11,9 @@ returns-then-not-is_whole c = λ d w. false≢true (sym c.if-not-is_whole.true �
 pub returns-in-Ok : goal.returns-in-Ok
 returns-in-Ok c =
     let bytes = c.args.bytes.now in
-    rw (c.then_some.ensures) (whole_found bytes c.in-Ok.item c.in-Ok.count c.in-Ok.ensures.found (whole_is_given bytes (Ok (c.in-Ok.item, c.in-Ok.count)) c.in-Ok.ensures.only))
+    let (d, w) = c.is_whole.ensures.0 c.if-not-is_whole.false in
+    let read = whole_is_read bytes (view c.in-Ok.item) _ c.in-Ok.ensures in
+    (subst (IsWhole bytes) (sym (read d w)) w, read)
 
 pub returns-in-Err : goal.returns-in-Err
 returns-in-Err c = c.is_whole.ensures.0 c.if-not-is_whole.false
