@@ -81,6 +81,14 @@ next_of_rest xs i x lt is =
     let same : suc i ≡ i + 1 = omega arith in
     subst (λ (n : ℕ). drop i xs ≡ x ∷ drop n xs) same (rest_from xs i x lt is)
 
+-- not this one, and none behind it
+pub none_from : {A : Type 0} (P : A → Type 0) (xs : List A) (i : ℕ) (x : A) → i < length xs → x ≡ get_or xs i x → (Has P (drop (i + 1) xs) → ⊥) → (P x → ⊥) → Has P (drop i xs) → ⊥
+none_from P xs i x lt is none here r =
+    ⊎_elim
+    (λ (e : r.0 ≡ x). here (subst P e r.2))
+    (λ (h : In r.0 (drop (i + 1) xs)). none (r.0, h, r.2))
+    (subst (In r.0) (next_of_rest xs i x lt is) r.1)
+
 -- those from a place on, as a slice has them
 pub slice_from : {A : Type 0} (xs : List A) (n : ℕ) → take (length xs - n) (drop n xs) ≡ drop n xs
 slice_from xs n = take_all (length xs - n) (drop n xs) (omega (arith, length-drop n xs))

@@ -1,11 +1,12 @@
 -- Whether what is assumed of a run holds of steps that are kept with the oldest first.
-use Rattle.std.proofs.Common.{◌≡◌, ◌≢◌, ◌<◌, ◌≤◌, ℕ, ◌+◌, List, [], ◌∷◌, length, get_or, take, drop, reverse, Some, refl, sym, ap, ◌∙◌, inl, ⊎_elim, subst}
+use Rattle.std.proofs.Common.{◌≡◌, ◌≢◌, ◌<◌, ◌≤◌, ℕ, ◌+◌, ◌-◌, List, [], ◌∷◌, length, get_or, take, drop, reverse, Some, refl, sym, ap, ◌∙◌, inl, ⊎_elim, subst, arith}
+use Rattle.std.proofs.lemmas.List.{drop_all}
 use Rattle.osc_model.specs.declared.step.Note.{Note}
 use Rattle.osc_authz.specs.Members.{In}
 use Rattle.osc_run.specs.Notes.{Noted}
 use Rattle.osc_run.specs.States.{Minted}
 use Rattle.osc_run.specs.Premise.{IsVouched, IsGenuineOpening, IsGenuine, IsDrawn, HasFreshDraws, HasOwnSecrets}
-use Rattle.osc_run.proofs.Members.{Has, has_at, none_more, none_of_all, has_of_reverse, has_in_reverse, up_to, from_on, next_first, next_of_rest}
+use Rattle.osc_run.proofs.Members.{Has, has_at, has_of_reverse, has_in_reverse, none_from, up_to, from_on, next_first, next_of_rest}
 use Rattle.osc_run.proofs.Separate.{all_differ, each_differs}
 
 -- what is sealed at one end and opened at the other
@@ -66,16 +67,23 @@ vouched_at steps i s opening lt is v = of_one (reverse steps) opening (has_in_re
 none_in_reverse : (steps : List Noted) (opening : Note) → (IsVouched (reverse steps) opening → ⊥) → Has (Vouching opening) steps → ⊥
 none_in_reverse steps opening none r = none (of_one (reverse steps) opening (has_in_reverse (Vouching opening) steps r))
 
-pub not_vouched_more : (steps : List Noted) (i : ℕ) (s : Noted) (opening : Note) → i < length steps → s ≡ get_or steps i s
-    → (IsVouched (reverse (take i steps)) opening → ⊥) → (IsVouched (s ∷ []) opening → ⊥) → IsVouched (reverse (take (i + 1) steps)) opening → ⊥
-not_vouched_more steps i s opening lt is none here v =
-    none_more (Vouching opening) steps i s lt is (none_in_reverse (take i steps) opening none) here
-    (has_of_reverse (Vouching opening) (take (i + 1) steps) (by_one (reverse (take (i + 1) steps)) opening v))
+-- by none from a place on, and not by the one before it
+pub not_vouched_before : (steps : List Noted) (i : ℕ) (s : Noted) (opening : Note) → 0 < i → i ≤ length steps → s ≡ get_or steps (i - 1) s
+    → (IsVouched (reverse (drop i steps)) opening → ⊥) → (IsVouched (s ∷ []) opening → ⊥) → IsVouched (reverse (drop (i - 1) steps)) opening → ⊥
+not_vouched_before steps i s opening some within is none here v =
+    let next : i ≡ i - 1 + 1 = omega (arith, some) in
+    let behind = subst (λ (n : ℕ). IsVouched (reverse (drop n steps)) opening → ⊥) next none in
+    none_from (Vouching opening) steps (i - 1) s (omega (arith, some, within)) is (none_in_reverse (drop (i - 1 + 1) steps) opening behind) here
+    (has_of_reverse (Vouching opening) (drop (i - 1) steps) (by_one (reverse (drop (i - 1) steps)) opening v))
 
-pub not_vouched_all : (steps : List Noted) (i : ℕ) (opening : Note) → length steps ≤ i → (IsVouched (reverse (take i steps)) opening → ⊥) → IsVouched (reverse steps) opening → ⊥
-not_vouched_all steps i opening all none v =
-    none_of_all (Vouching opening) steps i all (none_in_reverse (take i steps) opening none)
-    (has_of_reverse (Vouching opening) steps (by_one (reverse steps) opening v))
+pub not_vouched_from_first : (steps : List Noted) (i : ℕ) (opening : Note) → i ≤ 0 → (IsVouched (reverse (drop i steps)) opening → ⊥) → IsVouched (reverse steps) opening → ⊥
+not_vouched_from_first steps i opening first none =
+    let is_first : i ≡ 0 = omega (arith, first) in
+    subst (λ (n : ℕ). IsVouched (reverse (drop n steps)) opening → ⊥) is_first none
+
+-- none stands behind the last
+pub not_vouched_behind : (steps : List Noted) (i : ℕ) (opening : Note) → length steps ≤ i → IsVouched (reverse (drop i steps)) opening → ⊥
+not_vouched_behind steps i opening all v = subst (λ (none : List Noted). Has (Vouching opening) (reverse none) → ⊥) (sym (drop_all i steps all)) (λ r. r.1) (by_one (reverse (drop i steps)) opening v)
 
 -- ---- step by step
 

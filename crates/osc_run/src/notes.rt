@@ -95,8 +95,8 @@ impl Notes {
     }
 
     /// Whether what is assumed of a run holds of these steps: whatever opened was sealed before by the other end of its context,
-    /// or minted, no drawn nonce came twice, and no two grants share a secret. Takes no memory; its time grows with the square of
-    /// the steps.
+    /// or minted, no drawn nonce came twice, and no two grants share a secret. Takes no memory. Its time mostly grows with the steps, and
+    /// at worst with their square: an opening is looked for from the newest step before it on, and a drawn nonce among all before it.
     pub fn premise_holds(&self, minted: &[Minted]) -> bool
         ensures { IsTrue result ↔ Premise minted.now self.now.steps }
     {

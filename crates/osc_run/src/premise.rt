@@ -1,5 +1,5 @@
-//! Whether what is assumed of a run holds of its notes. Steps are lent with the oldest first. Each opening is looked for among the
-//! steps before its own, and each draw too; nothing is allocated.
+//! Whether what is assumed of a run holds of its notes. Steps are lent with the oldest first; nothing is allocated. Each opening is looked
+//! for among the steps before its own, from the newest of them on, and each draw among all of them.
 
 ghost use Rattle.std.specs.Prelude.{◌≡◌, ◌≢◌, ◌↔◌, [], ◌∷◌, IsTrue, List, ℕ, Some, reverse};
 ghost use Rattle.osc_model.specs.declared.step.Note.{Note as AnyNote};
@@ -14,7 +14,9 @@ use osc_model::{Algorithm, Bytes, ContextName, Note, Side};
 
 // ---- genuine
 
-/// Whether what each step opened was sealed in an earlier one, or minted.
+/// Whether what each step opened was sealed in an earlier one, or minted. For each step that opened something, it looks at those between
+/// that step and the one that sealed it: mostly one or two, and at most all before it. So the time is mostly that of one look at each step, and
+/// at worst grows with the square of the steps.
 pub(crate) fn is_genuine(minted: &[Minted], steps: &[Noted]) -> bool
     ensures { IsTrue result ↔ IsGenuine minted.now (reverse steps.now) }
 {
@@ -85,12 +87,13 @@ fn has_text(m: &Minted, text: &Bytes) -> bool
     m.text == *text
 }
 
-/// Whether an earlier step sealed, as the other end, what was opened.
+/// Whether an earlier step sealed, as the other end, what was opened. The newest is looked at first, since what is opened was mostly
+/// sealed a step or two before.
 fn is_vouched(earlier: &[Noted], opening: &Note) -> bool
     ensures { IsTrue result ↔ IsVouched (reverse earlier.now) opening.now }
 {
-    for step in earlier {
-        if vouches(step, opening) {
+    for i in (0..earlier.len()).rev() {
+        if vouches(&earlier[i], opening) {
             return true;
         }
     }
@@ -122,7 +125,8 @@ fn is_opened_by(sealing: &Note, opening: &Note) -> bool
 
 // ---- fresh
 
-/// Whether no step drew a nonce that an earlier one drew.
+/// Whether no step drew a nonce that an earlier one drew. For each step that drew one, it looks at all before it: so the time grows with the
+/// steps times those that drew.
 pub(crate) fn are_fresh(steps: &[Noted]) -> bool
     ensures { IsTrue result ↔ HasFreshDraws (reverse steps.now) }
 {

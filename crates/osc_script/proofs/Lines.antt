@@ -11,10 +11,10 @@ use Rattle.osc_script.specs.declared.line.Line.TheVariants.{Put, Open, Proxy, Vi
 use Rattle.osc_script.specs.Node.{client_name, name_of}
 use Rattle.osc_script.specs.Values.{SpellsNumber}
 use Rattle.osc_script.specs.Line.{Say}
-use Rattle.osc_script.specs.Reading.{◌>>=◌, number_in, request_number_in, format_in, client_in, node_in, worker_in, bytes_in, short_bytes_in, nonce_in, changes_in, some_changes, request_in, moment_if, moment_in, put_in, at_in, draw_in, exchange_in, skip_in, ask_in, lie_in, deliver_in, drop_in, alter_in, graft_in, tick_in, restart_in, inject_in, proxy_in, proxy_line_in, via_in, HasPath}
+use Rattle.osc_script.specs.Reading.{◌>>=◌, number_in, request_number_in, format_in, client_in, node_in, worker_in, kept_in, short_bytes_in, nonce_in, changes_in, some_changes, request_in, moment_if, moment_in, put_in, at_in, draw_in, exchange_in, skip_in, ask_in, lie_in, deliver_in, drop_in, alter_in, graft_in, tick_in, restart_in, inject_in, proxy_in, proxy_line_in, via_in, HasPath}
 use Rattle.osc_script.proofs.Found.{step_found}
 use Rattle.osc_script.proofs.Numbers.{number_found, format_found, request_number_found}
-use Rattle.osc_script.proofs.Payloads.{bytes_found, nonce_found, short_found}
+use Rattle.osc_script.proofs.Payloads.{bytes_found, kept_found, nonce_found, short_found}
 use Rattle.osc_script.proofs.Nodes.{client_found, node_found, proxy_found, worker_found}
 use Rattle.osc_script.proofs.Requests.{request_found}
 use Rattle.osc_script.proofs.ChangeWords.{changes_found, some_found}
@@ -179,11 +179,11 @@ restart_found word line e =
 pub inject_found : (from to spelled : List ℕ) (line : Line) → inject_in from to spelled ≡ Some line → Say (codes "inject" ∷ from ∷ to ∷ spelled ∷ []) line
 unfolding inject_in
 inject_found from to spelled line e =
-    let f = step_found (node_in from) (λ f. node_in to >>= λ t. bytes_in spelled >>= λ bytes. Some (Inject f t bytes)) line e in
-    let t = step_found (node_in to) (λ t. bytes_in spelled >>= λ bytes. Some (Inject f.0 t bytes)) line f.2 in
-    let a = step_found (bytes_in spelled) (λ bytes. Some (Inject f.0 t.0 bytes)) line t.2 in
+    let f = step_found (node_in from) (λ f. node_in to >>= λ t. kept_in spelled >>= λ bytes. Some (Inject f t bytes)) line e in
+    let t = step_found (node_in to) (λ t. kept_in spelled >>= λ bytes. Some (Inject f.0 t bytes)) line f.2 in
+    let a = step_found (kept_in spelled) (λ bytes. Some (Inject f.0 t.0 bytes)) line t.2 in
     let from_is = node_found from f.0 f.1 in
     let to_is = node_found to t.0 t.1 in
     let words : codes "inject" ∷ from ∷ to ∷ spelled ∷ [] ≡ codes "inject" ∷ name_of f.0 ∷ name_of t.0 ∷ spelled ∷ [] =
     ap (λ (w : List ℕ). codes "inject" ∷ w ∷ to ∷ spelled ∷ []) from_is ∙ ap (λ (w : List ℕ). codes "inject" ∷ name_of f.0 ∷ w ∷ spelled ∷ []) to_is in
-    subst (Say (codes "inject" ∷ from ∷ to ∷ spelled ∷ [])) (line_is (Inject f.0 t.0 a.0) line a.2) (spelled, words, bytes_found spelled a.0 a.1)
+    subst (Say (codes "inject" ∷ from ∷ to ∷ spelled ∷ [])) (line_is (Inject f.0 t.0 a.0) line a.2) (spelled, words, kept_found spelled a.0 a.1)

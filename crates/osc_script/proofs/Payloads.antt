@@ -1,7 +1,6 @@
 -- A word spells bytes exactly where they are read, and they are those.
-use Rattle.std.proofs.Common.{◌≡◌, ℕ, ◌+◌, ◌*◌, ◌<◌, ◌==◌, Bool, true, false, List, [], ◌∷◌, ◌++◌, length, get_or, replicate, Option, Some, None, Result, Ok, Err, codes, nat_lt, refl, sym, ap, subst, ◌∙◌, arith, inl, inr, ◌⊎◌, Bor, map, drop, add-one, drop-cons, drop_of_length-le, ◌≤◌, append_assoc, append-nil, eqb-true, bytes_eq, ltb-true, lt-ltb, ◌/◌, cond, nat_le, leb-true, le-leb, length-append}
-use Rattle.std.proofs.lemmas.List.{length-replicate}
-use Rattle.std.proofs.Math.Nat.{mul-div_cancel_left}
+use Rattle.std.proofs.Common.{◌≡◌, ℕ, zero, suc, ◌+◌, ◌-◌, ◌*◌, ◌<◌, ◌==◌, Bool, true, false, List, [], ◌∷◌, ◌++◌, length, get_or, replicate, min, Option, Some, None, Result, Ok, Err, codes, nat_lt, refl, sym, ap, subst, ◌∙◌, arith, inl, inr, ◌⊎◌, Bor, map, take, drop, add-one, drop-cons, drop_of_length-le, ◌≤◌, append-nil, eqb-true, bytes_eq, ltb-true, lt-ltb, cond, nat_le, leb-true, le-leb, length-append, option_map}
+use Rattle.std.proofs.lemmas.List.{length-take, take_all}
 use Rattle.std.proofs.lemmas.Option.{cond_some}
 use Rattle.std.specs.Prelude.{slice_index, IfSome, IsNone, ◌≢◌}
 use Rattle.std.specs.List.{slice_split}
@@ -12,9 +11,9 @@ use Rattle.hex.specs.Hex.{decode_of, is_hex_digit}
 use Rattle.hex.specs.declared.error.FromHexError.{FromHexError}
 use Rattle.hex.proofs.HexLemmas.{decode_of-ok}
 use Rattle.osc_script.specs.Values.{SpellsNumber}
-use Rattle.osc_script.specs.Words.{SpellsPairs, SpellsRepeated, SpellParts, SpellsBytes}
-use Rattle.osc_script.specs.Reading.{◌>>=◌, number_in, decoded, hex_in, nonce_in, repeated_in, part_in, part_length, parts_in, total_length, bytes_in, short_bytes_in, or_none}
-use Rattle.osc_script.proofs.Found.{step_found, test_held, none_unless}
+use Rattle.osc_script.specs.Words.{most_kept, SpellsPairs, SpellsRepeated, SpellParts, SpellsBytes, SpellsKept}
+use Rattle.osc_script.specs.Reading.{◌>>=◌, number_in, decoded, hex_in, nonce_in, repeated_in, part_in, parts_in, bytes_in, kept_in, short_bytes_in}
+use Rattle.osc_script.proofs.Found.{step_found, mapped_found, not_mapped, test_held, none_unless}
 use Rattle.osc_script.proofs.Numbers.{number_found, number_again}
 
 decoded_ok : (r : Result (List ℕ) FromHexError) (bytes : List ℕ) → decoded r ≡ Some bytes → r ≡ Ok bytes
@@ -149,62 +148,17 @@ bytes_again word bytes (inr s) =
       | inr other ↦ rw other (parts_again (slice_split (λ b. b == 43) word) bytes s)
     ]
 
--- ---- lengths, by the counts alone
+-- ---- the first of the bytes
 
-half : (part bytes : List ℕ) → decode_of part ≡ Ok bytes → length bytes ≡ length part / 2
-half part bytes e = rw (twice part bytes e) (sym (mul-div_cancel_left (length bytes) (omega arith)))
+pub kept_found : (word kept : List ℕ) → kept_in word ≡ Some kept → SpellsKept word kept
+unfolding kept_in
+kept_found word kept e =
+    let m = mapped_found (take most_kept) (bytes_in word) kept e in
+    (m.0, bytes_found word m.0 m.1, m.2)
 
-repeated_length : (pair digits bytes : List ℕ) → repeated_in pair digits ≡ Some bytes → length bytes ≡ or_none (number_in digits)
-unfolding repeated_in
-repeated_length pair digits bytes e =
-    let a = step_found (hex_in pair) (λ bytes. number_in digits >>= λ count. Some (replicate count (slice_index bytes 0))) bytes e in
-    let b = step_found (number_in digits) (λ count. Some (replicate count (slice_index a.0 0))) bytes a.2 in
-    ap length (some_is bytes (replicate b.0 (slice_index a.0 0)) b.2) ∙ length-replicate b.0 (slice_index a.0 0) ∙ sym (ap or_none b.1)
-  where
-    some_is : (x y : List ℕ) → Some y ≡ Some x → x ≡ y
-    some_is x y e = cc
-
-part_has_length : (part bytes : List ℕ) → part_in part ≡ Some bytes → length bytes ≡ part_length part
-unfolding part_in part_length
-part_has_length [] bytes e = half [] bytes (hex_found [] bytes e).digits
-part_has_length (high ∷ []) bytes e = half (high ∷ []) bytes (hex_found (high ∷ []) bytes e).digits
-part_has_length (high ∷ low ∷ []) bytes e = half (high ∷ low ∷ []) bytes (hex_found (high ∷ low ∷ []) bytes e).digits
-part_has_length (high ∷ low ∷ star ∷ digits) bytes e =
-    elim (cases_Bool (star == 42)) [
-      | inl same ↦
-          let read : repeated_in (high ∷ low ∷ []) digits ≡ Some bytes = sym (rw same refl) ∙ e in
-          rw same (repeated_length (high ∷ low ∷ []) digits bytes read)
-      | inr other ↦
-          let read : hex_in (high ∷ low ∷ star ∷ digits) ≡ Some bytes = sym (rw other refl) ∙ e in
-          rw other (half (high ∷ low ∷ star ∷ digits) bytes (hex_found (high ∷ low ∷ star ∷ digits) bytes read).digits)
-    ]
-
-total_has_length : (parts : List (List ℕ)) (bytes : List ℕ) → parts_in parts ≡ Some bytes → length bytes ≡ total_length parts
-unfolding parts_in total_length
-total_has_length [] bytes e = let empty : [] ≡ bytes = cc in rw (← empty) refl
-total_has_length (part ∷ parts) bytes e =
-    let a = step_found (part_in part) (λ first. parts_in parts >>= λ rest. Some (first ++ rest)) bytes e in
-    let b = step_found (parts_in parts) (λ rest. Some (a.0 ++ rest)) bytes a.2 in
-    ap length (some_is bytes (a.0 ++ b.0) b.2) ∙ length-append a.0 b.0 ∙ sums (part_has_length part a.0 a.1) (total_has_length parts b.0 b.1)
-  where
-    some_is : (x y : List ℕ) → Some y ≡ Some x → x ≡ y
-    some_is x y e = cc
-
-    sums : {a b c d : ℕ} → a ≡ c → b ≡ d → a + b ≡ c + d
-    sums e f = rw (e, f) refl
-
-word_has_length : (word bytes : List ℕ) → bytes_in word ≡ Some bytes → length bytes ≡ total_length (slice_split (λ b. b == 43) word)
-unfolding bytes_in total_length part_length
-word_has_length word bytes e =
-    elim (cases_Bool (bytes_eq word (codes "-"))) [
-      | inl same ↦
-          let dash : total_length (slice_split (λ b. b == 43) (codes "-")) ≡ 0 = refl in
-          ap length (some_is [] bytes (sym (rw same refl) ∙ e)) ∙ sym dash ∙ ap (λ (w : List ℕ). total_length (slice_split (λ b. b == 43) w)) (sym ((bytes_eq-Decides word (codes "-")).0 same))
-      | inr other ↦ total_has_length (slice_split (λ b. b == 43) word) bytes (sym (rw other refl) ∙ e)
-    ]
-  where
-    some_is : (x y : List ℕ) → Some x ≡ Some y → y ≡ x
-    some_is x y e = cc
+pub kept_again : (word kept : List ℕ) → SpellsKept word kept → kept_in word ≡ Some kept
+unfolding kept_in
+kept_again word kept s = rw (bytes_again word s.0 s.1) (ap Some (sym s.2))
 
 pub short_found : (most : ℕ) (word bytes : List ℕ) → short_bytes_in most word ≡ Some bytes → (bytes_in word ≡ Some bytes) × (length bytes ≤ most)
 unfolding short_bytes_in
@@ -217,16 +171,27 @@ pub short_again : (most : ℕ) (word bytes : List ℕ) → bytes_in word ≡ Som
 unfolding short_bytes_in
 short_again most word bytes e le = rw (e, le-leb (length bytes) most le) refl
 
--- parts that are longer are none of these bytes
-pub too_many : (most : ℕ) (word : List ℕ) → most < total_length (slice_split (λ b. b == 43) word) → None ≡ short_bytes_in most word
-too_many most word lt = sym (none_unless (short_bytes_in most word) (λ bytes e.
-    let s = short_found most word bytes e in
-    omega (arith, lt, s.1, word_has_length word bytes s.0)))
+-- as many as are wanted and one more tell whether there are more than are wanted
+pub few_enough : (most : ℕ) (word kept : List ℕ) → Some kept ≡ option_map (take (most + 1)) (bytes_in word) → length kept ≤ most → Some kept ≡ short_bytes_in most word
+few_enough most word kept e le =
+    let m = mapped_found (take (most + 1)) (bytes_in word) kept (sym e) in
+    let all : length m.0 ≤ most + 1 = omega (arith, le, ap length m.2, length-take (most + 1) m.0) in
+    sym (short_again most word kept (m.1 ∙ ap Some (sym (m.2 ∙ take_all (most + 1) m.0 all))) le)
 
--- and those that aren't are all of them
-pub few_enough : (most : ℕ) (word : List ℕ) (found : Option (List ℕ)) → ¬ (most < total_length (slice_split (λ b. b == 43) word)) → found ≡ bytes_in word → found ≡ short_bytes_in most word
-few_enough most word (Some bytes) few e = sym (short_again most word bytes (sym e) (omega (arith, few, word_has_length word bytes (sym e))))
-few_enough most word None few e = sym (none_unless (short_bytes_in most word) (λ bytes f. let g : None ≡ Some bytes = e ∙ (short_found most word bytes f).0 in absurd cc))
+pub too_many : (most : ℕ) (word kept : List ℕ) → Some kept ≡ option_map (take (most + 1)) (bytes_in word) → most < length kept → None ≡ short_bytes_in most word
+too_many most word kept e lt =
+    let m = mapped_found (take (most + 1)) (bytes_in word) kept (sym e) in
+    sym (none_unless (short_bytes_in most word) (λ bytes f.
+    let s = short_found most word bytes f in
+    let same : m.0 ≡ bytes = some_is m.0 bytes (sym m.1 ∙ s.0) in
+    omega (arith, lt, s.1, ap length same, length-take (most + 1) m.0, ap length m.2)))
+  where
+    some_is : (x y : List ℕ) → Some x ≡ Some y → x ≡ y
+    some_is x y e = cc
+
+pub not_read : (most wanted : ℕ) (word : List ℕ) → None ≡ option_map (take wanted) (bytes_in word) → None ≡ short_bytes_in most word
+not_read most wanted word e =
+    sym (none_unless (short_bytes_in most word) (λ bytes f. let some : None ≡ Some (take wanted bytes) = e ∙ ap (option_map (take wanted)) (short_found most word bytes f).0 in absurd cc))
 
 -- what hex reads
 pub pairs_read : (part bytes : List ℕ) (empty : Bool) → empty ≡ (length part == 0) → empty ≡ false → decode_of part ≡ Ok bytes → Some bytes ≡ hex_in part
@@ -239,10 +204,18 @@ not_empty part bytes e =
     let s = hex_found part bytes (sym e) in
     omega (arith, s.some, twice part bytes s.digits)
 
+first_replicated : (most count byte : ℕ) → take most (replicate count byte) ≡ replicate (min count most) byte
+first_replicated zero count byte = let none : min count 0 ≡ 0 = omega arith in rw none refl
+first_replicated (suc most) zero byte = let none : min 0 (suc most) ≡ 0 = omega arith in rw none refl
+first_replicated (suc most) (suc count) byte =
+    let more : min (suc count) (suc most) ≡ suc (min count most) = omega arith in
+    rw more (ap (λ (bytes : List ℕ). byte ∷ bytes) (first_replicated most count byte))
+
 -- what a pair and a count read
-pub repeated_read : (pair digits read bytes : List ℕ) (count byte : ℕ) → Some read ≡ hex_in pair → Some count ≡ number_in digits → byte ≡ get_or read 0 0 → bytes ≡ replicate count byte → Some bytes ≡ repeated_in pair digits
+pub repeated_read : (pair digits read bytes : List ℕ) (count byte most : ℕ) → Some read ≡ hex_in pair → Some count ≡ number_in digits → byte ≡ get_or read 0 0 → bytes ≡ replicate (min count most) byte
+    → Some bytes ≡ option_map (take most) (repeated_in pair digits)
 unfolding repeated_in
-repeated_read pair digits read bytes count byte h n b e = rw (← h, ← n, e, b) refl
+repeated_read pair digits read bytes count byte most h n b e = rw (← h, ← n, e, b) (ap Some (sym (first_replicated most count (get_or read 0 0))))
 
 pub nonce_found : (word bytes : List ℕ) → nonce_in word ≡ Some bytes → (length word ≡ 16) × SpellsPairs word bytes
 unfolding nonce_in
@@ -260,55 +233,68 @@ pub nonce_read : (word bytes : List ℕ) (found : Option (List ℕ)) → length 
 nonce_read word bytes (Some eight) e read some none = ap Some some ∙ sym (nonce_again word bytes e (hex_found word bytes (sym read)))
 nonce_read word bytes None e read some none = absurd (none refl (let s = hex_found word bytes (sym read) in omega (arith, twice word bytes s.digits)))
 
--- the parts before, and those that are still to come
-abbrev pub with_front : List ℕ → Option (List ℕ) → Option (List ℕ)
-with_front front found = found >>= λ rest. Some (front ++ rest)
+-- the first of the parts before and of those that are still to come
+abbrev pub with_front : ℕ → List ℕ → Option (List ℕ) → Option (List ℕ)
+with_front most front found = option_map (λ rest. take most (front ++ rest)) found
 
-goes_on : (front first : List ℕ) (part : List ℕ) (parts : List (List ℕ)) → Some first ≡ part_in part → with_front front (parts_in (part ∷ parts)) ≡ with_front (front ++ first) (parts_in parts)
+-- what is left out of one part is left out of the whole
+first_again : (most : ℕ) (first rest : List ℕ) → take most (first ++ rest) ≡ take most (take most first ++ rest)
+first_again zero first rest = refl
+first_again (suc most) [] rest = refl
+first_again (suc most) (x ∷ first) rest = ap (λ (bytes : List ℕ). x ∷ bytes) (first_again most first rest)
+
+first_behind : (most : ℕ) (front first rest : List ℕ) → length front ≤ most → take most (front ++ (first ++ rest)) ≡ take most ((front ++ take (most - length front) first) ++ rest)
+first_behind most [] first rest few = let all : most - 0 ≡ most = omega arith in rw all (first_again most first rest)
+first_behind zero (x ∷ front) first rest few = absurd (omega (arith, few))
+first_behind (suc most) (x ∷ front) first rest few =
+    let left : suc most - length (x ∷ front) ≡ most - length front = omega arith in
+    rw left (ap (λ (bytes : List ℕ). x ∷ bytes) (first_behind most front first rest (omega (arith, few))))
+
+goes_on : (most : ℕ) (front first : List ℕ) (part : List ℕ) (parts : List (List ℕ)) → length front ≤ most → part_in part ≡ Some first
+    → with_front most front (parts_in (part ∷ parts)) ≡ with_front most (front ++ take (most - length front) first) (parts_in parts)
 unfolding parts_in
-goes_on front first part parts e = rw (← e) (regroup (parts_in parts))
+goes_on most front first part parts few e = rw e (regroup (parts_in parts))
   where
-    regroup : (found : Option (List ℕ)) → with_front front (found >>= λ rest. Some (first ++ rest)) ≡ with_front (front ++ first) found
-    regroup (Some rest) = ap Some (sym (append_assoc front first rest))
+    regroup : (found : Option (List ℕ)) → with_front most front (found >>= λ rest. Some (first ++ rest)) ≡ with_front most (front ++ take (most - length front) first) found
+    regroup (Some rest) = ap Some (first_behind most front first rest few)
     regroup None = refl
 
-ends : (front part : List ℕ) (parts : List (List ℕ)) → None ≡ part_in part → with_front front (parts_in (part ∷ parts)) ≡ None
+ends : (most : ℕ) (front part : List ℕ) (parts : List (List ℕ)) → part_in part ≡ None → with_front most front (parts_in (part ∷ parts)) ≡ None
 unfolding parts_in
-ends front part parts e = rw (← e) refl
+ends most front part parts e = rw e refl
 
-is_done : (front : List ℕ) → with_front front (parts_in []) ≡ Some front
+is_done : (most : ℕ) (front : List ℕ) → length front ≤ most → with_front most front (parts_in []) ≡ Some front
 unfolding parts_in
-is_done front = ap Some (append-nil front)
+is_done most front few = ap Some (ap (take most) (append-nil front) ∙ take_all most front few)
 
 -- the same at place i of what a loop goes over
 drop_part : (parts : List (Bor (List ℕ))) (i : ℕ) (d : Bor (List ℕ)) → i < length parts → map (λ part. part.now) (drop i parts) ≡ (get_or parts i d).now ∷ map (λ part. part.now) (drop (i + 1) parts)
 drop_part parts i d lt = rw (add-one, drop-cons parts i d) refl
 
--- the parts from a place on, and those behind the next
-pub total_at : (parts : List (Bor (List ℕ))) (i : ℕ) (d : Bor (List ℕ)) (first : ℕ) → i < length parts → first ≡ part_length (get_or parts i d).now
-    → total_length (map (λ part. part.now) (drop i parts)) ≡ first + total_length (map (λ part. part.now) (drop (i + 1) parts))
-unfolding total_length
-total_at parts i d first lt e = rw (drop_part parts i d lt, e) refl
+pub still_few : (most left : ℕ) (front first all : List ℕ) (part : Option (List ℕ)) → left ≡ most - length front → length front ≤ most → Some first ≡ option_map (take left) part → all ≡ front ++ first → length all ≤ most
+still_few most left front first all part rest few e joined =
+    let m = mapped_found (take left) part first (sym e) in
+    omega (arith, rest, few, ap length joined, length-append front first, ap length m.2, length-take left m.0)
 
-pub total_done : (parts : List (Bor (List ℕ))) (i : ℕ) → length parts ≤ i → total_length (map (λ part. part.now) (drop i parts)) ≡ 0
-unfolding total_length
-total_done parts i le = rw (drop_of_length-le parts le) refl
-
-pub goes_on_at : (front first all : List ℕ) (parts : List (Bor (List ℕ))) (i : ℕ) (d : Bor (List ℕ)) (total : Option (List ℕ)) → i < length parts → Some first ≡ part_in (get_or parts i d).now → all ≡ front ++ first
-    → with_front front (parts_in (map (λ part. part.now) (drop i parts))) ≡ total → with_front all (parts_in (map (λ part. part.now) (drop (i + 1) parts))) ≡ total
-goes_on_at front first all parts i d total lt e joined so_far =
+pub goes_on_at : (most left : ℕ) (front first all : List ℕ) (parts : List (Bor (List ℕ))) (i : ℕ) (d : Bor (List ℕ)) (total : Option (List ℕ)) → i < length parts → left ≡ most - length front → length front ≤ most
+    → Some first ≡ option_map (take left) (part_in (get_or parts i d).now) → all ≡ front ++ first
+    → with_front most front (parts_in (map (λ part. part.now) (drop i parts))) ≡ total → with_front most all (parts_in (map (λ part. part.now) (drop (i + 1) parts))) ≡ total
+goes_on_at most left front first all parts i d total lt is_left few e joined so_far =
     let rest = map (λ (part : Bor (List ℕ)). part.now) (drop (i + 1) parts) in
-    rw joined (sym (goes_on front first (get_or parts i d).now rest e) ∙ sym (ap (λ (p : List (List ℕ)). with_front front (parts_in p)) (drop_part parts i d lt)) ∙ so_far)
+    let m = mapped_found (take (most - length front)) (part_in (get_or parts i d).now) first (sym (rw is_left at e)) in
+    rw (joined, m.2) (sym (goes_on most front m.0 (get_or parts i d).now rest few m.1) ∙ sym (ap (λ (p : List (List ℕ)). with_front most front (parts_in p)) (drop_part parts i d lt)) ∙ so_far)
 
-pub ends_at : (front : List ℕ) (parts : List (Bor (List ℕ))) (i : ℕ) (d : Bor (List ℕ)) (total : Option (List ℕ)) → i < length parts → None ≡ part_in (get_or parts i d).now
-    → with_front front (parts_in (map (λ part. part.now) (drop i parts))) ≡ total → None ≡ total
-ends_at front parts i d total lt e so_far =
+pub ends_at : (most left : ℕ) (front : List ℕ) (parts : List (Bor (List ℕ))) (i : ℕ) (d : Bor (List ℕ)) (total : Option (List ℕ)) → i < length parts → None ≡ option_map (take left) (part_in (get_or parts i d).now)
+    → with_front most front (parts_in (map (λ part. part.now) (drop i parts))) ≡ total → None ≡ total
+ends_at most left front parts i d total lt e so_far =
     let rest = map (λ (part : Bor (List ℕ)). part.now) (drop (i + 1) parts) in
-    sym (ends front (get_or parts i d).now rest e) ∙ sym (ap (λ (p : List (List ℕ)). with_front front (parts_in p)) (drop_part parts i d lt)) ∙ so_far
+    let none = not_mapped (take left) (part_in (get_or parts i d).now) (sym e) in
+    sym (ends most front (get_or parts i d).now rest none) ∙ sym (ap (λ (p : List (List ℕ)). with_front most front (parts_in p)) (drop_part parts i d lt)) ∙ so_far
 
-pub is_done_at : (front : List ℕ) (parts : List (Bor (List ℕ))) (i : ℕ) (total : Option (List ℕ)) → length parts ≤ i
-    → with_front front (parts_in (map (λ part. part.now) (drop i parts))) ≡ total → Some front ≡ total
-is_done_at front parts i total le so_far = sym (is_done front) ∙ sym (ap (λ (p : List (Bor (List ℕ))). with_front front (parts_in (map (λ part. part.now) p))) (drop_of_length-le parts le)) ∙ so_far
+pub is_done_at : (most : ℕ) (front : List ℕ) (parts : List (Bor (List ℕ))) (i : ℕ) (total : Option (List ℕ)) → length parts ≤ i → length front ≤ most
+    → with_front most front (parts_in (map (λ part. part.now) (drop i parts))) ≡ total → Some front ≡ total
+is_done_at most front parts i total le few so_far =
+    sym (is_done most front few) ∙ sym (ap (λ (p : List (Bor (List ℕ))). with_front most front (parts_in (map (λ part. part.now) p))) (drop_of_length-le parts le)) ∙ so_far
 
 -- an item at a place inside, whatever stands for the others
 pub get_inside : (xs : List ℕ) (x : ℕ) → 0 < length xs → x ≡ get_or xs 0 x → x ≡ get_or xs 0 0

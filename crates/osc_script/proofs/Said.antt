@@ -11,7 +11,7 @@ use Rattle.osc_script.specs.Line.{IsSkipped, Say, Says}
 use Rattle.osc_script.specs.Reading.{with_none, with_one, with_two, with_three, with_more, with_two_more, put_in, at_in, draw_in, exchange_in, skip_in, ask_in, lie_in, deliver_in, drop_in, alter_in, graft_in, tick_in, restart_in, inject_in, proxy_line_in, via_in, node_line_in, datagram_line_in, client_line_in, timed_line_in, line_in, HasPath, Gives}
 use Rattle.osc_script.proofs.Found.{chosen, test_held}
 use Rattle.osc_script.proofs.Numbers.{number_again, format_again, request_number_again}
-use Rattle.osc_script.proofs.Payloads.{bytes_again, nonce_again, short_again}
+use Rattle.osc_script.proofs.Payloads.{bytes_again, kept_again, nonce_again, short_again}
 use Rattle.osc_script.proofs.Nodes.{client_again, node_again, proxy_again, worker_again}
 use Rattle.osc_script.proofs.Requests.{request_again}
 use Rattle.osc_script.proofs.ChangeWords.{changes_again, some_again}
@@ -214,7 +214,7 @@ say_again words (Restart node) p s = (ap read_of s.0 ∙ rw (worker_again node s
 say_again words (Deliver datagram) p s = (ap read_of s.1 ∙ rw (number_again s.0 datagram s.2) refl, tt)
 say_again words (Alter datagram changes) p s = (ap read_of s.2 ∙ rw (number_again s.0 datagram s.3, changes_again s.1 changes s.4) (some_again datagram changes s.5), tt)
 say_again words (Graft header body) p s = (ap read_of s.2 ∙ rw (number_again s.0 header s.3, number_again s.1 body s.4) refl, tt)
-say_again words (Inject from to bytes) p s = (ap read_of s.1 ∙ rw (node_again from, node_again to, bytes_again s.0 bytes s.2) refl, tt)
+say_again words (Inject from to bytes) p s = (ap read_of s.1 ∙ rw (node_again from, node_again to, kept_again s.0 bytes s.2) refl, tt)
 say_again words (Lie client number request) p s =
     let r = request_again s.1 request s.5 in
     (ap read_of s.2 ∙ rw (client_again client, request_number_again s.0 number s.3 s.4, r.0) refl, r.1)

@@ -14,7 +14,7 @@ use Rattle.osc_token.specs.Token.{claims_item}
 use Rattle.osc_script.specs.Grants.{claims_of}
 use Rattle.osc_script.specs.Node.{client_name, proxy_name, name_of}
 use Rattle.osc_script.specs.Values.{SpellsNumber, SpellsScope}
-use Rattle.osc_script.specs.Words.{words_of, SpellsFormat, SpellsBytes, SpellsPairs, SpellsDate, SpellsAlgorithm, SpellChanges}
+use Rattle.osc_script.specs.Words.{words_of, SpellsFormat, SpellsBytes, SpellsKept, SpellsPairs, SpellsDate, SpellsAlgorithm, SpellChanges}
 use Rattle.osc_script.specs.declared.line.Line.{Line}
 use Rattle.osc_script.specs.declared.line.Line.TheVariants.{Skipped, Put, Open, Grant, Proxy, Via, At, Draw, Drop, Skip, Exchange, Ask, Tick, Restart, Deliver, Alter, Graft, Inject, Lie, Quiet}
 use Rattle.osc_script.specs.declared.client_name.ClientName.{ClientName}
@@ -35,10 +35,10 @@ plain_request method path payload =
 abbrev pub last_number : ℕ
 last_number = 1099511627775
 
--- METHOD PATH BYTES: the words of a request
+-- METHOD PATH BYTES: the words of a request, of whose payload as much is kept as a datagram could have
 abbrev pub SpellRequest : List (List ℕ) → Request → Type 0
 SpellRequest words request = (method : Method) × (path bytes payload : List ℕ) × (words ≡ method_name method ∷ path ∷ bytes ∷ [])
-    × IsPath path × SpellsBytes bytes payload × (request ≡ plain_request method path payload)
+    × IsPath path × SpellsKept bytes payload × (request ≡ plain_request method path payload)
 
 -- what the words of a line say
 abbrev pub Say : List (List ℕ) → Line → Type 0
@@ -79,8 +79,8 @@ Say words (Alter datagram changes) = (number : List ℕ) × (rest : List (List �
     × SpellsNumber number datagram × SpellChanges rest changes × (changes ≢ [])
 -- graft J K: the header and the token of J with the options and the payload of K do
 Say words (Graft header body) = (first second : List ℕ) × (words ≡ codes "graft" ∷ first ∷ second ∷ []) × SpellsNumber first header × SpellsNumber second body
--- inject FROM TO BYTES: a datagram of these bytes from a node to a node
-Say words (Inject from to bytes) = (spelled : List ℕ) × (words ≡ codes "inject" ∷ name_of from ∷ name_of to ∷ spelled ∷ []) × SpellsBytes spelled bytes
+-- inject FROM TO BYTES: a datagram of these bytes, as far as they are kept, from a node to a node
+Say words (Inject from to bytes) = (spelled : List ℕ) × (words ≡ codes "inject" ∷ name_of from ∷ name_of to ∷ spelled ∷ []) × SpellsKept spelled bytes
 -- lie CLIENT NUMBER METHOD PATH BYTES: a request under a number of the script's choice
 Say words (Lie client number request) = (spelled : List ℕ) × (rest : List (List ℕ)) × (words ≡ codes "lie" ∷ client_name client ∷ spelled ∷ rest)
     × SpellsNumber spelled number × (number ≤ last_number) × SpellRequest rest request

@@ -1,5 +1,5 @@
 -- Reading a line from left to right. No public contract rests on this file.
-use Rattle.std.specs.Prelude.{◌≡◌, ℕ, ◌+◌, ◌-◌, ◌/◌, ◌^◌, ◌==◌, ◌&&◌, nat_lt, nat_le, Bool, true, false, refl, if◌then◌else◌, List, [], ◌∷◌, ◌++◌, length, take, drop, slice_index, replicate, codes, Option, Some, None, Result, Ok, Err}
+use Rattle.std.specs.Prelude.{◌≡◌, ℕ, ◌-◌, ◌^◌, ◌==◌, ◌&&◌, nat_lt, nat_le, Bool, true, false, refl, if◌then◌else◌, List, [], ◌∷◌, ◌++◌, length, take, drop, slice_index, replicate, codes, Option, Some, None, Result, Ok, Err, option_map}
 use Rattle.std.specs.List.{slice_split}
 use Rattle.std.specs.Option.{ForSome}
 use Rattle.std.specs.Str.{bytes_eq, all_ascii_digits}
@@ -16,6 +16,7 @@ use Rattle.osc_model.specs.declared.request.Request.{Request}
 use Rattle.osc_scope.specs.Text.{name_of as method_name}
 use Rattle.osc_script.specs.Line.{plain_request, last_number}
 use Rattle.osc_script.specs.Node.{name_of}
+use Rattle.osc_script.specs.Words.{most_kept}
 use Rattle.osc_script.specs.declared.line.Change.{Change}
 use Rattle.osc_script.specs.declared.line.Line.{Line}
 use Rattle.osc_script.specs.declared.line.Line.TheVariants.{Put, Open, Proxy, Via, At, Draw, Drop, Skip, Exchange, Ask, Tick, Restart, Deliver, Alter, Graft, Inject, Lie, Quiet}
@@ -81,24 +82,15 @@ parts_in (part ∷ parts) = do
 unfoldable pub bytes_in : List ℕ → Option (List ℕ)
 bytes_in word = if bytes_eq word (codes "-") then Some [] else parts_in (slice_split (λ b. b == 43) word)
 
+-- the first of the bytes
+unfoldable pub kept_in : List ℕ → Option (List ℕ)
+kept_in word = option_map (take most_kept) (bytes_in word)
+
 -- the bytes, if they are at most so many
 unfoldable pub short_bytes_in : ℕ → List ℕ → Option (List ℕ)
 short_bytes_in most word = do
   bytes ← bytes_in word
   if nat_le (length bytes) most then Some bytes else None
-
-abbrev pub or_none : Option ℕ → ℕ
-or_none (Some count) = count
-or_none None = 0
-
--- how many bytes a part stands for, if it does
-unfoldable pub part_length : List ℕ → ℕ
-part_length (high ∷ low ∷ star ∷ digits) = if star == 42 then or_none (number_in digits) else length (high ∷ low ∷ star ∷ digits) / 2
-part_length part = length part / 2
-
-unfoldable pub total_length : List (List ℕ) → ℕ
-total_length [] = 0
-total_length (part ∷ parts) = part_length part + total_length parts
 
 -- eight bytes in hexadecimal digits
 unfoldable pub nonce_in : List ℕ → Option (List ℕ)
@@ -201,7 +193,7 @@ algorithm_in (word ∷ words) = (word ∷ (algorithm_in words).0, (algorithm_in 
 unfoldable pub request_in : List (List ℕ) → Option Request
 request_in (method ∷ path ∷ bytes ∷ []) = do
   method ← method_in method
-  payload ← bytes_in bytes
+  payload ← kept_in bytes
   Some (plain_request method path payload)
 request_in words = None
 
@@ -333,7 +325,7 @@ unfoldable pub inject_in : List ℕ → List ℕ → List ℕ → Option Line
 inject_in from to spelled = do
   from ← node_in from
   to ← node_in to
-  bytes ← bytes_in spelled
+  bytes ← kept_in spelled
   Some (Inject from to bytes)
 
 -- the lines of nodes

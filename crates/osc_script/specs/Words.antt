@@ -1,5 +1,5 @@
 -- What single words of a script spell.
-use Rattle.std.specs.Prelude.{◌≡◌, ℕ, ◌<◌, ◌==◌, ◌⊎◌, List, [], ◌∷◌, ◌++◌, length, replicate, codes, Option, Some, None}
+use Rattle.std.specs.Prelude.{◌≡◌, ℕ, ◌<◌, ◌==◌, ◌⊎◌, List, [], ◌∷◌, ◌++◌, length, replicate, take, codes, Option, Some, None}
 use Rattle.std.specs.List.{slice_split}
 use Rattle.osc_model.specs.declared.algorithm.Algorithm.{Algorithm}
 use Rattle.osc_model.specs.declared.algorithm.Algorithm.TheVariants.{EightByteTag, SixteenByteTag}
@@ -40,6 +40,15 @@ SpellParts (part ∷ parts) bytes =
 -- `-` for no bytes, or parts joined by `+`
 abbrev pub SpellsBytes : List ℕ → List ℕ → Type 0
 SpellsBytes word bytes = ((word ≡ codes "-") × (bytes ≡ [])) ⊎ SpellParts (slice_split (λ b. b == 43) word) bytes
+
+-- How many bytes of a datagram or a payload are kept: a datagram has at most 1,152 of them (RFC 7252 section 4.6), so one more says that it is too
+-- long, and nothing that a script does depends on what stands behind.
+abbrev pub most_kept : ℕ
+most_kept = 1153
+
+-- the first of the bytes that a word spells
+abbrev pub SpellsKept : List ℕ → List ℕ → Type 0
+SpellsKept word kept = (bytes : List ℕ) × SpellsBytes word bytes × (kept ≡ take most_kept bytes)
 
 -- NAME= and a number, or no word at all
 abbrev pub SpellsDate : List ℕ → List (List ℕ) → Option ℕ → Type 0

@@ -6,7 +6,7 @@ ghost use Rattle.osc_script.specs.Line.{plain_request};
 ghost use Rattle.osc_script.specs.Reading.{with_more, with_one, with_two, with_two_more, ask_in, exchange_in, lie_in, request_in, skip_in, Gives, GivesRequest};
 
 use crate::line::Line;
-use crate::words::{bytes, client, method, request_number};
+use crate::words::{client, kept_bytes, method, request_number};
 use osc_model::{Bytes, ETags, Method, Path, Request};
 use std::alloc::{AllocError, Global};
 
@@ -90,7 +90,7 @@ fn request(alloc: Global, words: &[&str]) -> Result<Option<Request>, AllocError>
     let Some(path) = Path::from_text(alloc, path.as_bytes())? else {
         return Ok(None);
     };
-    let Some(payload) = bytes(alloc, payload.as_bytes())? else {
+    let Some(payload) = kept_bytes(alloc, payload.as_bytes())? else {
         return Ok(None);
     };
     Ok(Some(plain_request(alloc, method, path, payload)))

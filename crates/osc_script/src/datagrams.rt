@@ -4,7 +4,7 @@ ghost use Rattle.std.specs.Prelude.{◌≡◌, IfOk, map, option_map};
 ghost use Rattle.osc_script.specs.Reading.{with_more, with_one, with_two, with_three, alter_in, change_in, changes_in, deliver_in, drop_in, graft_in, inject_in, Gives};
 
 use crate::line::{Change, Changes, Line};
-use crate::words::{bytes, node, number, pairs};
+use crate::words::{kept_bytes, node, number, pairs};
 use std::alloc::{AllocError, Global};
 
 // K
@@ -127,7 +127,7 @@ fn inject_of(alloc: Global, from: &str, to: &str, payload: &str) -> Result<Optio
     let Some(to) = node(to) else {
         return Ok(None);
     };
-    let Some(bytes) = bytes(alloc, payload.as_bytes())? else {
+    let Some(bytes) = kept_bytes(alloc, payload.as_bytes())? else {
         return Ok(None);
     };
     Ok(Some(Line::Inject { from, to, bytes }))

@@ -19,7 +19,7 @@ use osc_token::claims_text;
 use std::alloc::{AllocError, Global};
 
 // The most bytes that a resource has.
-const LONGEST_PAYLOAD: u64 = 512;
+const LONGEST_PAYLOAD: u16 = 512;
 
 // The most bytes of claims that the cipher takes.
 const CLAIMS_LIMIT: usize = 65535;

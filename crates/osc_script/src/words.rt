@@ -1,7 +1,8 @@
 //! Single words of a script.
 
-ghost use Rattle.std.specs.Prelude.{◌≡◌, ◌≢◌, ◌<◌, ◌==◌, ◌↔◌, length, slice_index, IfOk, IfSome, IsNone, IsTrue, ◌∷◌, [], map, option_map};
-ghost use Rattle.osc_script.specs.Reading.{number_in, short_number_in, request_number_in, format_in, client_in, client_with, proxy_in, proxy_with, node_in, one_named, worker_in, method_in, hex_in, nonce_in, repeated_in, part_in, part_length, parts_in, bytes_in, short_bytes_in, total_length, date_in, dates_in, one_date, algorithm_in};
+ghost use Rattle.std.specs.Prelude;
+ghost use Rattle.std.specs.Prelude.{◌≡◌, ◌≢◌, length, slice_index, take, IfOk, IfSome, IsNone, ◌∷◌, [], map, option_map};
+ghost use Rattle.osc_script.specs.Reading.{number_in, short_number_in, request_number_in, format_in, client_in, client_with, proxy_in, proxy_with, node_in, one_named, worker_in, method_in, hex_in, nonce_in, repeated_in, part_in, parts_in, bytes_in, kept_in, short_bytes_in, date_in, dates_in, one_date, algorithm_in};
 
 use crate::client_name::ClientName;
 use crate::node::Node;
@@ -10,10 +11,14 @@ use crate::split::parts;
 use crate::values::decoded;
 use osc_model::{Algorithm, Bytes, Method};
 use std::alloc::{AllocError, Global};
+use std::cmp::min;
 use std::str;
 
 // The greatest number that a request has.
 const LAST_NUMBER: u64 = 1099511627775;
+
+// How many bytes of a datagram or a payload are kept: one more than a datagram has.
+const MOST_KEPT: usize = 1153;
 
 /// A number of 64 bits, in decimal digits without a sign.
 #[tactic(auto, unfolding(crate::specs::Reading::number_in))]
@@ -207,69 +212,50 @@ pub(crate) fn algorithm<'a, 'b>(words: &'a [&'b str]) -> (&'a [&'b str], Algorit
     }
 }
 
-/// `-` for no bytes, or parts joined by `+`.
+/// The first 1,153 of the bytes of a word: a datagram with so many is too long, whatever stands behind them.
+#[tactic(auto, unfolding(crate::specs::Reading::kept_in))]
+pub(crate) fn kept_bytes(alloc: Global, word: &[u8]) -> Result<Option<Bytes>, AllocError>
+    ensures { IfOk result (λ found. found ≡ kept_in word.now) }
+{
+    first_bytes(alloc, word, MOST_KEPT)
+}
+
+/// All bytes of a word, if they are at most so many.
+pub(crate) fn short_bytes(
+    alloc: Global,
+    word: &[u8],
+    most: u16,
+) -> Result<Option<Bytes>, AllocError>
+    ensures { IfOk result (λ found. found ≡ short_bytes_in most word.now) }
+{
+    match first_bytes(alloc, word, most as usize + 1)? {
+        Some(bytes) if bytes.len() <= most as usize => Ok(Some(bytes)),
+        _ => Ok(None),
+    }
+}
+
+// `-` for no bytes, or parts joined by `+`. The whole word is read, and as many of the first bytes are made as are wanted.
 #[tactic(auto, unfolding(crate::specs::Reading::bytes_in))]
-pub(crate) fn bytes(alloc: Global, word: &[u8]) -> Result<Option<Bytes>, AllocError>
-    ensures { IfOk result (λ found. found ≡ bytes_in word.now) }
+fn first_bytes(alloc: Global, word: &[u8], most: usize) -> Result<Option<Bytes>, AllocError>
+    ensures { IfOk result (λ found. found ≡ option_map (take most) (bytes_in word.now)) }
 {
     if word == b"-".as_slice() {
         return Ok(Some(Bytes::new(alloc)));
     }
     let parts = parts(alloc, word, b'+')?;
-    let Some(items) = joined(alloc, &parts)? else {
+    let Some(items) = joined(alloc, &parts, most)? else {
         return Ok(None);
     };
     Ok(Some(Bytes::from_slice(alloc, &items)?))
 }
 
-/// The same, if they are at most so many. The lengths are judged by the counts, before any bytes are made.
-pub(crate) fn short_bytes(
-    alloc: Global,
-    word: &[u8],
-    most: u64,
-) -> Result<Option<Bytes>, AllocError>
-    ensures { IfOk result (λ found. found ≡ short_bytes_in most word.now) }
-{
-    let parts = parts(alloc, word, b'+')?;
-    if are_longer(&parts, most) {
-        return Ok(None);
-    }
-    bytes(alloc, word)
-}
-
-// Whether the parts stand for more bytes, if they stand for any.
-fn are_longer(parts: &[&[u8]], most: u64) -> bool
-    ensures { IsTrue result ↔ (most < total_length (map (λ part. part.now) parts.now)) }
-{
-    let mut left = most;
-    for part in parts {
-        let length = part_length(part);
-        if length > left {
-            return true;
-        }
-        left -= length;
-    }
-    false
-}
-
-// How many bytes a part stands for, if it does.
-#[tactic(auto, unfolding(crate::specs::Reading::part_length))]
-fn part_length(part: &[u8]) -> u64
-    ensures { result ≡ part_length part.now }
-{
-    match part {
-        [_, _, b'*', digits @ ..] => number(digits).unwrap_or(0),
-        _ => part.len() as u64 / 2,
-    }
-}
-
-// The bytes of the parts, one after another.
-fn joined(alloc: Global, parts: &[&[u8]]) -> Result<Option<Vec<u8>>, AllocError>
-    ensures { IfOk result (λ found. option_map (λ items. items.items) found ≡ parts_in (map (λ part. part.now) parts.now)) }
+// The first bytes of the parts, one after another.
+fn joined(alloc: Global, parts: &[&[u8]], most: usize) -> Result<Option<Vec<u8>>, AllocError>
+    ensures { IfOk result (λ found. option_map (λ items. items.items) found ≡ option_map (take most) (parts_in (map (λ part. part.now) parts.now))) }
 {
     let mut items = Vec::new(alloc);
     for part in parts {
-        let Some(more) = part_of(alloc, part)? else {
+        let Some(more) = part_of(alloc, part, most - items.len())? else {
             return Ok(None);
         };
         items.extend_from_slice(&more)?;
@@ -277,21 +263,26 @@ fn joined(alloc: Global, parts: &[&[u8]]) -> Result<Option<Vec<u8>>, AllocError>
     Ok(Some(items))
 }
 
-// Pairs of hexadecimal digits, or one pair, `*` and a count.
+// The first bytes of pairs of hexadecimal digits, or of one pair, `*` and a count.
 #[tactic(auto, unfolding(crate::specs::Reading::part_in))]
-fn part_of(alloc: Global, part: &[u8]) -> Result<Option<Vec<u8>>, AllocError>
-    ensures { IfOk result (λ found. option_map (λ items. items.items) found ≡ part_in part.now) }
+fn part_of(alloc: Global, part: &[u8], most: usize) -> Result<Option<Vec<u8>>, AllocError>
+    ensures { IfOk result (λ found. option_map (λ items. items.items) found ≡ option_map (take most) (part_in part.now)) }
 {
     match part {
-        [high, low, b'*', digits @ ..] => repeated(alloc, &[*high, *low], digits),
-        _ => pairs(alloc, part),
+        [high, low, b'*', digits @ ..] => repeated(alloc, &[*high, *low], digits, most),
+        _ => first_pairs(alloc, part, most),
     }
 }
 
-// The byte of a pair of digits, as many times as the other digits say.
+// The byte of a pair of digits, as many times as the other digits say, but not more often than is wanted.
 #[tactic(auto, unfolding(crate::specs::Reading::repeated_in))]
-fn repeated(alloc: Global, pair: &[u8], digits: &[u8]) -> Result<Option<Vec<u8>>, AllocError>
-    ensures { IfOk result (λ found. option_map (λ items. items.items) found ≡ repeated_in pair.now digits.now) }
+fn repeated(
+    alloc: Global,
+    pair: &[u8],
+    digits: &[u8],
+    most: usize,
+) -> Result<Option<Vec<u8>>, AllocError>
+    ensures { IfOk result (λ found. option_map (λ items. items.items) found ≡ option_map (take most) (repeated_in pair.now digits.now)) }
 {
     let Some(byte) = pairs(alloc, pair)? else {
         return Ok(None);
@@ -299,7 +290,24 @@ fn repeated(alloc: Global, pair: &[u8], digits: &[u8]) -> Result<Option<Vec<u8>>
     let Some(count) = number(digits) else {
         return Ok(None);
     };
-    Ok(Some(vec![in alloc; byte[0]; count as usize]?))
+    Ok(Some(vec![in alloc; byte[0]; fewer(count as usize, most)]?))
+}
+
+fn fewer(count: usize, most: usize) -> usize
+    ensures { result ≡ Prelude.min count most }
+{
+    min(count, most)
+}
+
+// The first bytes of pairs of digits.
+fn first_pairs(alloc: Global, part: &[u8], most: usize) -> Result<Option<Vec<u8>>, AllocError>
+    ensures { IfOk result (λ found. option_map (λ items. items.items) found ≡ option_map (take most) (hex_in part.now)) }
+{
+    let Some(mut bytes) = pairs(alloc, part)? else {
+        return Ok(None);
+    };
+    bytes.truncate(most);
+    Ok(Some(bytes))
 }
 
 /// Eight bytes, in 16 hexadecimal digits.

@@ -302,8 +302,11 @@ impl World {
     }
 
     /// Whether what is assumed holds of all that happened: whatever opened was sealed before by the other end of its context, or
-    /// minted; no drawn nonce came twice; and no two grants share a secret. Takes no memory; its time grows with the square of the
-    /// steps.
+    /// minted; no drawn nonce came twice; and no two grants share a secret. Takes no memory.
+    ///
+    /// Its time mostly grows with the steps: an opening is looked for from the newest step before it on, and was mostly sealed a step or two
+    /// before. At worst it grows with the square of the steps: where openings come long after their seals, or where many steps drew a
+    /// nonce, each of which is compared with all before it.
     pub fn premise_holds(&self) -> bool
         ensures { IsTrue result ↔ Premise self.now.minted self.now.steps }
     {

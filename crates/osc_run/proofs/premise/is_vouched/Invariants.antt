@@ -1,7 +1,7 @@
-use Rattle.std.proofs.Common.{take, reverse}
+use Rattle.std.proofs.Common.{drop, reverse}
 use Rattle.osc_run.specs.Premise.{IsVouched}
 use Rattle.osc_run.proofs.premise.is_vouched.Given as goal
 
--- none of the steps so far sealed it
-abbrev pub invariant-loop-step : goal.invariant-loop-step
-invariant-loop-step l = IsVouched (reverse (take l.step-index l.earlier)) l.opening → ⊥
+-- none of the steps from there on sealed it
+abbrev pub invariant-loop-i : goal.invariant-loop-i
+invariant-loop-i l = IsVouched (reverse (drop l.i l.earlier)) l.opening → ⊥

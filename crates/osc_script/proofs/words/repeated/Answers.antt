@@ -1,4 +1,4 @@
-use Rattle.std.proofs.Common.{arith}
+use Rattle.std.proofs.Common.{arith, ◌∙◌, ap, replicate}
 use Rattle.osc_script.proofs.Payloads.{not_empty, repeated_read, get_inside}
 use Rattle.osc_script.proofs.words.repeated.Goals as goal
 
@@ -13,4 +13,5 @@ returns c =
     let count = rw c.in-Some-number.is at c.number.ensures in
     let some = not_empty c.args.pair.now c.in-Some.byte.items read in
     let byte = get_inside c.in-Some.byte.items c.index.result.now some c.index.ensures in
-    repeated_read c.args.pair.now c.args.digits.now c.in-Some.byte.items c.in_ok-vec.field-0.items c.in-Some-number.count c.index.result.now read count byte (c.in_ok-vec.ensures.items_if_clones_equal (λ y e. e))
+    let few = c.in_ok-vec.ensures.items_if_clones_equal (λ y e. e) ∙ ap (λ n. replicate n c.index.result.now) c.fewer.ensures in
+    repeated_read c.args.pair.now c.args.digits.now c.in-Some.byte.items c.in_ok-vec.field-0.items c.in-Some-number.count c.index.result.now c.args.most read count byte few
