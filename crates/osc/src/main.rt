@@ -2,7 +2,7 @@
 #![tactic(auto)]
 
 use osc_programs::{
-    Ended, Lines, Silent, TraceForm, ask, ended_by, filled, forward, issue_token, lab,
+    AtOnce, Ended, Lines, Silent, TraceForm, ask, ended_by, filled, forward, issue_token, lab,
     running_fault, serve, sim, started_by_io, status, token_fault, token_warning,
 };
 use osc_words::{Source, TokenAsked, TokenWords, Words, WordsError, fault_line, read_words};
@@ -80,11 +80,11 @@ fn awaited(words: &Words) -> Option<&'static str> {
     }
 }
 
-/// A server, whose log goes to the standard error where one is wanted.
+/// A server, whose log goes to the standard error where one is wanted. It waits for nobody who reads that.
 fn run_server(rt: &HostRuntime, turns: u64, log: bool) -> Ended {
     let mut reader = rt.reader();
     if log {
-        let mut lines = Lines::new(rt.stderr());
+        let mut lines = Lines::new(AtOnce::new(rt.stderr()));
         serve(rt.alloc(), rt, &mut reader, &mut lines, turns)
     } else {
         serve(rt.alloc(), rt, &mut reader, &mut Silent, turns)
@@ -95,7 +95,7 @@ fn run_server(rt: &HostRuntime, turns: u64, log: bool) -> Ended {
 fn run_proxy(rt: &HostRuntime, turns: u64, log: bool) -> Ended {
     let mut reader = rt.reader();
     if log {
-        let mut lines = Lines::new(rt.stderr());
+        let mut lines = Lines::new(AtOnce::new(rt.stderr()));
         forward(rt.alloc(), rt, &mut reader, &mut lines, turns)
     } else {
         forward(rt.alloc(), rt, &mut reader, &mut Silent, turns)

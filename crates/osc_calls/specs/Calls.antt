@@ -19,3 +19,7 @@ Ends old outcome new Does = ((outcome ≡ Done) × Does) ⊎ Stays NoMemory old 
 -- So at this moment; or it is no moment, and nothing changes.
 abbrev pub At : {A : Type 0} → ℕ → A → Outcome → A → (Moment → Type 0) → Type 0
 At ms old outcome new Does = ((now : Moment) × (now.ms ≡ ms) × Ends old outcome new (Does now)) ⊎ IsNoMoment ms old outcome new
+
+-- So at this moment, whatever memory there is; or it is no moment, and nothing changes.
+abbrev pub DoneAt : {A : Type 0} → ℕ → A → Outcome → A → (Moment → Type 0) → Type 0
+DoneAt ms old outcome new Does = ((now : Moment) × (now.ms ≡ ms) × (outcome ≡ Done) × Does now) ⊎ IsNoMoment ms old outcome new

@@ -14,7 +14,7 @@ use Rattle.osc_client.specs.State.{State, core}
 use Rattle.osc_run.specs.ClientKinds.{ClientStep}
 use Rattle.osc_client.specs.declared.way.Way.{Way}
 use Rattle.osc_calls.specs.Arguments.{IsUnfit, Tells}
-use Rattle.osc_calls.specs.Calls.{At, Ends}
+use Rattle.osc_calls.specs.Calls.{At, DoneAt, Ends}
 use Rattle.osc_calls.specs.Granted.{IsDesk, IsLawfulGrant, IsWay, id_context_of, origin_of}
 use Rattle.osc_calls.specs.Requests.{AreOptions, IsNoRequest, IsRequest}
 use Rattle.osc_calls.specs.declared.plain.PlainOptions.{PlainOptions}
@@ -58,7 +58,7 @@ abbrev pub TickedAt : ClientNode → Moment → ClientNode → Type 0
 TickedAt old now new = Makes old (λ s step t. Ticks s now step t) new
 
 abbrev pub TickedBy : ClientNode → ℕ → Outcome → ClientNode → Type 0
-TickedBy old ms outcome new = At ms old outcome new (λ now. TickedAt old now new)
+TickedBy old ms outcome new = DoneAt ms old outcome new (λ now. TickedAt old now new)
 
 -- `is_sealing algorithm` is the relation of the algorithm's cipher
 module _ (is_sealing : Sealings) where

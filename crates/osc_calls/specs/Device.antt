@@ -1,5 +1,5 @@
 -- A device by calls.
-use Rattle.std.specs.Prelude.{◌≡◌, ℕ, ◌⊎◌, true, false, ◌↔◌, ◌≤◌, List, [], ◌∷◌}
+use Rattle.std.specs.Prelude.{◌≡◌, ℕ, ◌⊎◌, Bool, true, false, bytes_eq, ◌↔◌, ◌≤◌, List, [], ◌∷◌}
 use Rattle.osc_model.specs.declared.node.Draw.{Draw}
 use Rattle.osc_model.specs.declared.node.Moment.{Moment}
 use Rattle.osc_model.specs.declared.node.Peer.{Peer}
@@ -15,11 +15,11 @@ use Rattle.osc_device.specs.Runs.{AllGoOn, IsOfAnEntry, noted, restarts}
 use Rattle.osc_device.specs.State.{State}
 use Rattle.osc_run.specs.Notes.{by_server}
 use Rattle.osc_device.specs.declared.round.Round.{Round}
-use Rattle.osc_calls.specs.Calls.{At}
+use Rattle.osc_calls.specs.Calls.{At, DoneAt, Stays}
 use Rattle.osc_calls.specs.Last.{nothing, since, since_tick}
 use Rattle.osc_calls.specs.declared.device.DeviceNode.{DeviceNode}
 use Rattle.osc_calls.specs.declared.outcome.Outcome.{Outcome}
-use Rattle.osc_calls.specs.declared.outcome.Outcome.TheVariants.{Done, Nothing}
+use Rattle.osc_calls.specs.declared.outcome.Outcome.TheVariants.{BadArgument, Done, Nothing}
 
 -- the server starts again without contexts, and the device itself without its own
 abbrev pub restarted_device : State → State
@@ -32,6 +32,10 @@ restarted_device old = record {
 abbrev pub Restarts : DeviceNode → DeviceNode → Type 0
 Restarts old new = (new ≡ record { device = restarted_device old.device; last = nothing }) × ((now : Moment) → AllGoOn old.device restarts new.device)
 
+-- 0.0.0.0, from which no datagram comes: the device's own place
+abbrev pub is_nowhere : Peer → Bool
+is_nowhere from = bytes_eq from.address (0 ∷ 0 ∷ 0 ∷ 0 ∷ [])
+
 -- `is_sealing algorithm` is the relation of the algorithm's cipher
 module _ (is_sealing : Sealings) where
   -- The server hears these bytes, and its step is the last one; the device itself isn't changed by it. Each run goes on by that step.
@@ -42,8 +46,13 @@ module _ (is_sealing : Sealings) where
     pub last : new.last ≡ since step
     pub run : AllGoOn old.device (λ number. by_server step.notes ∷ []) new.device
 
+  -- by whether they come from nowhere: then nothing changes
+  abbrev pub HeardFrom : Bool → DeviceNode → ℕ → Draw → Peer → List ℕ → Outcome → DeviceNode → Type 0
+  HeardFrom true old ms draw from bytes outcome new = Stays BadArgument old outcome new
+  HeardFrom false old ms draw from bytes outcome new = At ms old outcome new (λ now. HeardAt old now draw from bytes new)
+
   abbrev pub HeardBy : DeviceNode → ℕ → Draw → Peer → List ℕ → Outcome → DeviceNode → Type 0
-  HeardBy old ms draw from bytes outcome new = At ms old outcome new (λ now. HeardAt old now draw from bytes new)
+  HeardBy old ms draw from bytes outcome new = HeardFrom (is_nowhere from) old ms draw from bytes outcome new
 
   -- The device itself ticks, what it sends is carried to its server and back, and nothing goes to others; what it learns is kept to be told. Each
   -- run goes on by these steps, and a reply that it learns is that of an entry of the history.
@@ -57,7 +66,7 @@ module _ (is_sealing : Sealings) where
     pub entry : IsOfAnEntry old.device round
 
   abbrev pub TickedBy : DeviceNode → ℕ → Draw → Outcome → DeviceNode → Type 0
-  TickedBy old ms draw outcome new = At ms old outcome new (λ now. TickedAt old now draw new)
+  TickedBy old ms draw outcome new = DoneAt ms old outcome new (λ now. TickedAt old now draw new)
 
 -- the first moment is told at which a tick does anything for the device itself, if one does
 abbrev pub TellsDeadline : DeviceNode → ℕ → Outcome → ℕ → Type 0

@@ -182,27 +182,25 @@ impl ClientNode {
         }
     }
 
-    /// What is due by now is done.
+    /// What is due by now is done, whatever memory there is.
     pub fn on_tick(&mut self, alloc: Global, now: u64) -> Outcome
         ensures { TickedBy self.old now result self.new }
     {
         match moment(now) {
-            Ok(now) => self.tick(alloc, now),
+            Ok(now) => {
+                self.tick(alloc, now);
+                Outcome::Done
+            }
             Err(outcome) => outcome,
         }
     }
 
     /// The same at a moment.
-    fn tick(&mut self, alloc: Global, now: Moment) -> Outcome
-        ensures { Ends self.old result self.new (TickedAt self.old now self.new) }
+    fn tick(&mut self, alloc: Global, now: Moment)
+        ensures { TickedAt self.old now self.new }
     {
-        match self.client.on_tick(alloc, now) {
-            Ok(step) => {
-                self.last = Last::of(step);
-                Outcome::Done
-            }
-            Err(_) => Outcome::NoMemory,
-        }
+        let step = self.client.on_tick(alloc, now);
+        self.last = Last::of(step);
     }
 
     /// The first moment at which a tick does anything.

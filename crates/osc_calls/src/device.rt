@@ -4,7 +4,7 @@ ghost use Rattle.osc_device.specs.State.{State};
 ghost use Rattle.osc_client.specs.Sending.{restarted};
 ghost use Rattle.osc_message.specs.Endpoint.{fresh};
 ghost use Rattle.osc_calls.specs.Calls.{Ends};
-ghost use Rattle.osc_calls.specs.Device.{HeardAt, HeardBy, TellsDeadline, TickedAt, TickedBy, Restarts};
+ghost use Rattle.osc_calls.specs.Device.{HeardAt, HeardBy, TellsDeadline, TickedAt, TickedBy, Restarts, is_nowhere};
 ghost use Rattle.osc_calls.specs.Last.{HandsOut, nothing};
 ghost use Rattle.osc_calls.specs.Plain.{draw_of, peer_of};
 ghost use Rattle.osc_calls.specs.Told.{TellsLearnt};
@@ -33,8 +33,15 @@ impl Drop for DeviceNode {
     }
 }
 
+/// Whether no datagram comes from there.
+fn is_nowhere(from: &PlainPeer) -> bool
+    ensures { result ≡ is_nowhere (peer_of from.now) }
+{
+    from.address == [0, 0, 0, 0]
+}
+
 impl DeviceNode {
-    /// These bytes came from this peer as one datagram.
+    /// These bytes came from this peer as one datagram: `BadArgument` from 0.0.0.0, the device's own place.
     pub fn on_datagram<A: Ciphers>(
         &mut self,
         alloc: Global,
@@ -45,6 +52,9 @@ impl DeviceNode {
     ) -> Outcome
         ensures { HeardBy A.is_sealing self.old now (draw_of draw.now) (peer_of from.now) bytes.now result self.new }
     {
+        if is_nowhere(from) {
+            return Outcome::BadArgument;
+        }
         match moment(now) {
             Ok(now) => self.hear::<A>(alloc, now, from, bytes, draw),
             Err(outcome) => outcome,
@@ -75,28 +85,26 @@ impl DeviceNode {
         }
     }
 
-    /// What is due by now is done.
+    /// What is due by now is done, whatever memory there is.
     pub fn on_tick<A: Ciphers>(&mut self, alloc: Global, now: u64, draw: &PlainDraw) -> Outcome
         ensures { TickedBy A.is_sealing self.old now (draw_of draw.now) result self.new }
     {
         match moment(now) {
-            Ok(now) => self.tick::<A>(alloc, now, draw),
+            Ok(now) => {
+                self.tick::<A>(alloc, now, draw);
+                Outcome::Done
+            }
             Err(outcome) => outcome,
         }
     }
 
     /// The same at a moment. Nothing of it goes to others, and what the device learns by it is kept to be told.
-    fn tick<A: Ciphers>(&mut self, alloc: Global, now: Moment, draw: &PlainDraw) -> Outcome
-        ensures { Ends self.old result self.new (TickedAt A.is_sealing self.old now (draw_of draw.now) self.new) }
+    fn tick<A: Ciphers>(&mut self, alloc: Global, now: Moment, draw: &PlainDraw)
+        ensures { TickedAt A.is_sealing self.old now (draw_of draw.now) self.new }
     {
-        match self.device.on_tick::<A>(alloc, now, &draw.draw()) {
-            Ok(round) => {
-                self.last = Last::ticked(&round);
-                drop(round);
-                Outcome::Done
-            }
-            Err(_) => Outcome::NoMemory,
-        }
+        let round = self.device.on_tick::<A>(alloc, now, &draw.draw());
+        self.last = Last::ticked(&round);
+        drop(round);
     }
 
     /// The first moment at which a tick does anything for the device itself.

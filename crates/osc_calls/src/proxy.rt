@@ -98,10 +98,10 @@ impl Forwarding {
         ensures err { OnErr result (self.new ≡ self.old) }
     {
         match self {
-            Forwarding::Running(proxy) => proxy.on_tick(alloc, now, &draw.draw()),
+            Forwarding::Running(proxy) => Ok(proxy.on_tick(alloc, now, &draw.draw())),
             Forwarding::Setting(targets) => {
                 let mut proxy = targets.started(alloc)?;
-                let step = proxy.on_tick(alloc, now, &draw.draw())?;
+                let step = proxy.on_tick(alloc, now, &draw.draw());
                 *self = Forwarding::Running(proxy);
                 Ok(step)
             }

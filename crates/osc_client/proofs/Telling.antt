@@ -1,5 +1,5 @@
 -- The notes of a step tell of its datagrams.
-use Rattle.std.proofs.Common.{◌≡◌, ℕ, Bool, true, false, ◌++◌, if◌then◌else◌, List, [], ◌∷◌, Option, Some, None, Result, Ok, Err, refl, sym, subst, ap}
+use Rattle.std.proofs.Common.{◌≡◌, ℕ, Bool, true, false, ◌++◌, if◌then◌else◌, List, [], ◌∷◌, Option, Some, None, Result, Ok, Err, refl, sym, subst, ap, inl, inr}
 use Rattle.std.specs.List.{All, Contains, filter_map}
 use Rattle.std.proofs.lemmas.List.Elements.{All-nil, All-cons, All-head, All-contains_itself, Contains-append_right}
 use Rattle.std.proofs.lemmas.Option.{same_Some}
@@ -29,7 +29,7 @@ use Rattle.osc_authz.specs.declared.error.FinishError.TheVariants.{Fields, Equal
 use Rattle.osc_message.specs.Confirmables.{Open}
 use Rattle.osc_message.specs.Heard.{heard, noted_reply}
 use Rattle.osc_message.specs.Received.{Receives}
-use Rattle.osc_message.specs.Sending.{empty_acknowledgement, is_confirmable, reset, again, datagram, sent_to}
+use Rattle.osc_message.specs.Sending.{GoesOut, empty_acknowledgement, is_confirmable, reset, again, datagram, sent_to}
 use Rattle.osc_message.specs.Ticks.{datagram_of, due_of, dues, tick_sends}
 use Rattle.osc_message.specs.declared.due.Due.{Due}
 use Rattle.osc_message.specs.declared.due.Due.TheVariants.{Keep, Send, GiveUp}
@@ -111,11 +111,16 @@ module _ (old : State) (now : Moment) where
   all_out : All (λ it. NeedsNoSeal old now it) (tick_sends now old.endpoint.sending)
   all_out = tick_out old.endpoint.sending [] old.endpoint.sending (λ m has. has)
 
-  pub ticks_silently : SealsNothing old now (sends (tick_sends now old.endpoint.sending))
-  ticks_silently = silent (tick_sends now old.endpoint.sending) all_out
+  all_going : (out : List Datagram) → GoesOut (tick_sends now old.endpoint.sending) out → All (λ it. NeedsNoSeal old now it) out
+  all_going out (inl is) = subst (All (λ it. NeedsNoSeal old now it)) (sym is) all_out
+  all_going out (inr is) = subst (All (λ it. NeedsNoSeal old now it)) (sym is) none_plain
 
-  pub times_out_silently : SealsNothing old now (record { out = tick_sends now old.endpoint.sending; notes = record quiet { result = Some result.TimedOut } })
-  times_out_silently = silent_end (tick_sends now old.endpoint.sending) result.TimedOut tt all_out
+  pub ticks_silently : (out : List Datagram) → GoesOut (tick_sends now old.endpoint.sending) out → SealsNothing old now (sends out)
+  ticks_silently out goes = silent out (all_going out goes)
+
+  pub times_out_silently : (out : List Datagram) → GoesOut (tick_sends now old.endpoint.sending) out
+      → SealsNothing old now (record { out = out; notes = record quiet { result = Some result.TimedOut } })
+  times_out_silently out goes = silent_end out result.TimedOut tt (all_going out goes)
 
   again_silent : (from : Peer) (id : ℕ) (reply : Option Bytes) → noted_reply old.endpoint.seen now from id ≡ reply → SealsNothing old now (sends (again from reply))
   again_silent from id None e = silent [] none_plain

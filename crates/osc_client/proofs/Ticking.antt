@@ -1,12 +1,21 @@
 -- What a tick leaves of the open messages.
-use Rattle.std.proofs.Common.{◌≡◌, ap, ℕ, true, List, [], ◌∷◌, ◌++◌, Option, Some, None}
+use Rattle.std.proofs.Common.{◌≡◌, ap, subst, sym, ℕ, Bool, true, false, List, [], ◌∷◌, ◌++◌, Option, Some, None}
 use Rattle.std.specs.List.{AllByRecursion, filter_map}
 use Rattle.osc_model.specs.declared.node.Moment.{Moment}
 use Rattle.osc_model.specs.declared.node.Peer.{Peer}
 use Rattle.osc_message.specs.declared.due.Due.{Due}
 use Rattle.osc_message.specs.declared.due.Due.TheVariants.{Keep, Send, GiveUp}
 use Rattle.osc_message.specs.Confirmables.{Open, is_named}
-use Rattle.osc_message.specs.Ticks.{after, dues, due_of, ticked}
+use Rattle.osc_message.specs.Endpoint.{after_tick}
+use Rattle.osc_message.specs.Sending.{GoesOut}
+use Rattle.osc_message.specs.Ticks.{after, dues, due_of, tick_sends, ticked}
+use Rattle.osc_model.specs.Step.{sends}
+use Rattle.osc_model.specs.StepNotes.{quiet}
+use Rattle.osc_model.specs.declared.step.ClientResult.TheVariants.{TimedOut}
+use Rattle.osc_model.specs.declared.step.Datagram.{Datagram}
+use Rattle.osc_model.specs.declared.step.Step.{Step}
+use Rattle.osc_client.specs.Sending.{Ticks, TicksBy, is_over}
+use Rattle.osc_client.specs.State.{State}
 use Rattle.osc_client.specs.Bounds.{KeepsOwn}
 use Rattle.osc_client.specs.declared.waiting.Waiting.{Waiting}
 
@@ -33,3 +42,15 @@ named_after_tick now peer id all named = names_stay now peer id all [] all named
 pub own_after_tick : (now : Moment) (peer : Peer) (waiting : Option Waiting) (sending : List Open) → KeepsOwn peer waiting sending → KeepsOwn peer waiting (ticked now sending)
 own_after_tick now peer None sending own = ap (ticked now) own
 own_after_tick now peer (Some waiting) sending own = named_after_tick now peer waiting.id sending own
+
+-- ---- what a tick comes to, by whether what waits is over
+
+pub timed_out : (old : State) (now : Moment) (out : List Datagram) (step : Step) (new : State) → GoesOut (tick_sends now old.endpoint.sending) out
+    → is_over now old.endpoint.sending old.waiting ≡ true → step ≡ record { out = out; notes = record quiet { result = Some TimedOut } }
+    → new ≡ record old { waiting = None; endpoint = after_tick now old.endpoint } → Ticks old now step new
+timed_out old now out step new goes over told kept = subst (λ (b : Bool). TicksBy b old now step new) (sym over) (out, goes, told, kept)
+
+pub went_on : (old : State) (now : Moment) (out : List Datagram) (step : Step) (new : State) → GoesOut (tick_sends now old.endpoint.sending) out
+    → is_over now old.endpoint.sending old.waiting ≡ false → step ≡ sends out
+    → new ≡ record old { endpoint = after_tick now old.endpoint } → Ticks old now step new
+went_on old now out step new goes over told kept = subst (λ (b : Bool). TicksBy b old now step new) (sym over) (out, goes, told, kept)

@@ -8,6 +8,7 @@ use Rattle.osc_model.specs.declared.node.Moment.{Moment}
 use Rattle.osc_model.specs.declared.node.Peer.{Peer}
 use Rattle.osc_model.specs.declared.request.Request.{Request}
 use Rattle.osc_model.specs.declared.step.ClientResult.TheVariants.{Refused, TimedOut}
+use Rattle.osc_model.specs.declared.step.Datagram.{Datagram}
 use Rattle.osc_model.specs.declared.step.Step.{Step}
 use Rattle.osc_cbor.specs.Spelling.{spelling as item_spelling}
 use Rattle.osc_coap.specs.Building.{bare, payload_of}
@@ -26,7 +27,7 @@ use Rattle.osc_authz.specs.Client.{offered_id}
 use Rattle.osc_authz.specs.Exchange.{post_item}
 use Rattle.osc_authz.specs.declared.granted.ClientDesk.{ClientDesk}
 use Rattle.osc_run.specs.ClientKinds.{request_note}
-use Rattle.osc_message.specs.Sending.{datagram}
+use Rattle.osc_message.specs.Sending.{GoesOut, datagram}
 use Rattle.osc_client.specs.State.{State}
 use Rattle.osc_client.specs.Way.{through}
 use Rattle.osc_client.specs.declared.waiting.Awaited.{Awaited}
@@ -102,9 +103,13 @@ is_over now sending waiting = is_over_by now (length sending == 0) (length (tick
 
 -- what is due goes out; what is over ends
 abbrev pub TicksBy : Bool → State → Moment → Step → State → Type 0
-TicksBy false old now step new = (step ≡ sends (tick_sends now old.endpoint.sending)) × (new ≡ record old { endpoint = after_tick now old.endpoint })
+TicksBy false old now step new =
+    (out : List Datagram) × GoesOut (tick_sends now old.endpoint.sending) out
+    × (step ≡ sends out)
+    × (new ≡ record old { endpoint = after_tick now old.endpoint })
 TicksBy true old now step new =
-    (step ≡ record { out = tick_sends now old.endpoint.sending; notes = record quiet { result = Some TimedOut } })
+    (out : List Datagram) × GoesOut (tick_sends now old.endpoint.sending) out
+    × (step ≡ record { out = out; notes = record quiet { result = Some TimedOut } })
     × (new ≡ record old { waiting = None; endpoint = after_tick now old.endpoint })
 
 abbrev pub Ticks : State → Moment → Step → State → Type 0

@@ -40,7 +40,7 @@ use osc_authz::{ClientContext, ClientDesk};
 use osc_coap::{Kind, MessageBuilder, MessageRef};
 use osc_context::NUMBER_LIMIT;
 use osc_message::laws::ticks_at_rest;
-use osc_message::{Handling, Heard, ReplyRoom, noted, sending_reset};
+use osc_message::{Handling, Heard, ReplyRoom, Ticked, noted, sending_reset};
 use osc_model::{ClientResult, Code, Datagrams, Draw, Moment, Peer, Request, Step, StepNotes};
 use osc_protect::Ciphers;
 use osc_run::kinds;
@@ -477,24 +477,24 @@ impl Client {
     }
 
     /// Sends what is due again, and ends what waits once it is over: where it was acknowledged, 247 seconds after it was sent, and
-    /// else once its message is given up. Where nothing is sent or given up no memory is taken; without memory all stays as it was.
-    pub fn on_tick(&mut self, alloc: Global, now: Moment) -> Result<Step, AllocError>
-        ensures ticked { IfOk result (λ step. Ticks self.old now step self.new) }
-        ensures kind { IfOk result (λ step. ClientStep false (core self.old) step.notes (core self.new)) }
-        ensures err { OnErr result (self.new ≡ self.old) }
-        ensures needs_memory { OnErr result (acts now self.old.endpoint.sending ≡ true) }
+    /// else once its message is given up. Memory is taken for what is sent alone: without it that is lost, as on the way, and what is over ends all
+    /// the same.
+    pub fn on_tick(&mut self, alloc: Global, now: Moment) -> Step
+        ensures ticked { Ticks self.old now result self.new }
+        ensures few { length result.out ≤ length self.old.endpoint.sending }
+        ensures kind { ClientStep false (core self.old) result.notes (core self.new) }
     {
         let acknowledged = self.endpoint.open_messages() == 0;
-        let ticked = self.endpoint.on_tick(alloc, now)?;
+        let Ticked { out, .. } = self.endpoint.on_tick(alloc, now);
         let none_left = self.endpoint.open_messages() == 0;
         if is_over(now, acknowledged, none_left, &self.waiting) {
             self.waiting = None;
-            return Ok(Step {
-                out: ticked.out,
+            return Step {
+                out,
                 notes: StepNotes::quiet().with_result(ClientResult::TimedOut),
-            });
+            };
         }
-        Ok(Step::sending(ticked.out))
+        Step::sending(out)
     }
 
     /// The first moment at which a tick sends, gives up or ends anything, in ms, or none where no tick would. What was acknowledged ends
@@ -504,6 +504,8 @@ impl Client {
     pub fn next_deadline(&self) -> Option<u64>
         ensures some { IfSome result (λ deadline. (now : AnyMoment) → (acts_at self.now now ≡ true) ↔ (deadline ≤ now.ms)) }
         ensures none { IfNone result ((now : AnyMoment) → acts_at self.now now ≡ false) }
+        // Whatever waits has an end.
+        ensures waits { IsSome self.now.waiting → IsSome result }
     {
         ticks_at_rest();
         match &self.waiting {

@@ -67,9 +67,3 @@ module _ (is_sealing : Sealings) where
       let same = hears_same is_sealing old now server_address bytes s new heard in
       (same.1 ∙ straight.0, same.0 ∙ straight.1)
   still_straight old new now bytes (Err error) heard kept straight = (ap (λ (c : Client). c.origin) kept ∙ straight.0, ap (λ (c : Client). c.next_hop) kept ∙ straight.1)
-
--- a server's tick, which never lacks memory
-pub let_go : (old new : Server) (now : Moment) (result : Result Step AllocError) → IsOk result → IfOk result (λ step. ServerTicks old now step new)
-    → new ≡ record old { endpoint = after_tick now old.endpoint }
-let_go old new now (Ok step) ok ticks = ticks.kept
-let_go old new now (Err error) ok ticks = absurd cc

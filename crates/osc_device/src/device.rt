@@ -176,25 +176,20 @@ impl Device {
     }
 
     /// The time has come for what is due by this moment: the server lets its notes go whose lifetime has ended, and what the device began
-    /// and nobody acknowledged goes to the server again. Without memory for it an `AllocError`; then nothing has changed.
-    pub fn on_tick<A: Ciphers>(
-        &mut self,
-        alloc: Global,
-        now: Moment,
-        server_draw: &Draw,
-    ) -> Result<Round, AllocError>
-        ensures ticked { IfOk result (λ round. (ticked : Own) × Ticks self.old.own now round.begun ticked
-            × ClientStep false (own_core self.old.own) round.begun.notes (own_core ticked)
-            × Carries A.is_sealing (record self.old.server { endpoint = after_tick now self.old.server.endpoint }) ticked now server_draw.now round self.new) }
-        ensures run { IfOk result (λ round. AllGoOn self.old (λ number. noted number round) self.new) }
-        ensures entry { IfOk result (λ round. IsOfAnEntry self.old round) }
-        ensures err { OnErr result (self.new ≡ self.old) }
+    /// and nobody acknowledged goes to the server again. Memory is taken for that alone: without it that is lost, as on the way, and what is
+    /// over ends all the same.
+    pub fn on_tick<A: Ciphers>(&mut self, alloc: Global, now: Moment, server_draw: &Draw) -> Round
+        ensures ticked { (ticked : Own) × Ticks self.old.own now result.begun ticked
+            × ClientStep false (own_core self.old.own) result.begun.notes (own_core ticked)
+            × Carries A.is_sealing (record self.old.server { endpoint = after_tick now self.old.server.endpoint }) ticked now server_draw.now result self.new }
+        ensures run { AllGoOn self.old (λ number. noted number result) self.new }
+        ensures entry { IsOfAnEntry self.old result }
     {
         runs_go_on::<A>();
         runs_keep_their_promises::<A>();
-        let begun = self.own.client.on_tick(alloc, now)?;
         let _let_go = self.server.on_tick(alloc, now);
-        Ok(self.carry::<A>(alloc, now, begun, server_draw))
+        let begun = self.own.client.on_tick(alloc, now);
+        self.carry::<A>(alloc, now, begun, server_draw)
     }
 
     /// The first moment at which a tick does anything for the device itself, in ms, or none where no tick would: the server has nothing

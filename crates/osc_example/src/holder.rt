@@ -182,7 +182,7 @@ impl Holder {
 
     /// Time has passed: what is due goes to the lock again.
     pub fn ticks(&mut self, alloc: Global, now: Moment) -> Result<Option<Bytes>, Fault> {
-        let step = self.client.on_tick(alloc, now)?;
+        let step = self.client.on_tick(alloc, now);
         sent_by(alloc, step)
     }
 }

@@ -169,11 +169,10 @@ impl Lock {
     }
 
     /// Time has passed: at least each second, also while datagrams come.
-    pub fn ticks(&mut self, alloc: Global, now: Moment) -> Result<(), Fault> {
+    pub fn ticks(&mut self, alloc: Global, now: Moment) {
         let draw = self.draws.draw();
-        let round = self.device.on_tick::<Suite>(alloc, now, &draw)?;
+        let round = self.device.on_tick::<Suite>(alloc, now, &draw);
         drop(round);
-        Ok(())
     }
 
     /// The power was gone: contexts and repeats are forgotten, and the resources stay.

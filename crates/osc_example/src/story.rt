@@ -163,7 +163,7 @@ fn waits(
 ) -> Result<(), Fault> {
     println!(rt; "an hour: passes")?;
     for second in 30..3_600 {
-        lock.ticks(alloc, at(second))?;
+        lock.ticks(alloc, at(second));
         ticks(rt, alloc, at(second), lock, owner)?;
         ticks(rt, alloc, at(second), lock, technician)?;
     }

@@ -1,10 +1,12 @@
 -- A tick sends at most as many datagrams as there are open messages.
-use Rattle.std.proofs.Common.{ℕ, ◌≤◌, suc, List, [], ◌∷◌, ◌++◌, length, arith}
+use Rattle.std.proofs.Common.{ℕ, ◌≤◌, suc, List, [], ◌∷◌, ◌++◌, length, ap, inl, inr, arith}
 use Rattle.std.specs.List.{filter_map}
 use Rattle.osc_model.specs.declared.node.Moment.{Moment}
 use Rattle.osc_message.specs.declared.due.Due.{Due}
 use Rattle.osc_message.specs.declared.due.Due.TheVariants.{Keep, Send, GiveUp}
 use Rattle.osc_message.specs.Confirmables.{Open}
+use Rattle.osc_model.specs.declared.step.Datagram.{Datagram}
+use Rattle.osc_message.specs.Sending.{GoesOut}
 use Rattle.osc_message.specs.Ticks.{due_of, dues, datagram_of, tick_sends}
 
 -- what is due of one more message sends one datagram more at most
@@ -22,3 +24,7 @@ few_of now all earlier (message ∷ later) =
 
 pub few_are_sent : (now : Moment) (all : List Open) → length (tick_sends now all) ≤ length all
 few_are_sent now all = few_of now all [] all
+
+pub going_few : (now : Moment) (all : List Open) (out : List Datagram) → GoesOut (tick_sends now all) out → length out ≤ length all
+going_few now all out (inl is) = omega (arith, few_are_sent now all, ap length is)
+going_few now all out (inr is) = omega (arith, ap length is)

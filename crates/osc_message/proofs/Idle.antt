@@ -5,7 +5,7 @@ use Rattle.osc_model.specs.declared.node.Moment.{Moment}
 use Rattle.osc_message.specs.declared.due.Due.{Due}
 use Rattle.osc_message.specs.declared.due.Due.TheVariants.{Keep, Send, GiveUp}
 use Rattle.osc_message.specs.Confirmables.{Open}
-use Rattle.osc_message.specs.Ticks.{dues, dues_of, datagram_of, started_of, given_up_of, after, ticked, tick_sends, tick_starts, tick_gives_up, is_kept, acts}
+use Rattle.osc_message.specs.Ticks.{dues, dues_of, datagram_of, given_up_of, after, ticked, tick_sends, tick_gives_up, is_kept, acts}
 
 -- what comes of messages that are kept, where nothing comes of one
 none_of : {X : Type 0} (f : Open × Due → Option X) → ((message : Open) → f (message, Keep) ≡ None) → (pairs : List (Open × Due))
@@ -28,9 +28,6 @@ messages now all earlier (message ∷ later) = ap (λ rest. message ∷ rest) (m
 
 pub idle_sends : (now : Moment) (all : List Open) → acts now all ≡ false → tick_sends now all ≡ []
 idle_sends now all idle = none_of datagram_of (λ message. refl) (dues_of now all) idle
-
-pub idle_starts : (now : Moment) (all : List Open) → acts now all ≡ false → tick_starts now all ≡ []
-idle_starts now all idle = none_of started_of (λ message. refl) (dues_of now all) idle
 
 pub idle_gives_up : (now : Moment) (all : List Open) → acts now all ≡ false → tick_gives_up now all ≡ []
 idle_gives_up now all idle = none_of given_up_of (λ message. refl) (dues_of now all) idle

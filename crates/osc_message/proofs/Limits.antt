@@ -26,7 +26,7 @@ pub weight_is : (b : Bool) → cond b 1 0 ≡ weight b
 weight_is true = refl
 weight_is false = refl
 
-count_is : (t : Open → Bool) (xs : List Open) → count_by t xs ≡ count t xs
+pub count_is : (t : Open → Bool) (xs : List Open) → count_by t xs ≡ count t xs
 count_is t [] = refl
 count_is t (x ∷ xs) = sum_by-cons (λ y. cond (t y) 1 0) x xs ∙ ap₂ (λ a b. a + b) (weight_is (t x)) (count_is t xs)
 
@@ -72,7 +72,7 @@ outstanding_same p q (x ∷ xs) same = ap₂ (λ a b. (a && is_outstanding x) ||
 fewer_peers : (xs : List Open) (ps : List Peer) → ((q : Peer) → has_open q xs ≡ true → list_any (same_peer q) ps ≡ true) → length (peers_of xs) ≤ length ps
 fewer_peers xs ps among = length-le_from_is_member same_peer_equiv (peers_of xs) ps (peers_distinct xs) (λ q e. among q (sym (any_peers q xs) ∙ e))
 
-no_more_peers : (xs ys : List Open) → ((q : Peer) → has_open q xs ≡ true → has_open q ys ≡ true) → length (peers_of xs) ≤ length (peers_of ys)
+pub no_more_peers : (xs ys : List Open) → ((q : Peer) → has_open q xs ≡ true → has_open q ys ≡ true) → length (peers_of xs) ≤ length (peers_of ys)
 no_more_peers xs ys among = fewer_peers xs (peers_of ys) (λ q e. any_peers q ys ∙ among q e)
 
 -- ---- messages taken out
@@ -81,7 +81,7 @@ either : (a : Bool) (b c : Bool) → (a || b) ≡ true → (b ≡ true → c ≡
 either true b c e up = refl
 either false b c e up = up e
 
-open_filter : (p : Open → Bool) (q : Peer) (xs : List Open) → has_open q (filter p xs) ≡ true → has_open q xs ≡ true
+pub open_filter : (p : Open → Bool) (q : Peer) (xs : List Open) → has_open q (filter p xs) ≡ true → has_open q xs ≡ true
 open_filter p q [] e = e
 open_filter p q (x ∷ xs) e = by (p x) e (open_filter p q xs)
   where

@@ -1,5 +1,5 @@
 -- A walk over a list, one place after another.
-use Rattle.std.proofs.Common.{◌≡◌, ℕ, ◌+◌, ◌<◌, List, [], ◌∷◌, ◌++◌, length, take, drop, get_or, refl, ap, ap₂, sym, ◌∙◌, append_assoc, Option, Some, None, arith}
+use Rattle.std.proofs.Common.{◌≡◌, ℕ, ◌+◌, ◌<◌, ◌≤◌, List, [], ◌∷◌, ◌++◌, length, take, drop, get_or, refl, ap, ap₂, sym, ◌∙◌, append_assoc, length-append, Option, Some, None, IfSome, arith}
 use Rattle.std.proofs.lemmas.List.{take_more, drop_more, length-drop}
 use Rattle.std.proofs.lemmas.List.Elements.{All-tail}
 use Rattle.std.specs.List.{All, filter_map, zip, cons_option}
@@ -64,3 +64,23 @@ added f pair old new total pairs rest split before is =
     ∙ append_assoc old (option_to_list (f pair)) (filter_map f rest)
     ∙ ap (λ ys. old ++ ys) (sym (cons_option_is (f pair) (filter_map f rest)) ∙ ap (filter_map f) (sym split))
     ∙ before
+
+-- the same, where what is put there may be lost
+pub added_or_lost : {Y : Type 0} (f : Open × Due → Option Y) (pair : Open × Due) (old new : Option (List Y)) (total : List Y) (pairs rest : List (Open × Due)) → pairs ≡ pair ∷ rest
+    → IfSome old (λ ys. ys ++ filter_map f pairs ≡ total)
+    → IfSome new (λ more. (before : List Y) × (old ≡ Some before) × (more ≡ before ++ option_to_list (f pair)))
+    → IfSome new (λ ys. ys ++ filter_map f rest ≡ total)
+added_or_lost f pair old None total pairs rest split before is = tt
+added_or_lost f pair None (Some more) total pairs rest split before (given, was, is) = absurd (cc)
+added_or_lost f pair (Some ys) (Some more) total pairs rest split before (given, was, is) =
+    let same : ys ≡ given = cc in
+    added f pair ys more total pairs rest split before (is ∙ ap (λ b. b ++ option_to_list (f pair)) (sym same))
+
+-- one more comes to no more than all of them
+pub room_for_one : {Y : Type 0} (f : Open × Due → Option Y) (pair : Open × Due) (old total : List Y) (pairs rest : List (Open × Due)) → pairs ≡ pair ∷ rest
+    → old ++ filter_map f pairs ≡ total → length total ≤ 64 → length old + length (option_to_list (f pair)) ≤ 64
+room_for_one f pair old total pairs rest split whole few =
+    let here : filter_map f pairs ≡ option_to_list (f pair) ++ filter_map f rest = ap (filter_map f) split ∙ cons_option_is (f pair) (filter_map f rest) in
+    let n = ap length whole in
+    let m = ap length here in
+    omega (arith, few, n, m, length-append old (filter_map f pairs), length-append (option_to_list (f pair)) (filter_map f rest))

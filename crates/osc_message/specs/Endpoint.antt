@@ -72,6 +72,11 @@ settled state now from (Message message) handling = record state {
 }
 settled state now from heard handling = state
 
+-- ---- the messages of a name leave: nothing of them is sent any more
+
+abbrev pub withdrawn : Peer → ℕ → EndpointState → EndpointState
+withdrawn to id state = record state { sending = acknowledged to id state.sending }
+
 -- ---- a tick: what is due is done, and the dead notes go
 
 abbrev pub after_tick : Moment → EndpointState → EndpointState

@@ -1,9 +1,9 @@
 -- The open messages as a node keeps them, each with a mark whether it is the first that is open to its peer: no public contract
 -- names them.
-use Rattle.std.specs.Prelude.{◌≡◌, Bool, true, false, ◌||◌, not, if◌then◌else◌, List, [], ◌∷◌, map}
+use Rattle.std.specs.Prelude.{◌≡◌, Bool, true, false, ◌||◌, not, if◌then◌else◌, List, [], ◌∷◌, map, None}
 use Rattle.osc_model.specs.declared.node.Peer.{Peer}
 use Rattle.osc_message.specs.declared.queued.Queued.{Queued}
-use Rattle.osc_message.specs.Confirmables.{Open, is_to}
+use Rattle.osc_message.specs.Confirmables.{Open, is_to, has_outstanding}
 use Rattle.osc_message.specs.Bounds.{IsSound}
 
 abbrev pub messages : List Queued → List Open
@@ -16,6 +16,11 @@ IsMarkedFor peer seen (queued ∷ later) = (is_to peer queued.message ≡ true �
 
 abbrev pub AreMarked : List Queued → Type 0
 AreMarked queue = (peer : Peer) → IsMarkedFor peer false queue
+
+-- it waits; and where it is the first to its peer, another one is outstanding there
+pub record IsIdle (all : List Open) (queued : Queued) : Type 0 where
+  pub waits : queued.message.sent ≡ None
+  pub behind : queued.first ≡ true → has_outstanding queued.message.to all ≡ true
 
 -- what holds of them at all times
 pub record IsSoundQueue (queue : List Queued) : Type 0 where

@@ -1,5 +1,5 @@
 -- Messages that every node sends (RFC 7252 sections 4.2, 4.3 and 5.2), and their datagrams.
-use Rattle.std.specs.Prelude.{ℕ, ◌≤◌, Bool, true, false, if◌then◌else◌, List, [], ◌∷◌, length, Option, Some, None, IfSome}
+use Rattle.std.specs.Prelude.{◌≡◌, ◌⊎◌, ℕ, ◌≤◌, Bool, true, false, if◌then◌else◌, List, [], ◌∷◌, length, Option, Some, None, IfSome}
 use Rattle.std.specs.List.{All}
 use Rattle.osc_model.specs.declared.bytes.Bytes.{Bytes}
 use Rattle.osc_model.specs.declared.node.Draw.{Draw}
@@ -67,6 +67,10 @@ sent_to peer (Some message) = datagram peer message ∷ []
 abbrev pub again : Peer → Option Bytes → List Datagram
 again from None = []
 again from (Some bytes) = (record { to = from; bytes = bytes }) ∷ []
+
+-- What is due is sent, all of it, in order. Where memory is wanting for it nothing is: it is lost, as on the way.
+abbrev pub GoesOut : List Datagram → List Datagram → Type 0
+GoesOut due out = (out ≡ due) ⊎ (out ≡ [])
 
 -- ---- how long they are
 

@@ -6,7 +6,7 @@ use Rattle.osc_model.specs.declared.step.Datagram.{Datagram}
 use Rattle.osc_message.specs.declared.due.Due.{Due}
 use Rattle.osc_message.specs.declared.due.Due.TheVariants.{Keep, Send, GiveUp}
 use Rattle.osc_message.specs.declared.name.MessageName.{MessageName}
-use Rattle.osc_message.specs.Confirmables.{Sent, Open, is_outstanding, has_open, has_outstanding}
+use Rattle.osc_message.specs.Confirmables.{Sent, Open, has_open, has_outstanding}
 
 -- MAX_RETRANSMIT (section 4.8)
 abbrev pub most_repeats : ℕ
@@ -47,11 +47,6 @@ datagram_of (message, due) = None
 abbrev pub name_of : Open → MessageName
 name_of message = record { peer = message.to; id = message.id }
 
--- one that waited
-abbrev pub started_of : Open × Due → Option MessageName
-started_of (message, Send) = if is_outstanding message then None else Some (name_of message)
-started_of (message, due) = None
-
 -- the first time it goes out, or one more
 abbrev pub sent_again : Moment → Option Sent → Sent
 sent_again now None = record { at = now; repeats = 0 }
@@ -71,9 +66,6 @@ ticked now all = filter_map (after now) (dues_of now all)
 
 abbrev pub tick_sends : Moment → List Open → List Datagram
 tick_sends now all = filter_map datagram_of (dues_of now all)
-
-abbrev pub tick_starts : Moment → List Open → List MessageName
-tick_starts now all = filter_map started_of (dues_of now all)
 
 abbrev pub tick_gives_up : Moment → List Open → List MessageName
 tick_gives_up now all = filter_map given_up_of (dues_of now all)

@@ -1,5 +1,5 @@
 //! Open confirmable messages, and their initial timeout (RFC 7252 sections 4.2 and 4.8).
-ghost use Rattle.std.specs.Prelude.{◌≡◌, ◌≤◌, vec_capacity};
+ghost use Rattle.std.specs.Prelude.{◌≡◌, ◌≤◌, vec_len, vec_capacity};
 ghost use Rattle.osc_message.specs.Queue.{IsSoundQueue, messages};
 ghost use Rattle.osc_message.specs.Timeout.{timeout_of};
 ghost use Rattle.osc_message.specs.Confirmables.{is_named as is_named_of, acknowledged};
@@ -50,6 +50,7 @@ fn is_named(message: &Open, peer: Peer, id: u16) -> bool
 pub(crate) fn acknowledge(queue: &mut Vec<Queued>, peer: Peer, id: u16)
     ensures items { messages queue.new.items ≡ acknowledged peer id (messages queue.old.items) }
     ensures sound { IsSoundQueue queue.old.items → IsSoundQueue queue.new.items }
+    ensures len { vec_len queue.new ≤ vec_len queue.old }
     ensures capacity { vec_capacity queue.new ≡ vec_capacity queue.old }
 {
     queue.retain(|queued| !is_named(&queued.message, peer, id));

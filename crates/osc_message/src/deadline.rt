@@ -1,9 +1,9 @@
 //! When the next tick has to come.
-ghost use Rattle.std.specs.Prelude.{◌≡◌, ◌||◌, not, List};
+ghost use Rattle.std.specs.Prelude.{◌≡◌, ◌≢◌, ◌||◌, not, [], List, None, IfNone, IsSome};
 ghost use Rattle.osc_model.specs.declared.node.Moment.{Moment as AnyMoment};
 ghost use Rattle.osc_message.specs.Bounds.{IsBounded, is_reached};
 ghost use Rattle.osc_message.specs.Confirmables.{Open as AnyOpen, has_open};
-ghost use Rattle.osc_message.specs.Queue.{IsSoundQueue, messages};
+ghost use Rattle.osc_message.specs.Queue.{IsIdle, IsSoundQueue, messages};
 ghost use Rattle.osc_message.specs.Ticks.{due_of as due_of_spec, is_kept, acts};
 
 use crate::due::{Due, due_at, due_of_waiting};
@@ -13,7 +13,8 @@ use osc_model::Moment;
 /// When something is due of a message, in ms, or none where nothing will be as things stand.
 fn deadline_of(all: &[Queued], queued: &Queued) -> Option<u64>
     requires { IsBounded queued.now.message }
-    ensures { (now : AnyMoment) (earlier : List AnyOpen) → queued.now.first ≡ not (has_open queued.now.message.to earlier)
+    ensures none { IfNone result (IsIdle (messages all.now) queued.now) }
+    ensures reached { (now : AnyMoment) (earlier : List AnyOpen) → queued.now.first ≡ not (has_open queued.now.message.to earlier)
         → is_reached now result ≡ not (is_kept (due_of_spec now (messages all.now) earlier queued.now.message queued.now.message.sent)) }
 {
     match queued.message.sent {
@@ -26,7 +27,8 @@ fn deadline_of(all: &[Queued], queued: &Queued) -> Option<u64>
 }
 
 fn first_of(a: Option<u64>, b: Option<u64>) -> Option<u64>
-    ensures { (now : AnyMoment) → is_reached now result ≡ (is_reached now a || is_reached now b) }
+    ensures reached { (now : AnyMoment) → is_reached now result ≡ (is_reached now a || is_reached now b) }
+    ensures none { IfNone result ((a ≡ None) × (b ≡ None)) }
 {
     match (a, b) {
         (None, _) => b,
@@ -39,7 +41,8 @@ fn first_of(a: Option<u64>, b: Option<u64>) -> Option<u64>
 /// each one that waits and is the first to its peer.
 pub(crate) fn deadline(all: &[Queued]) -> Option<u64>
     requires { IsSoundQueue all.now }
-    ensures { (now : AnyMoment) → is_reached now result ≡ acts now (messages all.now) }
+    ensures reached { (now : AnyMoment) → is_reached now result ≡ acts now (messages all.now) }
+    ensures open { all.now ≢ [] → IsSome result }
 {
     let mut first = None;
     for index in 0..all.len() {

@@ -1,7 +1,7 @@
 //! What is due of a confirmable message at a tick (RFC 7252 sections 4.2 and 4.8).
-ghost use Rattle.std.specs.Prelude.{◌≡◌, ◌≤◌, ◌<◌, ◌+◌, ◌-◌, ◌^◌, not, List};
+ghost use Rattle.std.specs.Prelude.{◌≡◌, ◌≤◌, ◌<◌, ◌+◌, ◌-◌, ◌^◌, true, not, List};
 ghost use Rattle.osc_message.specs.Bounds.{IsBounded};
-ghost use Rattle.osc_message.specs.Confirmables.{Open as AnyOpen, has_open};
+ghost use Rattle.osc_message.specs.Confirmables.{Open as AnyOpen, has_open, has_outstanding as has_outstanding_of};
 ghost use Rattle.osc_message.specs.Queue.{messages};
 ghost use Rattle.osc_message.specs.Ticks.{due_at as due_at_of, outstanding_due, waiting_due, due_of as due_of_spec};
 
@@ -64,7 +64,8 @@ fn due_of_outstanding(now: Moment, message: &Open, sent: Sent) -> Due
 
 /// Whether a waiting message goes out, where `all` stand there and it is marked beside those that were made before it.
 pub(crate) fn due_of_waiting(all: &[Queued], queued: &Queued) -> Due
-    ensures { (earlier : List AnyOpen) → queued.now.first ≡ not (has_open queued.now.message.to earlier)
+    ensures kept { result ≡ Due.Keep → queued.now.first ≡ true → has_outstanding_of queued.now.message.to (messages all.now) ≡ true }
+    ensures due { (earlier : List AnyOpen) → queued.now.first ≡ not (has_open queued.now.message.to earlier)
         → result ≡ waiting_due (messages all.now) earlier queued.now.message }
 {
     if queued.first && !has_outstanding(all, queued.message.to) {

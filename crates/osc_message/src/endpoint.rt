@@ -1,15 +1,15 @@
 //! The message layer of a node.
-ghost use Rattle.std.specs.Prelude.{◌≡◌, ◌≤◌, ◌<◌, ◌+◌, ◌↔◌, length, not, true, false, IsErr, IsOk, IfOk, IsSome, OnOk, OnErr, IfSome, IfNone};
+ghost use Rattle.std.specs.Prelude.{◌≡◌, ◌≢◌, ◌≤◌, ◌<◌, ◌+◌, ◌↔◌, [], length, not, true, false, IsErr, IsOk, IfOk, IsSome, OnOk, OnErr, IfSome, IfNone};
 ghost use Rattle.std.specs.Option.{option_copied};
 ghost use Rattle.osc_model.specs.declared.node.Moment.{Moment as AnyMoment};
 ghost use Rattle.osc_message.specs.Received.{Receives};
 ghost use Rattle.osc_message.specs.Heard.{heard as heard_as, noted_reply as reply_noted};
 ghost use Rattle.osc_message.specs.Confirmables.{has_open as has_open_of, takes as takes_of, takes_in, with_open};
 ghost use Rattle.osc_message.specs.Bounds.{most_open};
-ghost use Rattle.osc_message.specs.Ticks.{tick_sends, tick_starts, tick_gives_up, acts};
+ghost use Rattle.osc_message.specs.Ticks.{tick_sends, tick_gives_up, acts};
 ghost use Rattle.osc_message.specs.Timeout.{timeout_of};
-ghost use Rattle.osc_message.specs.Endpoint.{fresh, own_id as own_id_of, id_taken, settled, after_tick};
-ghost use Rattle.osc_message.specs.Sending.{AreSendable, again, FitsDatagram, IsSendableHandling, IsSendableReply, reply_start as reply_start_of, reply_id as reply_id_of, replied};
+ghost use Rattle.osc_message.specs.Endpoint.{fresh, own_id as own_id_of, id_taken, settled, withdrawn, after_tick};
+ghost use Rattle.osc_message.specs.Sending.{AreSendable, again, FitsDatagram, GoesOut, IsSendableHandling, IsSendableReply, reply_start as reply_start_of, reply_id as reply_id_of, replied};
 ghost use Rattle.osc_message.specs.Limits.{IsWithinLimits};
 ghost use Rattle.osc_message.specs.declared.handling.Handling.TheVariants.{Dropped};
 ghost use Rattle.osc_message.specs.declared.heard.Heard.TheVariants as heard;
@@ -18,6 +18,7 @@ ghost use Rattle.osc_model.specs.Step.{sends};
 
 use crate::confirmable::acknowledge;
 use crate::deadline::deadline;
+use crate::due::Due;
 use crate::handling::{Handling, acknowledge_by, handle};
 use crate::heard::{Heard, hear};
 use crate::queue::{has_open, push, takes};
@@ -54,6 +55,8 @@ impl QueueFull {
 pub struct Endpoint<const PLACES: usize> {
     seen: Duplicates,
     sending: Vec<Queued>,
+    // Room to write down what is due of each open message, at a tick.
+    dues: Vec<Due>,
     // The ID of the next message of the node's own, once it has made one.
     next_id: Option<u16>,
 }
@@ -64,13 +67,14 @@ impl<const PLACES: usize> Drop for Endpoint<PLACES> {
         let Endpoint {
             seen: _,
             sending: _,
+            dues: _,
             next_id: _,
         } = self;
     }
 }
 
 impl<const PLACES: usize> Model for Endpoint<PLACES> {
-    ghost use Rattle.std.specs.Prelude.{◌≤◌, vec_capacity};
+    ghost use Rattle.std.specs.Prelude.{◌≤◌, vec_len, vec_capacity};
     ghost use Rattle.osc_message.specs.Endpoint.{EndpointState};
     ghost use Rattle.osc_message.specs.Bounds.{AreShort};
     ghost use Rattle.osc_message.specs.Queue.{IsSoundQueue, messages};
@@ -79,7 +83,7 @@ impl<const PLACES: usize> Model for Endpoint<PLACES> {
 
     ghost view = { λ e. record { seen = e.seen; sending = messages e.sending.items; next_id = e.next_id } };
 
-    ghost invariant = { λ e. (PLACES ≤ vec_capacity e.sending) × IsSoundQueue e.sending.items × AreShort e.seen };
+    ghost invariant = { λ e. (vec_len e.sending ≤ PLACES) × (PLACES ≤ vec_capacity e.sending) × (PLACES ≤ vec_capacity e.dues) × IsSoundQueue e.sending.items × AreShort e.seen };
 }
 
 impl<const PLACES: usize> Endpoint<PLACES> {
@@ -90,6 +94,7 @@ impl<const PLACES: usize> Endpoint<PLACES> {
         Ok(Endpoint {
             seen: Duplicates::new(alloc)?,
             sending: Vec::with_capacity(alloc, PLACES)?,
+            dues: Vec::with_capacity(alloc, PLACES)?,
             next_id: None,
         })
     }
@@ -278,23 +283,27 @@ impl<const PLACES: usize> Endpoint<PLACES> {
         Ok(!waits)
     }
 
-    /// Sends what is due at this moment, gives up what nobody acknowledged, and lets the notes go whose lifetime has ended.
-    /// Where nothing is sent or given up no memory is taken; without memory all stays as it was.
+    /// The confirmable messages of this name leave, whether they are outstanding or wait: nothing of them is sent any more. Takes no memory.
+    pub fn withdraw(&mut self, to: Peer, id: u16)
+        ensures { self.new ≡ withdrawn to id self.old }
+    {
+        acknowledge(&mut self.sending, to, id);
+    }
+
+    /// Sends what is due at this moment, gives up what nobody acknowledged, and lets the notes go whose lifetime has ended. Memory is
+    /// taken for what is sent alone: without it that is lost, as on the way, and all else is done.
     ///
     /// The work grows with the number of open messages, and so again for each one that goes out for the first time or is given
     /// up: at most one for each peer.
-    pub fn on_tick(&mut self, alloc: Global, now: Moment) -> Result<Ticked, AllocError>
-        ensures sent { IfOk result (λ done. done.out ≡ tick_sends now self.old.sending) }
-        ensures fits { IfOk result (λ done. AreSendable done.out) }
-        ensures started { IfOk result (λ done. done.started ≡ tick_starts now self.old.sending) }
-        ensures given_up { IfOk result (λ done. done.given_up ≡ tick_gives_up now self.old.sending) }
-        ensures ok { OnOk result (self.new ≡ after_tick now self.old) }
-        ensures err { OnErr result (self.new ≡ self.old) }
-        ensures needs_memory { OnErr result (acts now self.old.sending ≡ true) }
+    pub fn on_tick(&mut self, alloc: Global, now: Moment) -> Ticked
+        ensures sent { GoesOut (tick_sends now self.old.sending) result.out }
+        ensures fits { AreSendable result.out }
+        ensures few { length result.out ≤ length self.old.sending }
+        ensures given_up { result.given_up.items ≡ tick_gives_up now self.old.sending }
+        ensures ticked { self.new ≡ after_tick now self.old }
     {
-        let done = tick(&mut self.sending, alloc, now)?;
         self.seen.expire(now);
-        Ok(done)
+        tick(&mut self.sending, &mut self.dues, alloc, now)
     }
 
     /// The first moment at which a tick sends or gives up anything, in ms, or none where no tick would.
@@ -303,6 +312,8 @@ impl<const PLACES: usize> Endpoint<PLACES> {
     pub fn next_deadline(&self) -> Option<u64>
         ensures some { IfSome result (λ deadline. (now : AnyMoment) → (acts now self.now.sending ≡ true) ↔ (deadline ≤ now.ms)) }
         ensures none { IfNone result ((now : AnyMoment) → acts now self.now.sending ≡ false) }
+        // Each open message has one: it is outstanding, or one before it is, or it goes out at once.
+        ensures open { self.now.sending ≢ [] → IsSome result }
     {
         deadline(&self.sending)
     }

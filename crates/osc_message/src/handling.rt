@@ -1,5 +1,5 @@
 //! What a node made of a message, and what that changes.
-ghost use Rattle.std.specs.Prelude.{◌≡◌, ◌≤◌, vec_capacity};
+ghost use Rattle.std.specs.Prelude.{◌≡◌, ◌≤◌, vec_len, vec_capacity};
 ghost use Rattle.osc_message.specs.Bounds.{AreShort};
 ghost use Rattle.osc_message.specs.Queue.{IsSoundQueue, messages};
 ghost use Rattle.osc_message.specs.Endpoint.{lifetime as lifetime_of, noted, acknowledged_by, handled_seen, handled_sending};
@@ -57,6 +57,7 @@ fn note(seen: &mut Duplicates, now: Moment, from: Peer, kind: Kind, id: u16, rep
 pub(crate) fn acknowledge_by(sending: &mut Vec<Queued>, from: Peer, kind: Kind, id: u16)
     ensures items { messages sending.new.items ≡ acknowledged_by from kind id (messages sending.old.items) }
     ensures sound { IsSoundQueue sending.old.items → IsSoundQueue sending.new.items }
+    ensures len { vec_len sending.new ≤ vec_len sending.old }
     ensures capacity { vec_capacity sending.new ≡ vec_capacity sending.old }
 {
     match kind {
@@ -79,6 +80,7 @@ pub(crate) fn handle(
     ensures short { IsSendableHandling handling → AreShort seen.old → AreShort seen.new }
     ensures items { messages sending.new.items ≡ handled_sending from handling (messages sending.old.items) }
     ensures sound { IsSoundQueue sending.old.items → IsSoundQueue sending.new.items }
+    ensures len { vec_len sending.new ≤ vec_len sending.old }
     ensures capacity { vec_capacity sending.new ≡ vec_capacity sending.old }
 {
     match handling {

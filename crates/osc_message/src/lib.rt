@@ -27,7 +27,7 @@ pub use due::Due;
 pub use endpoint::{Endpoint, QueueFull};
 pub use handling::Handling;
 pub use heard::Heard;
-pub use name::{MessageName, MessageNames};
+pub use name::{GivenUp, MessageName};
 pub use outbox::{Buffer, Outbox, ReplyRoom};
 pub use queue::MOST_OPEN;
 pub use received::{Received, receive};

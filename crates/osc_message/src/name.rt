@@ -1,9 +1,7 @@
 //! Confirmable messages by their names.
-ghost use Rattle.std.specs.Prelude.{◌≡◌, [], ◌∷◌, ◌++◌, OnOk};
 
+use arrayvec::ArrayVec;
 use osc_model::Peer;
-use std::alloc::{AllocError, Global};
-use std::marker::Model;
 
 /// A confirmable message of the node's own, by what an acknowledgement names (RFC 7252 section 4.2).
 #[derive(Clone, Copy, Debug, PartialEq, Eq)]
@@ -14,42 +12,18 @@ pub struct MessageName {
     pub id: u16,
 }
 
-/// Names of messages, in the order in which the messages were made; contracts see the list.
-#[derive(Debug, Drop)]
-pub struct MessageNames {
-    items: Vec<MessageName>,
-}
-
-impl Model for MessageNames {
-    ghost use Rattle.std.specs.Prelude.{List};
-    ghost use Rattle.osc_message.specs.declared.name.MessageName.{MessageName as One};
-
-    ghost Value = { List One };
-
-    ghost view = { λ n. n.items.items };
-}
-
-impl MessageNames {
-    /// None yet.
-    pub(crate) fn new(alloc: Global) -> MessageNames
-        ensures { result ≡ [] }
-    {
-        MessageNames {
-            items: Vec::new(alloc),
+/// For the places of [`GivenUp`] that hold nothing.
+impl Default for MessageName {
+    fn default() -> MessageName {
+        MessageName {
+            peer: Peer {
+                address: [0; 4],
+                port: 0,
+            },
+            id: 0,
         }
     }
-
-    /// Adds one at the end.
-    pub(crate) fn push(&mut self, name: MessageName) -> Result<(), AllocError>
-        ensures { OnOk result (self.new ≡ self.old ++ name ∷ []) }
-    {
-        Ok(self.items.push(name)?)
-    }
-
-    /// The names, lent.
-    pub fn as_slice(&self) -> &[MessageName]
-        ensures { result.now ≡ self.now }
-    {
-        &self.items
-    }
 }
+
+/// Messages that a tick gave up, in the order in which they were made: at most one for each peer that has one open.
+pub type GivenUp = ArrayVec<MessageName, 64>;

@@ -1,5 +1,5 @@
 //! What a list of open messages holds for a peer, and whether it takes one more (RFC 7252 section 4.7).
-ghost use Rattle.std.specs.Prelude.{◌≡◌, ◌<◌, ◌&&◌, true, not, length, vec_len, vec_capacity};
+ghost use Rattle.std.specs.Prelude.{◌≡◌, ◌<◌, ◌+◌, ◌&&◌, true, not, length, vec_len, vec_capacity};
 ghost use Rattle.osc_message.specs.Queue.{IsSoundQueue, messages};
 ghost use Rattle.osc_message.specs.Sending.{FitsDatagram};
 ghost use Rattle.osc_message.specs.Timeout.{timeout_of};
@@ -105,6 +105,7 @@ pub(crate) fn push(
     requires waits { waits ≡ has_open_of to (messages sending.old.items) }
     ensures items { messages sending.new.items ≡ with_open now to id (timeout_of draw.now) bytes (messages sending.old.items) }
     ensures sound { IsSoundQueue sending.new.items }
+    ensures len { vec_len sending.new ≡ vec_len sending.old + 1 }
     ensures capacity { vec_capacity sending.new ≡ vec_capacity sending.old }
 {
     let message = Open {

@@ -1,43 +1,54 @@
-//! What a tick does to the open messages (RFC 7252 sections 4.2 and 4.8): first what takes memory, then the changes.
-ghost use Rattle.std.specs.Prelude.{◌≡◌, ◌≤◌, ◌<◌, ◌+◌, ◌^◌, true, [], ◌∷◌, ◌++◌, List, length, take, drop, map, Some, IfOk, OnOk, OnErr, vec_len, vec_capacity};
+//! What a tick does to the open messages (RFC 7252 sections 4.2 and 4.8): first what is due of each, and then the changes. Memory is taken for
+//! what is sent alone: without it that is lost, and all else is done.
+ghost use Rattle.std.specs.Prelude.{◌≡◌, ◌≤◌, ◌<◌, ◌+◌, ◌^◌, [], ◌∷◌, ◌++◌, List, length, take, drop, Some, IfSome, IfOk, OnOk, vec_len, vec_capacity};
 ghost use Rattle.std.specs.List.{All, filter_map, zip};
 ghost use Rattle.std.specs.Option.{option_to_list};
+ghost use Rattle.osc_model.specs.declared.step.Datagram.{Datagram as AnyDatagram};
 ghost use Rattle.osc_message.specs.Bounds.{IsBounded};
 ghost use Rattle.osc_message.specs.Queue.{AreMarked, IsSoundQueue, messages};
-ghost use Rattle.osc_message.specs.Ticks.{datagram_of, name_of as name_in, started_of, given_up_of, sent_again, after, dues_of, ticked, tick_sends, tick_starts, tick_gives_up, acts};
+ghost use Rattle.osc_message.specs.Sending.{GoesOut};
+ghost use Rattle.osc_message.specs.Ticks.{datagram_of, name_of as name_in, given_up_of, sent_again, after, dues_of, ticked, tick_sends, tick_gives_up};
 ghost use Rattle.osc_message.specs.declared.queued.Queued.{Queued as AnyQueued};
 
 use crate::confirmable::{Open, Sent};
 use crate::deadline::is_due;
 use crate::due::{Due, due_of};
-use crate::name::{MessageName, MessageNames};
+use crate::name::{GivenUp, MessageName};
 use crate::queued::{Queued, mark};
 use osc_model::{Datagram, Datagrams, Moment};
 use std::alloc::{AllocError, Global};
 
-/// What a tick does, before it is done.
-#[derive(Drop)]
-pub(crate) struct Plan {
-    /// What is due of each open message, in order.
-    pub dues: Vec<Due>,
-    /// What is sent, in order.
-    pub out: Datagrams,
-    /// What goes out for the first time, in order.
-    pub started: MessageNames,
-    /// What is given up, in order.
-    pub given_up: MessageNames,
+/// The datagram of a message that goes out now, if it does.
+fn copy_of(message: &Open, due: Due) -> Result<Option<Datagram>, AllocError>
+    ensures { IfOk result (λ copy. copy ≡ datagram_of (message.now, due)) }
+{
+    match due {
+        Due::Send => Ok(Some(Datagram {
+            to: message.to,
+            bytes: message.bytes.clone()?,
+        })),
+        _ => Ok(None),
+    }
 }
 
 fn add_copy(out: &mut Datagrams, message: &Open, due: Due) -> Result<(), AllocError>
     ensures { OnOk result (out.new ≡ out.old ++ option_to_list (datagram_of (message.now, due))) }
 {
-    if let Due::Send = due {
-        out.push(Datagram {
-            to: message.to,
-            bytes: message.bytes.clone()?,
-        })?;
+    if let Some(copy) = copy_of(message, due)? {
+        out.push(copy)?;
     }
     Ok(())
+}
+
+/// What is sent so far, and the datagram of this message, where it goes out. Without memory for it nothing of it all is sent.
+fn with_copy(out: Option<Datagrams>, message: &Open, due: Due) -> Option<Datagrams>
+    ensures { IfSome result (λ more. (before : List AnyDatagram) × (out ≡ Some before) × (more ≡ before ++ option_to_list (datagram_of (message.now, due)))) }
+{
+    let mut out = out?;
+    match add_copy(&mut out, message, due) {
+        Ok(()) => Some(out),
+        Err(_) => None,
+    }
 }
 
 fn name_of(message: &Open) -> MessageName
@@ -49,50 +60,45 @@ fn name_of(message: &Open) -> MessageName
     }
 }
 
-fn add_started(started: &mut MessageNames, message: &Open, due: Due) -> Result<(), AllocError>
-    ensures { OnOk result (started.new ≡ started.old ++ option_to_list (started_of (message.now, due))) }
+fn add_given_up(given_up: &mut GivenUp, message: &Open, due: Due)
+    requires { length given_up.old.items + length (option_to_list (given_up_of (message.now, due))) ≤ 64 }
+    ensures { given_up.new.items ≡ given_up.old.items ++ option_to_list (given_up_of (message.now, due)) }
 {
-    match (due, message.sent) {
-        (Due::Send, None) => started.push(name_of(message)),
-        _ => Ok(()),
+    if let Due::GiveUp = due {
+        given_up.push(name_of(message));
     }
 }
 
-fn add_given_up(given_up: &mut MessageNames, message: &Open, due: Due) -> Result<(), AllocError>
-    ensures { OnOk result (given_up.new ≡ given_up.old ++ option_to_list (given_up_of (message.now, due))) }
-{
-    match due {
-        Due::GiveUp => given_up.push(name_of(message)),
-        _ => Ok(()),
-    }
+/// What a tick does, before it is done.
+#[derive(Drop)]
+struct Plan {
+    /// What is sent, in order; none where memory is wanting for it.
+    out: Option<Datagrams>,
+    /// What is given up, in order.
+    given_up: GivenUp,
 }
 
-/// What a tick does. The work grows with the number of open messages, and so again for each one that goes out for the first time.
-pub(crate) fn make_plan(alloc: Global, now: Moment, all: &[Queued]) -> Result<Plan, AllocError>
-    requires { IsSoundQueue all.now }
-    ensures dues { IfOk result (λ plan. plan.dues.items ≡ filter_map (λ pair. Some pair.1) (dues_of now (messages all.now))) }
-    ensures out { IfOk result (λ plan. plan.out ≡ tick_sends now (messages all.now)) }
-    ensures started { IfOk result (λ plan. plan.started ≡ tick_starts now (messages all.now)) }
-    ensures given_up { IfOk result (λ plan. plan.given_up ≡ tick_gives_up now (messages all.now)) }
+/// Writes down what is due of each message, in order, and answers what that sends and gives up. The work grows with the number of open
+/// messages, and so again for each one that goes out for the first time.
+fn make_plan(dues: &mut Vec<Due>, alloc: Global, now: Moment, all: &[Queued]) -> Plan
+    requires sound { IsSoundQueue all.now }
+    requires room { length all.now ≤ vec_capacity dues.old }
+    ensures dues { dues.new.items ≡ filter_map (λ pair. Some pair.1) (dues_of now (messages all.now)) }
+    ensures capacity { vec_capacity dues.new ≡ vec_capacity dues.old }
+    ensures out { IfSome result.out (λ out. out ≡ tick_sends now (messages all.now)) }
+    ensures given_up { result.given_up.items ≡ tick_gives_up now (messages all.now) }
 {
-    let mut dues = Vec::with_capacity(alloc, all.len())?;
-    let mut out = Datagrams::new(alloc);
-    let mut started = MessageNames::new(alloc);
-    let mut given_up = MessageNames::new(alloc);
+    dues.clear();
+    let mut out = Some(Datagrams::new(alloc));
+    let mut given_up = GivenUp::new();
     for index in 0..all.len() {
         let queued = &all[index];
         let due = due_of(now, all, queued);
-        dues.push(due)?;
-        add_copy(&mut out, &queued.message, due)?;
-        add_started(&mut started, &queued.message, due)?;
-        add_given_up(&mut given_up, &queued.message, due)?;
+        dues.push_reserved(due);
+        out = with_copy(out, &queued.message, due);
+        add_given_up(&mut given_up, &queued.message, due);
     }
-    Ok(Plan {
-        dues,
-        out,
-        started,
-        given_up,
-    })
+    Plan { out, given_up }
 }
 
 /// It goes out: for the first time, or once more.
@@ -156,72 +162,76 @@ pub(crate) fn apply(sending: &mut Vec<Queued>, dues: &[Due], now: Moment)
 }
 
 /// What a tick did.
-#[derive(Debug, Drop)]
+#[derive(Drop)]
 pub struct Ticked {
-    /// What is sent, in order.
+    /// What is sent, in order; nothing where memory is wanting for it.
     pub out: Datagrams,
-    /// Which went out for the first time, in order.
-    pub started: MessageNames,
     /// Which were given up, in order.
-    pub given_up: MessageNames,
+    pub given_up: GivenUp,
 }
 
-impl Ticked {
-    fn nothing(alloc: Global) -> Ticked
-        ensures { result ≡ record { out = []; started = []; given_up = [] } }
-    {
-        Ticked {
-            out: Datagrams::new(alloc),
-            started: MessageNames::new(alloc),
-            given_up: MessageNames::new(alloc),
-        }
+/// What is sent, or nothing without memory for it.
+fn sent_or_lost(alloc: Global, out: Option<Datagrams>) -> Datagrams
+    ensures { (due : List AnyDatagram) → IfSome out (λ made. made ≡ due) → GoesOut due result }
+{
+    match out {
+        Some(out) => out,
+        None => Datagrams::new(alloc),
     }
 }
 
-/// Plans what is due, and makes it; without memory for the plan all stays as it was.
-fn act(sending: &mut Vec<Queued>, alloc: Global, now: Moment) -> Result<Ticked, AllocError>
-    requires { IsSoundQueue sending.old.items }
-    ensures out { IfOk result (λ done. done.out ≡ tick_sends now (messages sending.old.items)) }
-    ensures started { IfOk result (λ done. done.started ≡ tick_starts now (messages sending.old.items)) }
-    ensures given_up { IfOk result (λ done. done.given_up ≡ tick_gives_up now (messages sending.old.items)) }
-    ensures items { OnOk result (messages sending.new.items ≡ ticked now (messages sending.old.items)) }
+/// Writes down what is due, and does it. What was due is dropped.
+fn act(sending: &mut Vec<Queued>, dues: &mut Vec<Due>, alloc: Global, now: Moment) -> Ticked
+    requires sound { IsSoundQueue sending.old.items }
+    requires room { vec_len sending.old ≤ vec_capacity dues.old }
+    ensures out { GoesOut (tick_sends now (messages sending.old.items)) result.out }
+    ensures given_up { result.given_up.items ≡ tick_gives_up now (messages sending.old.items) }
+    ensures items { messages sending.new.items ≡ ticked now (messages sending.old.items) }
     ensures sound { IsSoundQueue sending.new.items }
+    ensures len { vec_len sending.new ≤ vec_len sending.old }
     ensures capacity { vec_capacity sending.new ≡ vec_capacity sending.old }
-    ensures err { OnErr result (sending.new ≡ sending.old) }
+    ensures dues { vec_capacity dues.new ≡ vec_capacity dues.old }
 {
-    let Plan {
-        dues,
-        out,
-        started,
+    let Plan { out, given_up } = make_plan(dues, alloc, now, sending);
+    apply(sending, dues, now);
+    Ticked {
+        out: sent_or_lost(alloc, out),
         given_up,
-    } = make_plan(alloc, now, sending)?;
-    apply(sending, &dues, now);
-    Ok(Ticked {
-        out,
-        started,
-        given_up,
-    })
+    }
 }
 
-/// Does what is due. Where nothing is, no memory is taken; without memory all stays as it was.
+/// A tick at which nothing is due.
+fn nothing(alloc: Global) -> Ticked
+    ensures out { result.out ≡ [] }
+    ensures given_up { result.given_up.items ≡ [] }
+{
+    Ticked {
+        out: Datagrams::new(alloc),
+        given_up: GivenUp::new(),
+    }
+}
+
+/// Does what is due, with room to write down what is due of each message. Where nothing is, no memory is taken; without memory what
+/// would be sent is lost.
 pub(crate) fn tick(
     sending: &mut Vec<Queued>,
+    dues: &mut Vec<Due>,
     alloc: Global,
     now: Moment,
-) -> Result<Ticked, AllocError>
-    requires { IsSoundQueue sending.old.items }
-    ensures out { IfOk result (λ done. done.out ≡ tick_sends now (messages sending.old.items)) }
-    ensures started { IfOk result (λ done. done.started ≡ tick_starts now (messages sending.old.items)) }
-    ensures given_up { IfOk result (λ done. done.given_up ≡ tick_gives_up now (messages sending.old.items)) }
-    ensures items { OnOk result (messages sending.new.items ≡ ticked now (messages sending.old.items)) }
+) -> Ticked
+    requires sound { IsSoundQueue sending.old.items }
+    requires room { vec_len sending.old ≤ vec_capacity dues.old }
+    ensures out { GoesOut (tick_sends now (messages sending.old.items)) result.out }
+    ensures given_up { result.given_up.items ≡ tick_gives_up now (messages sending.old.items) }
+    ensures items { messages sending.new.items ≡ ticked now (messages sending.old.items) }
     ensures sound { IsSoundQueue sending.new.items }
+    ensures len { vec_len sending.new ≤ vec_len sending.old }
     ensures capacity { vec_capacity sending.new ≡ vec_capacity sending.old }
-    ensures err { OnErr result (sending.new ≡ sending.old) }
-    ensures needs_memory { OnErr result (acts now (messages sending.old.items) ≡ true) }
+    ensures dues { vec_capacity dues.new ≡ vec_capacity dues.old }
 {
     if is_due(now, sending) {
-        act(sending, alloc, now)
+        act(sending, dues, alloc, now)
     } else {
-        Ok(Ticked::nothing(alloc))
+        nothing(alloc)
     }
 }

@@ -6,20 +6,25 @@ use Rattle.osc_model.specs.declared.request.Request.{Request}
 use Rattle.osc_model.specs.declared.step.Datagram.{Datagram}
 use Rattle.osc_model.specs.declared.step.Step.{Step}
 use Rattle.osc_programs.specs.Ended.{IsFault, NoSettings, EndsLab, EndsNode, EndsTurns, EndsTold, EndsClient, CannotLab, CannotTalk, CannotAsk}
-use Rattle.osc_programs.specs.Log.{Tells, Told}
 use Rattle.osc_supply.specs.Supply.{IsSeeded, SupplyState}
 use Rattle.osc_programs.specs.Turning.{GoesOn, Running, Runs, Turns}
 use Rattle.osc_programs.specs.Turning as turning
 use Rattle.osc_programs.specs.declared.ended.Ended.{Ended}
 use Rattle.osc_programs.specs.declared.ended.Ended.TheVariants.{Done, BadCommandLine, BadLine, BadSettings, OutOfMemory, Failed, PortFailed, NotDone}
-use Rattle.osc_turn.specs.Pace.{CameIn}
+use Rattle.osc_turn.specs.Pace.{CameIn, IsRefusedIn}
 use Rattle.osc_turn.specs.Ports.{Arrival, grown}
-use Rattle.osc_programs.proofs.Appended.{appends_more, appends_none}
+use Rattle.osc_turn.specs.declared.error.TurnError.{TurnError}
+pub use Rattle.osc_programs.proofs.Reports.{tells_more, tells_none}
 
 -- where a tick is due, nothing came
 pub came_in : (due : Bool) (came : Option Arrival) (before after : Option (List (Option Arrival))) → CameIn due came before after → due ≡ true → came ≡ None
 came_in true came before after c e = c.0
 came_in false came before after c e = absurd cc
+
+-- where a tick is due, nothing is refused
+pub not_due : (due : Bool) (error : TurnError) (before after : Option (List (Option Arrival))) (failures failures_after : ℕ) → IsRefusedIn due error before after failures failures_after → due ≡ false
+not_due true error before after failures failures_after f = absurd f
+not_due false error before after failures failures_after f = refl
 
 -- ---- how programs end
 
@@ -198,34 +203,21 @@ grown_more first between last some more e f = f ∙ ap (λ told. grown told more
     joined (Some items) = ap Some (append_assoc items some more)
 
 -- one turn more
-pub one_more : {N : Type 0} (is_step : N → Moment → Draw → Option Arrival → Step → N → Type 0) (n : ℕ) (first between last : Running N) (out more_out : List Datagram) (log text : List ℕ)
-    → Turns is_step n first out log between → GoesOn is_step between more_out text last → Turns is_step (n + 1) first (out ++ more_out) (log ++ text) last
-one_more is_step n first between last out more_out log text taken turn =
-    subst (λ (k : ℕ). Turns is_step k first (out ++ more_out) (log ++ text) last) (sym (add-one n)) (turning.more n first between last out more_out log text taken turn)
+pub one_more : {N : Type 0} (acts : N → Moment → Bool) (is_step : N → Moment → Draw → Option Arrival → Step → N → Type 0) (n : ℕ) (first between last : Running N) (out more_out : List Datagram) (log text : List ℕ)
+    → Turns acts is_step n first out log between → GoesOn acts is_step between more_out text last → Turns acts is_step (n + 1) first (out ++ more_out) (log ++ text) last
+one_more acts is_step n first between last out more_out log text taken turn =
+    subst (λ (k : ℕ). Turns acts is_step k first (out ++ more_out) (log ++ text) last) (sym (add-one n)) (turning.more n first between last out more_out log text taken turn)
 
 -- who ended well took all turns
-pub runs : {N : Type 0} (is_step : N → Moment → Draw → Option Arrival → Step → N → Type 0) (turns taken : ℕ) (old new : N) (start : SupplyState) (out : List Datagram) (log : List ℕ) (last : Running N) (ended : Ended)
-    → IsSeeded start → Turns is_step taken (record { node = old; busy = None; supply = start }) out log last → new ≡ last.node
-    → ((ended ≡ Done) × (taken ≡ turns)) ⊎ ((ended ≢ Done) × (taken < turns)) → ended ≡ Done → Runs is_step turns log old new
-runs is_step turns taken old new start out log last ended seeded all is_last (inl done) e = record {
+pub runs : {N : Type 0} (acts : N → Moment → Bool) (is_step : N → Moment → Draw → Option Arrival → Step → N → Type 0) (turns taken : ℕ) (old new : N) (start : SupplyState) (out : List Datagram) (log : List ℕ) (last : Running N) (ended : Ended)
+    → IsSeeded start → Turns acts is_step taken (record { node = old; busy = None; supply = start }) out log last → new ≡ last.node
+    → ((ended ≡ Done) × (taken ≡ turns)) ⊎ ((ended ≢ Done) × (taken < turns)) → ended ≡ Done → Runs acts is_step turns log old new
+runs acts is_step turns taken old new start out log last ended seeded all is_last (inl done) e = record {
   start = start;
   seeded = seeded;
   sent = out;
   last = last;
-  takes = subst (λ (n : ℕ). Turns is_step n (record { node = old; busy = None; supply = start }) out log last) done.1 all;
+  takes = subst (λ (n : ℕ). Turns acts is_step n (record { node = old; busy = None; supply = start }) out log last) done.1 all;
   ends = is_last;
 }
-runs is_step turns taken old new start out log last ended seeded all is_last (inr other) e = absurd (other.0 e)
-
--- ---- logs
-
--- nothing is told
-pub tells_none : (log : Told) → Tells log log []
-tells_none log unfailed = (unfailed, appends_none log.text)
-
--- one text after another
-pub tells_more : (first between last : Told) (some more : List ℕ) → Tells first between some → Tells between last more → Tells first last (some ++ more)
-tells_more first between last some more p q unfailed =
-    let later = q unfailed in
-    let before = p later.0 in
-    (before.0, appends_more first.text between.text last.text some more before.1 later.1)
+runs acts is_step turns taken old new start out log last ended seeded all is_last (inr other) e = absurd (other.0 e)

@@ -7,6 +7,7 @@ use Rattle.osc_model.specs.declared.step.Step.{Step}
 use Rattle.osc_client.specs.State.{State as Client}
 use Rattle.osc_model.specs.declared.request.Request.{Request}
 use Rattle.osc_model.specs.declared.step.ClientResult.TheVariants.{Made, Answer, Unverified, TimedOut, Refused}
+use Rattle.osc_turn.specs.Nodes.{client_acts}
 use Rattle.osc_programs.specs.Conversation.{GoesOn, GoesOnBy, Requests, Waits, client_steps, told, still, turns}
 use Rattle.osc_programs.specs.Turning.{Running, TakesTurn}
 use Rattle.osc_programs.specs.declared.asking.Outcome.{Outcome}
@@ -28,7 +29,7 @@ starts most first outcome rest last more waits =
     subst (λ (n : ℕ). Waits n None first more outcome rest last) all waits
 
 -- a turn by which nothing was learnt
-pub goes_on : (most taken : ℕ) (first now next : Running Client) (sent : List Datagram) (step : Step) → taken < most → TakesTurn client_steps now step next
+pub goes_on : (most taken : ℕ) (first now next : Running Client) (sent : List Datagram) (step : Step) → taken < most → TakesTurn client_acts client_steps now step next
     → step.notes.result ≡ None → GoOn most (most - taken) first now sent → GoOn most (most - (taken + 1)) first next (sent ++ step.out)
 goes_on most taken first now next sent step lt turn none so_far outcome rest last more waits =
     let left = most - (taken + 1) in
@@ -40,7 +41,7 @@ goes_on most taken first now next sent step lt turn none so_far outcome rest las
 
 -- one by which something was
 pub learns : (most taken left : ℕ) (first now next : Running Client) (sent : List Datagram) (step : Step) (result : ClientResult) → taken < most → left ≡ most - taken - 1
-    → TakesTurn client_steps now step next → step.notes.result ≡ Some result → GoOn most (most - taken) first now sent
+    → TakesTurn client_acts client_steps now step next → step.notes.result ≡ Some result → GoOn most (most - taken) first now sent
     → Waits most None first (sent ++ step.out) (Told result) left next
 learns most taken left first now next sent step result lt e turn is so_far =
     let same : suc left ≡ most - taken = omega (arith, lt, e) in

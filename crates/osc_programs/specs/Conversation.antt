@@ -12,7 +12,7 @@ use Rattle.osc_client.specs.Hearing.{Begins, Requests as Asks}
 use Rattle.osc_client.specs.State.{State as Client}
 use Rattle.osc_client.specs.Way.{HostAndPort}
 use Rattle.osc_settings.specs.declared.client.ClientSettings.{ClientSettings}
-use Rattle.osc_turn.specs.Nodes.{ClientSteps}
+use Rattle.osc_turn.specs.Nodes.{ClientSteps, client_acts}
 use Rattle.osc_turn.specs.Ports.{Arrival}
 use Rattle.osc_simulation.specs.Records.{learnt_text}
 use Rattle.osc_simulation.specs.Simulation.{is_sealing, tag_of}
@@ -54,7 +54,7 @@ pub data Waits : ℕ → Option ClientResult → Running Client → List Datagra
   told : (left : ℕ) (client : Running Client) (result : ClientResult) → Waits left (Some result) client [] (Told result) left client
   still : (client : Running Client) → Waits 0 None client [] Open 0 client
   turns : (left rest : ℕ) (old next new : Running Client) (step : Step) (sent : List Datagram) (outcome : Outcome)
-      → TakesTurn client_steps old step next → Waits left step.notes.result next sent outcome rest new
+      → TakesTurn client_acts client_steps old step next → Waits left step.notes.result next sent outcome rest new
       → Waits (suc left) None old (step.out ++ sent) outcome rest new
 
 -- It sends its request, and what it learns of that is last.

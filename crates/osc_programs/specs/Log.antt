@@ -1,5 +1,5 @@
--- The lines by which a node tells what its steps did: one for each datagram that a step sends.
-use Rattle.std.specs.Prelude.{◌≡◌, ◌⊎◌, ◌==◌, ℕ, Bool, true, false, ◌&&◌, nat_le, if◌then◌else◌, List, [], ◌∷◌, ◌++◌, map, Option, Some, None, Result, Ok, Err, codes, decimal, slice_get, unwrap_or}
+-- The lines by which a node tells what its steps did: one for each datagram that a step sends, but for some refusals where there are many.
+use Rattle.std.specs.Prelude.{◌≡◌, ◌⊎◌, ◌==◌, ℕ, ◌+◌, ◌-◌, ◌/◌, ◌^◌, min, Bool, true, ◌&&◌, ◌||◌, nat_le, nat_lt, if◌then◌else◌, List, [], ◌∷◌, ◌++◌, map, Option, Some, None, Result, Ok, Err, codes, decimal, option_map, slice_get, unwrap_or}
 use Rattle.std.specs.List.{flat_map}
 use Rattle.std.specs.Io.KnownBytes.{Appends}
 use Rattle.std.specs.Net.Text.{ipv4_text}
@@ -17,6 +17,7 @@ use Rattle.osc_model.specs.declared.step.Step.{Step}
 use Rattle.osc_run.specs.Texts.{read_request}
 use Rattle.osc_scope.specs.Text.{name_of}
 use Rattle.osc_simulation.specs.Text.{code_text, line}
+use Rattle.osc_programs.specs.declared.refusals.Refusals.{Refusals}
 
 -- ---- why a request was refused
 
@@ -116,13 +117,102 @@ lost_text = line (codes "out of memory: what came is lost")
 abbrev pub IsStepText : Moment → Step → List ℕ → Type 0
 IsStepText now step text = (text ≡ step_text now step) ⊎ (text ≡ untold_text)
 
+-- ---- how many refusals are told
+
+-- the most of one second that are told
+abbrev pub most_refusals : ℕ
+most_refusals = 20
+
+-- at first none was told, and none left out
+abbrev pub no_refusals : Refusals
+no_refusals = record { second = 0; told = 0; left_out = 0 }
+
+-- those of the second of this moment: a new second has none yet
+abbrev pub refusals_at : Moment → Refusals → Refusals
+refusals_at now refusals = if now.ms / 1000 == refusals.second then refusals else record { second = now.ms / 1000; told = 0; left_out = 0 }
+
+-- MOMENT left out N refusals
+abbrev pub left_out_text : Moment → ℕ → List ℕ
+left_out_text now count = line (decimal now.ms ++ codes " left out " ++ decimal count ++ codes " refusals")
+
+-- what comes first in a new second: how many were left out before
+abbrev pub ended_text : Moment → Refusals → List ℕ
+ended_text now refusals = if now.ms / 1000 == refusals.second || refusals.left_out == 0 then [] else left_out_text now refusals.left_out
+
+-- whether a line of this second is told: one of a refusal only where few were, and any other
+abbrev pub is_told : Option RefusedRequest → Refusals → Bool
+is_told None refusals = true
+is_told (Some refused) refusals = nat_lt refusals.told most_refusals
+
+-- one refusal more, told or left out
+abbrev pub with_refusal : Refusals → Refusals
+with_refusal refusals =
+    if nat_lt refusals.told most_refusals then record refusals { told = refusals.told + 1 }
+    else record refusals { left_out = min (refusals.left_out + 1) (2 ^ 64 - 1) }
+
+abbrev pub with_line : Option RefusedRequest → Refusals → Refusals
+with_line None refusals = refusals
+with_line (Some refused) refusals = with_refusal refusals
+
+-- ---- one line after another
+
+-- what there is a line for: a datagram that a step sent at this moment, no memory for the lines of a step, and none for a step
+pub data Report : Type 0 where
+  sent : Moment → StepNotes → Datagram → Report
+  untold : Report
+  lost : Report
+
+abbrev pub report_text : Report → List ℕ
+report_text (sent now notes datagram) = line_text now notes datagram
+report_text untold = untold_text
+report_text lost = lost_text
+
+-- the line of a datagram, unless it is left out
+abbrev pub line_told : Moment → StepNotes → Datagram → Refusals → List ℕ
+line_told now notes datagram refusals = if is_told notes.refused (refusals_at now refusals) then line_text now notes datagram else []
+
+-- what is told of a report, and the refusals then
+abbrev pub told_of : Refusals → Report → List ℕ
+told_of refusals (sent now notes datagram) = ended_text now refusals ++ line_told now notes datagram refusals
+told_of refusals untold = untold_text
+told_of refusals lost = lost_text
+
+abbrev pub refusals_behind : Refusals → Report → Refusals
+refusals_behind refusals (sent now notes datagram) = with_line notes.refused (refusals_at now refusals)
+refusals_behind refusals untold = refusals
+refusals_behind refusals lost = refusals
+
+-- the same of some, in order
+abbrev pub told_by : Refusals → List Report → List ℕ
+told_by refusals [] = []
+told_by refusals (report ∷ reports) = told_of refusals report ++ told_by (refusals_behind refusals report) reports
+
+abbrev pub refusals_after : Refusals → List Report → Refusals
+refusals_after refusals [] = refusals
+refusals_after refusals (report ∷ reports) = refusals_after (refusals_behind refusals report) reports
+
+-- those of a step
+abbrev pub reports_of : Moment → Step → List Report
+reports_of now step = map (sent now step.notes) step.out
+
 -- ---- where it is told
 
--- a log: whether a write of it failed, and what it wrote so far, where contracts can see it
+-- a log: how many lines it couldn't write, the refusals where it leaves some out, and what it wrote so far, where contracts can see it
 pub record Told : Type 0 where
-  pub failed : Bool
+  pub dropped : ℕ
+  pub refusals : Option Refusals
   pub text : Option (List ℕ)
 
--- this was told behind what was told before, unless a write failed
+-- a log without refusals leaves none out
+abbrev pub told_with : Option Refusals → List Report → List ℕ
+told_with None reports = flat_map report_text reports
+told_with (Some refusals) reports = told_by refusals reports
+
+-- Of these lines, all but the refusals that are left out were told, behind what was told before, unless one couldn't be written.
 abbrev pub Tells : Told → Told → List ℕ → Type 0
-Tells old new text = new.failed ≡ false → (old.failed ≡ false) × Appends old.text new.text text
+Tells old new text = new.dropped ≡ 0 → (old.dropped ≡ 0) × (reports : List Report) × (text ≡ flat_map report_text reports)
+    × (new.refusals ≡ option_map (λ refusals. refusals_after refusals reports) old.refusals) × Appends old.text new.text (told_with old.refusals reports)
+
+-- this, which is of no step, was told behind what was told before, unless it couldn't be written
+abbrev pub Writes : Told → Told → List ℕ → Type 0
+Writes old new text = new.dropped ≡ 0 → (old.dropped ≡ 0) × (new.refusals ≡ old.refusals) × Appends old.text new.text text

@@ -12,7 +12,7 @@ use Rattle.osc_server.specs.State.{State as Server}
 use Rattle.osc_settings.specs.declared.proxy.ProxySettings.{ProxySettings}
 use Rattle.osc_settings.specs.declared.proxy.TargetSetting.{TargetSetting}
 use Rattle.osc_settings.specs.declared.server.ServerSettings.{ServerSettings}
-use Rattle.osc_turn.specs.Nodes.{ProxySteps, ServerSteps}
+use Rattle.osc_turn.specs.Nodes.{ProxySteps, ServerSteps, proxy_acts, server_acts}
 use Rattle.osc_simulation.specs.Simulation.{is_sealing}
 use Rattle.osc_programs.specs.Turning.{Runs}
 
@@ -38,16 +38,16 @@ pub record IsProxyOf (settings : ProxySettings) (proxy : Proxy) : Type 0 where
 
 -- ---- their turns
 
--- The server of these settings takes so many turns, and this is told of them.
+-- The server of these settings takes so many turns, and this there is to tell of them.
 pub record Serves (settings : ServerSettings) (turns : ℕ) (log : List ℕ) : Type 0 where
   pub first : Server
   pub last : Server
   pub is_server : IsServerOf settings first
-  pub runs : Runs (ServerSteps is_sealing) turns log first last
+  pub runs : Runs server_acts (ServerSteps is_sealing) turns log first last
 
--- The proxy of these settings takes so many turns, and this is told of them.
+-- The proxy of these settings takes so many turns, and this there is to tell of them.
 pub record Forwards (settings : ProxySettings) (turns : ℕ) (log : List ℕ) : Type 0 where
   pub first : Proxy
   pub last : Proxy
   pub is_proxy : IsProxyOf settings first
-  pub runs : Runs ProxySteps turns log first last
+  pub runs : Runs proxy_acts ProxySteps turns log first last

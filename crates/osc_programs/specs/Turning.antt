@@ -1,10 +1,10 @@
 -- The turns that a node takes in a program: its moments, its draws, and its ticks.
-use Rattle.std.specs.Prelude.{◌≡◌, ◌++◌, ℕ, suc, true, List, [], Option, None, is_some}
+use Rattle.std.specs.Prelude.{◌≡◌, ◌++◌, ℕ, suc, Bool, true, false, List, [], Option, None, is_some}
 use Rattle.osc_model.specs.declared.node.Draw.{Draw}
 use Rattle.osc_model.specs.declared.node.Moment.{Moment}
 use Rattle.osc_model.specs.declared.step.Datagram.{Datagram}
 use Rattle.osc_model.specs.declared.step.Step.{Step}
-use Rattle.osc_turn.specs.Pace.{busy_after, is_due}
+use Rattle.osc_turn.specs.Pace.{busy_after, must_tick}
 use Rattle.osc_turn.specs.Ports.{Arrival}
 use Rattle.osc_supply.specs.Supply.{Gives, IsSeeded, SupplyState}
 use Rattle.osc_programs.specs.Log.{IsStepText, lost_text}
@@ -17,37 +17,39 @@ pub record Running (N : Type 0) : Type 0 where
   pub busy : Option Moment
   pub supply : SupplyState
 
-module _ {N : Type 0} (is_step : N → Moment → Draw → Option Arrival → Step → N → Type 0) where
-  -- a turn of the next moment and draw: a step of the node, which is a tick where one is due
+module _ {N : Type 0} (acts : N → Moment → Bool) (is_step : N → Moment → Draw → Option Arrival → Step → N → Type 0) where
+  -- a turn of the next moment and draw: a step of the node, which is a tick where one has to come: something of the node's own is due, or it
+  -- has taken what came for so long
   pub record TakesTurn (old : Running N) (step : Step) (new : Running N) : Type 0 where
     pub now : Moment
     pub draw : Draw
     pub came : Option Arrival
     pub gives : Gives old.supply now draw new.supply
-    pub ticks : is_due old.busy now ≡ true → came ≡ None
+    pub ticks : must_tick (acts old.node now) old.busy now ≡ true → came ≡ None
     pub steps : is_step old.node now draw came step new.node
     pub pace : new.busy ≡ busy_after old.busy now (is_some came)
 
-  -- a turn of the next moment and draw for whose step there was no memory: what came is lost, and the node is as before
+  -- a turn of the next moment and draw for whose step there was no memory: what came is lost, and the node is as before; a tick is never lost so
   pub record LosesTurn (old new : Running N) : Type 0 where
     pub now : Moment
     pub draw : Draw
     pub gives : Gives old.supply now draw new.supply
+    pub awake : must_tick (acts old.node now) old.busy now ≡ false
     pub node : new.node ≡ old.node
     pub rested : new.busy ≡ None
 
-  -- a turn of either kind, what it sent, and what is told of it
+  -- a turn of either kind, what it sent, and what there is to tell of it
   pub data GoesOn (old : Running N) : List Datagram → List ℕ → Running N → Type 0 where
     taken : (step : Step) (text : List ℕ) (new : Running N) → (turn : TakesTurn old step new) → IsStepText turn.now step text → GoesOn old step.out text new
     lost : (new : Running N) → LosesTurn old new → GoesOn old [] lost_text new
 
-  -- so many turns, one after another, what they sent, and what is told of them
+  -- so many turns, one after another, what they sent, and what there is to tell of them
   pub data Turns : ℕ → Running N → List Datagram → List ℕ → Running N → Type 0 where
     none : (first : Running N) → Turns 0 first [] [] first
     more : (n : ℕ) (first between last : Running N) (out more_out : List Datagram) (log text : List ℕ) → Turns n first out log between
         → GoesOn between more_out text last → Turns (suc n) first (out ++ more_out) (log ++ text) last
 
-  -- The node takes so many turns from the start on, and this is told of them.
+  -- The node takes so many turns from the start on, and this there is to tell of them.
   pub record Runs (turns : ℕ) (log : List ℕ) (old new : N) : Type 0 where
     pub start : SupplyState
     pub seeded : IsSeeded start

@@ -10,7 +10,7 @@ use Rattle.osc_settings.specs.declared.error.KeyFault.TheVariants.{Unknown, Miss
 use Rattle.osc_settings.specs.declared.error.SettingsError.{SettingsError}
 use Rattle.osc_settings.specs.declared.error.SettingsError.TheVariants.{NotToml, Key, Target, Memory}
 use Rattle.osc_simulation.specs.Text.{line}
-use Rattle.osc_programs.specs.Log.{Tells, Told, shown_byte}
+use Rattle.osc_programs.specs.Log.{Told, Writes, shown_byte}
 
 -- ---- the line
 
@@ -50,4 +50,4 @@ pub record TellsWhy (Is : Members → SettingsError → Type 0) (bytes : Option 
   pub no_want : why ≢ Memory
   pub text : List ℕ
   pub is_text : IsUnreadText why text
-  pub tells : Tells old new text
+  pub tells : Writes old new text

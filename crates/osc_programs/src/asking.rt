@@ -5,6 +5,7 @@ ghost use Rattle.osc_client.specs.State.{State as AnyClient};
 ghost use Rattle.osc_client.specs.Way.{HostAndPort};
 ghost use Rattle.osc_model.specs.declared.step.Datagram.{Datagram as AnyDatagram};
 ghost use Rattle.osc_model.specs.declared.step.Step.{Step as AnyStep};
+ghost use Rattle.osc_turn.specs.Nodes.{client_acts};
 ghost use Rattle.osc_turn.specs.Ports.{grown};
 ghost use Rattle.osc_settings.specs.Document.{StandsFor};
 ghost use Rattle.osc_settings.specs.Settings.{AreClientSettings};
@@ -18,7 +19,7 @@ use crate::ended::Ended;
 use crate::issue::written;
 use crate::log::Silent;
 use crate::reading::client_settings;
-use crate::running::{bound, copy_of, send};
+use crate::running::{connected, copy_of, send};
 use crate::supply::{moment_and_draw, supply_of};
 use crate::turns::take_turn;
 use osc_authz::ClientDesk;
@@ -119,8 +120,9 @@ fn outcome_of<R: Clock + Net + RandomSource, I: Read>(
 {
     let settings = client_settings(alloc, reader, &mut Silent)?;
     let bind = settings.bind;
+    let peer = settings.peer;
     let mut client = client_of(alloc, settings)?;
-    let outcome = run_at(alloc, runtime, bind, &mut client, words);
+    let outcome = run_at(alloc, runtime, bind, peer, &mut client, words);
     drop(client);
     outcome
 }
@@ -169,18 +171,19 @@ fn origin_of(named: Option<(Bytes, u16)>) -> Result<Option<Origin>, Ended>
 
 // ---- turns
 
-// The client's conversation at its own address.
+// The client's conversation at its own address, with the peer that everything goes to.
 fn run_at<R: Clock + Net + RandomSource>(
     alloc: Global,
     runtime: &R,
     bind: Peer,
+    peer: Peer,
     client: &mut Client,
     words: &ClientWords,
 ) -> Result<Outcome, Ended>
     ensures talks { IfOk result (λ outcome. spec.Talks words.now.turns words.now.request client.old outcome client.new) }
     ensures ends { IfErr result (ends.CannotTalk words.now.request) }
 {
-    let mut port = bound(runtime, bind)?;
+    let mut port = connected(runtime, bind, peer)?;
     let mut supply = supply_of(runtime)?;
     let mut pace = Pace::START;
     run(alloc, &mut supply, &mut port, client, &mut pace, words)
@@ -391,7 +394,7 @@ fn client_turn<W: Watch + Drop, P: Port>(
     client: &mut Client,
     pace: &mut Pace,
 ) -> Result<Option<ClientResult>, Ended>
-    ensures takes { IfOk result (λ learnt. (step : AnyStep) × turning.TakesTurn spec.client_steps (record { node = client.old; busy = pace.old.busy_since; supply = supply.old }) step (record { node = client.new; busy = pace.new.busy_since; supply = supply.new })
+    ensures takes { IfOk result (λ learnt. (step : AnyStep) × turning.TakesTurn client_acts spec.client_steps (record { node = client.old; busy = pace.old.busy_since; supply = supply.old }) step (record { node = client.new; busy = pace.new.busy_since; supply = supply.new })
         × (step.notes.result ≡ learnt) × (P.sent port.new ≡ grown (P.sent port.old) step.out)) }
     ensures fault { IfErr result ends.IsFault }
 {

@@ -405,7 +405,7 @@ fn turn_of<W: Watch + Drop, P: Port + Drop, N: osc_turn::Node<(Ccm<8>, Ccm<16>)>
     berth: &mut Berth<P>,
     node: &mut N,
 ) -> Result<Turned, Ended>
-    ensures takes { IfOk result (λ turned. turning.TakesTurn N.is_step
+    ensures takes { IfOk result (λ turned. turning.TakesTurn N.acts N.is_step
         (record { node = node.old; busy = berth.old.pace.busy_since; supply = supply.old }) turned.step
         (record { node = node.new; busy = berth.new.pace.busy_since; supply = supply.new })) }
     ensures err { OnErr result (node.new ≡ node.old) }

@@ -2,6 +2,7 @@
 #![tactic(auto)]
 
 mod asking;
+mod at_once;
 mod ended;
 mod issue;
 mod lab_berths;
@@ -12,6 +13,7 @@ mod lab_telling;
 pub mod laws;
 mod log;
 mod reading;
+mod refusals;
 mod running;
 mod simulate;
 mod supply;
@@ -21,6 +23,7 @@ mod udp;
 mod unread;
 
 pub use asking::ask;
+pub use at_once::AtOnce;
 pub use ended::{
     Ended, ended_by, ended_by_io, running_fault, started_by_io, status, token_fault, token_warning,
 };

@@ -1,5 +1,5 @@
 //! The lines by which a node tells what its steps did, or why it has no settings.
-ghost use Rattle.std.specs.Prelude.{◌≡◌, IfOk, List, None, Ok, ℕ, false, map, option_map, string_bytes};
+ghost use Rattle.std.specs.Prelude.{◌≡◌, ◌⊎◌, ◌==◌, ◌+◌, ◌-◌, ◌^◌, ◌++◌, count_by, IfOk, List, max, min, None, Ok, OnOk, Some, ℕ, map, option_map, string_bytes};
 ghost use Rattle.std.specs.Io.KnownBytes.{Appends};
 ghost use Rattle.osc_model.specs.Code.{method_of};
 ghost use Rattle.osc_scope.specs.Text.{name_of};
@@ -7,6 +7,7 @@ ghost use Rattle.osc_run.specs.Texts.{read_request};
 ghost use Rattle.osc_programs.specs.Log as spec;
 ghost use Rattle.osc_programs.specs.Unread as unread;
 
+use crate::refusals::Refusals;
 use crate::unread::unread_text;
 use osc_model::{
     Code, Datagram, Entry, Method, Moment, Path, Peer, RefusedRequest, Request, Step, StepNotes,
@@ -22,11 +23,11 @@ use std::net::{Ipv4Addr, SocketAddrV4};
 pub trait Log {
     ghost use Rattle.osc_programs.specs.Log.{Told};
 
-    // Whether a write failed so far, and what was written, where contracts can see it.
+    // How many lines couldn't be written so far, the refusals where it leaves some out, and what was written, where contracts can see it.
     ghost told: { Self → Told };
 
-    /// Tells of a step at this moment, by a line for each datagram that it sent; or, by one line, that there was no memory for them.
-    /// What can't be written is nobody's failure.
+    /// Tells of a step at this moment, by a line for each datagram that it sent; or, by one line, that there was no memory for them. It may
+    /// leave lines of refusals out where there are many. What can't be written is nobody's failure.
     fn step(&mut self, alloc: Global, now: Moment, step: &Step)
         ensures { (text : List ℕ) × spec.IsStepText now step.now text × spec.Tells (told self.old) (told self.new) text };
 
@@ -36,7 +37,7 @@ pub trait Log {
 
     /// Tells by one line why settings are none.
     fn no_settings(&mut self, alloc: Global, why: &SettingsError)
-        ensures { (text : List ℕ) × unread.IsUnreadText why.now text × spec.Tells (told self.old) (told self.new) text };
+        ensures { (text : List ℕ) × unread.IsUnreadText why.now text × spec.Writes (told self.old) (told self.new) text };
 }
 
 /// Tells nothing.
@@ -44,7 +45,7 @@ pub trait Log {
 pub struct Silent;
 
 impl Log for Silent {
-    ghost told = { λ _. record { failed = false; text = None } };
+    ghost told = { λ _. record { dropped = 0; refusals = None; text = None } };
 
     fn step(&mut self, _alloc: Global, _now: Moment, _step: &Step) {}
 
@@ -53,23 +54,38 @@ impl Log for Silent {
     fn no_settings(&mut self, _alloc: Global, _why: &SettingsError) {}
 }
 
-/// Tells by lines.
+/// Tells by lines. Of the refusals of one second the first 20 are told, and the others counted: how many they were is told by a line `MOMENT left
+/// out N refusals`, before the next line of a later second. Lines that can't be written are counted too, and told of once something can be written again.
 #[derive(Drop)]
 pub struct Lines<W: Write + Drop> {
     writer: W,
-    failed: bool,
+    refusals: Refusals,
+    // How many lines couldn't be written.
+    dropped: u64,
+    // Of how many of them it was told.
+    told_dropped: u64,
 }
 
 impl<W: Write + Drop> Lines<W> {
     /// Lines that this writer takes.
     pub fn new(writer: W) -> Lines<W>
         ensures writer { result.writer ≡ writer }
-        ensures failed { result.failed ≡ false }
+        ensures refusals { result.refusals ≡ spec.no_refusals }
+        ensures dropped { result.dropped ≡ 0 }
     {
         Lines {
             writer,
-            failed: false,
+            refusals: Refusals::none(),
+            dropped: 0,
+            told_dropped: 0,
         }
+    }
+
+    /// How many lines couldn't be written.
+    pub fn dropped(&self) -> u64
+        ensures { result ≡ self.now.dropped }
+    {
+        self.dropped
     }
 
     /// The writer.
@@ -79,21 +95,53 @@ impl<W: Write + Drop> Lines<W> {
         self.writer
     }
 
+    // Writes these lines, or counts them.
     fn write(&mut self, text: &[u8])
-        ensures { self.new.failed ≡ false → (self.old.failed ≡ false) × Appends (W.contents self.old.writer) (W.contents self.new.writer) text.now }
+        ensures written { self.new.dropped ≡ 0 → (self.old.dropped ≡ 0) × Appends (W.contents self.old.writer) (W.contents self.new.writer) text.now }
+        ensures either { ((self.new.dropped ≡ self.old.dropped) × Appends (W.contents self.old.writer) (W.contents self.new.writer) text.now)
+            ⊎ (self.new.dropped ≡ min (self.old.dropped + max (count_by (λ b. b == 10) text.now) 1) (2 ^ 64 - 1)) }
+        ensures refusals { self.new.refusals ≡ self.old.refusals }
     {
         if self.writer.write_all(text).is_err() {
-            self.failed = true;
+            self.dropped = self.dropped.saturating_add(lines_of(text));
+        }
+    }
+
+    // Tells of how many lines couldn't be written, as soon as something can be.
+    fn tell_dropped(&mut self, alloc: Global)
+        ensures none { self.old.dropped ≡ 0 → W.contents self.new.writer ≡ W.contents self.old.writer }
+        ensures dropped { self.new.dropped ≡ self.old.dropped }
+        ensures refusals { self.new.refusals ≡ self.old.refusals }
+    {
+        if self.dropped > self.told_dropped {
+            self.write_dropped(alloc);
+        }
+    }
+
+    fn write_dropped(&mut self, alloc: Global)
+        ensures dropped { self.new.dropped ≡ self.old.dropped }
+        ensures refusals { self.new.refusals ≡ self.old.refusals }
+    {
+        let count = self.dropped.saturating_sub(self.told_dropped);
+        let Ok(line) = dropped_line(alloc, count) else {
+            return;
+        };
+        if self.writer.write_all(line.as_bytes()).is_ok() {
+            self.told_dropped = self.dropped;
         }
     }
 }
 
 impl<W: Write + Drop> Log for Lines<W> {
-    ghost told = { λ lines. record { failed = lines.failed; text = W.contents lines.writer } };
+    ghost told = { λ lines. record { dropped = lines.dropped; refusals = Some lines.refusals; text = W.contents lines.writer } };
 
     fn step(&mut self, alloc: Global, now: Moment, step: &Step) {
-        match step_text(alloc, now, step) {
-            Ok(text) => self.write(&text),
+        self.tell_dropped(alloc);
+        match told_text(alloc, now, step, self.refusals) {
+            Ok((text, refusals)) => {
+                self.refusals = refusals;
+                self.write(&text);
+            }
             Err(_) => self.write(b"out of memory: what a step did is not told\n"),
         }
     }
@@ -110,9 +158,98 @@ impl<W: Write + Drop> Log for Lines<W> {
     }
 }
 
+// How many lines a text is, where it counts as one at least.
+fn lines_of(text: &[u8]) -> u64
+    ensures { result ≡ max (count_by (λ b. b == 10) text.now) 1 }
+{
+    count_lines(text).max(1)
+}
+
+fn count_lines(text: &[u8]) -> u64
+    ensures { result ≡ count_by (λ b. b == 10) text.now }
+{
+    text.iter().filter(|b| **b == b'\n').count() as u64
+}
+
+fn dropped_line(alloc: Global, count: u64) -> Result<String, AllocError> {
+    format!(in alloc; "{count} lines could not be written\n")
+}
+
+// ---- what is told of a step
+
+// The lines that are told of a step, behind these refusals, and the refusals then.
+fn told_text(
+    alloc: Global,
+    now: Moment,
+    step: &Step,
+    refusals: Refusals,
+) -> Result<(Vec<u8>, Refusals), AllocError>
+    ensures text { IfOk result (λ told. told.0.items ≡ spec.told_by refusals (spec.reports_of now step.now)) }
+    ensures refusals { IfOk result (λ told. told.1 ≡ spec.refusals_after refusals (spec.reports_of now step.now)) }
+{
+    let mut text = Vec::new(alloc);
+    let mut counted = refusals;
+    for datagram in step.out.as_slice() {
+        add_told(alloc, &mut text, now, counted, &step.notes, datagram)?;
+        counted = counted.at(now).with_line(step.notes.refused());
+    }
+    Ok((text, counted))
+}
+
+// Adds what is told of a datagram that a step sent: how many refusals were left out before, if it is time to tell, and its line, if that isn't left out.
+fn add_told(
+    alloc: Global,
+    text: &mut Vec<u8>,
+    now: Moment,
+    refusals: Refusals,
+    notes: &StepNotes,
+    datagram: &Datagram,
+) -> Result<(), AllocError>
+    ensures { OnOk result (text.new.items ≡ text.old.items ++ spec.told_of refusals (spec.sent now notes.now datagram.now)) }
+{
+    text.extend_from_slice(&ended_text(alloc, now, refusals)?)?;
+    text.extend_from_slice(&line_told(alloc, now, refusals, notes, datagram)?)?;
+    Ok(())
+}
+
+// The line of a datagram, unless it is left out.
+fn line_told(
+    alloc: Global,
+    now: Moment,
+    refusals: Refusals,
+    notes: &StepNotes,
+    datagram: &Datagram,
+) -> Result<Vec<u8>, AllocError>
+    ensures { IfOk result (λ text. text.items ≡ spec.line_told now notes.now datagram.now refusals) }
+{
+    if refusals.at(now).tell(notes.refused()) {
+        line_text(alloc, now, notes, datagram)
+    } else {
+        Ok(Vec::new(alloc))
+    }
+}
+
+// How many refusals were left out, where a new second begins.
+fn ended_text(alloc: Global, now: Moment, refusals: Refusals) -> Result<Vec<u8>, AllocError>
+    ensures { IfOk result (λ text. text.items ≡ spec.ended_text now refusals) }
+{
+    if now.ms / 1000 == refusals.second || refusals.left_out == 0 {
+        return Ok(Vec::new(alloc));
+    }
+    let line = left_out_line(alloc, now, refusals.left_out)?;
+    Vec::from_slice(alloc, line.as_bytes())
+}
+
+fn left_out_line(alloc: Global, now: Moment, count: u64) -> Result<String, AllocError>
+    ensures { IfOk result (λ text. string_bytes text ≡ spec.left_out_text now count) }
+{
+    let ms = now.ms;
+    format!(in alloc; "{ms} left out {count} refusals\n")
+}
+
 // ---- a step
 
-/// The lines of a step at this moment: `MOMENT A.B.C.D:PORT WHAT` for each datagram that it sends, where WHAT is `refused CODE: WHY`,
+/// All lines of a step at this moment: `MOMENT A.B.C.D:PORT WHAT` for each datagram that it sends, where WHAT is `refused CODE: WHY`,
 /// `served METHOD PATH: CODE` or else `sent CODE`. Nothing of a payload or a key stands in them.
 pub fn step_text(alloc: Global, now: Moment, step: &Step) -> Result<Vec<u8>, AllocError>
     ensures { IfOk result (λ text. text.items ≡ spec.step_text now step.now) }

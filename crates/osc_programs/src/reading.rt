@@ -1,7 +1,7 @@
 //! Settings that a reader gives, and what is told where they are none.
 ghost use Rattle.std.specs.Prelude.{◌≡◌, ◌⊎◌, List, ℕ, IfErr, IfOk, IfSome, MatchResult, OnOk};
 ghost use Rattle.osc_programs.specs.Ended as ends;
-ghost use Rattle.osc_programs.specs.Log.{Tells};
+ghost use Rattle.osc_programs.specs.Log.{Writes};
 ghost use Rattle.osc_programs.specs.Unread as spec;
 ghost use Rattle.osc_settings.specs.Document.{StandsFor};
 ghost use Rattle.osc_settings.specs.Faults.{IsClientFault, IsFaultOfProxy, IsKeyFault, IsServerFault};
@@ -116,7 +116,7 @@ pub(crate) fn bytes_of<I: Read>(alloc: Global, reader: &mut I) -> Result<Vec<u8>
 // How a program ends without settings. The log tells why, but for want of memory.
 fn ended_without<L: Log>(alloc: Global, log: &mut L, why: &SettingsError) -> Ended
     ensures memory { why.now ≡ SettingsError.Memory → result ≡ Ended.OutOfMemory }
-    ensures told { result ≡ Ended.BadSettings → (text : List ℕ) × spec.IsUnreadText why.now text × Tells (L.told log.old) (L.told log.new) text }
+    ensures told { result ≡ Ended.BadSettings → (text : List ℕ) × spec.IsUnreadText why.now text × Writes (L.told log.old) (L.told log.new) text }
     ensures ends { ends.NoSettings result }
 {
     match why {

@@ -32,7 +32,7 @@ use osc_settings::{ProxySettings, ServerSettings, TargetSetting};
 use osc_tree::Tree;
 use osc_turn::{Node, Port, send_all};
 use std::alloc::{AllocError, Global};
-use std::io::{Eprint, Read};
+use std::io::{self, Eprint, Read};
 use std::net::Net;
 use std::random::RandomSource;
 use std::time::Clock;
@@ -180,7 +180,7 @@ fn run<R: Clock + Eprint + Net + RandomSource, N: Node<(Ccm<8>, Ccm<16>)>, L: Lo
     turns: u64,
 ) -> Ended
     ensures done { result ≡ Ended.Done
-        → (text : List ℕ) × turning.Runs N.is_step turns text node.old node.new × Tells (L.told log.old) (L.told log.new) text }
+        → (text : List ℕ) × turning.Runs N.acts N.is_step turns text node.old node.new × Tells (L.told log.old) (L.told log.new) text }
     ensures ends { ends.EndsTurns result }
 {
     match bound(runtime, bind) {
@@ -195,10 +195,28 @@ pub(crate) fn bound<R: Net>(runtime: &R, bind: Peer) -> Result<UdpPort, Ended>
 {
     match UdpPort::bind(runtime, bind) {
         Ok(port) => Ok(port),
-        Err(error) => match ended_by_io(&error) {
-            Ended::OutOfMemory => Err(Ended::OutOfMemory),
-            _ => Err(Ended::PortFailed),
-        },
+        Err(error) => Err(ended_by_port(&error)),
+    }
+}
+
+/// A port at this address, at which nothing comes in but from this peer.
+pub(crate) fn connected<R: Net>(runtime: &R, bind: Peer, peer: Peer) -> Result<UdpPort, Ended>
+    ensures fault { IfErr result ends.IsFault }
+{
+    let mut port = bound(runtime, bind)?;
+    match port.connect(peer) {
+        Ok(()) => Ok(port),
+        Err(error) => Err(ended_by_port(&error)),
+    }
+}
+
+// How a program ends that has no port.
+fn ended_by_port(error: &io::Error) -> Ended
+    ensures { ends.IsFault result }
+{
+    match ended_by_io(error) {
+        Ended::OutOfMemory => Ended::OutOfMemory,
+        _ => Ended::PortFailed,
     }
 }
 
@@ -211,7 +229,7 @@ fn started<R: Clock + Eprint + RandomSource, N: Node<(Ccm<8>, Ccm<16>)>, L: Log>
     turns: u64,
 ) -> Ended
     ensures done { result ≡ Ended.Done
-        → (text : List ℕ) × turning.Runs N.is_step turns text node.old node.new × Tells (L.told log.old) (L.told log.new) text }
+        → (text : List ℕ) × turning.Runs N.acts N.is_step turns text node.old node.new × Tells (L.told log.old) (L.told log.new) text }
     ensures ends { ends.EndsTurns result }
 {
     tell_address(alloc, runtime, port);
@@ -221,11 +239,18 @@ fn started<R: Clock + Eprint + RandomSource, N: Node<(Ccm<8>, Ccm<16>)>, L: Log>
     }
 }
 
-// `listening on A.B.C.D:PORT`, on the standard error. A notice that can't be written is nobody's failure.
+// What is told of 0.0.0.0, which stands for each address of the machine (RFC 1122 section 3.2.1.3).
+const EVERY_ADDRESS: &str =
+    "answers leave from the address that the system picks, and a client that asked another address of this machine doesn't know them: bind one address";
+
+// `listening on A.B.C.D:PORT`, on the standard error, and at 0.0.0.0 a line more. A notice that can't be written is nobody's failure.
 fn tell_address<R: Eprint>(alloc: Global, runtime: &R, port: &UdpPort) {
     if let Some(peer) = port.address() {
         if let Ok(line) = address_line(alloc, peer) {
             let _told = runtime.eprintln(line.as_str());
+        }
+        if peer.address == [0, 0, 0, 0] {
+            let _told = runtime.eprintln(EVERY_ADDRESS);
         }
     }
 }

@@ -25,7 +25,7 @@ pub(crate) fn take_turns<W: Watch + Drop, P: Port, N: Node<(Ccm<8>, Ccm<16>)>, L
     turns: u64,
 ) -> Ended
     ensures turns { (taken : ℕ) × (out : List AnyDatagram) × (text : List ℕ) × (last : spec.Running N)
-        × spec.Turns N.is_step taken
+        × spec.Turns N.acts N.is_step taken
         (record { node = node.old; busy = None; supply = supply.old }) out text last
         × (node.new ≡ last.node) × (P.sent port.new ≡ grown (P.sent port.old) out) × Tells (L.told log.old) (L.told log.new) text
         × (((result ≡ Ended.Done) × (taken ≡ turns)) ⊎ ((result ≢ Ended.Done) × (taken < turns))) }
@@ -51,7 +51,7 @@ fn one_turn<W: Watch + Drop, P: Port, N: Node<(Ccm<8>, Ccm<16>)>, L: Log>(
     pace: &mut Pace,
 ) -> Result<(), Ended>
     ensures ok { OnOk result ((text : List ℕ) × (out : List AnyDatagram)
-        × spec.GoesOn N.is_step
+        × spec.GoesOn N.acts N.is_step
         (record { node = node.old; busy = pace.old.busy_since; supply = supply.old }) out text
         (record { node = node.new; busy = pace.new.busy_since; supply = supply.new })
         × (P.sent port.new ≡ grown (P.sent port.old) out) × Tells (L.told log.old) (L.told log.new) text) }
@@ -83,7 +83,7 @@ pub(crate) fn take_turn<W: Watch + Drop, P: Port, N: Node<(Ccm<8>, Ccm<16>)>>(
     node: &mut N,
     pace: &mut Pace,
 ) -> Result<Turned, Ended>
-    ensures takes { IfOk result (λ turned. spec.TakesTurn N.is_step
+    ensures takes { IfOk result (λ turned. spec.TakesTurn N.acts N.is_step
         (record { node = node.old; busy = pace.old.busy_since; supply = supply.old }) turned.step
         (record { node = node.new; busy = pace.new.busy_since; supply = supply.new })) }
     ensures sent { IfOk result (λ turned. P.sent port.new ≡ grown (P.sent port.old) turned.step.out) }

@@ -14,6 +14,8 @@ const WAIT_MILLIS: u64 = 10;
 #[derive(Drop)]
 pub struct UdpPort {
     socket: UdpSocket,
+    // The one peer from which anything comes in, if it is connected.
+    peer: Option<Peer>,
     failures: u64,
 }
 
@@ -30,8 +32,22 @@ impl UdpPort {
         socket.set_read_timeout(Some(Duration::from_millis(WAIT_MILLIS)))?;
         Ok(UdpPort {
             socket,
+            peer: None,
             failures: 0,
         })
+    }
+
+    /// From here on, only this peer's datagrams come in: the system drops those of other addresses, and no receive ends for one of them.
+    ///
+    /// # Errors
+    ///
+    /// Those of the system, such as that of an address to which no way leads.
+    pub fn connect(&mut self, peer: Peer) -> io::Result<()>
+        ensures { self.new.failures ≡ self.old.failures }
+    {
+        self.socket.connect(socket_address(peer))?;
+        self.peer = Some(peer);
+        Ok(())
     }
 
     /// The address at which it listens, where the system tells it.
@@ -68,19 +84,51 @@ impl Port for UdpPort {
 
     fn receive(&mut self, buffer: &mut [u8; 1153]) -> Result<Option<(Peer, usize)>, PortFault> {
         match self.socket.recv_from(buffer) {
-            Ok((len, from)) => Ok(peer_of(from).map(|peer| (peer, len))),
+            Ok((len, from)) => Ok(heard(self.peer, from).map(|peer| (peer, len))),
             Err(fault) => match fault.kind() {
                 ErrorKind::WouldBlock | ErrorKind::TimedOut | ErrorKind::Interrupted => Ok(None),
+                // The peer's machine said that nothing listens there (RFC 1122 section 4.1.3.3): nothing came.
+                ErrorKind::ConnectionRefused => Ok(None),
                 _ => self.fail(None),
             },
         }
     }
 
     fn send(&mut self, to: Peer, bytes: &[u8]) -> Result<(), PortFault> {
-        match self.socket.send_to(bytes, socket_address(to)) {
+        match send_to(&self.socket, self.peer, to, bytes) {
             Ok(len) if len == bytes.len() => Ok(()),
+            // The socket tells of an earlier datagram by this call, and sends nothing: this one is lost, as on the way.
+            Err(fault) if is_refused(&fault) => Ok(()),
             _ => self.fail(()),
         }
+    }
+}
+
+// To the peer that the socket is connected to no address is named.
+fn send_to(
+    socket: &UdpSocket,
+    connected: Option<Peer>,
+    to: Peer,
+    bytes: &[u8],
+) -> io::Result<usize> {
+    if connected == Some(to) {
+        socket.send(bytes)
+    } else {
+        socket.send_to(bytes, socket_address(to))
+    }
+}
+
+// Whether the peer said that nothing listens there.
+fn is_refused(fault: &io::Error) -> bool {
+    fault.kind() == ErrorKind::ConnectionRefused
+}
+
+// Who sent a datagram, if it is one to be heard. What other addresses sent before the socket was connected still waits in it.
+fn heard(connected: Option<Peer>, from: SocketAddr) -> Option<Peer> {
+    let from = peer_of(from)?;
+    match connected {
+        Some(peer) if peer != from => None,
+        _ => Some(from),
     }
 }
 

@@ -1,5 +1,5 @@
--- Exchanges start and end one after the other.
-use Rattle.std.proofs.Common.{◌≡◌, ◌≤◌, ℕ, Bool, true, false, List, [], ◌∷◌, ◌++◌, length, refl, ap, ◌∙◌, subst, Option, Some, None, arith}
+-- Exchanges end one after the other.
+use Rattle.std.proofs.Common.{◌≤◌, ℕ, Bool, true, false, List, [], length, arith}
 use Rattle.std.proofs.lemmas.List.{length-append}
 use Rattle.std.specs.Prelude.{if◌then◌else◌}
 use Rattle.osc_model.specs.declared.node.Peer.{Peer}
@@ -9,18 +9,12 @@ use Rattle.osc_model.specs.declared.node.Moment.{Moment}
 use Rattle.osc_model.specs.declared.step.Datagram.{Datagram}
 use Rattle.osc_message.specs.Endpoint.{EndpointState}
 use Rattle.osc_message.specs.declared.name.MessageName.{MessageName}
-use Rattle.osc_proxy.specs.Exchanges.{Table, count, first_key, is_named}
+use Rattle.osc_proxy.specs.Exchanges.{Table, count}
 use Rattle.osc_proxy.specs.Own.{goes_now, sends_own}
 use Rattle.osc_proxy.specs.Table.{back_sends, has_way_back}
-use Rattle.osc_proxy.specs.Ticks.{AllEnd, AllStart, Starts, timeout}
+use Rattle.osc_proxy.specs.Ticks.{AllEnd, timeout, without_its}
 use Rattle.osc_proxy.specs.Ticks.AllEnd.{none_is, one_is}
 use Rattle.osc_proxy.specs.declared.exchanges.Exchange.{Exchange}
-
-pub start_more : (now : Moment) (names : List MessageName) (name : MessageName) (old middle new : Table) → AllStart now names old middle
-    → Starts now (first_key (is_named name.peer name.id) middle) middle new → AllStart now (names ++ name ∷ []) old new
-start_more now [] name old middle new e starts =
-    (new, subst (λ t. Starts now (first_key (is_named name.peer name.id) t) t new) e starts, refl)
-start_more now (one ∷ names) name old middle new (next, first, rest) starts = (next, first, start_more now names name next middle new rest starts)
 
 sends_few : (room goes : Bool) (to : Peer) (bytes : List ℕ) → length (if room then sends_own goes to bytes else []) ≤ 1
 sends_few true true to bytes = omega arith
@@ -37,14 +31,5 @@ pub few_end : (now : Moment) (draw : Draw) (names : List MessageName) (table las
 few_end now draw names table last endpoint last_endpoint out (none_is t e none) = omega arith
 few_end now draw names table last endpoint last_endpoint out (one_is t next l e le key exchange later found closes lawful rest) =
     let few = few_end now draw names next last _ last_endpoint later rest in
-    let one = one_back endpoint exchange (timeout endpoint draw exchange) in
-    omega (arith, few, one, closes.fewer, length-append (back_sends endpoint exchange (timeout endpoint draw exchange)) later)
-
-few_started : (now : Moment) (found : Option ℕ) (old new : Table) → Starts now found old new → count new ≡ count old
-few_started now None old new e = ap count e
-few_started now (Some key) old new starts = starts.1
-
-pub started_count : (now : Moment) (names : List MessageName) (old new : Table) → AllStart now names old new → count new ≡ count old
-started_count now [] old new e = ap count e
-started_count now (name ∷ names) old new (next, one, rest) =
-    started_count now names next new rest ∙ few_started now (first_key (is_named name.peer name.id) old) old next one
+    let one = one_back (without_its e exchange) exchange (timeout e draw exchange) in
+    omega (arith, few, one, closes.fewer, length-append (back_sends (without_its e exchange) exchange (timeout e draw exchange)) later)

@@ -1,5 +1,5 @@
 -- The lowest key whose exchange passes a test: one is open there.
-use Rattle.std.proofs.Common.{◌≡◌, inl, inr, ℕ, zero, suc, ◌+◌, Bool, true, false, List, [], ◌∷◌, refl, ap, sym, ◌∙◌, arith, Option, Some, None, slice_index_or}
+use Rattle.std.proofs.Common.{◌≡◌, inl, inr, ℕ, zero, suc, ◌+◌, ◌<◌, Bool, true, false, List, [], ◌∷◌, refl, ap, sym, ◌∙◌, arith, Option, Some, None, slice_index_or}
 use Rattle.std.specs.Prelude.{find, count_by, cond, is_some, option_map, if◌then◌else◌, nat_le, ◌||◌}
 use Rattle.std.specs.List.{list_any, sum_by}
 use Rattle.std.proofs.lemmas.Bool.{cases_Bool, or_parts}
@@ -113,6 +113,58 @@ no_entry test (entry ∷ rest) none =
 -- where no exchange passes, no key is found
 pub none_found : (test : Exchange → Bool) (table : Table) → list_any (λ entry. test entry.1) (entries table) ≡ false → first_key test table ≡ None
 none_found test table none = no_entry test (entries table) none
+
+any_none : (test : Exchange → Bool) (rest : List (ℕ × Exchange)) → key_of (find (λ entry. test entry.1) rest) ≡ None
+    → list_any (λ entry. test entry.1) rest ≡ false
+any_none test [] none = refl
+any_none test (entry ∷ rest) none =
+    elim (cases_Bool (test entry.1)) [
+      | inl passes ↦
+          let wrong : Some entry.0 ≡ None = rw passes at none in
+          absurd (cc)
+      | inr fails ↦ rw fails (any_none test rest (rw fails at none))
+    ]
+
+-- an exchange passes
+pub record SomeThere (test : Exchange → Bool) (table : Table) : Type 0 where
+  pub key : ℕ
+  pub there : IsThere test table key
+
+pub some_found : (test : Exchange → Bool) (table : Table) → list_any (λ entry. test entry.1) (entries table) ≡ true → SomeThere test table
+some_found test table any = by (first_key test table) refl
+  where
+    by : (found : Option ℕ) → first_key test table ≡ found → SomeThere test table
+    by None e =
+        let wrong : true ≡ false = sym any ∙ any_none test (entries table) e in
+        absurd (cc)
+    by (Some key) e = record { key = key; there = first_is_there test table key e }
+
+pub there_any : (test : Exchange → Bool) (table : Table) (key : ℕ) (exchange : Exchange) → get table key ≡ Some exchange → test exchange ≡ true
+    → list_any (λ entry. test entry.1) (entries table) ≡ true
+there_any test table key exchange is passes =
+    elim (cases_Bool (list_any (λ entry. test entry.1) (entries table))) [
+      | inl some ↦ some
+      | inr none ↦
+          let wrong : true ≡ false = sym passes ∙ none_passes test table (none_found test table none) key exchange is in
+          absurd (cc)
+    ]
+
+none_counted : (slots : List (Option Exchange)) (base : ℕ) → key_of (first_from (λ _. true) base slots) ≡ None → count_by is_some slots ≡ 0
+none_counted [] base none = refl
+none_counted (None ∷ rest) base none =
+    let less : 0 + sum_by present rest ≡ sum_by present (None ∷ rest) = sym (sum_by-cons present None rest) in
+    omega (arith, less, none_counted rest (base + 1) none)
+none_counted (Some exchange ∷ rest) base none = absurd (cc)
+
+-- where one is open there is one
+pub one_open : (table : Table) → 0 < count table → list_any (λ _. true) (entries table) ≡ true
+one_open table some = by (first_key (λ _. true) table) refl
+  where
+    by : (found : Option ℕ) → first_key (λ _. true) table ≡ found → list_any (λ _. true) (entries table) ≡ true
+    by None e = absurd (omega (arith, some, none_counted table.slots 0 e))
+    by (Some key) e =
+        let there = first_is_there (λ _. true) table key e in
+        there_any (λ _. true) table key there.exchange there.is refl
 
 one_key : (room full : Bool) (next key : ℕ) → (if room then (if full then None else Some next) else None) ≡ Some key → next ≡ key
 one_key true true next key e = absurd (cc)

@@ -1,20 +1,16 @@
 -- What is left of open messages and exchanges, once one has ended.
-use Rattle.std.proofs.Common.{◌≡◌, ◌+◌, inl, inr, ℕ, Bool, true, false, not, nat_eq, ◌||◌, ◌&&◌, nat_le, List, [], ◌∷◌, ◌++◌, map, refl, ap, ap₂, sym, ◌∙◌, append-nil, Option, Some, None, is_some}
-use Rattle.std.specs.Prelude.{cond, count_by, if◌then◌else◌, option_map}
-use Rattle.std.proofs.Math.ListN.{get_or-map}
+use Rattle.std.proofs.Common.{◌≡◌, inl, inr, ℕ, Bool, true, false, not, nat_eq, ◌||◌, nat_le, List, [], ◌∷◌, ◌++◌, refl, ap, ap₂, sym, ◌∙◌, append-nil, Option, Some, None}
+use Rattle.std.specs.Prelude.{if◌then◌else◌}
 use Rattle.std.proofs.lemmas.Bool.{and_left, and_from, cases_eq, eq-eqb, or_parts}
 use Rattle.std.proofs.lemmas.List.Elements.{filter-append}
-use Rattle.std.proofs.lemmas.List.Sums.{sum_by-cons}
 use Rattle.std.proofs.lemmas.Option.{same_Some}
-use Rattle.osc_coap.specs.declared.kind.Kind.{Kind}
-use Rattle.osc_coap.specs.declared.kind.Kind.TheVariants.{Confirmable, NonConfirmable, Acknowledgement, Reset as ResetKind}
 use Rattle.osc_model.specs.declared.bytes.Bytes.{Bytes}
 use Rattle.osc_model.specs.declared.node.Moment.{Moment}
 use Rattle.osc_model.specs.declared.node.Peer.{Peer}
 use Rattle.osc_message.specs.Confirmables.{Open, acknowledged, has_open, is_named, is_to, same_peer, sent_at, with_open}
-use Rattle.osc_proxy.specs.Exchanges.{Changes, HasOwnTokens, Table, all_left, count, free_key, get, gone_out, is_named as names_exchange, left_by, left_queue, waits}
+use Rattle.osc_proxy.specs.Exchanges.{Changes, HasOwnTokens, Table, count, free_key, get}
 use Rattle.osc_proxy.specs.declared.exchanges.Exchange.{Exchange}
-use Rattle.osc_proxy.proofs.Ends.{peer_same}
+use Rattle.osc_proxy.proofs.Its.{peer_same}
 
 -- ---- open messages
 
@@ -67,61 +63,6 @@ tokens_left old new key own changes other there is =
       | inr differs ↦ own other there (sym (changes.others other differs) ∙ is)
     ]
 
-token_queued : (now : Moment) (from : Peer) (id : ℕ) (exchange : Exchange) → (left_queue now from id exchange).token ≡ exchange.token
-token_queued now from id exchange = by (names_exchange from id exchange && waits exchange)
-  where
-    by : (b : Bool) → (if b then gone_out now exchange else exchange).token ≡ exchange.token
-    by true = refl
-    by false = refl
-
-slot_own : (now : Moment) (from : Peer) (id key : ℕ) (slot : Option Exchange) (exchange : Exchange)
-    → ((old : Exchange) → slot ≡ Some old → (rest : List ℕ) × (old.token ≡ key ∷ rest))
-    → option_map (left_queue now from id) slot ≡ Some exchange → (rest : List ℕ) × (exchange.token ≡ key ∷ rest)
-slot_own now from id key None exchange own is = absurd (cc)
-slot_own now from id key (Some old) exchange own is =
-    let its = own old refl in
-    (its.0, ap (λ (e : Exchange). e.token) (sym (same_Some (left_queue now from id old) exchange is)) ∙ token_queued now from id old ∙ its.1)
-
-abbrev present : Option Exchange → ℕ
-present slot = cond (is_some slot) 1 0
-
-as_many : (f : Exchange → Exchange) (slots : List (Option Exchange)) → count_by is_some (map (option_map f) slots) ≡ count_by is_some slots
-as_many f [] = refl
-as_many f (None ∷ rest) =
-    sum_by-cons present None (map (option_map f) rest) ∙ ap (λ n. 0 + n) (as_many f rest) ∙ sym (sum_by-cons present None rest)
-as_many f (Some exchange ∷ rest) =
-    sum_by-cons present (Some (f exchange)) (map (option_map f) rest) ∙ ap (λ n. 1 + n) (as_many f rest) ∙ sym (sum_by-cons present (Some exchange) rest)
-
--- what leaves the queue opens and closes none
-pub record IsSameBut (old new : Table) : Type 0 where
-  pub none : (key : ℕ) → get old key ≡ None → get new key ≡ None
-  pub count : count new ≡ count old
-  pub next : new.next ≡ old.next
-  pub tokens : HasOwnTokens old → HasOwnTokens new
-
-pub left_same : (now : Moment) (from : Peer) (id : ℕ) (table : Table) → IsSameBut table (all_left now from id table)
-left_same now from id table = record {
-  none = λ key closed. get_or-map (option_map (left_queue now from id)) table.slots key None ∙ ap (option_map (left_queue now from id)) closed;
-  count = as_many (left_queue now from id) table.slots;
-  next = refl;
-  tokens = λ own key exchange is.
-      slot_own now from id key (get table key) exchange (own key) (sym (get_or-map (option_map (left_queue now from id)) table.slots key None) ∙ is);
-}
-
-pub same_through : (old middle new : Table) → IsSameBut old middle → IsSameBut middle new → IsSameBut old new
-same_through old middle new first second = record {
-  none = λ key closed. second.none key (first.none key closed);
-  count = second.count ∙ first.count;
-  next = second.next ∙ first.next;
-  tokens = λ own. second.tokens (first.tokens own);
-}
-
-pub left_by_same : (now : Moment) (from : Peer) (kind : Kind) (id : ℕ) (table : Table) → IsSameBut table (left_by now from kind id table)
-left_by_same now from Confirmable id table = record { none = λ key closed. closed; count = refl; next = refl; tokens = λ own. own }
-left_by_same now from NonConfirmable id table = record { none = λ key closed. closed; count = refl; next = refl; tokens = λ own. own }
-left_by_same now from Acknowledgement id table = left_same now from id table
-left_by_same now from ResetKind id table = left_same now from id table
-
 -- ---- the free key
 
 abbrev free_of : ℕ → ℕ → Option ℕ
@@ -136,6 +77,3 @@ pub free_again : (old new : Table) (key : ℕ) → free_key old ≡ Some key →
 free_again old new key free same next =
     let was : old.next ≡ key = its_key (nat_le 64 (count old) || nat_le 256 old.next) old.next key free in
     ap₂ free_of same (next ∙ sym was) ∙ free
-
-pub free_still : (old new : Table) (key : ℕ) → free_key old ≡ Some key → IsSameBut old new → free_key new ≡ Some key
-free_still old new key free same = ap₂ free_of same.count same.next ∙ free

@@ -6,9 +6,10 @@ mod Keys
 mod Tokens
 mod Goes
 mod Ending
+mod Codes
+mod Its
+mod Over
 mod Ends
-mod Marks
-mod Idle
 mod Forwarded
 mod Fits
 mod Steps

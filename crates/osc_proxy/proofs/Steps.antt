@@ -16,10 +16,10 @@ use Rattle.osc_model.specs.declared.step.Step.{Step}
 use Rattle.osc_coap.specs.Length.{datagram_limit}
 use Rattle.osc_coap.specs.Message.{Message, spelling}
 use Rattle.osc_message.specs.Heard.{noted_reply}
-use Rattle.osc_message.specs.Sending.{acknowledgement, again, sent_to}
-use Rattle.osc_proxy.specs.Own.{sends_own}
+use Rattle.osc_message.specs.Sending.{acknowledgement, again, is_confirmable, sent_to}
+use Rattle.osc_proxy.specs.Own.{goes_now, sends_own}
 use Rattle.osc_proxy.specs.State.{State}
-use Rattle.osc_proxy.specs.Table.{Answers, FitsBy, ForwardsBy, IsForwarded, IsRefused, answer_to, back_sends, counted, failure, forwarded_by, key_for, named, next_own}
+use Rattle.osc_proxy.specs.Table.{Answers, FitsBy, ForwardsBy, IsForwarded, IsRefused, answer_to, back_sends, counted, failure, forwarded_by, key_for, named, next_own, taken_up}
 use Rattle.osc_proxy.specs.declared.case.Case.{Case}
 use Rattle.osc_proxy.specs.declared.case.Case.TheVariants.{Ignored, Reset, Repeated, Empty, Ended, Refused, Forwarded, Rejected, Dropped, Counted}
 use Rattle.osc_proxy.proofs.Ending.{one_back}
@@ -59,9 +59,10 @@ refused_small why old now from draw message step new is = record {
 forwarded_small : (key : ℕ) (old : State) (now : Moment) (from : Peer) (draw : Draw) (message : Message) (to : Peer) (step : Step) (new : State)
     → IsForwarded key old now from draw message to step new → IsSmall step
 forwarded_small key old now from draw message to step new is =
+    let goes = goes_now (is_confirmable message.kind) to (taken_up old now from message) in
     small step _ is.told
-    (two (sent_to from (acknowledgement message)) (sends_own is.goes to (spelling (forwarded_by old draw key message))) (one_sent_to from (acknowledgement message))
-    (one_own is.goes to (spelling (forwarded_by old draw key message))))
+    (two (sent_to from (acknowledgement message)) (sends_own goes to (spelling (forwarded_by old draw key message))) (one_sent_to from (acknowledgement message))
+    (one_own goes to (spelling (forwarded_by old draw key message))))
 
 fits_small : (fits : Bool) (key : ℕ) (old : State) (now : Moment) (from : Peer) (draw : Draw) (message : Message) (to : Peer) (step : Step) (new : State)
     → FitsBy fits key old now from draw message to step new → IsSmall step

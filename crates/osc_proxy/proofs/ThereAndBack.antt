@@ -25,21 +25,21 @@ use Rattle.osc_message.specs.Timeout.{timeout_of}
 use Rattle.osc_message.specs.declared.heard.Heard.TheVariants as heard_as
 use Rattle.osc_message.specs.declared.received.Received.TheVariants as received_as
 use Rattle.osc_proxy.specs.Case.{NamesIn, case_of, message_case}
-use Rattle.osc_proxy.specs.Exchanges.{Changes, HasOwnTokens, Table, answers, count, first_key, free_key, get}
+use Rattle.osc_proxy.specs.Exchanges.{HasOwnTokens, answers, count, first_key, free_key, get}
 use Rattle.osc_proxy.specs.Forwarding.{answer, forwarded, forwarded_token}
 use Rattle.osc_proxy.specs.Hearing.{Hears}
 use Rattle.osc_proxy.specs.Own.{goes_now, sends_own, with_own}
 use Rattle.osc_proxy.specs.ProxyUri.{HostAndPort}
 use Rattle.osc_proxy.specs.Route.{Names, port_in}
 use Rattle.osc_proxy.specs.State.{State}
-use Rattle.osc_proxy.specs.Table.{Answers, Counts, FitsBy, ForwardsBy, IsForwarded, answer_to, back_kept, back_sends, counted, exchange_of, forwarded_by, key_for, left_counted, next_own, taken_up}
+use Rattle.osc_proxy.specs.Table.{Answers, Counts, FitsBy, ForwardsBy, IsForwarded, answer_to, back_kept, back_sends, counted, exchange_of, forwarded_by, key_for, next_own, taken_up}
 use Rattle.osc_proxy.specs.ThereAndBack.{CanSendTo, IsAnswerTo, IsAtRest, IsBroughtBack, IsCarried, IsLawfulProxy, IsPassedOn, TakesUp, answer_by, answer_id, heard_with}
 use Rattle.osc_proxy.specs.declared.case.Case.TheVariants.{Empty, Forwarded, Counted}
 use Rattle.osc_proxy.specs.declared.exchanges.Exchange.{Exchange}
-use Rattle.osc_proxy.proofs.Ends.{peer_same}
+use Rattle.osc_proxy.proofs.Its.{peer_same}
 use Rattle.osc_proxy.proofs.Forwarded.{named_by_options}
 use Rattle.osc_proxy.proofs.Heard.{OneReception, message_received, request_case, request_heard, response_case, response_heard}
-use Rattle.osc_proxy.proofs.Left.{IsSameBut, acknowledged_again, acknowledged_twice, free_again, free_still, left_by_same, left_same, same_through, tokens_left, tokens_stay}
+use Rattle.osc_proxy.proofs.Left.{acknowledged_again, acknowledged_twice, free_again, tokens_left, tokens_stay}
 use Rattle.osc_proxy.proofs.Tokens.{found_by_own}
 
 pub record PassingLaws : Type 0 where
@@ -108,13 +108,12 @@ module _ (laws : PassingLaws) (proxy passed : State) (now : Moment) (draw : Draw
 
   passed_so : IsForwarded key proxy now from draw message to step passed → IsPassedOn proxy now draw from to message key step passed
   passed_so is =
-      let goes : is.goes ≡ true = is.goes_is ∙ goes_is in
       record {
         acknowledgement = acknowledgement_carried laws message.id takes_up.carried.lawful.id;
         forwarded = record { lawful = is.lawful; short = there_short };
-        told = is.told ∙ out_is is.goes goes;
+        told = is.told ∙ out_is (goes_now (is_confirmable message.kind) to (taken_up proxy now from message)) goes_is;
         targets = is.targets;
-        exchange = subst (λ g. Changes proxy.exchanges passed.exchanges key (Some (exchange_of key (next_own proxy draw) now from draw message to g))) goes is.opened;
+        exchange = is.opened;
         more = is.more;
         next_id = ap (λ (e : EndpointState). e.next_id) is.endpoint ∙ made_id;
         seen = ap (λ (e : EndpointState). e.seen) is.endpoint ∙ made_seen;
@@ -161,7 +160,7 @@ module _ (laws : PassingLaws) (proxy passed brought : State) (now later : Moment
     (is : IsPassedOn proxy now draw from to message key first passed)
     (answers_it : IsAnswerTo (forwarded_by proxy draw key message) response) where
   abbrev its : Exchange
-  its = exchange_of key (next_own proxy draw) now from draw message to true
+  its = exchange_of key (next_own proxy draw) now from draw message to
 
   abbrev goes_back : Message
   goes_back = answer_by proxy draw message response
@@ -255,21 +254,14 @@ module _ (laws : PassingLaws) (proxy passed brought : State) (now later : Moment
       ∙ kept_is in
       let spelled : HasSpelling goes_back =
       subst HasSpelling (ap (λ (e : Exchange). answer_to (next_own passed later_draw) e response) exchange ∙ answer_is) counts.lawful in
-      let same : IsSameBut counts.closed (left_counted later to response counts.exchange counts.closed) =
-      same_through counts.closed _ _ (left_by_same later to response.kind response.id counts.closed)
-      (left_same later to counts.exchange.id _) in
-      let fewer : count counts.closed ≡ count proxy.exchanges = omega (arith, counts.closes.fewer, is.more) in
+      let fewer : count brought.exchanges ≡ count proxy.exchanges = omega (arith, counts.closes.fewer, is.more) in
       record {
         answer = record { lawful = spelled; short = one_fits step from goes_back told fits };
         told = told;
         targets = counts.targets ∙ is.targets;
-        closed = ap (λ (t : Table). get t key) counts.others ∙ same.none key counts.closes.closed.changed;
-        free = ap free_key counts.others
-            ∙ free_still counts.closed (left_counted later to response counts.exchange counts.closed) key
-            (free_again proxy.exchanges counts.closed key takes_up.free fewer counts.closes.next) same;
-        lawful = record {
-          own_tokens = subst HasOwnTokens (sym counts.others) (same.tokens (tokens_left passed.exchanges counts.closed key tokens counts.closes.closed));
-        };
+        closed = counts.closes.closed.changed;
+        free = free_again proxy.exchanges brought.exchanges key takes_up.free fewer counts.closes.next;
+        lawful = record { own_tokens = tokens_left passed.exchanges brought.exchanges key tokens counts.closes.closed };
         next_id = ap (λ (e : EndpointState). e.next_id) endpoint ∙ ap (λ id. Some ((id + 1) % 65536)) kept_id;
         seen = ap (λ (e : EndpointState). e.seen) endpoint ∙ kept_seen;
         sending = ap (λ (e : EndpointState). acknowledged from (answer_id proxy draw) e.sending) endpoint ∙ kept_sending;
@@ -300,13 +292,12 @@ is_at_rest one proxy brought rested now last draw last_draw from message respons
     ap (λ r. case_of brought.targets brought.exchanges from hears.named (heard brought.endpoint.seen last from r)) received in
     let so : Answers brought last from last_draw (Empty Acknowledgement id) step rested =
     subst (λ c. Answers brought last from last_draw c step rested) case hears.answers in
-    let same = left_same last from id brought.exchanges in
     record {
       told = so.0;
       targets = ap (λ (s : State). s.targets) so.1 ∙ is.targets;
-      closed = ap (λ (s : State). get s.exchanges key) so.1 ∙ same.none key is.closed;
-      free = ap (λ (s : State). free_key s.exchanges) so.1 ∙ free_still brought.exchanges _ key is.free same;
-      lawful = record { own_tokens = subst (λ (s : State). HasOwnTokens s.exchanges) (sym so.1) (same.tokens is.lawful.own_tokens) };
+      closed = ap (λ (s : State). get s.exchanges key) so.1 ∙ is.closed;
+      free = ap (λ (s : State). free_key s.exchanges) so.1 ∙ is.free;
+      lawful = record { own_tokens = subst (λ (s : State). HasOwnTokens s.exchanges) (sym so.1) is.lawful.own_tokens };
       next_id = ap (λ (s : State). s.endpoint.next_id) so.1 ∙ is.next_id;
       seen = ap (λ (s : State). s.endpoint.seen) so.1 ∙ is.seen;
       sending = ap (λ (s : State). s.endpoint.sending) so.1 ∙ is.sending;

@@ -8,7 +8,7 @@ use Rattle.osc_coap.specs.declared.kind.Kind.{Kind}
 use Rattle.osc_coap.specs.declared.kind.Kind.TheVariants.{Acknowledgement, Reset as ResetKind}
 use Rattle.osc_message.specs.declared.heard.Heard.{Heard}
 use Rattle.osc_message.specs.declared.heard.Heard.TheVariants.{Message}
-use Rattle.osc_proxy.specs.Exchanges.{Table, answers, get}
+use Rattle.osc_proxy.specs.Exchanges.{Table, answers, get, is_named}
 use Rattle.osc_proxy.specs.declared.case.Case.{Case}
 use Rattle.osc_proxy.specs.declared.case.Case.TheVariants.{Ended, Refused, Forwarded, Counted}
 use Rattle.osc_proxy.specs.declared.exchanges.Exchange.{Exchange}
@@ -34,16 +34,23 @@ pub record IsOpen (exchanges : Table) (key : ℕ) : Type 0 where
   pub exchange : Exchange
   pub is : get exchanges key ≡ Some exchange
 
+-- .. and its forwarded message is the one of this peer and this message ID
+pub record IsNamed (exchanges : Table) (from : Peer) (id key : ℕ) : Type 0 where
+  pub exchange : Exchange
+  pub is : get exchanges key ≡ Some exchange
+  pub names : is_named from id exchange ≡ true
+
 -- the response answers the exchange of this key, and is a message with a code that fits a datagram
 pub record CanCount (exchanges : Table) (from : Peer) (message : CoapMessage) (key : ℕ) : Type 0 where
   pub exchange : Exchange
   pub is : get exchanges key ≡ Some exchange
   pub answers_it : answers from message exchange ≡ true
   pub coded : 0 < message.code
+  pub response : is_request_code message.code ≡ false
   pub short : length (spelling message) ≤ datagram_limit
 
 abbrev pub AsksFor : Table → Peer → Case → Type 0
-AsksFor exchanges from (Ended id key) = IsOpen exchanges key
+AsksFor exchanges from (Ended id key) = IsNamed exchanges from id key
 AsksFor exchanges from (Refused message why) = (0 < why.0) × (names_one message.kind ≡ false)
 AsksFor exchanges from (Forwarded message to) = (0 < message.code) × (names_one message.kind ≡ false)
 AsksFor exchanges from (Counted message key) = CanCount exchanges from message key

@@ -1,11 +1,9 @@
 -- The exchanges that a proxy has open: requests that were forwarded and whose answer hasn't gone back yet (RFC 7252 section 5.7.2).
-use Rattle.std.specs.Prelude.{◌≡◌, ◌≢◌, ℕ, ◌+◌, Bool, true, false, ◌&&◌, ◌||◌, not, ◌==◌, nat_le, bytes_eq, if◌then◌else◌, List, [], ◌∷◌, map, slice_index_or, find, count_by, Option, Some, None, is_some, option_map}
+use Rattle.std.specs.Prelude.{◌≡◌, ◌≢◌, ℕ, ◌+◌, Bool, true, ◌&&◌, ◌||◌, ◌==◌, nat_le, bytes_eq, if◌then◌else◌, List, [], ◌∷◌, slice_index_or, find, count_by, Option, Some, None, is_some, option_map}
 use Rattle.slab.specs.Slab.{entries_from}
 use Rattle.osc_model.specs.declared.node.Moment.{Moment}
 use Rattle.osc_model.specs.declared.node.Peer.{Peer}
 use Rattle.osc_coap.specs.Message.{Message as CoapMessage}
-use Rattle.osc_coap.specs.declared.kind.Kind.{Kind}
-use Rattle.osc_coap.specs.declared.kind.Kind.TheVariants.{Acknowledgement, Reset as ResetKind}
 use Rattle.osc_message.specs.Confirmables.{same_peer}
 use Rattle.osc_message.specs.Sending.{is_acknowledgement}
 use Rattle.osc_proxy.specs.declared.exchanges.Exchange.{Exchange}
@@ -69,34 +67,6 @@ is_named from id exchange = exchange.confirmable && (same_peer exchange.target f
 abbrev pub lifetime : ℕ
 lifetime = 247000
 
--- its end was counted from a moment so long ago: its forwarded message went out then, or left the queue; while that waits for its turn
--- no end is counted
-abbrev pub is_over : Moment → Option Moment → Bool
-is_over now None = false
-is_over now (Some sent) = nat_le (sent.ms + lifetime) now.ms
-
+-- it was opened so long ago, whether its forwarded message waits, is outstanding or was acknowledged
 abbrev pub is_overdue : Moment → Exchange → Bool
-is_overdue now exchange = is_over now exchange.sent
-
--- its forwarded message goes out: its end is counted from now
-abbrev pub gone_out : Moment → Exchange → Exchange
-gone_out now exchange = record exchange { sent = Some now }
-
--- ---- its forwarded message is named by an acknowledgement, a Reset or a response, and leaves the queue
-
-abbrev pub waits : Exchange → Bool
-waits exchange = not (is_some exchange.sent)
-
--- where that waits still, it never goes out: its end is counted from now
-abbrev pub left_queue : Moment → Peer → ℕ → Exchange → Exchange
-left_queue now from id exchange = if is_named from id exchange && waits exchange then gone_out now exchange else exchange
-
--- all that are so named, since message IDs come again
-abbrev pub all_left : Moment → Peer → ℕ → Table → Table
-all_left now from id table = record table { slots = map (option_map (left_queue now from id)) table.slots }
-
--- an acknowledgement, or a Reset, names a message by its own message ID (section 4.2)
-abbrev pub left_by : Moment → Peer → Kind → ℕ → Table → Table
-left_by now from Acknowledgement id table = all_left now from id table
-left_by now from ResetKind id table = all_left now from id table
-left_by now from kind id table = table
+is_overdue now exchange = nat_le (exchange.opened.ms + lifetime) now.ms

@@ -1,10 +1,12 @@
 -- Messages that a proxy makes, by their bytes: the way from the code to the definitions. No public contract rests on this.
-use Rattle.std.specs.Prelude.{◌≡◌, ℕ, ◌<◌, Bool, true, List, [], if◌then◌else◌, Some, option_map}
+use Rattle.std.specs.Prelude.{◌≡◌, ℕ, ◌<◌, Bool, true, false, List, [], if◌then◌else◌, Some, option_map}
 use Rattle.osc_model.specs.declared.node.Draw.{Draw}
 use Rattle.osc_model.specs.declared.node.Moment.{Moment}
 use Rattle.osc_model.specs.declared.node.Peer.{Peer}
 use Rattle.osc_model.specs.declared.step.Datagram.{Datagram}
+use Rattle.osc_coap.specs.Code.{is_request_code}
 use Rattle.osc_coap.specs.Message.{HasSpelling, Message, spelling}
+use Rattle.osc_message.specs.Confirmables.{same_peer}
 use Rattle.osc_message.specs.Endpoint.{EndpointState}
 use Rattle.osc_message.specs.Sending.{FitsDatagram, IsSendableReply, acknowledgement, sent_to}
 use Rattle.osc_proxy.specs.Exchanges.{get}
@@ -31,11 +33,14 @@ pub record IsOwn (to : Peer) (confirmable : Bool) (bytes : List ℕ) (own : Own)
   pub short : FitsDatagram bytes
   pub kept_short : FitsDatagram own.kept
 
--- the exchange of this key can be closed by this response: its forwarded message has this ID, and this is the answer that goes back
-pub record CanClose (old : State) (draw : Draw) (message : Message) (key id : ℕ) (own : Own) : Type 0 where
+-- the exchange of this key can be closed by this response of this peer: its forwarded message has this ID, and this is the answer that
+-- goes back, which is no request
+pub record CanClose (old : State) (from : Peer) (draw : Draw) (message : Message) (key id : ℕ) (own : Own) : Type 0 where
   pub exchange : Exchange
   pub is : get old.exchanges key ≡ Some exchange
   pub named : id ≡ exchange.id
+  pub target : same_peer exchange.target from ≡ true
+  pub response : is_request_code (answer_to (next_own old draw) exchange message).code ≡ false
   pub answer : IsOwn exchange.client exchange.confirmable (spelling (answer_to (next_own old draw) exchange message)) own
   pub lawful : HasSpelling (answer_to (next_own old draw) exchange message)
 

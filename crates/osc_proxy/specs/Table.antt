@@ -17,7 +17,7 @@ use Rattle.osc_message.specs.Heard.{noted_reply}
 use Rattle.osc_message.specs.Sending.{acknowledgement, is_confirmable, replied, reply_start, reset, again, datagram, sent_to}
 use Rattle.osc_message.specs.declared.handling.Handling.TheVariants as handling
 use Rattle.osc_message.specs.declared.heard.Heard.TheVariants as heard
-use Rattle.osc_proxy.specs.Exchanges.{Changes, Table, all_left, count, free_key, get, left_by}
+use Rattle.osc_proxy.specs.Exchanges.{Changes, Table, count, free_key, get}
 use Rattle.osc_proxy.specs.Forwarding.{answer, forwarded, forwarded_token}
 use Rattle.osc_proxy.specs.Own.{goes_now, has_room, kind_of, sends_own, with_own}
 use Rattle.osc_proxy.specs.State.{State}
@@ -61,33 +61,30 @@ abbrev pub taken_up : State → Moment → Peer → Message → EndpointState
 taken_up old now from message =
     settled old.endpoint now from (heard.Message message) (handling.Answered (option_map spelling (acknowledgement message)))
 
-abbrev pub sent_when : Bool → Moment → Option Moment
-sent_when goes now = if goes then Some now else None
-
 -- the exchange of this key, whose forwarded message has this ID
-abbrev pub exchange_of : ℕ → ℕ → Moment → Peer → Draw → Message → Peer → Bool → Exchange
-exchange_of key id now from draw message to goes = record {
+abbrev pub exchange_of : ℕ → ℕ → Moment → Peer → Draw → Message → Peer → Exchange
+exchange_of key id now from draw message to = record {
   client = from;
   client_token = message.token;
   confirmable = is_confirmable message.kind;
   target = to;
   id = id;
   token = forwarded_token key draw;
-  sent = sent_when goes now;
+  opened = now;
   room = tt;
 }
 
 -- It goes out, or waits for its turn, and an exchange is open.
 pub record IsForwarded (key : ℕ) (old : State) (now : Moment) (from : Peer) (draw : Draw) (message : Message) (to : Peer) (step : Step) (new : State) : Type 0 where
-  pub goes : Bool
-  pub goes_is : goes ≡ goes_now (is_confirmable message.kind) to (taken_up old now from message)
   pub lawful : HasSpelling (forwarded_by old draw key message)
-  pub told : step ≡ sends (sent_to from (acknowledgement message) ++ sends_own goes to (spelling (forwarded_by old draw key message)))
+  pub told : step
+      ≡ sends (sent_to from (acknowledgement message)
+      ++ sends_own (goes_now (is_confirmable message.kind) to (taken_up old now from message)) to (spelling (forwarded_by old draw key message)))
   pub targets : new.targets ≡ old.targets
   pub endpoint : new.endpoint
       ≡ with_own (is_confirmable message.kind) (taken_up old now from message) now draw to (spelling (forwarded_by old draw key message))
   pub was_free : get old.exchanges key ≡ None
-  pub opened : Changes old.exchanges new.exchanges key (Some (exchange_of key (next_own old draw) now from draw message to goes))
+  pub opened : Changes old.exchanges new.exchanges key (Some (exchange_of key (next_own old draw) now from draw message to))
   pub more : count new.exchanges ≡ count old.exchanges + 1
 
 abbrev pub FitsBy : Bool → ℕ → State → Moment → Peer → Draw → Message → Peer → Step → State → Type 0
@@ -139,15 +136,9 @@ abbrev pub counted : State → Moment → Peer → Message → Exchange → Endp
 counted old now from message exchange =
     settled old.endpoint now from (heard.Message message) (handling.Counted exchange.id (option_map spelling (acknowledgement message)))
 
--- the exchanges that are left then
-abbrev pub left_counted : Moment → Peer → Message → Exchange → Table → Table
-left_counted now from message exchange table = all_left now from exchange.id (left_by now from message.kind message.id table)
-
 pub record Counts (key : ℕ) (old : State) (now : Moment) (from : Peer) (draw : Draw) (message : Message) (step : Step) (new : State) : Type 0 where
   pub exchange : Exchange
-  pub closed : Table
-  pub closes : Closes key exchange old.exchanges closed
-  pub others : new.exchanges ≡ left_counted now from message exchange closed
+  pub closes : Closes key exchange old.exchanges new.exchanges
   pub lawful : HasSpelling (answer_to (next_own old draw) exchange message)
   pub told : step
       ≡ sends (sent_to from (acknowledgement message)
@@ -163,9 +154,7 @@ named old now from id = settled old.endpoint now from (heard.Empty ResetKind id)
 -- the forwarded message was rejected by a Reset: 5.02 (Bad Gateway)
 pub record Ends (key id : ℕ) (old : State) (now : Moment) (from : Peer) (draw : Draw) (step : Step) (new : State) : Type 0 where
   pub exchange : Exchange
-  pub closed : Table
-  pub closes : Closes key exchange old.exchanges closed
-  pub others : new.exchanges ≡ all_left now from id closed
+  pub closes : Closes key exchange old.exchanges new.exchanges
   pub lawful : HasSpelling (failure (code 5 2) (next_own old draw) exchange)
   pub told : step ≡ sends (back_sends (named old now from id) exchange (failure (code 5 2) (next_own old draw) exchange))
   pub targets : new.targets ≡ old.targets
@@ -179,11 +168,7 @@ Answers old now from draw (Reset id) step new = (step ≡ sends (datagram from (
 Answers old now from draw (Repeated id) step new = (step ≡ sends (again from (noted_reply old.endpoint.seen now from id))) × (new ≡ old)
 Answers old now from draw (Empty kind id) step new =
     (step ≡ sends [])
-    × (new
-    ≡ record old {
-      exchanges = all_left now from id old.exchanges;
-      endpoint = settled old.endpoint now from (heard.Empty kind id) handling.Dropped;
-    })
+    × (new ≡ record old { endpoint = settled old.endpoint now from (heard.Empty kind id) handling.Dropped })
 Answers old now from draw (Ended id key) step new = Ends key id old now from draw step new
 Answers old now from draw (Refused message why) step new = IsRefused why old now from draw message step new
 Answers old now from draw (Forwarded message to) step new = ForwardsBy (key_for old message to) old now from draw message to step new
@@ -191,8 +176,4 @@ Answers old now from draw (Counted message key) step new = Counts key old now fr
 Answers old now from draw (Rejected message) step new = (step ≡ sends (datagram from (reset message.id) ∷ [])) × (new ≡ old)
 Answers old now from draw (Dropped message) step new =
     (step ≡ sends [])
-    × (new
-    ≡ record old {
-      exchanges = left_by now from message.kind message.id old.exchanges;
-      endpoint = settled old.endpoint now from (heard.Message message) handling.Dropped;
-    })
+    × (new ≡ record old { endpoint = settled old.endpoint now from (heard.Message message) handling.Dropped })

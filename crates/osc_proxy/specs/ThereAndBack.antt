@@ -78,7 +78,7 @@ pub record IsPassedOn (proxy : State) (now : Moment) (draw : Draw) (from to : Pe
   pub forwarded : IsCarried (forwarded_by proxy draw key message)
   pub told : step ≡ sends (datagram from (empty_acknowledgement message.id) ∷ datagram to (forwarded_by proxy draw key message) ∷ [])
   pub targets : passed.targets ≡ proxy.targets
-  pub exchange : Changes proxy.exchanges passed.exchanges key (Some (exchange_of key (next_own proxy draw) now from draw message to true))
+  pub exchange : Changes proxy.exchanges passed.exchanges key (Some (exchange_of key (next_own proxy draw) now from draw message to))
   pub more : count passed.exchanges ≡ count proxy.exchanges + 1
   pub next_id : passed.endpoint.next_id ≡ Some (answer_id proxy draw)
   pub seen : passed.endpoint.seen ≡ heard_with proxy now from message

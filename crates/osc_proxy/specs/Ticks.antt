@@ -1,6 +1,6 @@
 -- What comes due at a proxy (RFC 7252 sections 4.2, 4.8.2 and 5.7.1).
-use Rattle.std.specs.Prelude.{◌≡◌, ℕ, Bool, ◌||◌, List, [], ◌∷◌, ◌++◌, Option, Some, None, option_map}
-use Rattle.std.specs.List.{list_any}
+use Rattle.std.specs.Prelude.{◌≡◌, ℕ, Bool, true, false, ◌||◌, List, [], ◌++◌, Some, None}
+use Rattle.std.specs.List.{All, Contains, list_any}
 use Rattle.osc_model.specs.Code.{code}
 use Rattle.osc_model.specs.Step.{sends}
 use Rattle.osc_model.specs.StepNotes.{quiet}
@@ -10,30 +10,19 @@ use Rattle.osc_model.specs.declared.step.Datagram.{Datagram}
 use Rattle.osc_model.specs.declared.step.Step.{Step}
 use Rattle.osc_coap.specs.Message.{HasSpelling, Message}
 use Rattle.osc_message.specs.Endpoint.{EndpointState, after_tick, own_id}
-use Rattle.osc_message.specs.Sending.{AreSendable}
-use Rattle.osc_message.specs.Ticks.{acts as messages_act, tick_gives_up, tick_sends, tick_starts}
+use Rattle.osc_message.specs.Confirmables.{Open}
+use Rattle.osc_message.specs.Sending.{AreSendable, GoesOut}
+use Rattle.osc_message.specs.Ticks.{acts as messages_act, tick_gives_up, tick_sends}
 use Rattle.osc_message.specs.declared.name.MessageName.{MessageName}
-use Rattle.osc_proxy.specs.Exchanges.{Changes, Table, count, entries, first_key, get, gone_out, is_named, is_overdue}
+use Rattle.osc_proxy.specs.Ends.{is_its, is_request, without, without_over}
+use Rattle.osc_proxy.specs.Exchanges.{Table, entries, first_key, get, is_named, is_overdue}
 use Rattle.osc_proxy.specs.State.{State}
 use Rattle.osc_proxy.specs.Table.{Closes, back_kept, back_sends, failure}
 use Rattle.osc_proxy.specs.declared.exchanges.Exchange.{Exchange}
 
--- ---- what waited goes out
-
--- the end of its exchange is counted from now
-abbrev pub Starts : Moment → Option ℕ → Table → Table → Type 0
-Starts now None old new = new ≡ old
-Starts now (Some key) old new = Changes old new key (option_map (gone_out now) (get old key)) × (count new ≡ count old)
-
--- each message that goes out now, where it is one that was forwarded
-abbrev pub AllStart : Moment → List MessageName → Table → Table → Type 0
-AllStart now [] old new = new ≡ old
-AllStart now (name ∷ names) old new =
-    (next : Table) × Starts now (first_key (is_named name.peer name.id) old) old next × AllStart now names next new
-
 -- ---- what got no answer ends
 
--- its message was given up without an acknowledgement, or its end was counted from a moment too long ago
+-- its message was given up without an acknowledgement, or it was opened too long ago
 abbrev pub is_given_up : List MessageName → Exchange → Bool
 is_given_up names exchange = list_any (λ name. is_named name.peer name.id exchange) names
 
@@ -44,6 +33,10 @@ is_over now given_up exchange = is_given_up given_up exchange || is_overdue now 
 abbrev pub timeout : EndpointState → Draw → Exchange → Message
 timeout endpoint draw exchange = failure (code 5 4) (own_id draw endpoint.next_id) exchange
 
+-- the message layer without the messages of an exchange that ends
+abbrev pub without_its : EndpointState → Exchange → EndpointState
+without_its endpoint exchange = record endpoint { sending = without exchange endpoint.sending }
+
 -- Each that is over ends by 5.04, which is read again as that very message, the one of the lowest key first.
 pub data AllEnd (now : Moment) (draw : Draw) (given_up : List MessageName) : Table → EndpointState → List Datagram → Table → EndpointState → Type 0 where
   none_is : (table : Table) (endpoint : EndpointState) → first_key (is_over now given_up) table ≡ None
@@ -52,19 +45,47 @@ pub data AllEnd (now : Moment) (draw : Draw) (given_up : List MessageName) : Tab
       → first_key (is_over now given_up) table ≡ Some key
       → Closes key exchange table next
       → HasSpelling (timeout endpoint draw exchange)
-      → AllEnd now draw given_up next (back_kept endpoint now draw exchange (timeout endpoint draw exchange)) later last last_endpoint
-      → AllEnd now draw given_up table endpoint (back_sends endpoint exchange (timeout endpoint draw exchange) ++ later) last last_endpoint
+      → AllEnd now draw given_up next (back_kept (without_its endpoint exchange) now draw exchange (timeout endpoint draw exchange)) later last last_endpoint
+      → AllEnd now draw given_up table endpoint (back_sends (without_its endpoint exchange) exchange (timeout endpoint draw exchange) ++ later) last last_endpoint
 
--- What is due goes out, and then the answers that say that none came, each in at most 1,152 bytes; nothing is sealed or opened.
+-- ---- a tick
+
+-- the message layer without the messages of the exchanges that are over
+abbrev pub without_over_in : Moment → State → EndpointState
+without_over_in now state = record state.endpoint { sending = without_over now state.exchanges state.endpoint.sending }
+
+-- First the messages of exchanges that are over leave, so that their peers are free; then what is due of the others goes out; and then
+-- the answers that say that none came, each in at most 1,152 bytes. Where memory is wanting for datagrams they are lost, as on the way,
+-- and all else is done. Nothing is sealed or opened.
 pub record Ticks (old : State) (now : Moment) (draw : Draw) (step : Step) (new : State) : Type 0 where
-  pub started : Table
-  pub starts : AllStart now (tick_starts now old.endpoint.sending) old.exchanges started
-  pub out : List Datagram
-  pub ends : AllEnd now draw (tick_gives_up now old.endpoint.sending) started (after_tick now old.endpoint) out new.exchanges new.endpoint
-  pub told : step ≡ sends (tick_sends now old.endpoint.sending ++ out)
+  pub repeats : List Datagram
+  pub repeated : GoesOut (tick_sends now (without_over now old.exchanges old.endpoint.sending)) repeats
+  pub answers : List Datagram
+  pub ends : AllEnd now draw (tick_gives_up now (without_over now old.exchanges old.endpoint.sending)) old.exchanges
+      (after_tick now (without_over_in now old)) answers new.exchanges new.endpoint
+  pub told_answers : List Datagram
+  pub answered : GoesOut answers told_answers
+  pub told : step ≡ sends (repeats ++ told_answers)
   pub targets : new.targets ≡ old.targets
   pub silent : step.notes ≡ quiet
   pub fits : AreSendable step.out
+
+-- ---- what it sends
+
+-- the datagram of an open message that was forwarded, in an exchange that is open and isn't over
+pub record IsOfExchange (old : State) (now : Moment) (sent : Datagram) : Type 0 where
+  pub message : Open
+  pub is_open : Contains old.endpoint.sending message
+  pub sent_is : sent ≡ record { to = message.to; bytes = message.bytes }
+  pub key : ℕ
+  pub exchange : Exchange
+  pub is : get old.exchanges key ≡ Some exchange
+  pub its : is_its exchange message ≡ true
+  pub lasts : is_overdue now exchange ≡ false
+
+-- Each request that goes out is that of such an exchange.
+abbrev pub AreOfExchanges : State → Moment → List Datagram → Type 0
+AreOfExchanges old now out = All (λ sent. is_request sent.bytes ≡ true → IsOfExchange old now sent) out
 
 -- ---- whether a tick sends, gives up or ends anything
 

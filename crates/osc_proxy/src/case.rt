@@ -73,6 +73,7 @@ fn routed<'a>(message: MessageRef<'a>, route: Route) -> Case<'a>
 /// A response.
 fn response_case<'a>(exchanges: &Exchanges, from: Peer, message: MessageRef<'a>) -> Case<'a>
     requires code { 0 < message.code }
+    requires response { is_request_code_of message.code ≡ false }
     requires short { length (spelling message) ≤ datagram_limit }
     ensures case { result ≡ spec.counted message.entry (first_key (answers from message.entry) exchanges.now) }
     ensures asks { AsksFor exchanges.now from result }

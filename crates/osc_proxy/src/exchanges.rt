@@ -1,13 +1,15 @@
 //! The exchanges that a proxy has open (RFC 7252 section 5.7.2).
-ghost use Rattle.std.specs.Prelude.{◌≡◌, ◌+◌, ◌≤◌, ◌∷◌, ℕ, List, length, None, Some, IfOk, OnSome, IfNone, IsSome, option_map, option_copied, slice_set};
+ghost use Rattle.std.specs.Prelude.{◌≡◌, ◌+◌, ◌≤◌, ◌<◌, ◌∷◌, ℕ, List, length, None, Some, IfOk, OnSome, IfNone, IsSome, option_copied, nat_le};
 ghost use Rattle.osc_model.specs.declared.node.Moment.{Moment as AnyMoment};
 ghost use Rattle.osc_message.specs.Bounds.{is_reached};
+ghost use Rattle.osc_proxy.specs.Ends.{without_over};
 ghost use Rattle.osc_proxy.specs.Exchanges as spec;
-ghost use Rattle.osc_proxy.specs.Ticks.{any_overdue, is_given_up as is_given_up_of, is_over as is_over_by};
+ghost use Rattle.osc_proxy.specs.Ticks.{any_overdue, is_given_up as is_given_up_of, is_over as is_over_by, without_its};
 
+use crate::Endpoint;
 use crate::deadline::first_of;
 use crate::token::Token;
-use osc_coap::{Kind, MessageRef};
+use osc_coap::MessageRef;
 use osc_message::{Buffer, MessageName, is_acknowledgement};
 use osc_model::{Bytes, Moment, Peer};
 use slab::Slab;
@@ -39,9 +41,8 @@ pub struct Exchange {
     pub id: u16,
     /// The token of the forwarded message.
     pub token: [u8; 8],
-    /// When the forwarded message went out for the first time, or left the queue without going out; none while it waits for its
-    /// turn.
-    pub sent: Option<Moment>,
+    /// When it was opened.
+    pub opened: Moment,
     /// Room for the answer that says that none came.
     pub room: FailureRoom,
 }
@@ -128,24 +129,18 @@ fn is_named(from: Peer, id: u16, exchange: &Exchange) -> bool
     exchange.confirmable && exchange.target == from && exchange.id == id
 }
 
-/// When no answer is awaited any more, in ms; none while no end is counted.
-fn end_of(exchange: &Exchange) -> Option<u64>
-    ensures { (now : AnyMoment) → is_reached now result ≡ spec.is_overdue now exchange.now }
+/// When no answer is awaited any more, in ms.
+fn end_of(exchange: &Exchange) -> u64
+    ensures { (now : AnyMoment) → nat_le result now.ms ≡ spec.is_overdue now exchange.now }
 {
-    match exchange.sent {
-        Some(sent) => Some(sent.ms + LIFETIME),
-        None => None,
-    }
+    exchange.opened.ms + LIFETIME
 }
 
 /// Whether no answer came for so long that none is awaited any more.
 fn is_overdue(now: Moment, exchange: &Exchange) -> bool
     ensures { result ≡ spec.is_overdue now exchange.now }
 {
-    match exchange.sent {
-        Some(sent) => sent.ms + LIFETIME <= now.ms,
-        None => false,
-    }
+    end_of(exchange) <= now.ms
 }
 
 /// Whether the exchange's forwarded message is among those that were given up.
@@ -164,19 +159,12 @@ fn is_over(now: Moment, given_up: &[MessageName], exchange: &Exchange) -> bool
     is_given_up(given_up, exchange) || is_overdue(now, exchange)
 }
 
-/// Whether the forwarded message waits for its turn.
-fn waits(exchange: &Exchange) -> bool
-    ensures { result ≡ spec.waits exchange.now }
+/// The forwarded message of this exchange leaves the message layer, whether it is outstanding or waits. Takes no memory.
+pub(crate) fn withdraw(endpoint: &mut Endpoint, exchange: &Exchange)
+    ensures { endpoint.new ≡ without_its endpoint.old exchange.now }
 {
-    exchange.sent.is_none()
-}
-
-/// The end of the exchange is counted from now, where its forwarded message is so named and waits.
-fn leave_queue(exchange: &mut Exchange, now: Moment, from: Peer, id: u16)
-    ensures { exchange.new ≡ spec.left_queue now from id exchange.old }
-{
-    if is_named(from, id, exchange) && waits(exchange) {
-        exchange.sent = Some(now);
+    if exchange.confirmable {
+        endpoint.withdraw(exchange.target, exchange.id);
     }
 }
 
@@ -260,8 +248,8 @@ impl Exchanges {
         None
     }
 
-    /// The lowest key of an exchange that is over: its forwarded message was given up, being among these, or went out, or left the queue
-    /// without going out, 247 seconds ago or earlier.
+    /// The lowest key of an exchange that is over: its forwarded message was given up, being among these, or it was opened 247 seconds
+    /// ago or earlier.
     pub fn find_over(&self, now: Moment, given_up: &[MessageName]) -> Option<usize>
         ensures { result ≡ spec.first_key (is_over_by now given_up.now) self.now }
     {
@@ -273,61 +261,26 @@ impl Exchanges {
         None
     }
 
-    /// The first moment at which the end of an exchange is due, in ms, or none where no end is counted.
+    /// The first moment at which the end of an exchange is due, in ms, or none where none is open.
     pub fn first_end(&self) -> Option<u64>
-        ensures { (now : AnyMoment) → is_reached now result ≡ any_overdue now self.now }
+        ensures reached { (now : AnyMoment) → is_reached now result ≡ any_overdue now self.now }
+        ensures open { 0 < spec.count self.now → IsSome result }
     {
         let mut first = None;
         for (_, exchange) in self.open.iter() {
-            first = first_of(first, end_of(exchange));
+            first = first_of(first, Some(end_of(exchange)));
         }
         first
     }
 
-    /// The forwarded message of the exchange of this key, if one is open, goes out at this moment.
-    pub fn mark_sent(&mut self, key: usize, now: Moment)
-        ensures marked { spec.Changes self.old self.new key (option_map (spec.gone_out now) (spec.get self.old key)) }
-        ensures count { spec.count self.new ≡ spec.count self.old }
-        ensures next { self.new.next ≡ self.old.next }
+    /// The forwarded messages of exchanges that are over leave the message layer. Takes no memory.
+    pub fn withdraw_over(&self, endpoint: &mut Endpoint, now: Moment)
+        ensures { endpoint.new ≡ record endpoint.old { sending = without_over now self.now endpoint.old.sending } }
     {
-        if let Some(exchange) = self.open.get_mut(key) {
-            exchange.sent = Some(now);
-        }
-    }
-
-    /// Each key is below this one.
-    fn key_end(&self) -> usize
-        ensures { length self.now.slots ≤ result }
-    {
-        self.open.capacity()
-    }
-
-    /// The same as `leave`, of the exchange of this key alone, if one is open.
-    fn leave_at(&mut self, key: usize, now: Moment, from: Peer, id: u16)
-        ensures { self.new ≡ record self.old { slots = slice_set self.old.slots key (option_map (spec.left_queue now from id) (spec.get self.old key)) } }
-    {
-        if let Some(exchange) = self.open.get_mut(key) {
-            leave_queue(exchange, now, from, id);
-        }
-    }
-
-    /// The forwarded messages that this peer and this message ID name leave the queue: the exchanges of those that wait have their
-    /// end counted from now. Takes no memory.
-    pub fn leave(&mut self, now: Moment, from: Peer, id: u16)
-        ensures { self.new ≡ spec.all_left now from id self.old }
-    {
-        for key in 0..self.key_end() {
-            self.leave_at(key, now, from, id);
-        }
-    }
-
-    /// The same of what a message of this kind and this ID names: an acknowledgement or a Reset names a message, any other none.
-    pub fn leave_by(&mut self, now: Moment, from: Peer, kind: Kind, id: u16)
-        ensures { self.new ≡ spec.left_by now from kind id self.old }
-    {
-        match kind {
-            Kind::Acknowledgement | Kind::Reset => self.leave(now, from, id),
-            _ => {}
+        for (_, exchange) in self.open.iter() {
+            if is_overdue(now, exchange) {
+                withdraw(endpoint, exchange);
+            }
         }
     }
 

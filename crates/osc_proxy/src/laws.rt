@@ -1,5 +1,5 @@
 //! Laws of the definitions, for the crates above. These functions do nothing: whoever calls one has its clauses for a proof.
-ghost use Rattle.std.specs.Prelude.{◌≡◌, ◌≢◌, ◌<◌, ◌≤◌, ◌+◌, ◌⊎◌, ℕ, true, false, List, [], length, Option, Some, None, IsSomeAnd, codes};
+ghost use Rattle.std.specs.Prelude.{◌≡◌, ◌≢◌, ◌<◌, ◌≤◌, ◌+◌, ℕ, true, false, List, [], length, Option, Some, None, codes};
 ghost use Rattle.osc_model.specs.declared.node.Draw.{Draw as AnyDraw};
 ghost use Rattle.osc_coap.specs.Message.{HasSpelling, Message as AnyMessage, NumberAndValue, spelling};
 ghost use Rattle.osc_dedup.specs.Table.{looked};
@@ -10,7 +10,6 @@ ghost use Rattle.osc_options.specs.Split.{AreInOrder, of_number};
 ghost use Rattle.osc_model.specs.declared.node.Moment.{Moment as AnyMoment};
 ghost use Rattle.osc_model.specs.declared.node.Peer.{Peer as AnyPeer};
 ghost use Rattle.osc_model.specs.declared.step.Step.{Step as AnyStep};
-ghost use Rattle.osc_proxy.specs.Ends.{EachHasAnEnd, is_open};
 ghost use Rattle.osc_proxy.specs.Exchanges.{HasOwnTokens, Table, answers, first_key, get, is_overdue, lifetime};
 ghost use Rattle.osc_proxy.specs.Forwarding.{forwarded, forwarded_options, has_proxy_uri, is_taken_out};
 ghost use Rattle.osc_proxy.specs.Hearing.{Hears};
@@ -25,14 +24,12 @@ ghost use Rattle.osc_proxy.specs.declared.exchanges.Exchange.{Exchange as AnyExc
 use osc_coap::laws::{fewer_options, length_of_spelling};
 use osc_message::laws::{one_reception, what_nodes_send};
 
-/// A tick leaves no exchange that is over: of each that is left the forwarded message is open still, or the end is less than 247 seconds
-/// away.
+/// A tick leaves no exchange that is over: each that is left was opened less than 247 seconds ago.
 pub fn none_is_over()
     ensures over { (old new : State) (now : AnyMoment) (draw : AnyDraw) (step : AnyStep) → Ticks old now draw step new
         → (key : ℕ) (exchange : AnyExchange) → get new.exchanges key ≡ Some exchange → is_overdue now exchange ≡ false }
     ensures ends { (old new : State) (now : AnyMoment) (draw : AnyDraw) (step : AnyStep) → Ticks old now draw step new
-        → EachHasAnEnd new.exchanges new.endpoint → (key : ℕ) (exchange : AnyExchange) → get new.exchanges key ≡ Some exchange
-        → (is_open new.endpoint.sending exchange ≡ true) ⊎ IsSomeAnd exchange.sent (λ sent. now.ms < sent.ms + lifetime) }
+        → (key : ℕ) (exchange : AnyExchange) → get new.exchanges key ≡ Some exchange → now.ms < exchange.opened.ms + lifetime }
 {}
 
 /// A response answers one exchange at most: no two have one token, since each begins with the key of its own.

@@ -1,16 +1,16 @@
 //! The exchange of a request that is forwarded.
-ghost use Rattle.std.specs.Prelude.{◌≡◌, false};
-ghost use Rattle.osc_proxy.specs.Table.{exchange_of, sent_when};
+ghost use Rattle.std.specs.Prelude.{◌≡◌};
+ghost use Rattle.osc_proxy.specs.Table.{exchange_of};
 
 use crate::exchanges::{Exchange, FailureRoom};
 use crate::forwarding::forwarded_token;
 use crate::token::Token;
 use osc_message::{Arrival, is_confirmable};
-use osc_model::{Moment, Peer};
+use osc_model::Peer;
 
-/// The exchange of this key for the request that came, whose forwarded message has this ID and waits for its turn.
-pub(crate) fn waiting(key: u8, id: u16, came: &Arrival<'_>, to: Peer, room: FailureRoom) -> Exchange
-    ensures { result ≡ exchange_of key id came.now.at came.now.from came.now.draw.now came.now.message to false }
+/// The exchange of this key for the request that came, whose forwarded message has this ID.
+pub(crate) fn opened(key: u8, id: u16, came: &Arrival<'_>, to: Peer, room: FailureRoom) -> Exchange
+    ensures { result ≡ exchange_of key id came.now.at came.now.from came.now.draw.now came.now.message to }
 {
     Exchange {
         client: came.from,
@@ -19,16 +19,7 @@ pub(crate) fn waiting(key: u8, id: u16, came: &Arrival<'_>, to: Peer, room: Fail
         target: to,
         id,
         token: forwarded_token(key, came.draw),
-        sent: None,
+        opened: came.at,
         room,
     }
-}
-
-/// The exchange, whose forwarded message goes out now, or waits still.
-pub(crate) fn gone_out(exchange: Exchange, goes: bool, now: Moment) -> Exchange
-    ensures { result ≡ record exchange { sent = sent_when goes now } }
-{
-    let mut exchange = exchange;
-    exchange.sent = if goes { Some(now) } else { None };
-    exchange
 }

@@ -1,5 +1,5 @@
 //! The proxy.
-ghost use Rattle.std.specs.Prelude.{◌≡◌, ◌≤◌, ◌<◌, ◌+◌, ◌↔◌, [], length, true, false, Some, IfOk, OnErr, IfSome, IfNone, IsSome, option_map};
+ghost use Rattle.std.specs.Prelude.{◌≡◌, ◌≢◌, ℕ, ◌≤◌, ◌<◌, ◌+◌, ◌↔◌, [], length, true, false, Some, IfOk, OnErr, IfSome, IfNone, IsSome};
 ghost use Rattle.osc_coap.specs.Message.{HasSpelling, spelling};
 ghost use Rattle.osc_model.specs.Step.{sends};
 ghost use Rattle.osc_model.specs.declared.node.Moment.{Moment as AnyMoment};
@@ -9,15 +9,16 @@ ghost use Rattle.osc_message.specs.Heard.{noted_reply as noted_reply_of};
 ghost use Rattle.osc_message.specs.Sending.{AreSendable, is_confirmable as is_confirmable_of, again};
 ghost use Rattle.osc_message.specs.declared.handling.Handling.TheVariants as handling;
 ghost use Rattle.osc_message.specs.declared.heard.Heard.TheVariants as heard;
-ghost use Rattle.osc_proxy.specs.Bounds.{AsksFor, CanCount, IsOpen, names_one};
+ghost use Rattle.osc_proxy.specs.Bounds.{AsksFor, CanCount, IsNamed, names_one};
 ghost use Rattle.osc_proxy.specs.Case.{IsAnswered};
-ghost use Rattle.osc_proxy.specs.Ends.{EachHasAnEnd};
-ghost use Rattle.osc_proxy.specs.Exchanges.{HasOwnTokens, all_left, count, left_by, none_open};
+ghost use Rattle.osc_proxy.specs.Ends.{EachHasItsExchange};
+ghost use Rattle.osc_proxy.specs.Exchanges.{HasOwnTokens, count, get, is_overdue, none_open};
 ghost use Rattle.osc_proxy.specs.Going.{Acknowledges, CanClose, IsOwn};
 ghost use Rattle.osc_proxy.specs.Hearing.{Hears, MayBeAnswered};
 ghost use Rattle.osc_proxy.specs.State.{restarted};
 ghost use Rattle.osc_proxy.specs.Table.{Answers, Counts, Ends, ForwardsBy, IsForwarded, IsRefused, forwarded_by, key_for as key_for_of};
-ghost use Rattle.osc_proxy.specs.Ticks.{Ticks, acts};
+ghost use Rattle.osc_proxy.specs.Ticks.{AreOfExchanges, Ticks, acts};
+ghost use Rattle.osc_proxy.specs.declared.exchanges.Exchange.{Exchange as AnyExchange};
 
 use crate::Endpoint;
 use crate::answering::{answer_back, failing};
@@ -25,10 +26,10 @@ use crate::case::{Case, case_of};
 use crate::deadline::{first_of, messages_deadline};
 use crate::exchanges::{Exchanges, FailureRoom};
 use crate::forwarding::{forwarded_message, forwarded_token};
-use crate::opening::{gone_out, waiting};
-use crate::sending::{Acknowledged, Own, has_room, send_back, send_own};
+use crate::opening::opened;
+use crate::sending::{Acknowledged, Own, has_room, put, send_back, send_own};
 use crate::targets::Targets;
-use crate::ticking::{finish, rest, room_for};
+use crate::ticking::tick;
 use osc_coap::{Kind, MessageBuilder, MessageRef};
 use osc_message::laws::{ticks_send_few, what_nodes_send};
 use osc_message::{
@@ -57,14 +58,14 @@ impl Drop for Proxy {
 }
 
 impl Model for Proxy {
-    ghost use Rattle.osc_proxy.specs.Ends.{EachHasAnEnd};
+    ghost use Rattle.osc_proxy.specs.Ends.{EachHasItsExchange};
     ghost use Rattle.osc_proxy.specs.State.{State};
 
     ghost Value = { State };
 
     ghost view = { λ p. record { targets = p.targets; exchanges = p.exchanges; endpoint = p.endpoint } };
 
-    ghost invariant = { λ p. EachHasAnEnd p.exchanges p.endpoint };
+    ghost invariant = { λ p. EachHasItsExchange p.exchanges p.endpoint.sending };
 }
 
 impl Proxy {
@@ -84,7 +85,7 @@ impl Proxy {
     /// How many exchanges are open: at most 64.
     pub fn open_exchanges(&self) -> usize
         ensures value { result ≡ count self.now.exchanges }
-        ensures ends { EachHasAnEnd self.now.exchanges self.now.endpoint }
+        ensures exchanges { EachHasItsExchange self.now.exchanges self.now.endpoint.sending }
         ensures own_tokens { HasOwnTokens self.now.exchanges }
     {
         // For the proof alone: it tells what always holds of a proxy.
@@ -112,8 +113,8 @@ impl Proxy {
         ensures heard { IfOk result (λ step. Hears self.old now draw.now from bytes.now step self.new) }
         ensures few { IfOk result (λ step. length step.out ≤ 2) }
         ensures err { OnErr result (self.new ≡ self.old) }
-        // Each exchange that is open has its end counted, or its forwarded message is open still.
-        ensures ends { EachHasAnEnd self.new.exchanges self.new.endpoint }
+        // Each open message that is a request has an exchange that is open.
+        ensures exchanges { EachHasItsExchange self.new.exchanges self.new.endpoint.sending }
         ensures own_tokens { HasOwnTokens self.new.exchanges }
         // What isn't answered takes no memory; nor does a repeat, where nothing was answered before.
         ensures needs_memory { OnErr result (MayBeAnswered self.old now from bytes.now) }
@@ -164,22 +165,18 @@ impl Proxy {
     /// Settles what an empty acknowledgement or Reset names.
     fn settle_empty(&mut self, alloc: Global, now: Moment, from: Peer, kind: Kind, id: u16) -> Step
         ensures step { result ≡ sends [] }
-        ensures kept { self.new ≡ record self.old { exchanges = all_left now from id self.old.exchanges; endpoint = settled self.old.endpoint now from (heard.Empty kind id) handling.Dropped } }
+        ensures kept { self.new ≡ record self.old { endpoint = settled self.old.endpoint now from (heard.Empty kind id) handling.Dropped } }
     {
         self.endpoint.settle_empty(now, from, kind, id);
-        self.exchanges.leave(now, from, id);
         Step::sending(Datagrams::new(alloc))
     }
 
     /// Ignores a message; an acknowledgement acknowledges all the same.
     fn ignore(&mut self, alloc: Global, now: Moment, from: Peer, message: MessageRef<'_>) -> Step
         ensures step { result ≡ sends [] }
-        ensures kept { self.new ≡ record self.old { exchanges = left_by now from message.entry.kind message.entry.id self.old.exchanges; endpoint = settled self.old.endpoint now from (heard.Message message.entry) handling.Dropped } }
+        ensures kept { self.new ≡ record self.old { endpoint = settled self.old.endpoint now from (heard.Message message.entry) handling.Dropped } }
     {
-        let kind = message.kind();
-        let id = message.id();
         self.endpoint.settle_dropped(now, from, message);
-        self.exchanges.leave_by(now, from, kind, id);
         Step::sending(Datagrams::new(alloc))
     }
 
@@ -285,7 +282,7 @@ impl Proxy {
     {
         what_nodes_send();
         let id = self.endpoint.own_id(came.draw);
-        let exchange = waiting(key, id, &came, own.to, room);
+        let exchange = opened(key, id, &came, own.to, room);
         let Arrival {
             at,
             from,
@@ -299,8 +296,8 @@ impl Proxy {
             &Heard::Message(message),
             Handling::Answered(reply),
         );
-        let goes = send_own(&mut self.endpoint, &mut out, at, draw, own);
-        self.exchanges.open(gone_out(exchange, goes, at));
+        put(&mut out, send_own(&mut self.endpoint, at, draw, own));
+        self.exchanges.open(exchange);
         Step::sending(out.into_datagrams())
     }
 
@@ -329,7 +326,7 @@ impl Proxy {
         own: Own,
         acknowledged: Acknowledged,
     ) -> Step
-        requires exchange { CanClose self.old came.draw.now came.message key named own }
+        requires exchange { CanClose self.old came.from came.draw.now came.message key named own }
         requires acknowledged { Acknowledges came.from came.message acknowledged }
         ensures counted { Counts key self.old came.entry.at came.entry.from came.entry.draw.now came.entry.message result self.new }
         ensures fits { AreSendable result.out }
@@ -342,8 +339,6 @@ impl Proxy {
             message,
         } = came;
         let Acknowledged { mut out, reply } = acknowledged;
-        let kind = message.kind();
-        let id = message.id();
         self.endpoint.settle(
             at,
             from,
@@ -351,9 +346,7 @@ impl Proxy {
             Handling::Counted(named, reply),
         );
         let _closed = self.exchanges.close(key).unwrap();
-        self.exchanges.leave_by(at, from, kind, id);
-        self.exchanges.leave(at, from, named);
-        send_back(&mut self.endpoint, &mut out, at, draw, own);
+        put(&mut out, send_back(&mut self.endpoint, at, draw, own));
         Step::sending(out.into_datagrams())
     }
 
@@ -366,7 +359,7 @@ impl Proxy {
         rejected: MessageName,
         key: usize,
     ) -> Result<Step, AllocError>
-        requires { IsOpen self.old.exchanges key }
+        requires { IsNamed self.old.exchanges rejected.peer rejected.id key }
         ensures ended { IfOk result (λ step. Ends key rejected.id self.old now rejected.peer draw.now step self.new) }
         ensures fits { IfOk result (λ step. AreSendable step.out) }
         ensures err { OnErr result (self.new ≡ self.old) }
@@ -375,24 +368,25 @@ impl Proxy {
         let mut out = Outbox::new(alloc, 1)?;
         self.endpoint.settle_empty(now, from, Kind::Reset, id);
         let exchange = self.exchanges.close(key).unwrap();
-        self.exchanges.leave(now, from, id);
         let own = failing(exchange, self.endpoint.own_id(draw), Code::BAD_GATEWAY);
-        send_back(&mut self.endpoint, &mut out, now, draw, own);
+        put(&mut out, send_back(&mut self.endpoint, now, draw, own));
         Ok(Step::sending(out.into_datagrams()))
     }
 
-    /// Sends what is due at this moment, and answers by 5.04 those whose forwarded message was given up, or went out, or left the queue
-    /// without going out, 247 seconds ago. Where nothing is due no memory is taken; without memory an `AllocError`, and then nothing
-    /// has changed.
-    pub fn on_tick(&mut self, alloc: Global, now: Moment, draw: &Draw) -> Result<Step, AllocError>
-        ensures ticked { IfOk result (λ step. Ticks self.old now draw.now step self.new) }
-        ensures few { IfOk result (λ step. length step.out ≤ length self.old.endpoint.sending + count self.old.exchanges) }
-        ensures ends { EachHasAnEnd self.new.exchanges self.new.endpoint }
+    /// Ends the exchanges that were opened 247 seconds ago or earlier, and those whose forwarded message was given up, by 5.04, and sends
+    /// what is due at this moment. Memory is taken for what is sent alone: without it that is lost, as on the way, and all else is done.
+    pub fn on_tick(&mut self, alloc: Global, now: Moment, draw: &Draw) -> Step
+        ensures ticked { Ticks self.old now draw.now result self.new }
+        ensures few { length result.out ≤ length self.old.endpoint.sending + count self.old.exchanges }
+        // Each request that is sent is that of an exchange that was open and isn't over.
+        ensures requests { AreOfExchanges self.old now result.out }
+        // No exchange is over that is open still.
+        ensures none_over { (key : ℕ) (exchange : AnyExchange) → get self.new.exchanges key ≡ Some exchange → is_overdue now exchange ≡ false }
+        ensures exchanges { EachHasItsExchange self.new.exchanges self.new.endpoint.sending }
         ensures own_tokens { HasOwnTokens self.new.exchanges }
-        ensures err { OnErr result (self.new ≡ self.old) }
-        ensures needs_memory { OnErr result (acts now self.old ≡ true) }
     {
-        let step = self.tick(alloc, now, draw);
+        ticks_send_few();
+        let step = tick(&mut self.exchanges, &mut self.endpoint, alloc, now, draw);
         // For the proof alone: the call tells what always holds of a proxy.
         let _open = self.open_exchanges();
         step
@@ -404,68 +398,23 @@ impl Proxy {
     pub fn next_deadline(&self) -> Option<u64>
         ensures some { IfSome result (λ deadline. (now : AnyMoment) → (acts now self.now ≡ true) ↔ (deadline ≤ now.ms)) }
         ensures none { IfNone result ((now : AnyMoment) → acts now self.now ≡ false) }
+        // There is one where an exchange is open, or a message.
+        ensures exchange { 0 < count self.now.exchanges → IsSome result }
+        ensures message { self.now.endpoint.sending ≢ [] → IsSome result }
     {
         self.deadline()
     }
 
     /// The same, by what is reached at each moment.
     fn deadline(&self) -> Option<u64>
-        ensures { (now : AnyMoment) → is_reached now result ≡ acts now self.now }
+        ensures reached { (now : AnyMoment) → is_reached now result ≡ acts now self.now }
+        ensures exchange { 0 < count self.now.exchanges → IsSome result }
+        ensures message { self.now.endpoint.sending ≢ [] → IsSome result }
     {
         first_of(
             messages_deadline(&self.endpoint),
             self.exchanges.first_end(),
         )
-    }
-
-    /// Whether a tick sends, gives up or ends anything at this moment.
-    fn is_due(&self, now: Moment) -> bool
-        ensures { result ≡ acts now self.now }
-    {
-        self.deadline().is_some_and(|first| first <= now.ms)
-    }
-
-    /// What is due at this moment, or nothing.
-    fn tick(&mut self, alloc: Global, now: Moment, draw: &Draw) -> Result<Step, AllocError>
-        ensures ticked { IfOk result (λ step. Ticks self.old now draw.now step self.new) }
-        ensures few { IfOk result (λ step. length step.out ≤ length self.old.endpoint.sending + count self.old.exchanges) }
-        ensures err { OnErr result (self.new ≡ self.old) }
-        ensures needs_memory { OnErr result (acts now self.old ≡ true) }
-    {
-        if self.is_due(now) {
-            self.act(alloc, now, draw)
-        } else {
-            Ok(self.rest(alloc, now, draw))
-        }
-    }
-
-    /// A tick at which nothing is due: notes whose lifetime has ended go. Takes no memory.
-    fn rest(&mut self, alloc: Global, now: Moment, draw: &Draw) -> Step
-        requires { acts now self.old ≡ false }
-        ensures ticked { Ticks self.old now draw.now result self.new }
-        ensures few { length result.out ≤ length self.old.endpoint.sending + count self.old.exchanges }
-    {
-        let _ = draw;
-        rest(&self.exchanges, &mut self.endpoint, alloc, now)
-    }
-
-    /// A tick at which something is due.
-    fn act(&mut self, alloc: Global, now: Moment, draw: &Draw) -> Result<Step, AllocError>
-        ensures ticked { IfOk result (λ step. Ticks self.old now draw.now step self.new) }
-        ensures few { IfOk result (λ step. length step.out ≤ length self.old.endpoint.sending + count self.old.exchanges) }
-        ensures err { OnErr result (self.new ≡ self.old) }
-    {
-        ticks_send_few();
-        let out = room_for(alloc, self.open_messages(), self.open_exchanges())?;
-        let ticked = self.endpoint.on_tick(alloc, now)?;
-        Ok(finish(
-            &mut self.exchanges,
-            &mut self.endpoint,
-            now,
-            draw,
-            out,
-            ticked,
-        ))
     }
 
     /// Starts again: forgets the open exchanges and what was heard, and keeps its targets. Takes no memory.

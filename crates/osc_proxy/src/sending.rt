@@ -1,5 +1,6 @@
 //! What a proxy sends.
-ghost use Rattle.std.specs.Prelude.{◌≡◌, ◌<◌, ◌≤◌, ◌+◌, ◌++◌, true, IfOk};
+ghost use Rattle.std.specs.Prelude.{◌≡◌, ◌<◌, ◌++◌, true, IfOk};
+ghost use Rattle.std.specs.Option.{option_to_list};
 ghost use Rattle.osc_coap.specs.Message.{HasSpelling, spelling};
 ghost use Rattle.osc_message.specs.Sending.{FitsDatagram};
 ghost use Rattle.osc_proxy.specs.Own.{goes_now, has_room, sends_own, with_own};
@@ -8,7 +9,7 @@ ghost use Rattle.osc_proxy.specs.Going.{Acknowledges, IsOwn, back_kept_by, back_
 use crate::Endpoint;
 use osc_coap::{MessageBuilder, MessageRef};
 use osc_message::{Outbox, acknowledgement};
-use osc_model::{Bytes, Draw, Moment, Peer};
+use osc_model::{Bytes, Datagram, Draw, Moment, Peer};
 use std::alloc::{AllocError, Global};
 
 /// The acknowledgement of a message, where it is confirmable: the first datagram in room for two, and its bytes to be noted.
@@ -83,21 +84,27 @@ pub(crate) fn has_room(endpoint: &Endpoint, confirmable: bool, to: Peer) -> bool
     !confirmable || endpoint.takes(to)
 }
 
-/// Makes the message, for which there is room, and sends it where it goes out at once; whether it does. Takes no memory.
+/// Puts a datagram, if there is one, behind the others; takes no memory.
+pub(crate) fn put(out: &mut Outbox, sent: Option<Datagram>)
+    requires { 0 < out.old.places }
+    ensures { out.new.sent ≡ out.old.sent ++ option_to_list sent }
+{
+    if let Some(Datagram { to, bytes }) = sent {
+        out.send(to, bytes);
+    }
+}
+
+/// Makes the message, for which there is room; its datagram, where it goes out at once. Takes no memory.
 pub(crate) fn send_own(
     endpoint: &mut Endpoint,
-    out: &mut Outbox,
     now: Moment,
     draw: &Draw,
     own: Own,
-) -> bool
-    requires place { 0 < out.old.places }
+) -> Option<Datagram>
     requires room { has_room own.confirmable own.to endpoint.old ≡ true }
     requires short { FitsDatagram own.kept }
-    ensures goes { result ≡ goes_now own.confirmable own.to endpoint.old }
     ensures made { endpoint.new ≡ with_own own.confirmable endpoint.old now draw.now own.to own.kept }
-    ensures sent { out.new.sent ≡ out.old.sent ++ sends_own (goes_now own.confirmable own.to endpoint.old) own.to own.sent }
-    ensures places { out.old.places ≤ out.new.places + 1 }
+    ensures sent { option_to_list result ≡ sends_own (goes_now own.confirmable own.to endpoint.old) own.to own.sent }
 {
     let Own {
         to,
@@ -112,26 +119,27 @@ pub(crate) fn send_own(
         true
     };
     if goes {
-        out.send(to, sent);
+        Some(Datagram { to, bytes: sent })
+    } else {
+        None
     }
-    goes
 }
 
-/// Makes the message where there is room for one more to its peer, and drops it elsewhere. Takes no memory.
+/// Makes the message where there is room for one more to its peer, and drops it elsewhere; its datagram, where it goes out at once.
+/// Takes no memory.
 pub(crate) fn send_back(
     endpoint: &mut Endpoint,
-    out: &mut Outbox,
     now: Moment,
     draw: &Draw,
     own: Own,
-)
-    requires place { 0 < out.old.places }
+) -> Option<Datagram>
     requires short { FitsDatagram own.kept }
     ensures made { endpoint.new ≡ back_kept_by own.confirmable endpoint.old now draw.now own.to own.kept }
-    ensures sent { out.new.sent ≡ out.old.sent ++ back_sends_by own.confirmable endpoint.old own.to own.sent }
-    ensures places { out.old.places ≤ out.new.places + 1 }
+    ensures sent { option_to_list result ≡ back_sends_by own.confirmable endpoint.old own.to own.sent }
 {
     if has_room(endpoint, own.confirmable, own.to) {
-        let _goes = send_own(endpoint, out, now, draw, own);
+        send_own(endpoint, now, draw, own)
+    } else {
+        None
     }
 }

@@ -1,5 +1,5 @@
 -- What answered each message that is noted was a message.
-use Rattle.std.proofs.Common.{◌≡◌, ℕ, ◌+◌, ◌-◌, Bool, true, false, cond, List, [], ◌∷◌, length, find, drop, Option, Some, None, refl, subst, arith}
+use Rattle.std.proofs.Common.{◌≡◌, ℕ, ◌+◌, ◌-◌, Bool, true, false, cond, List, [], ◌∷◌, length, find, drop, Option, Some, None, refl, subst, inl, inr, ◌∙◌, arith}
 use Rattle.std.specs.Prelude.{not, ◌&&◌, if◌then◌else◌, option_and_then}
 use Rattle.std.specs.List.{All}
 use Rattle.std.specs.Option.{ForSome, option_map}
@@ -14,13 +14,14 @@ use Rattle.osc_model.specs.declared.bytes.Bytes.{Bytes}
 use Rattle.osc_model.specs.declared.node.Draw.{Draw}
 use Rattle.osc_model.specs.declared.node.Moment.{Moment}
 use Rattle.osc_model.specs.declared.node.Peer.{Peer}
+use Rattle.osc_model.specs.declared.step.Datagram.{Datagram}
 use Rattle.osc_message.specs.declared.handling.Handling.TheVariants.{Dropped, Answered}
 use Rattle.osc_message.specs.declared.heard.Heard.TheVariants as heard
 use Rattle.osc_message.specs.Confirmables.{Open}
 use Rattle.osc_message.specs.Endpoint.{EndpointState, id_taken, noted, settled, acknowledged_by, after_tick}
 use Rattle.osc_message.specs.Ticks.{acts, tick_sends}
 use Rattle.osc_message.specs.Heard.{noted_reply}
-use Rattle.osc_message.specs.Sending.{AreSendable, FitsDatagram, again, is_confirmable, replied}
+use Rattle.osc_message.specs.Sending.{AreSendable, FitsDatagram, GoesOut, again, is_confirmable, replied}
 use Rattle.osc_server.specs.Parts.{IsMessage, IsQuiet, KeepsMessages, SendsTo, noted_by}
 
 abbrev IsKept : Entry → Type 0
@@ -147,3 +148,8 @@ repeat_sends peer None message fits = record {
   addressed = All-nil (λ sent. sent.to ≡ peer);
 }
 repeat_sends peer (Some bytes) message fits = sent_again peer bytes (message bytes refl) (All-head (λ sent. FitsDatagram sent.bytes) (record { to = peer; bytes = bytes }) [] fits)
+
+-- nothing is due, so nothing goes out
+pub nothing_goes : (due out : List Datagram) → due ≡ [] → GoesOut due out → out ≡ []
+nothing_goes due out none (inl is) = is ∙ none
+nothing_goes due out none (inr is) = is

@@ -29,7 +29,7 @@ use crate::serving::{ProtectedRequest, Served, serve};
 use osc_authz::{Post, ServerDesk};
 use osc_coap::MessageBuilder;
 use osc_message::laws::what_is_heard;
-use osc_message::{Arrival, Buffer, Handling, Heard, ReplyRoom, sending_reset};
+use osc_message::{Arrival, Buffer, Handling, Heard, ReplyRoom, Ticked, sending_reset};
 use osc_model::{Bytes, Code, Datagrams, Draw, Moment, Peer, Reply, Request, Step, StepNotes};
 use osc_protect::{Ciphers, TokenCipher, read_request};
 use osc_run::kinds;
@@ -384,13 +384,12 @@ impl Server {
 
     /// Lets the notes of what was heard go whose lifetime has ended. Nothing that a server sends waits for an acknowledgement, so
     /// nothing is sent, and no memory is taken.
-    pub fn on_tick(&mut self, alloc: Global, now: Moment) -> Result<Step, AllocError>
-        ensures ticked { IfOk result (λ step. Ticks self.old now step self.new) }
-        ensures kind { IfOk result (λ step. ServerStep (core self.old) now step.notes (core self.new)) }
-        ensures never { IsOk result }
+    pub fn on_tick(&mut self, alloc: Global, now: Moment) -> Step
+        ensures ticked { Ticks self.old now result self.new }
+        ensures kind { ServerStep (core self.old) now result.notes (core self.new) }
     {
-        let ticked = self.endpoint.on_tick(alloc, now)?;
-        Ok(Step::sending(ticked.out))
+        let Ticked { out, .. } = self.endpoint.on_tick(alloc, now);
+        Step::sending(out)
     }
 
     /// The first moment at which a tick does anything but let notes go: none, since nothing that a server sends waits for an

@@ -93,7 +93,7 @@ fn heard(alloc: Global, client: &mut Client, datagram: &[u8]) -> u8 {
 
 /// How a tick at this moment in ms goes on.
 fn ticked(alloc: Global, client: &mut Client, ms: u64) -> u8 {
-    result_in(client.on_tick(alloc, at(ms)))
+    told_in(client.on_tick(alloc, at(ms)))
 }
 
 /// How an ask that isn't sent goes on.

@@ -344,18 +344,17 @@ fn serves_first(rt: &impl Abort, alloc: Global, server: &mut Server) -> Result<(
 }
 
 /// The server starts again behind a tick.
-fn restarted(alloc: Global, server: &mut Server) -> Result<(), AllocError> {
-    let step = server.on_tick(alloc, Moment::START)?;
+fn restarted(alloc: Global, server: &mut Server) {
+    let step = server.on_tick(alloc, Moment::START);
     drop(step);
     server.restart();
-    Ok(())
 }
 
 /// A server that started again has its resources, and no context.
 fn starts_again(rt: &impl Abort, alloc: Global, server: &mut Server) -> Result<(), Fail> {
     check(rt, alloc, server, POST, POSTED);
     serves_first(rt, alloc, server)?;
-    restarted(alloc, server)?;
+    restarted(alloc, server);
     assert!(rt; server.tree().len() == 1);
     let get = request(alloc, 1, 2, 1, b"")?;
     check(

@@ -1,5 +1,6 @@
 //! Inputs and outputs that fail.
 use std::io::{self, ErrorKind, Read, Write};
+use std::os::fd::{AsRawFd, RawFd};
 
 /// Gives some bytes and then fails.
 #[derive(Drop)]
@@ -33,5 +34,34 @@ impl Write for BrokenWriter {
 
     fn flush(&mut self) -> io::Result<()> {
         Ok(())
+    }
+}
+
+/// Refuses some writes, as a pipe that is full, and then takes all.
+#[derive(Drop)]
+pub(crate) struct FullPipe {
+    pub(crate) refuses: usize,
+    pub(crate) taken: Vec<u8>,
+    pub(crate) fd: RawFd,
+}
+
+impl Write for FullPipe {
+    fn write(&mut self, buf: &[u8]) -> io::Result<usize> {
+        if self.refuses > 0 {
+            self.refuses -= 1;
+            return Err(io::Error::from(ErrorKind::WouldBlock));
+        }
+        self.taken.extend_from_slice(buf)?;
+        Ok(buf.len())
+    }
+
+    fn flush(&mut self) -> io::Result<()> {
+        Ok(())
+    }
+}
+
+impl AsRawFd for FullPipe {
+    fn as_raw_fd(&self) -> RawFd {
+        self.fd
     }
 }

@@ -1,11 +1,12 @@
 //! The lines by which a node tells what its steps did.
-use crate::broken::BrokenWriter;
+use crate::broken::{BrokenWriter, FullPipe};
 use osc_model::{
     Algorithm, Bytes, Code, ContextName, Datagram, Datagrams, Entry, Moment, Peer, RefusedRequest,
     Reply, SharedName, Step, StepNotes,
 };
-use osc_programs::{Lines, Log, Silent, step_text};
+use osc_programs::{AtOnce, Lines, Log, Silent, step_text};
 use std::alloc::{AllocError, Global};
+use std::io::{ErrorKind, Write};
 use std::test::Fail;
 
 const NOW: u64 = 1700000000123;
@@ -213,6 +214,67 @@ fn lines_are_written(rt: HostRuntime) -> Result<(), Fail> {
     Ok(())
 }
 
+// So many milliseconds behind the first moment.
+fn later(ms: u64) -> Moment {
+    Moment::new(NOW.wrapping_add(ms)).unwrap_or(Moment::START)
+}
+
+// Of one second 20 refusals are told, and all that is served. The next second tells first how many were left out.
+#[test]
+fn many_refusals_are_counted(rt: HostRuntime) -> Result<(), Fail> {
+    let alloc = rt.alloc();
+    let refused = refusing(alloc, Code::UNAUTHORIZED, None)?;
+    let served = serving(alloc, b"\x01\xb3log")?;
+    let mut lines = Lines::new(Vec::new(alloc));
+    for ms in 0..23 {
+        lines.step(alloc, later(ms), &refused);
+    }
+    lines.step(alloc, later(876), &served);
+    let written = lines.into_writer();
+    let mut told: Vec<&[u8]> = written.split(|byte| *byte == b'\n').collect(alloc)?;
+    assert_eq!(rt; told.len(), 22);
+    let _end = told.pop();
+    assert_eq!(rt;
+        told.pop(),
+        Some(b"1700000000999 192.0.2.7:40000 served GET /log: 2.05".as_slice())
+    );
+    assert_eq!(rt;
+        told.pop(),
+        Some(b"1700000000142 192.0.2.7:40000 refused 4.01: it is not protected".as_slice())
+    );
+    Ok(())
+}
+
+#[test]
+fn a_new_second_tells_what_was_left_out(rt: HostRuntime) -> Result<(), Fail> {
+    let alloc = rt.alloc();
+    let refused = refusing(alloc, Code::UNAUTHORIZED, None)?;
+    let none = Step::sending(Datagrams::new(alloc));
+    let mut lines = Lines::new(Vec::new(alloc));
+    for ms in 0..23 {
+        lines.step(alloc, later(ms), &refused);
+    }
+    // A step that sends nothing has no line, and tells of nothing.
+    lines.step(alloc, later(1000), &none);
+    lines.step(alloc, later(2000), &refused);
+    lines.step(alloc, later(4000), &refused);
+    let written = lines.into_writer();
+    let told = written
+        .split(|byte| *byte == b'\n')
+        .collect::<Vec<&[u8]>>(alloc)?;
+    assert_eq!(rt; told.len(), 24);
+    assert_eq!(rt; told[20], b"1700000002123 left out 3 refusals".as_slice());
+    assert_eq!(rt;
+        told[21],
+        b"1700000002123 192.0.2.7:40000 refused 4.01: it is not protected".as_slice()
+    );
+    assert_eq!(rt;
+        told[22],
+        b"1700000004123 192.0.2.7:40000 refused 4.01: it is not protected".as_slice()
+    );
+    Ok(())
+}
+
 // What can't be written is nobody's failure, and what comes later is tried again.
 #[test]
 fn a_broken_output_ends_nothing(rt: HostRuntime) -> Result<(), Fail> {
@@ -222,9 +284,58 @@ fn a_broken_output_ends_nothing(rt: HostRuntime) -> Result<(), Fail> {
     for _ in 0..3 {
         lines.step(alloc, moment(), &step);
     }
+    assert_eq!(rt; lines.dropped(), 2);
     assert_eq!(rt; lines.into_writer().writes, 0);
     let mut silent = Silent;
     silent.step(alloc, moment(), &step);
     silent.lost();
+    Ok(())
+}
+
+// Lines that couldn't be written are counted, and told of once something can be.
+#[test]
+fn dropped_lines_are_told_of(rt: HostRuntime) -> Result<(), Fail> {
+    let alloc = rt.alloc();
+    let step = serving(alloc, b"\x01\xb3log")?;
+    let mut lines = Lines::new(FullPipe {
+        refuses: 3,
+        taken: Vec::new(alloc),
+        fd: 2,
+    });
+    // The third write that is refused is that of the notice.
+    lines.step(alloc, moment(), &step);
+    lines.lost();
+    lines.step(alloc, moment(), &Step::sending(Datagrams::new(alloc)));
+    assert_eq!(rt; lines.dropped(), 2);
+    lines.step(alloc, moment(), &step);
+    lines.lost();
+    assert_eq!(rt;
+        lines.into_writer().taken.as_slice(),
+        b"2 lines could not be written\n1700000000123 192.0.2.7:40000 served GET /log: 2.05\nout of memory: what came is lost\n".as_slice()
+    );
+    Ok(())
+}
+
+// Where the system says that a descriptor takes nothing now, nothing is written, and nobody waits.
+#[test]
+fn a_writer_that_never_waits(rt: HostRuntime) -> Result<(), Fail> {
+    let alloc = rt.alloc();
+    // No descriptor has a number below 0, so none is ready.
+    let mut full = AtOnce::new(FullPipe {
+        refuses: 0,
+        taken: Vec::new(alloc),
+        fd: -1,
+    });
+    let refused = full.write(b"line").err().map(|error| error.kind());
+    assert!(rt; refused == Some(ErrorKind::WouldBlock));
+    let mut ready = AtOnce::new(FullPipe {
+        refuses: 0,
+        taken: Vec::new(alloc),
+        fd: 2,
+    });
+    assert_eq!(rt; ready.write(b"line").ok(), Some(4));
+    // Of more than a pipe takes at once, the first part is.
+    let long = vec![in alloc; b'a'; 5000]?;
+    assert_eq!(rt; ready.write(&long).ok(), Some(4096));
     Ok(())
 }

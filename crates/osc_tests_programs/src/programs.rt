@@ -43,6 +43,13 @@ const LONG: &str =
 const LONG_TRACE: &str =
     "sent 1 s>x ACK 4.01\nnothing\nnothing\nsent 2 s>s ACK 4.01\nhistory 0\npremise: held\n";
 
+// Words that spell more bytes than any datagram has, and that would be long in the making: a datagram, the payload of a request and that of a lie.
+const ENDLESS: &str =
+    "grant c1 /log:GET+POST\nexchange c1\nquiet\ninject x s 40010001ff+00*8000000\nask c1 POST /log 00*8000000\nlie c1 7 POST /log 00*8000000+61*18446744073709551615\n";
+
+const ENDLESS_TRACE: &str =
+    "sent 1 c1>s CON 0.02\nsent 2 s>c1 ACK 2.01\nc1 context\nnothing\nc1 refused 14\nc1 refused 14\nhistory 0\npremise: held\n";
+
 // A trace without numbers of lines.
 fn plain(bytes: bool) -> TraceForm {
     TraceForm {
@@ -79,6 +86,7 @@ fn scripts_have_their_traces(rt: HostRuntime) -> Result<(), Fail> {
         (REPEATED, true, REPEATED_TRACE),
         (FULL, false, FULL_TRACE),
         (LONG, false, LONG_TRACE),
+        (ENDLESS, false, ENDLESS_TRACE),
     ] {
         assert!(rt;
             writes(rt.alloc(), script, with_bytes, Ended::Done, trace),

@@ -130,7 +130,7 @@ fn resources(rt: HostRuntime) {
 }
 
 /// Scripts of injected datagrams, and the first bad line of each.
-const INJECTED: [(&[u8], Option<u64>); 12] = [
+const INJECTED: [(&[u8], Option<u64>); 14] = [
     (b"inject s x -\ninject x x -\ninject s s -", None),
     (b"inject y s -", Some(1)),
     (b"inject s p1 -", Some(1)),
@@ -142,7 +142,9 @@ const INJECTED: [(&[u8], Option<u64>); 12] = [
     (b"inject x s 0g", Some(1)),
     (b"inject x s 00*", Some(1)),
     (b"inject x s 0000*2", Some(1)),
-    (b"inject x s 61*18446744073709551615", Some(0)),
+    (b"inject x s 61*18446744073709551615", None),
+    (b"inject x s 00*8000000+0g", Some(1)),
+    (b"inject x s 61*18446744073709551616", Some(1)),
 ];
 
 #[test]

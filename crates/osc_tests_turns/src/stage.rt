@@ -62,7 +62,7 @@ fn happens(
 ) -> Result<Step, AllocError> {
     match event {
         Event::Comes(from, bytes) => proxy.on_datagram(alloc, at(ms), from, bytes, &DRAW),
-        Event::Tick => proxy.on_tick(alloc, at(ms), &DRAW),
+        Event::Tick => Ok(proxy.on_tick(alloc, at(ms), &DRAW)),
     }
 }
 

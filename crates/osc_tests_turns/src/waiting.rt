@@ -187,7 +187,7 @@ fn requests_that_are_not_confirmable(rt: HostRuntime) -> Result<(), Fail> {
     Ok(goes_from_new(&rt, rt.alloc(), &NON_CONFIRMABLE)?)
 }
 
-/// A second confirmable request waits until the first is acknowledged; its 247 seconds count from when it went out.
+/// A second confirmable request waits until the first is acknowledged; its 247 seconds count from when it came all the same.
 const IN_TURN: [Row<'static>; 8] = [
     (
         0,
@@ -201,15 +201,35 @@ const IN_TURN: [Row<'static>; 8] = [
         &[(SERVER, b"\x48\x01\x01\x01\x01\0\0\0\0\0\0\0\x31s\x81e")],
     ),
     (1_000, Comes(SERVER, b"\x60\0\x01\x01"), &[]),
+    (246_999, Tick, &[]),
     (247_000, Tick, &[(CLIENT, b"\x42\xa4\x01\x02\xaa\xbb")]),
     (247_000, Comes(CLIENT, b"\x60\0\x01\x02"), &[]),
-    (247_999, Tick, &[]),
-    (248_000, Tick, &[(CLIENT, b"\x42\xa4\x01\x03\xcc\xdd")]),
+    (247_000, Tick, &[(CLIENT, b"\x42\xa4\x01\x03\xcc\xdd")]),
 ];
 
 #[test]
 fn requests_that_wait_for_their_turn(rt: HostRuntime) -> Result<(), Fail> {
     Ok(goes_on(&rt, rt.alloc(), &IN_TURN)?)
+}
+
+/// Nobody acknowledges the first request, and a second one waits behind it. Behind 247 seconds without a tick both have ended, and neither is sent
+/// to the target again, nor when that acknowledges them.
+const OVER: [Row<'static>; 6] = [
+    (
+        0,
+        Comes(CLIENT, b"\x42\x01\0\x02\xcc\xdd\x31s\x81e\xd4\x0fcoap"),
+        &[(CLIENT, b"\x60\0\0\x02")],
+    ),
+    (247_000, Tick, &[(CLIENT, b"\x42\xa4\x01\x02\xaa\xbb")]),
+    (247_000, Comes(SERVER, b"\x60\0\x01\0"), &[]),
+    (247_000, Comes(CLIENT, b"\x60\0\x01\x02"), &[]),
+    (247_000, Tick, &[(CLIENT, b"\x42\xa4\x01\x03\xcc\xdd")]),
+    (248_000, Tick, &[]),
+];
+
+#[test]
+fn what_is_over_is_sent_no_more(rt: HostRuntime) -> Result<(), Fail> {
+    Ok(goes_on(&rt, rt.alloc(), &OVER)?)
 }
 
 /// A confirmable response to the first request that was forwarded counts for nothing.

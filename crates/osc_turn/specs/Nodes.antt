@@ -1,6 +1,6 @@
 -- The step that a node makes of what came: of a datagram, or of nothing, which is a tick. It is one step of a run, and the one that the
 -- node's own tables give.
-use Rattle.std.specs.Prelude.{ℕ, false, List, Option, Some, None}
+use Rattle.std.specs.Prelude.{ℕ, Bool, false, List, Option, Some, None}
 use Rattle.osc_model.specs.declared.node.Draw.{Draw}
 use Rattle.osc_model.specs.declared.node.Moment.{Moment}
 use Rattle.osc_model.specs.declared.step.Step.{Step}
@@ -10,10 +10,11 @@ use Rattle.osc_run.specs.ServerKinds.{ServerStep}
 use Rattle.osc_server.specs.Hearing.{Hears as ServerHears, Ticks as ServerTicks}
 use Rattle.osc_server.specs.State.{State as Server, core as core_of_server}
 use Rattle.osc_client.specs.Hearing.{Hears as ClientHears, Ticks as ClientTicks}
+use Rattle.osc_client.specs.Sending.{acts_at}
 use Rattle.osc_client.specs.State.{State as Client, core as core_of_client}
 use Rattle.osc_proxy.specs.Hearing.{Hears as HeardByProxy}
 use Rattle.osc_proxy.specs.State.{State as Proxy}
-use Rattle.osc_proxy.specs.Ticks.{Ticks as ProxyTicks}
+use Rattle.osc_proxy.specs.Ticks.{Ticks as ProxyTicks, acts as acts_of_proxy}
 use Rattle.osc_turn.specs.Ports.{Arrival}
 
 -- ---- a proxy
@@ -23,7 +24,18 @@ abbrev pub ProxySteps : Proxy → Moment → Draw → Option Arrival → Step �
 ProxySteps old now draw None step new = ProxyTicks old now draw step new
 ProxySteps old now draw (Some came) step new = HeardByProxy old now draw came.0 came.1 step new
 
+-- whether a tick at this moment sends, gives up or ends anything
+abbrev pub proxy_acts : Proxy → Moment → Bool
+proxy_acts state now = acts_of_proxy now state
+
 -- ---- a server and a client
+
+-- nothing that a server sends is ever due again
+abbrev pub server_acts : Server → Moment → Bool
+server_acts state now = false
+
+abbrev pub client_acts : Client → Moment → Bool
+client_acts state now = acts_at state now
 
 -- `is_sealing algorithm` is the relation of the algorithm's cipher
 module _ (is_sealing : Sealings) where

@@ -1,5 +1,5 @@
 -- Turns that make no step.
-use Rattle.std.specs.Prelude.{◌≡◌, ◌<◌, ◌∷◌, [], ℕ, List, Option}
+use Rattle.std.specs.Prelude.{◌≡◌, ◌<◌, ◌∷◌, [], ℕ, List, Option, Some}
 use Rattle.osc_turn.specs.Ports.{Arrival, grown}
 use Rattle.osc_turn.specs.declared.error.TurnError.{TurnError}
 use Rattle.osc_turn.specs.declared.error.TurnError.TheVariants.{Port, Memory}
@@ -9,10 +9,10 @@ pub record HasFailed (received received_after : Option (List (Option Arrival))) 
   pub nothing : received_after ≡ received
   pub counted : failures < failures_after
 
--- no call failed; what came, if anything did, is lost
+-- no call failed; what came is lost
 pub record HasLost (received received_after : Option (List (Option Arrival))) (failures failures_after : ℕ) : Type 0 where
-  pub came : Option Arrival
-  pub lost : received_after ≡ grown received (came ∷ [])
+  pub came : Arrival
+  pub lost : received_after ≡ grown received (Some came ∷ [])
   pub not_counted : failures_after ≡ failures
 
 abbrev pub IsRefusedBy : TurnError → Option (List (Option Arrival)) → Option (List (Option Arrival)) → ℕ → ℕ → Type 0

@@ -4,7 +4,6 @@ ghost use Rattle.osc_turn.specs.Errors.{turn_number};
 ghost use Rattle.osc_turn.specs.declared.error.TurnError.TheVariants as turn_error;
 
 use crate::port::PortFault;
-use std::alloc::AllocError;
 use thiserror::Error;
 
 /// Why a turn made no step: the node is as before, and nothing was sent.
@@ -35,13 +34,5 @@ impl From<PortFault> for TurnError {
 
     fn from(fault: PortFault) -> TurnError {
         TurnError::Port(fault)
-    }
-}
-
-impl From<AllocError> for TurnError {
-    ghost from_gives = { λ _ e. e ≡ turn_error.Memory };
-
-    fn from(_error: AllocError) -> TurnError {
-        TurnError::Memory
     }
 }

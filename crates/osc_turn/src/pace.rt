@@ -1,6 +1,6 @@
-//! Turns that tick in time, whatever comes.
+//! Turns that tick in time, whatever comes: for what is due, and each 10 milliseconds at the latest.
 ghost use Rattle.std.specs.Prelude.{◌≡◌, None, Option, false, IfErr, IfOk, OnErr, is_some};
-ghost use Rattle.osc_turn.specs.Pace.{CameIn, IsRefusedIn, busy_after, is_due};
+ghost use Rattle.osc_turn.specs.Pace.{CameIn, IsRefusedIn, busy_after, is_due, must_tick};
 ghost use Rattle.osc_turn.specs.Ports.{Arrival, CountsFault, grown};
 
 use crate::error::TurnError;
@@ -9,7 +9,7 @@ use crate::port::Port;
 use crate::turning::{Turned, send_all, turn};
 use osc_model::{Draw, Moment};
 use osc_protect::Ciphers;
-use std::alloc::{AllocError, Global};
+use std::alloc::Global;
 
 // How long a node takes what comes without a tick between, in milliseconds.
 const TICK_MILLIS: u64 = 10;
@@ -48,12 +48,13 @@ impl Pace {
     }
 }
 
-/// One turn of a node that keeps this pace: where it has taken what came for 10 milliseconds the node ticks, and what waits at the port
-/// stays there until the next turn; else it is a [`turn`]. So what is due goes out and what is over ends, whatever comes.
+/// One turn of a node that keeps this pace: where something of its own is due, or it has taken what came for 10 milliseconds, the node
+/// ticks, and what waits at the port stays there until the next turn; else it is a [`turn`]. So what is due goes out before anything more is
+/// taken, and what is over ends, whatever comes.
 ///
 /// # Errors
 ///
-/// As of [`turn`]; where the node ticks without asking the port, `Memory` alone, and nothing is lost.
+/// As of [`turn`]; none where the node ticks without asking the port.
 pub fn paced_turn<A: Ciphers, P: Port, N: Node<A>>(
     alloc: Global,
     port: &mut P,
@@ -63,19 +64,20 @@ pub fn paced_turn<A: Ciphers, P: Port, N: Node<A>>(
     draw: &Draw,
 ) -> Result<Turned, TurnError>
     ensures done { IfOk result (λ turned. (came : Option Arrival)
-        × CameIn (is_due pace.old.busy_since now) came (P.received port.old) (P.received port.new)
+        × CameIn (must_tick (N.acts node.old now) pace.old.busy_since now) came (P.received port.old) (P.received port.new)
         × (turned.received ≡ is_some came)
         × N.is_step node.old now draw.now came turned.step node.new
         × (P.sent port.new ≡ grown (P.sent port.old) turned.step.out)) }
     ensures fault { IfOk result (λ turned. CountsFault turned.fault (P.failures port.old) (P.failures port.new)) }
     ensures pace { IfOk result (λ turned. pace.new.busy_since ≡ busy_after pace.old.busy_since now turned.received) }
-    ensures refused { IfErr result (λ error. IsRefusedIn (is_due pace.old.busy_since now) error
+    ensures refused { IfErr result (λ error. IsRefusedIn (must_tick (N.acts node.old now) pace.old.busy_since now) error
         (P.received port.old) (P.received port.new) (P.failures port.old) (P.failures port.new)) }
     ensures err { OnErr result (node.new ≡ node.old) }
     ensures not_sent { OnErr result (P.sent port.new ≡ P.sent port.old) }
     ensures pace_kept { OnErr result (pace.new ≡ pace.old) }
 {
-    let turned = turn_by::<A, P, N>(alloc, port, node, pace.is_due(now), now, draw)?;
+    let due = node.is_due(now) || pace.is_due(now);
+    let turned = turn_by::<A, P, N>(alloc, port, node, due, now, draw)?;
     *pace = pace.after(now, turned.received);
     Ok(turned)
 }
@@ -101,7 +103,7 @@ fn turn_by<A: Ciphers, P: Port, N: Node<A>>(
     ensures not_sent { OnErr result (P.sent port.new ≡ P.sent port.old) }
 {
     if due {
-        Ok(ticked::<A, P, N>(alloc, port, node, now, draw)?)
+        Ok(ticked::<A, P, N>(alloc, port, node, now, draw))
     } else {
         turn::<A, P, N>(alloc, port, node, now, draw)
     }
@@ -114,21 +116,18 @@ fn ticked<A: Ciphers, P: Port, N: Node<A>>(
     node: &mut N,
     now: Moment,
     draw: &Draw,
-) -> Result<Turned, AllocError>
-    ensures done { IfOk result (λ turned. N.is_step node.old now draw.now None turned.step node.new
-        × (P.sent port.new ≡ grown (P.sent port.old) turned.step.out)) }
-    ensures nothing { IfOk result (λ turned. turned.received ≡ false) }
-    ensures fault { IfOk result (λ turned. CountsFault turned.fault (P.failures port.old) (P.failures port.new)) }
+) -> Turned
+    ensures ticks { N.is_step node.old now draw.now None result.step node.new }
+    ensures sent { P.sent port.new ≡ grown (P.sent port.old) result.step.out }
+    ensures nothing { result.received ≡ false }
+    ensures fault { CountsFault result.fault (P.failures port.old) (P.failures port.new) }
     ensures not_asked { P.received port.new ≡ P.received port.old }
-    ensures not_counted { OnErr result (P.failures port.new ≡ P.failures port.old) }
-    ensures err { OnErr result (node.new ≡ node.old) }
-    ensures not_sent { OnErr result (P.sent port.new ≡ P.sent port.old) }
 {
-    let step = node.tick(alloc, now, draw)?;
+    let step = node.tick(alloc, now, draw);
     let fault = send_all(port, step.out.as_slice());
-    Ok(Turned {
+    Turned {
         received: false,
         step,
         fault,
-    })
+    }
 }

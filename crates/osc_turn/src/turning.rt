@@ -1,5 +1,5 @@
 //! One turn of a node at its port.
-ghost use Rattle.std.specs.Prelude.{◌≡◌, ◌≤◌, ◌∷◌, [], Option, IfErr, IfOk, IfSome, OnErr, is_some};
+ghost use Rattle.std.specs.Prelude.{◌≡◌, ◌≤◌, ◌∷◌, [], Option, IfErr, IfOk, IfSome, IsErr, IsSome, OnErr, is_some};
 ghost use Rattle.osc_turn.specs.Ports.{Arrival, CountsFault, arrival, grown};
 ghost use Rattle.osc_turn.specs.Turns.{IsRefusedBy};
 
@@ -25,7 +25,7 @@ pub struct Turned {
 ///
 /// # Errors
 ///
-/// `Port` where the receive failed. `Memory` where there was no memory for the step; then the datagram that came is lost. The node is as
+/// `Port` where the receive failed. `Memory` where a datagram came and there was no memory for its step; then it is lost. The node is as
 /// before, and nothing was sent.
 pub fn turn<A: Ciphers, P: Port, N: Node<A>>(
     alloc: Global,
@@ -46,13 +46,17 @@ pub fn turn<A: Ciphers, P: Port, N: Node<A>>(
 {
     let mut buffer = [0; 1153];
     let got = port.receive(&mut buffer)?;
-    let step = step_of::<A, N>(alloc, node, now, draw, &buffer, got)?;
-    let fault = send_all(port, step.out.as_slice());
-    Ok(Turned {
-        received: got.is_some(),
-        step,
-        fault,
-    })
+    match step_of::<A, N>(alloc, node, now, draw, &buffer, got) {
+        Ok(step) => {
+            let fault = send_all(port, step.out.as_slice());
+            Ok(Turned {
+                received: got.is_some(),
+                step,
+                fault,
+            })
+        }
+        Err(_) => Err(TurnError::Memory),
+    }
 }
 
 /// The step that the node makes of what was received.
@@ -67,10 +71,11 @@ fn step_of<A: Ciphers, N: Node<A>>(
     requires { IfSome got (λ datagram. datagram.1 ≤ 1153) }
     ensures made { IfOk result (λ step. N.is_step node.old now draw.now (arrival buffer.now got) step node.new) }
     ensures err { OnErr result (node.new ≡ node.old) }
+    ensures came { IsErr result → IsSome got }
 {
     match got {
         Some((from, len)) => node.hear(alloc, now, from, &buffer[..len], draw),
-        None => node.tick(alloc, now, draw),
+        None => Ok(node.tick(alloc, now, draw)),
     }
 }
 

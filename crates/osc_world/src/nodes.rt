@@ -19,7 +19,6 @@ use crate::event::{Event, What};
 use crate::log::SentDatagram;
 use osc_client::Client;
 use osc_context::NUMBER_LIMIT;
-use osc_message::laws::ticks_send_few;
 use osc_model::{Datagrams, Draw, Moment, Peer, Request, Step};
 use osc_protect::Ciphers;
 use osc_proxy::Proxy;
@@ -174,7 +173,7 @@ fn server_does<A: Ciphers>(
         What::Exchange { .. } => Ok(idle(alloc)),
         What::Ask { .. } => Ok(idle(alloc)),
         What::Lie { .. } => Ok(idle(alloc)),
-        What::Tick { .. } => server.on_tick(alloc, event.moment),
+        What::Tick { .. } => Ok(server.on_tick(alloc, event.moment)),
         What::Restart { .. } => {
             server.restart();
             Ok(idle(alloc))
@@ -257,7 +256,7 @@ fn client_does<A: Ciphers>(
         What::Lie { number, text, .. } => {
             client_lies::<A>(alloc, client, *number, text.as_slice(), &event.draw)
         }
-        What::Tick { .. } => client_ticks(alloc, client, event.moment),
+        What::Tick { .. } => Ok(client.on_tick(alloc, event.moment)),
         What::Restart { .. } => {
             client.restart();
             Ok(idle(alloc))
@@ -287,7 +286,7 @@ fn proxy_does(
         What::Exchange { .. } => Ok(idle(alloc)),
         What::Ask { .. } => Ok(idle(alloc)),
         What::Lie { .. } => Ok(idle(alloc)),
-        What::Tick { .. } => proxy.on_tick(alloc, event.moment, &event.draw),
+        What::Tick { .. } => Ok(proxy.on_tick(alloc, event.moment, &event.draw)),
         What::Restart { .. } => {
             proxy.restart();
             Ok(idle(alloc))
@@ -622,17 +621,6 @@ fn client_asks<A: Ciphers>(
         return Ok(idle(alloc));
     }
     client.ask::<A>(alloc, event.moment, request, &event.draw)
-}
-
-/// The time has come for what is due at the client.
-fn client_ticks(alloc: Global, client: &mut Client, now: Moment) -> Result<Step, AllocError>
-    ensures ticks { IfOk result (λ step. ClientTicks client.old now step client.new) }
-    ensures kind { IfOk result (λ step. ClientStep false (core_of_client client.old) step.notes (core_of_client client.new)) }
-    ensures few { IfOk result (λ step. length step.out ≤ length client.old.endpoint.sending) }
-    ensures err { OnErr result (client.new ≡ client.old) }
-{
-    ticks_send_few();
-    client.on_tick(alloc, now)
 }
 
 /// A datagram that was sent comes to the client.

@@ -1,11 +1,13 @@
-use Rattle.std.proofs.Common.{◌≡◌, ◌||◌, not, take, drop}
-use Rattle.std.specs.List.{list_any}
+use Rattle.std.proofs.Common.{◌≡◌, ◌||◌, not, take, drop, IfNone}
+use Rattle.std.specs.List.{All, list_any}
 use Rattle.osc_model.specs.declared.node.Moment.{Moment}
 use Rattle.osc_message.specs.Bounds.{is_reached}
-use Rattle.osc_message.specs.Queue.{messages}
+use Rattle.osc_message.specs.Queue.{IsIdle, messages}
 use Rattle.osc_message.specs.Ticks.{dues, is_kept, acts}
 use Rattle.osc_message.proofs.deadline.deadline.Given as goal
 
 abbrev pub invariant-loop-index : goal.invariant-loop-index
-invariant-loop-index l =
-    (now : Moment) → (is_reached now l.first || list_any (λ pair. not (is_kept pair.1)) (dues now (messages l.all) (messages (take l.index l.all)) (messages (drop l.index l.all)))) ≡ acts now (messages l.all)
+invariant-loop-index l = record {
+  reached : (now : Moment) → (is_reached now l.first || list_any (λ pair. not (is_kept pair.1)) (dues now (messages l.all) (messages (take l.index l.all)) (messages (drop l.index l.all)))) ≡ acts now (messages l.all);
+  open_ones : IfNone l.first (All (IsIdle (messages l.all)) (take l.index l.all));
+}

@@ -1,5 +1,5 @@
 use Rattle.std.proofs.Common.{◌≡◌, not, ◌∷◌, [], ap, sym, subst, arith}
-use Rattle.std.proofs.lemmas.List.{length-map, map-append}
+use Rattle.std.proofs.lemmas.List.{map-append}
 use Rattle.osc_message.specs.Bounds.{IsSound}
 use Rattle.osc_message.specs.Confirmables.{with_open}
 use Rattle.osc_message.specs.Queue.{AreMarked, messages}

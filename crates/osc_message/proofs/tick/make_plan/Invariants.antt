@@ -1,7 +1,7 @@
-use Rattle.std.proofs.Common.{◌≡◌, ◌++◌, Some, take, drop}
+use Rattle.std.proofs.Common.{◌≡◌, ◌++◌, Some, take, drop, vec_len, vec_capacity, IfSome}
 use Rattle.std.specs.List.{filter_map}
 use Rattle.osc_message.specs.Queue.{messages}
-use Rattle.osc_message.specs.Ticks.{dues, dues_of, datagram_of, started_of, given_up_of, tick_sends, tick_starts, tick_gives_up}
+use Rattle.osc_message.specs.Ticks.{dues, dues_of, datagram_of, given_up_of, tick_sends, tick_gives_up}
 use Rattle.osc_message.proofs.tick.make_plan.Given as goal
 
 abbrev pub invariant-loop-index : goal.invariant-loop-index
@@ -9,7 +9,8 @@ invariant-loop-index l =
     let rest = dues l.now (messages l.all) (messages (take l.index l.all)) (messages (drop l.index l.all)) in
     record {
       dues : l.dues.items ++ filter_map (λ pair. Some pair.1) rest ≡ filter_map (λ pair. Some pair.1) (dues_of l.now (messages l.all));
-      out : l.out ++ filter_map datagram_of rest ≡ tick_sends l.now (messages l.all);
-      started : l.started ++ filter_map started_of rest ≡ tick_starts l.now (messages l.all);
-      given_up : l.given_up ++ filter_map given_up_of rest ≡ tick_gives_up l.now (messages l.all);
+      filled : vec_len l.dues ≡ l.index;
+      room : vec_capacity l.dues ≡ vec_capacity l.initial.dues;
+      out : IfSome l.out (λ out. out ++ filter_map datagram_of rest ≡ tick_sends l.now (messages l.all));
+      given_up : l.given_up.items ++ filter_map given_up_of rest ≡ tick_gives_up l.now (messages l.all);
     }

@@ -1,20 +1,17 @@
-use Rattle.std.proofs.Common.{◌≡◌, false, ap, sym, ◌∙◌}
+use Rattle.std.proofs.Common.{◌≡◌, false, ap, sym, ◌∙◌, inl}
 use Rattle.osc_message.specs.Queue.{messages}
 use Rattle.osc_message.specs.Ticks.{acts}
-use Rattle.osc_message.proofs.Idle.{idle_sends, idle_starts, idle_gives_up, idle_ticked}
+use Rattle.osc_message.proofs.Idle.{idle_sends, idle_gives_up, idle_ticked}
 use Rattle.osc_message.proofs.tick.tick.Goals as goal
 
 idle : (c : goal.After-nothing) → acts c.args.now (messages c.args.sending.now.items) ≡ false
 idle c = ap (λ xs. acts c.args.now (messages xs)) (sym c.deref.ensures.value) ∙ sym c.is_due.ensures ∙ c.if-is_due.false
 
 pub returns-else-is_due-clause-out : goal.returns-else-is_due-clause-out
-returns-else-is_due-clause-out c = ap (λ done. done.out) c.nothing.ensures ∙ sym (idle_sends c.args.now (messages c.args.sending.now.items) (idle c))
-
-pub returns-else-is_due-clause-started : goal.returns-else-is_due-clause-started
-returns-else-is_due-clause-started c = ap (λ done. done.started) c.nothing.ensures ∙ sym (idle_starts c.args.now (messages c.args.sending.now.items) (idle c))
+returns-else-is_due-clause-out c = inl (c.nothing.ensures.out ∙ sym (idle_sends c.args.now (messages c.args.sending.now.items) (idle c)))
 
 pub returns-else-is_due-clause-given_up : goal.returns-else-is_due-clause-given_up
-returns-else-is_due-clause-given_up c = ap (λ done. done.given_up) c.nothing.ensures ∙ sym (idle_gives_up c.args.now (messages c.args.sending.now.items) (idle c))
+returns-else-is_due-clause-given_up c = c.nothing.ensures.given_up ∙ sym (idle_gives_up c.args.now (messages c.args.sending.now.items) (idle c))
 
 pub returns-else-is_due-clause-items : goal.returns-else-is_due-clause-items
 returns-else-is_due-clause-items c = sym (idle_ticked c.args.now (messages c.args.sending.now.items) (idle c))

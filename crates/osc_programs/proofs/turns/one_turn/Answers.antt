@@ -1,8 +1,8 @@
 use Rattle.std.proofs.Common.{◌∙◌, [], ap, refl}
-use Rattle.osc_turn.specs.Pace.{busy_after, is_due}
+use Rattle.osc_turn.specs.Pace.{busy_after, must_tick}
 use Rattle.osc_programs.specs.Log.{lost_text}
 use Rattle.osc_programs.specs.Turning as spec
-use Rattle.osc_programs.proofs.Taken.{came_in, grown_none}
+use Rattle.osc_programs.proofs.Taken.{came_in, grown_none, not_due}
 use Rattle.osc_programs.proofs.turns.one_turn.Goals as goal
 
 pub returns-in-Ok-clause-ok : goal.returns-in-Ok-clause-ok
@@ -19,7 +19,7 @@ returns-in-Ok-clause-ok g c =
             draw = c.in_ok-now.draw;
             came = done.0;
             gives = c.in_ok-now.ensures.gives;
-            ticks = came_in (is_due busy now) done.0 _ _ done.1;
+            ticks = came_in (must_tick (g.N.Node.acts c.args.node.now now) busy now) done.0 _ _ done.1;
             steps = done.3;
             pace = c.in-Ok.ensures.pace ∙ ap (busy_after busy now) done.2;
           })
@@ -29,10 +29,19 @@ returns-in-Ok-clause-ok g c =
     )
 
 pub returns-in-Err-Memory-clause-ok : goal.returns-in-Err-Memory-clause-ok
-returns-in-Err-Memory-clause-ok g c = (
-  lost_text,
-  [],
-  spec.lost _ (record { now = c.in_ok-now.now; draw = c.in_ok-now.draw; gives = c.in_ok-now.ensures.gives; node = c.in-Err-Memory.ensures.err; rested = refl }),
-  c.in-Err-Memory.ensures.not_sent ∙ grown_none _,
-  c.lost.ensures,
-)
+returns-in-Err-Memory-clause-ok g c =
+    let now = c.in_ok-now.now in (
+      lost_text,
+      [],
+      spec.lost _
+          (record {
+            now = now;
+            draw = c.in_ok-now.draw;
+            gives = c.in_ok-now.ensures.gives;
+            awake = not_due (must_tick (g.N.Node.acts c.args.node.now now) c.args.pace.now.busy_since now) _ _ _ _ _ c.in-Err-Memory.ensures.refused;
+            node = c.in-Err-Memory.ensures.err;
+            rested = refl;
+          }),
+      c.in-Err-Memory.ensures.not_sent ∙ grown_none _,
+      c.lost.ensures,
+    )

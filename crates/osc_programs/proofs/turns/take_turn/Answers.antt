@@ -1,5 +1,5 @@
 use Rattle.std.proofs.Common.{◌∙◌, ap}
-use Rattle.osc_turn.specs.Pace.{busy_after, is_due}
+use Rattle.osc_turn.specs.Pace.{busy_after, must_tick}
 use Rattle.osc_programs.proofs.Taken.{came_in}
 use Rattle.osc_programs.proofs.turns.take_turn.Goals as goal
 
@@ -13,7 +13,7 @@ returns-in-Ok-clause-takes g c =
       draw = c.in_ok-now.draw;
       came = done.0;
       gives = c.in_ok-now.ensures.gives;
-      ticks = came_in (is_due busy now) done.0 _ _ done.1;
+      ticks = came_in (must_tick (g.N.Node.acts c.args.node.now now) busy now) done.0 _ _ done.1;
       steps = done.3;
       pace = c.in-Ok.ensures.pace ∙ ap (busy_after busy now) done.2;
     }

@@ -33,7 +33,7 @@ loop-preserved g c =
       omega (arith, c.loop-test.true),
       _,
       _,
-      one_more g.N.Node.is_step c.loop.counter _ _ _ so_far.1 turn.1 so_far.2 turn.0 so_far.3 turn.2,
+      one_more g.N.Node.acts g.N.Node.is_step c.loop.counter _ _ _ so_far.1 turn.1 so_far.2 turn.0 so_far.3 turn.2,
       grown_more _ _ _ so_far.1 turn.1 so_far.4 turn.3,
       tells_more _ _ _ so_far.2 turn.0 so_far.5 turn.4,
     )

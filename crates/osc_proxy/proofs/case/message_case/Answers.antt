@@ -13,6 +13,10 @@ returns-then-is_response_code-clause-case c =
     sym (ap is_response_code c.code-else-is_request_code.ensures.value) ∙ sym c.is_response_code.ensures.value ∙ c.if-is_response_code.true in
     (named.0, named.1, c.response_case.ensures.case ∙ rw (other, response) refl)
 
+pub response_case-requires-clause-response : goal.response_case-requires-clause-response
+response_case-requires-clause-response c =
+    sym (ap is_request_code c.code.ensures.value) ∙ sym c.is_request_code.ensures.value ∙ c.if-is_request_code.false
+
 pub returns-else-is_response_code-clause-case : goal.returns-else-is_response_code-clause-case
 returns-else-is_response_code-clause-case c =
     let named = c.something_is_named.ensures c.args.message.options in

@@ -1,9 +1,13 @@
-use Rattle.std.proofs.Common.{◌≡◌, ◌++◌, [], sym, ap, ◌∙◌, subst, append_assoc, append-nil, arith, None}
+use Rattle.std.proofs.Common.{◌≡◌, ◌++◌, Bool, true, false, List, [], sym, ap, ◌∙◌, subst, append_assoc, append-nil, arith, None}
+use Rattle.std.specs.Prelude.{if◌then◌else◌}
+use Rattle.std.specs.Option.{option_to_list}
+use Rattle.osc_coap.specs.Message.{spelling}
+use Rattle.osc_model.specs.declared.step.Datagram.{Datagram}
+use Rattle.osc_message.specs.Endpoint.{EndpointState}
 use Rattle.osc_proxy.specs.Exchanges.{first_key}
 use Rattle.osc_proxy.specs.Table.{back_sends}
-use Rattle.osc_proxy.specs.Ticks.{AllEnd, is_over, timeout}
+use Rattle.osc_proxy.specs.Ticks.{AllEnd, is_over, timeout, without_its}
 use Rattle.osc_proxy.specs.Ticks.AllEnd.{none_is, one_is}
-use Rattle.osc_coap.specs.Message.{spelling}
 use Rattle.osc_proxy.proofs.Fits.{sendable_back, sendable_both}
 use Rattle.osc_proxy.proofs.Keys.{first_is_there, none_is_there}
 use Rattle.osc_proxy.proofs.ticking.all_end.Goals as goal
@@ -20,36 +24,46 @@ returns-in_default c =
       here.invariant.fits,
     )
 
-pub end-requires-clause-open : goal.end-requires-clause-open
-end-requires-clause-open c =
+pub end-sent-requires : goal.end-sent-requires
+end-sent-requires c =
     let there = first_is_there (is_over c.args.now c.args.given_up.now) c.loop.exchanges c.in-Some.key (sym c.find_over.ensures ∙ c.in-Some.is) in
     record { exchange = there.exchange; is = there.is }
+
+-- one more goes behind the others, or is lost as they are
+one_more : (room : Bool) (front so_far sent out : List Datagram) → sent ≡ out
+    → (front ++ (if room then so_far else [])) ++ (if room then sent else []) ≡ front ++ (if room then so_far ++ out else [])
+one_more true front so_far sent out is = append_assoc front so_far sent ∙ ap (λ xs. front ++ (so_far ++ xs)) is
+one_more false front so_far sent out is = append-nil (front ++ [])
 
 pub loop-preserved : goal.loop-preserved
 loop-preserved c =
     let here = c.loop in
     let kept = here.invariant in
-    let exchange = c.end.ensures.ended.0 in
-    let closes = c.end.ensures.ended.1 in
-    let sent = c.end.ensures.ended.2 in
-    let after = c.end.ensures.ended.3 in
-    let short = c.end.ensures.ended.4 in
+    let room = c.args.room in
+    let exchange = c.end-sent.ensures.ended.0 in
+    let closes = c.end-sent.ensures.ended.1 in
+    let sent = c.end-sent.ensures.ended.2 in
+    let after = c.end-sent.ensures.ended.3 in
+    let short = c.end-sent.ensures.ended.4 in
     let now = c.args.now in
     let draw = c.args.draw.now in
     let names = c.args.given_up.now in
-    let out = back_sends here.endpoint exchange (timeout here.endpoint draw exchange) in
+    let left = without_its here.endpoint exchange in
+    let out = back_sends left exchange (timeout here.endpoint draw exchange) in
     record {
       so_far = kept.so_far ++ out;
-      sent = sent ∙ ap (λ xs. xs ++ out) kept.sent ∙ append_assoc c.args.out.now.sent kept.so_far out;
+      sent = c.put.ensures.items
+          ∙ ap (λ xs. xs ++ (if room then option_to_list c.end-sent.result else [])) kept.sent
+          ∙ one_more room c.args.out.now.items kept.so_far (option_to_list c.end-sent.result) out sent;
       fits = sendable_both kept.so_far out kept.fits
-          (sendable_back exchange.confirmable here.endpoint exchange.client (spelling (timeout here.endpoint draw exchange)) short);
+          (sendable_back exchange.confirmable left exchange.client (spelling (timeout here.endpoint draw exchange)) short);
       ends = λ later last endpoint more.
           subst (λ xs. AllEnd now draw names c.args.exchanges.now c.args.endpoint.now xs last endpoint) (sym (append_assoc kept.so_far out later))
           (kept.ends (out ++ later) last endpoint
-          (one_is here.exchanges c.end.new.exchanges last here.endpoint endpoint c.in-Some.key exchange later (sym c.find_over.ensures ∙ c.in-Some.is) closes c.end.ensures.ended.5
-          (subst (λ s. AllEnd now draw names c.end.new.exchanges s later last endpoint) after more)));
-      places = omega (arith, kept.places, c.end.ensures.count, c.end.ensures.places);
-      count = omega (arith, kept.count, c.end.ensures.count);
+          (one_is here.exchanges c.end-sent.new.exchanges last here.endpoint endpoint c.in-Some.key exchange later (sym c.find_over.ensures ∙ c.in-Some.is) closes c.end-sent.ensures.ended.5
+          (subst (λ (s : EndpointState). AllEnd now draw names c.end-sent.new.exchanges s later last endpoint) after more)));
+      places = λ has. omega (arith, kept.places has, c.put.ensures.len, c.put.ensures.capacity, c.end-sent.ensures.count);
+      count = omega (arith, kept.count, c.end-sent.ensures.count);
     }
 
 pub returns : goal.returns

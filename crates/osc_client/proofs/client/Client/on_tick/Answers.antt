@@ -1,5 +1,5 @@
-use Rattle.std.proofs.Common.{rules, ◌≡◌, Some, ap, sym, subst}
-use Rattle.osc_message.specs.Sending.{AreSendable}
+use Rattle.std.proofs.Common.{rules, ◌≡◌, true, false, Some, ap, sym, subst}
+use Rattle.osc_message.specs.Sending.{AreSendable, GoesOut}
 use Rattle.osc_message.specs.Ticks.{tick_sends}
 use Rattle.osc_model.specs.Step.{sends}
 use Rattle.osc_model.specs.StepNotes.{quiet}
@@ -8,32 +8,41 @@ use Rattle.osc_model.specs.declared.step.Step.{Step}
 use Rattle.osc_client.specs.Told.{SealsNothing}
 use Rattle.osc_client.specs.Bounds.{KeepsOwn}
 use Rattle.osc_client.proofs.Telling.{ticks_silently, times_out_silently}
-use Rattle.osc_client.proofs.Ticking.{own_after_tick}
+use Rattle.osc_client.specs.Sending.{is_over}
+use Rattle.osc_client.proofs.Ticking.{own_after_tick, timed_out, went_on}
 use Rattle.osc_client.proofs.client.Client.on_tick.Goals as goal
 
 pub invariant_of-self-else-is_over : goal.invariant_of-self-else-is_over
 invariant_of-self-else-is_over c =
     let own = own_after_tick c.args.now c.self.inside.next_hop c.self.inside.waiting c.self.inside.endpoint.sending c.self.invariant.0 in (
-      subst (KeepsOwn c.self.inside.next_hop c.self.inside.waiting) (ap (λ e. e.sending) (sym c.in_ok-ticked.ensures.ok)) own,
+      subst (KeepsOwn c.self.inside.next_hop c.self.inside.waiting) (ap (λ e. e.sending) (sym c.on_tick-out.ensures.ticked)) own,
       c.self.invariant.1,
       c.self.invariant.2,
     )
 
 pub returns-then-is_over-clause-ticked : goal.returns-then-is_over-clause-ticked
 returns-then-is_over-clause-ticked c =
-    let step : Step = record { out = tick_sends c.args.now c.args.self.now.endpoint.sending; notes = record quiet { result = Some TimedOut } } in
-    let told : record { out = c.in_ok-ticked.ticked.out; notes = c.with_result.result } ≡ step = search rules in
+    let old = c.args.self.now in
+    let out = c.on_tick-out.result.out in
+    let step : Step = record { out = out; notes = record quiet { result = Some TimedOut } } in
+    let told : record { out = out; notes = c.with_result.result } ≡ step = search rules in
+    let goes : GoesOut (tick_sends c.args.now old.endpoint.sending) out = search rules in
+    let over : is_over c.args.now old.endpoint.sending old.waiting ≡ true = search rules in
     record {
-      ticks = search rules;
-      told = subst (SealsNothing c.args.self.now c.args.now) (sym told) (times_out_silently c.args.self.now c.args.now);
-      fits = c.in_ok-ticked.ensures.fits;
+      ticks = timed_out old c.args.now out _ _ goes over told (search rules);
+      told = subst (SealsNothing old c.args.now) (sym told) (times_out_silently old c.args.now out goes);
+      fits = c.on_tick-out.ensures.fits;
     }
 
 pub returns-clause-ticked : goal.returns-clause-ticked
 returns-clause-ticked c =
-    let told : c.sending.result ≡ sends (tick_sends c.args.now c.args.self.now.endpoint.sending) = search rules in
+    let old = c.args.self.now in
+    let out = c.on_tick-out.result.out in
+    let told : c.sending.result ≡ sends out = search rules in
+    let goes : GoesOut (tick_sends c.args.now old.endpoint.sending) out = search rules in
+    let over : is_over c.args.now old.endpoint.sending old.waiting ≡ false = search rules in
     record {
-      ticks = search rules;
-      told = subst (SealsNothing c.args.self.now c.args.now) (sym told) (ticks_silently c.args.self.now c.args.now);
-      fits = subst (λ (s : Step). AreSendable s.out) (sym c.sending.ensures) c.in_ok-ticked.ensures.fits;
+      ticks = went_on old c.args.now out _ _ goes over told (search rules);
+      told = subst (SealsNothing old c.args.now) (sym told) (ticks_silently old c.args.now out goes);
+      fits = subst (λ (s : Step). AreSendable s.out) (sym c.sending.ensures) c.on_tick-out.ensures.fits;
     }

@@ -6,7 +6,6 @@ use Rattle.osc_model.specs.declared.step.Step.{Step}
 use Rattle.osc_run.specs.ClientKinds.{ClientStep}
 use Rattle.osc_server.specs.State.{State as Server}
 use Rattle.osc_device.specs.Carrying.{Carries}
-use Rattle.osc_device.proofs.Carried.{let_go}
 use Rattle.osc_device.proofs.device.Device.on_tick.Goals as goal
 
 pub returns-clause-ticked : goal.returns-clause-ticked
@@ -14,13 +13,13 @@ returns-clause-ticked g c =
     let own = ap (λ d. d.own) c.self.view_is in
     let server = ap (λ d. d.server) c.self.view_is in
     let after : Server → Server = λ s. record s { endpoint = after_tick c.args.now s.endpoint } in
-    let gone = let_go c.self.inside.server c.on_tick-let_go.new.self c.args.now c.on_tick-let_go.result c.on_tick-let_go.ensures.never c.on_tick-let_go.ensures.ticked ∙ ap after server in (
-      c.on_tick.new.self,
-      subst (λ (begun : Step). Ticks c.args.self.now.own c.args.now begun c.on_tick.new.self) (sym c.carry.ensures.begun)
-          (subst (λ (old : Client). Ticks old c.args.now c.in_ok-begun.begun c.on_tick.new.self) own c.in_ok-begun.ensures.ticked),
-      subst (λ (begun : Step). ClientStep false (core c.args.self.now.own) begun.notes (core c.on_tick.new.self)) (sym c.carry.ensures.begun)
-          (subst (λ (old : Client). ClientStep false (core old) c.in_ok-begun.begun.notes (core c.on_tick.new.self)) own c.in_ok-begun.ensures.kind),
-      subst (λ (old : Server). Carries g.A.Ciphers.is_sealing old c.on_tick.new.self c.args.now c.args.server_draw.now c.carry.result c.carry.new.self) gone c.carry.ensures.carries,
+    let gone = c.on_tick-let_go.ensures.ticked.kept ∙ ap after server in (
+      c.on_tick-begun.new.self,
+      subst (λ (begun : Step). Ticks c.args.self.now.own c.args.now begun c.on_tick-begun.new.self) (sym c.carry.ensures.begun)
+          (subst (λ (old : Client). Ticks old c.args.now c.on_tick-begun.result c.on_tick-begun.new.self) own c.on_tick-begun.ensures.ticked),
+      subst (λ (begun : Step). ClientStep false (core c.args.self.now.own) begun.notes (core c.on_tick-begun.new.self)) (sym c.carry.ensures.begun)
+          (subst (λ (old : Client). ClientStep false (core old) c.on_tick-begun.result.notes (core c.on_tick-begun.new.self)) own c.on_tick-begun.ensures.kind),
+      subst (λ (old : Server). Carries g.A.Ciphers.is_sealing old c.on_tick-begun.new.self c.args.now c.args.server_draw.now c.carry.result c.carry.new.self) gone c.carry.ensures.carries,
     )
 
 pub returns-clause-run : goal.returns-clause-run

@@ -6,4 +6,4 @@ use Rattle.osc_message.proofs.endpoint.Endpoint.noted_reply.Goals as goal
 pub returns-clause-short : goal.returns-clause-short
 returns-clause-short g c =
     subst IsSendableReply (sym c.as_ref.ensures.value)
-    (looked_fits c.self.inside.seen c.args.now c.args.from c.args.id c.in_ok-look.field-0.now c.self.invariant.2 (sym c.in_ok-look.ensures))
+    (looked_fits c.self.inside.seen c.args.now c.args.from c.args.id c.in_ok-look.field-0.now c.self.invariant.4 (sym c.in_ok-look.ensures))

@@ -16,7 +16,7 @@ returns-then-not-takes-clause-enough g c = λ enough.
     let none : takes_of c.args.to all ≡ true → false ≡ true = λ taken. elim c.then-not-takes.branch [
       | then-not-takes-via-then-not-takes w ↦ cc
       | then-not-takes-via-else-not-takes+then-len w ↦
-          let few : length all < 1088 = room_for_one c.args.to all taken c.self.invariant.1.sound in
+          let few : length all < 1088 = room_for_one c.args.to all taken c.self.invariant.3.sound in
           absurd (omega (arith, enough, few, w.len.ensures, w.if-len, c.deref.ensures.len, ap length c.deref.ensures.value, length-map c.self.inside.sending.items (λ q. q.message)))
     ] in
     (λ e. absurd (cc), λ taken. none (viewed ∙ taken))

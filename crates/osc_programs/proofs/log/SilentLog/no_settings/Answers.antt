@@ -3,4 +3,4 @@ use Rattle.osc_programs.specs.Unread.{unread_text}
 use Rattle.osc_programs.proofs.log.SilentLog.no_settings.Goals as goal
 
 pub returns : goal.returns
-returns c = (unread_text c.args._why.now, inl refl, λ unfailed. (refl, tt))
+returns c = (unread_text c.args._why.now, inl refl, λ none. (refl, refl, tt))

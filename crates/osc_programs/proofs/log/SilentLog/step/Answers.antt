@@ -1,6 +1,9 @@
 use Rattle.std.proofs.Common.{inl, refl}
-use Rattle.osc_programs.specs.Log.{step_text}
+use Rattle.osc_programs.specs.Log.{reports_of, step_text}
+use Rattle.osc_programs.proofs.Reports.{flat_reports}
 use Rattle.osc_programs.proofs.log.SilentLog.step.Goals as goal
 
 pub returns : goal.returns
-returns c = (step_text c.args._now c.args._step.now, inl refl, λ unfailed. (refl, tt))
+returns c =
+    let step = c.args._step.now in
+    (step_text c.args._now step, inl refl, λ none. (refl, reports_of c.args._now step, flat_reports c.args._now step.notes step.out, refl, tt))

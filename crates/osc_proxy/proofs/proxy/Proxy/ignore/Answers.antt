@@ -1,15 +1,10 @@
-use Rattle.std.proofs.Common.{◌∙◌, ap₂}
-use Rattle.osc_proxy.specs.Exchanges.{left_by}
-use Rattle.osc_proxy.proofs.Ends.{each_at, each_left_by}
+use Rattle.std.proofs.Common.{refl}
+use Rattle.osc_proxy.proofs.Its.{each_at, each_fewer_by}
 use Rattle.osc_proxy.proofs.proxy.Proxy.ignore.Goals as goal
 
 pub invariant_of-self : goal.invariant_of-self
 invariant_of-self c =
     let inside = c.self.inside in
-    let now = c.args.now in
-    let from = c.args.from in
     let message = c.args.message in
-    each_at c.leave_by.new.self (left_by now from message.kind message.id inside.exchanges) c.settle_dropped.new.self _
-    (c.leave_by.ensures ∙ ap₂ (λ kind id. left_by now from kind id inside.exchanges) c.kind-kind.ensures c.id-id.ensures)
-    c.settle_dropped.ensures
-    (each_left_by now from message.kind message.id inside.exchanges inside.endpoint.sending c.self.invariant)
+    each_at inside.exchanges inside.exchanges c.settle_dropped.new.self _ refl c.settle_dropped.ensures
+    (each_fewer_by inside.exchanges c.args.from message.kind message.id inside.endpoint.sending c.self.invariant)

@@ -1,5 +1,5 @@
-use Rattle.std.proofs.Common.{◌≡◌, ◌+◌, ◌∷◌, ◌++◌, drop, refl, sym, ap, ◌∙◌, subst, Some, true, false}
-use Rattle.std.proofs.lemmas.Option.{same_Some}
+use Rattle.std.proofs.Common.{◌≡◌, ◌+◌, ◌∷◌, ◌++◌, drop, refl, sym, ap, ◌∙◌, subst, Some}
+use Rattle.std.specs.Option.{option_to_list}
 use Rattle.osc_coap.specs.Message.{spelling}
 use Rattle.osc_message.specs.Endpoint.{EndpointState, own_id, settled}
 use Rattle.osc_message.specs.Sending.{AreSendable, FitsDatagram, acknowledgement, is_confirmable, sent_to}
@@ -7,13 +7,13 @@ use Rattle.osc_message.specs.declared.handling.Handling.TheVariants as handling
 use Rattle.osc_message.specs.declared.heard.Heard.TheVariants as heard
 use Rattle.osc_model.specs.Draw.{token_drawn}
 use Rattle.osc_model.specs.Step.{sends}
-use Rattle.osc_proxy.specs.Ends.{has_end}
+use Rattle.osc_proxy.specs.Ends.{EachHasItsExchange}
 use Rattle.osc_proxy.specs.Exchanges.{Changes, count, get}
 use Rattle.osc_proxy.specs.Own.{goes_now, sends_own, with_own}
 use Rattle.osc_proxy.specs.State.{State}
-use Rattle.osc_proxy.specs.Table.{exchange_of, forwarded_by, next_own, sent_when, taken_up}
+use Rattle.osc_proxy.specs.Table.{exchange_of, forwarded_by, next_own, taken_up}
 use Rattle.osc_proxy.specs.declared.exchanges.Exchange.{Exchange}
-use Rattle.osc_proxy.proofs.Ends.{Each, each_at, each_changed, each_more, grows_own, none_named, own_has_end}
+use Rattle.osc_proxy.proofs.Its.{each_at, each_opened, none_named}
 use Rattle.osc_proxy.proofs.Fits.{sendable_acknowledgement, sendable_both, sendable_own, sendable_step}
 use Rattle.osc_proxy.proofs.Goes.{made_is, sent_is}
 use Rattle.osc_proxy.proofs.Keys.{next_is}
@@ -32,37 +32,31 @@ returns-clause-forwarded c =
     let to = own.to in
     let kind = is_confirmable message.kind in
     let bytes = spelling (forwarded_by old draw key message) in
-    let went = c.send_own-goes.result in
     let view = c.self.view_is in
     let taken : c.settle.new.self ≡ taken_up old now from message =
     c.settle.ensures
     ∙ ap (λ r. settled inside.endpoint now from (heard.Message message) (handling.Answered r)) c.requires.acknowledged.noted
     ∙ ap (λ (s : State). taken_up s now from message) view in
-    let goes : went ≡ goes_now kind to c.settle.new.self =
-    c.send_own-goes.ensures.goes ∙ ap (λ b. goes_now b to c.settle.new.self) c.requires.own.kind in
     let next : inside.exchanges.next ≡ key = ap (λ (s : State). s.exchanges.next) view ∙ next_is old message to key c.requires.key in
     let id : c.own_id-id.result ≡ next_own old draw = c.own_id-id.ensures ∙ ap (λ (s : State). next_own s draw) view in
-    let exchange : c.gone_out.result ≡ exchange_of key (next_own old draw) now from draw message to went =
-    c.gone_out.ensures
-    ∙ ap (λ (e : Exchange). record e { sent = sent_when went now })
-    (c.waiting-exchange.ensures ∙ ap (λ i. exchange_of key i now from draw message to false) id) in
+    let exchange : c.opened-exchange.result ≡ exchange_of key (next_own old draw) now from draw message to =
+    c.opened-exchange.ensures ∙ ap (λ i. exchange_of key i now from draw message to) id in
     record {
-      goes = went;
-      goes_is = goes ∙ ap (goes_now kind to) taken;
       lawful = c.requires.lawful;
       told = c.sending.ensures
           ∙ ap sends
           (c.into_datagrams.ensures
-          ∙ c.send_own-goes.ensures.sent
-          ∙ ap (λ xs. xs ++ sends_own (goes_now own.confirmable to c.settle.new.self) to own.sent) c.requires.acknowledged.sent
+          ∙ c.put.ensures
+          ∙ ap (λ xs. xs ++ option_to_list c.send_own.result) c.requires.acknowledged.sent
           ∙ ap (λ xs. sent_to from (acknowledgement message) ++ xs)
-          (sent_is to kind bytes own c.settle.new.self c.requires.own ∙ ap (λ b. sends_own b to bytes) (sym goes)));
+          (c.send_own.ensures.sent ∙ sent_is to kind bytes own c.settle.new.self c.requires.own
+          ∙ ap (λ (e : EndpointState). sends_own (goes_now kind to e) to bytes) taken));
       targets = ap (λ (s : State). s.targets) view;
-      endpoint = c.send_own-goes.ensures.made ∙ made_is to kind bytes own c.settle.new.self now draw c.requires.own
+      endpoint = c.send_own.ensures.made ∙ made_is to kind bytes own c.settle.new.self now draw c.requires.own
           ∙ ap (λ (e : EndpointState). with_own kind e now draw to bytes) taken;
       was_free = ap (λ (s : State). get s.exchanges key) (sym view) ∙ ap (get inside.exchanges) (sym next) ∙ c.open.ensures.was_free;
-      opened = subst (λ (s : State). Changes s.exchanges c.open.new.self key (Some (exchange_of key (next_own old draw) now from draw message to went))) view
-          (subst (λ k. Changes inside.exchanges c.open.new.self k (Some (exchange_of key (next_own old draw) now from draw message to went))) next
+      opened = subst (λ (s : State). Changes s.exchanges c.open.new.self key (Some (exchange_of key (next_own old draw) now from draw message to))) view
+          (subst (λ k. Changes inside.exchanges c.open.new.self k (Some (exchange_of key (next_own old draw) now from draw message to))) next
           (subst (λ (e : Exchange). Changes inside.exchanges c.open.new.self inside.exchanges.next (Some e)) exchange c.open.ensures.opened));
       more = c.open.ensures.count ∙ ap (λ (s : State). count s.exchanges + 1) view;
     }
@@ -75,28 +69,16 @@ invariant_of-self c =
     let draw = c.args.came.draw.now in
     let message = c.args.came.message in
     let own = c.args.own in
-    let to = own.to in
-    let went = c.send_own-goes.result in
     let before = c.settle.new.self in
-    let made = with_own own.confirmable before now draw to own.kept in
-    let exchange = c.gone_out.result in
-    let is : exchange ≡ exchange_of c.args.key c.own_id-id.result now from draw message to went =
-    c.gone_out.ensures ∙ ap (λ (e : Exchange). record e { sent = sent_when went now }) c.waiting-exchange.ensures in
+    let is = c.opened-exchange.ensures in
     let same : before.sending ≡ inside.endpoint.sending =
     ap (λ (e : EndpointState). e.sending) c.settle.ensures ∙ none_named from message.kind message.id inside.endpoint.sending c.requires.kind in
-    let id : exchange.id ≡ own_id draw before.next_id =
+    let id : c.opened-exchange.result.id ≡ own_id draw before.next_id =
     ap (λ (e : Exchange). e.id) is ∙ c.own_id-id.ensures ∙ sym (ap (λ (e : EndpointState). own_id draw e.next_id) c.settle.ensures) in
-    let has : has_end made.sending exchange ≡ true =
-    own_has_end own.confirmable before now draw to own.kept exchange
-    (ap (λ (e : Exchange). e.confirmable) is ∙ sym c.requires.own.kind)
-    (ap (λ (e : Exchange). e.target) is) id
-    (ap (λ (e : Exchange). e.sent) is ∙ ap (λ g. sent_when g now) c.send_own-goes.ensures.goes) in
-    let others : Each inside.exchanges made.sending =
-    each_more inside.exchanges before.sending made.sending (grows_own own.confirmable before now draw to own.kept)
-    (subst (λ s. Each inside.exchanges s) (sym same) c.self.invariant) in
-    each_at c.open.new.self c.open.new.self c.send_own-goes.new.endpoint made refl c.send_own-goes.ensures.made
-    (each_changed inside.exchanges c.open.new.self inside.exchanges.next (Some exchange) made.sending c.open.ensures.opened
-    (λ other at. subst (λ (e : Exchange). has_end made.sending e ≡ true) (same_Some exchange other at) has) others)
+    each_at c.open.new.self c.open.new.self c.send_own.new.endpoint (with_own own.confirmable before now draw own.to own.kept) refl c.send_own.ensures.made
+    (each_opened inside.exchanges c.open.new.self inside.exchanges.next c.opened-exchange.result own.confirmable before now draw own.to own.kept
+    c.open.ensures.was_free c.open.ensures.opened (ap (λ (e : Exchange). e.confirmable) is ∙ sym c.requires.own.kind) (ap (λ (e : Exchange). e.target) is) id
+    (subst (EachHasItsExchange inside.exchanges) (sym same) c.self.invariant))
 
 -- its token begins with its key
 pub open-requires-clause-own_token : goal.open-requires-clause-own_token
@@ -105,8 +87,7 @@ open-requires-clause-own_token c =
     let rest = drop 1 (token_drawn draw) in
     let next : c.self.inside.exchanges.next ≡ c.args.key =
     ap (λ (s : State). s.exchanges.next) c.self.view_is ∙ next_is c.args.self.now c.args.came.message c.args.own.to c.args.key c.requires.key in
-    let token : c.gone_out.result.token ≡ c.args.key ∷ rest =
-    ap (λ (e : Exchange). e.token) c.gone_out.ensures ∙ ap (λ (e : Exchange). e.token) c.waiting-exchange.ensures in
+    let token : c.opened-exchange.result.token ≡ c.args.key ∷ rest = ap (λ (e : Exchange). e.token) c.opened-exchange.ensures in
     (rest, token ∙ ap (λ k. k ∷ rest) (sym next))
 
 pub returns-clause-fits : goal.returns-clause-fits
@@ -114,7 +95,7 @@ returns-clause-fits c =
     let own = c.args.own in
     let goes = goes_now own.confirmable own.to c.settle.new.self in
     sendable_step c.sending.result (c.args.acknowledged.out.sent ++ sends_own goes own.to own.sent)
-    (c.sending.ensures ∙ ap sends (c.into_datagrams.ensures ∙ c.send_own-goes.ensures.sent))
+    (c.sending.ensures ∙ ap sends (c.into_datagrams.ensures ∙ c.put.ensures ∙ ap (λ xs. c.args.acknowledged.out.sent ++ xs) c.send_own.ensures.sent))
     (sendable_both c.args.acknowledged.out.sent (sends_own goes own.to own.sent)
     (subst AreSendable (sym c.requires.acknowledged.sent) (sendable_acknowledgement (λ id. (c.what_nodes_send.ensures.short id).1) c.args.came.from c.args.came.message))
     (sendable_own goes own.to own.sent (subst FitsDatagram (sym c.requires.own.sent) c.requires.own.short)))
