@@ -22,12 +22,16 @@ typedef union {
 
 static size_t live, peak;
 
+/* A block that would take what is held above this is refused. */
+static size_t cap = SIZE_MAX;
+
 static void grow(size_t size) {
     live += size;
     if (live > peak) peak = live;
 }
 
 void *__wrap_malloc(size_t size) {
+    if (size > cap || live > cap - size) return NULL;
     header *block = __real_malloc(sizeof(header) + size);
     if (!block) return NULL;
     block->size = size;
@@ -51,6 +55,7 @@ void *__wrap_realloc(void *bytes, size_t size) {
     if (!bytes) return __wrap_malloc(size);
     header *block = (header *)bytes - 1;
     size_t before = block->size;
+    if (size > before && (size > cap || live - before > cap - size)) return NULL;
     block = __real_realloc(block, sizeof(header) + size);
     if (!block) return NULL;
     block->size = size;

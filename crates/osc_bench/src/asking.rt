@@ -28,10 +28,10 @@ pub extern "C" fn osc_bench_ask(alloc: Global, rounds: u64) -> u64 {
 // How many bytes a request carries.
 const PAYLOAD: usize = 64;
 
-const DRAW: Draw = Draw([1; 32]);
+pub(crate) const DRAW: Draw = Draw([1; 32]);
 
 // A client that was granted a token.
-fn client_of(alloc: Global) -> Result<Client, AllocError> {
+pub(crate) fn client_of(alloc: Global) -> Result<Client, AllocError> {
     osc_fixtures::client(alloc, right_of(1), straight())
 }
 
@@ -45,7 +45,7 @@ fn ask_often(alloc: Global, client: &mut Client, rounds: u64) -> Result<u64, All
 }
 
 // An exchange with a server of its own.
-fn make_context(alloc: Global, client: &mut Client) -> Result<(), AllocError> {
+pub(crate) fn make_context(alloc: Global, client: &mut Client) -> Result<(), AllocError> {
     let post = client.exchange(alloc, Moment::START, &DRAW)?;
     let answered = served(alloc, sent(&post));
     drop(post);
@@ -77,7 +77,7 @@ fn hear(alloc: Global, client: &mut Client, datagram: &[u8]) -> Result<(), Alloc
     Ok(())
 }
 
-fn request_of(alloc: Global) -> Result<Request, AllocError>
+pub(crate) fn request_of(alloc: Global) -> Result<Request, AllocError>
     ensures { IfOk result (λ request. 0 < request.code.0) }
 {
     request(alloc, b"/log", POST, &[b'p'; PAYLOAD])

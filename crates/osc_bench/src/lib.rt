@@ -1,11 +1,13 @@
 //! What a harness in C times: messages read, datagrams served, protected and not, ticks beside open messages, items read, requests
-//! protected, opened and asked, tokens read and posted, ciphers, the events of a world, floods, and what nodes keep.
+//! protected, opened and asked, tokens read and posted, ciphers, the events of a world, floods, one datagram heard again and again, and what
+//! nodes keep.
 #![tactic(auto)]
 
 mod alone;
 mod asking;
 mod cipher;
 mod flood;
+mod hearing;
 mod messages;
 mod objects;
 mod protected;

@@ -57,7 +57,7 @@ fn flooded(
 }
 
 // Forwards the GET of this number.
-fn forward(
+pub(crate) fn forward(
     alloc: Global,
     proxy: &mut Proxy,
     now: Moment,
@@ -102,7 +102,7 @@ fn hear(
     let now = moment_of(place);
     let draw = draw_of(place);
     if ticks_at(place) {
-        tick(alloc, proxy, now, &draw)?;
+        tick(alloc, proxy, now, &draw);
     }
     mark(alloc)?;
     let step = proxy.on_datagram(alloc, now, origin(from), datagram, &draw)?;
@@ -110,10 +110,9 @@ fn hear(
     Ok(())
 }
 
-fn tick(alloc: Global, proxy: &mut Proxy, now: Moment, draw: &Draw) -> Result<(), AllocError> {
-    let step = proxy.on_tick(alloc, now, draw)?;
+fn tick(alloc: Global, proxy: &mut Proxy, now: Moment, draw: &Draw) {
+    let step = proxy.on_tick(alloc, now, draw);
     drop(step);
-    Ok(())
 }
 
 // Ticks at each deadline from this moment on. Whether nothing is open then, and the next request opens one exchange.
@@ -132,7 +131,7 @@ fn wait(alloc: Global, proxy: &mut Proxy, start: Moment) -> Result<Moment, Alloc
     for round in 0..MOST_TICKS {
         if let Some(deadline) = proxy.next_deadline() {
             now = at(deadline.max(now.ms));
-            tick(alloc, proxy, now, &drawn((round % 256) as u8))?;
+            tick(alloc, proxy, now, &drawn((round % 256) as u8));
         }
     }
     Ok(now)

@@ -59,7 +59,7 @@ fn serve_first(
 }
 
 // Posts the client's token.
-fn begin(alloc: Global, server: &mut Server) -> Result<(), AllocError> {
+pub(crate) fn begin(alloc: Global, server: &mut Server) -> Result<(), AllocError> {
     let datagram = token_post(alloc, SERVED as u16)?;
     let step = answer(
         alloc,
@@ -136,7 +136,7 @@ fn hear(
 ) -> Result<bool, AllocError> {
     let now = moment_of(place);
     if ticks_at(place) {
-        tick(alloc, server, now)?;
+        tick(alloc, server, now);
     }
     mark(alloc)?;
     let step = server.on_datagram::<(Ccm<8>, Ccm<16>)>(
@@ -149,8 +149,7 @@ fn hear(
     ended(alloc, step)
 }
 
-fn tick(alloc: Global, server: &mut Server, now: Moment) -> Result<(), AllocError> {
-    let step = server.on_tick(alloc, now)?;
+fn tick(alloc: Global, server: &mut Server, now: Moment) {
+    let step = server.on_tick(alloc, now);
     drop(step);
-    Ok(())
 }
