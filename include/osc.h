@@ -79,11 +79,14 @@ typedef struct osc_served {
     size_t context_length; /* of the id context of its token, 0 to 64 */
 } osc_served;
 
-/* a request that was refused */
+/* A request that was refused. The reasons of a protected one: 3 it opens to no text, 21 its protection cannot be read, 22 it names no live context, 23
+ * its number is not fresh. Those of a post to authz-info: 24 and 29 the scope or another claim of its token cannot be read, 25 its token opens to no
+ * text under the server's key, 26 it has expired, 27 it is not valid yet, 28 it is for another audience, 30 it is no whole map with the fields of an
+ * exchange, 31 64 others have a live context. */
 typedef struct osc_refused {
     osc_peer from;
     uint8_t code;   /* what it was answered */
-    uint8_t reason; /* the number of the reason, as in docs/LIBRARY.md, or 0 where the code tells it */
+    uint8_t reason; /* the number of the reason, or 0 where the code tells it */
 } osc_refused;
 
 /* the options of a request, beside its path */
@@ -101,7 +104,8 @@ typedef struct osc_options {
 #define OSC_ANSWER 2     /* the request was answered, and the answer opened: code, format, payload */
 #define OSC_ENDED 3      /* it ended by an unprotected answer of this code, or by a Reset, as code 0; nobody can tell whether it was served */
 #define OSC_TIMED_OUT 4  /* no answer came in time */
-#define OSC_REFUSED 5    /* it was not begun, or ended, for the reason of this number (in `code`) */
+#define OSC_REFUSED 5    /* for the reason of this number (in `code`) it was not begun: OSC_TOO_LONG, OSC_BUSY, OSC_EXHAUSTED, OSC_NO_CONTEXT; or the
+                          * answer to the post was no exchange: 20 both ends would have one ID, 30 a field is missing or of another form */
 
 typedef struct osc_result {
     uint8_t what; /* OSC_MADE to OSC_REFUSED */
@@ -124,8 +128,9 @@ int32_t osc_device_new(osc_device *device, const osc_key *key, const uint8_t *au
                        size_t open_length, const uint8_t *own, size_t own_length, const osc_draw *draw);
 
 /* Gives the device a security context with its server, which `put`, `append` and `remove` need; also behind `restart`. OSC_UNVERIFIED with the
- * code where the server refuses it; else `code` is 0. Also OSC_BUSY, OSC_LOST, OSC_BAD_ARGUMENT, OSC_NO_MEMORY. Heap: while the context lives,
- * some 950 bytes. */
+ * code where the server refuses it; else `code` is 0. OSC_TOO_LONG where `own` and `audience` are so long that the post of the device's token fits no
+ * datagram: together they may have some 900 bytes. Also OSC_BUSY, OSC_LOST, OSC_BAD_ARGUMENT, OSC_NO_MEMORY. Heap: while the context lives, some
+ * 950 bytes. */
 int32_t osc_device_open(osc_device *device, uint64_t now, const osc_draws *draws, uint8_t *code);
 
 /* The device writes, appends to, or removes a resource of its own server, as a holder of its token: what is promised of holders holds of it.
@@ -144,10 +149,11 @@ int32_t osc_device_get(osc_device *device, const uint8_t *path, size_t path_leng
 
 /* These bytes came from there as one datagram. Any bytes return OSC_DONE, but for want of memory or a bad moment. What is to be sent is taken by
  * `next`, and what was served or refused is told by `served` and `refused`, until the next call of `on_datagram`, `on_tick`, `open`, `put`,
- * `append`, `remove` or `restart`. `from` is not 0.0.0.0, which no datagram comes from: the device's own place. Heap: for the step. */
+ * `append`, `remove` or `restart`. OSC_BAD_ARGUMENT where `from` is 0.0.0.0, which no datagram comes from: the device's own place. Heap: for the
+ * step. */
 int32_t osc_device_on_datagram(osc_device *device, uint64_t now, const osc_peer *from, const uint8_t *bytes, size_t length, const osc_draw *draw);
 
-/* What is due by now is done: at least each second, also while datagrams come. */
+/* What is due by now is done, whatever memory there is: at least each second, also while datagrams come. Heap: for what is sent, which is lost without. */
 int32_t osc_device_on_tick(osc_device *device, uint64_t now, const osc_draw *draw);
 
 /* What the last step learnt, where it was a tick, of what `open`, `put`, `append` or `remove` left open where it answered OSC_LOST: OSC_DONE, or
@@ -194,6 +200,7 @@ int32_t osc_client_ask(osc_client *client, uint64_t now, uint8_t method, const u
                        const uint8_t *payload, size_t payload_length, const osc_draw *draw);
 
 int32_t osc_client_on_datagram(osc_client *client, uint64_t now, const osc_peer *from, const uint8_t *bytes, size_t length);
+/* What is due by now is done, whatever memory there is. Heap: for what is sent, which is lost without. */
 int32_t osc_client_on_tick(osc_client *client, uint64_t now);
 int32_t osc_client_next_deadline(osc_client *client, uint64_t *moment);
 int32_t osc_client_next(osc_client *client, osc_peer *to, uint8_t *bytes, size_t room, size_t *length);
@@ -217,6 +224,7 @@ int32_t osc_proxy_new(osc_proxy *proxy);
 int32_t osc_proxy_add_target(osc_proxy *proxy, const uint8_t *host, size_t host_length, uint16_t port, const osc_peer *to);
 
 int32_t osc_proxy_on_datagram(osc_proxy *proxy, uint64_t now, const osc_peer *from, const uint8_t *bytes, size_t length, const osc_draw *draw);
+/* What is due by now is done; once the proxy has heard or ticked, whatever memory there is. Heap: for what is sent, which is lost without. */
 int32_t osc_proxy_on_tick(osc_proxy *proxy, uint64_t now, const osc_draw *draw);
 int32_t osc_proxy_next_deadline(osc_proxy *proxy, uint64_t *moment);
 int32_t osc_proxy_next(osc_proxy *proxy, osc_peer *to, uint8_t *bytes, size_t room, size_t *length);

@@ -476,12 +476,13 @@ static void bad_moments(world *w) {
     const uint64_t late = UINT64_C(1) << 63;
     osc_draw it = draw();
     osc_draws draws = two_draws();
-    osc_peer from = peer(STRANGER_PORT);
+    osc_peer from = peer(STRANGER_PORT), nowhere = {{0, 0, 0, 0}, 1};
     osc_options options = {-1, -1, 0, 0, 0, {0}};
     uint8_t code;
     ANSWERS(OSC_BAD_ARGUMENT, osc_device_open(&w->device, late, &draws, &code));
     ANSWERS(OSC_BAD_ARGUMENT, osc_device_put(&w->device, late, TEXT("/e"), -1, TEXT("x"), &draws, &code));
     ANSWERS(OSC_BAD_ARGUMENT, osc_device_on_datagram(&w->device, late, &from, TEXT("x"), &it));
+    ANSWERS(OSC_BAD_ARGUMENT, osc_device_on_datagram(&w->device, w->now, &nowhere, TEXT("x"), &it));
     ANSWERS(OSC_BAD_ARGUMENT, osc_device_on_tick(&w->device, UINT64_MAX, &it));
     ANSWERS(OSC_BAD_ARGUMENT, osc_client_exchange(&w->clients[0], late, &it));
     ANSWERS(OSC_BAD_ARGUMENT, osc_client_ask(&w->clients[0], late, 1, TEXT("/e"), &options, TEXT(""), &it));
