@@ -99,7 +99,7 @@ static uint64_t measure(int ear, const uint8_t *datagram, size_t length, uint32_
         marks = 0;
         code = heard(ear, datagram, length, rounds);
         if (code >= 1000 || marks != 2 * (size_t)rounds) {
-            fprintf(stderr, "a node didn't hear each datagram: memory is wanting\n");
+            fprintf(stderr, "a node didn't hear each datagram: there is no memory\n");
             exit(2);
         }
     }

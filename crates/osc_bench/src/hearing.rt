@@ -15,9 +15,9 @@ use std::alloc::{AllocError, Global};
 
 /// A server of one resource, `/r000`, which is open, has a context, that of the client of `osc_bench_flood_server`. It hears the datagram so many times, each
 /// time under a message ID of its own, and when all that it noted of those before is dead. Answers the code of what it sent the last time;
-/// 256 where it sent nothing, and 1,000 for want of memory.
+/// 256 where it sent nothing, and 1,000 where there was no memory.
 ///
-/// A block of 65,521 bytes is taken and given back before and behind each call of `on_datagram`.
+/// A block of 65,521 bytes is taken and given back before and after each call of `on_datagram`.
 #[unsafe(no_mangle)]
 pub extern "C" fn osc_bench_hear_server(alloc: Global, datagram: &[u8], rounds: u32) -> u64 {
     server_hears(alloc, datagram, rounds).unwrap_or(WANTING)
@@ -36,7 +36,7 @@ pub extern "C" fn osc_bench_hear_client(
 }
 
 /// A proxy of one target, `s`, with so many exchanges open, hears the datagram so many times, as at `osc_bench_hear_server`; before each it starts again, and
-/// the exchanges are opened anew. The datagram comes from the target where `from` is 255, and else from the peer of that number; those below `open` have
+/// the exchanges are opened again. The datagram comes from the target where `from` is 255, and else from the peer of that number; those below `open` have
 /// the exchanges. To the target, the token of the first exchange is the byte 0, 8 times, and that of the next one the byte 1.
 #[unsafe(no_mangle)]
 pub extern "C" fn osc_bench_hear_proxy(

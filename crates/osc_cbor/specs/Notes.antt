@@ -14,7 +14,7 @@ use Rattle.osc_cbor.specs.declared.keys.Verdict.TheVariants.{Apart, Repeated, Un
 
 -- ---- what is noted
 
--- bytes were noted behind those before, or there was no room
+-- bytes were noted after those before, or there was no room
 abbrev pub Noted : {X : Type 0} → List ℕ → List ℕ → List ℕ → Result X Stop → Type 0
 Noted old bytes new (Ok x) = new ≡ old ++ bytes
 Noted old bytes new (Err e) = (e ≡ Unsure) × (new ≡ old)
@@ -63,7 +63,7 @@ key_spellings (pair k v ps) = spelling k ∷ key_spellings ps
 
 -- ---- what a pass gives
 
--- where something ends, with its spelling noted; or its fault; or nothing, for want of room
+-- where something ends, with its spelling noted; or its fault; or nothing, without room
 abbrev pub Passes : {X A : Type 0} → (A → List ℕ) → (X → List ℕ) → List ℕ → List ℕ → Result X Stop → Result (A × List ℕ) ReadError → Type 0
 Passes {A = A} spelled now old new (Ok x) read = (d : A) × (read ≡ Ok (d, now x)) × (new ≡ old ++ spelled d)
 Passes spelled now old new (Err (Fault e)) read = read ≡ Err e

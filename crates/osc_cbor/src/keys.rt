@@ -20,10 +20,10 @@ pub(crate) const SPELLED_LIMIT: usize = 1152;
 /// How many keys there is room for: a key and its value take two bytes.
 pub(crate) const KEYS_LIMIT: usize = 576;
 
-/// Spellings with the shortest heads, one behind the other.
+/// Spellings with the shortest heads, one after the other.
 pub(crate) type Spelled = ArrayVec<u8, SPELLED_LIMIT>;
 
-/// The keys of the maps that are open, those of an inner map behind those of an outer one.
+/// The keys of the maps that are open, those of an inner map after those of an outer one.
 pub(crate) type Keys = ArrayVec<Key, KEYS_LIMIT>;
 
 /// A key of a map: where its spelling begins and ends, and its first four bytes as a number.

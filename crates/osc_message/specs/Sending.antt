@@ -68,7 +68,7 @@ abbrev pub again : Peer → Option Bytes → List Datagram
 again from None = []
 again from (Some bytes) = (record { to = from; bytes = bytes }) ∷ []
 
--- What is due is sent, all of it, in order. Where memory is wanting for it nothing is: it is lost, as on the way.
+-- What is due is sent, all of it, in order. Without memory for it nothing is: it is lost, as on the way.
 abbrev pub GoesOut : List Datagram → List Datagram → Type 0
 GoesOut due out = (out ≡ due) ⊎ (out ≡ [])
 

@@ -72,7 +72,7 @@ fn add_given_up(given_up: &mut GivenUp, message: &Open, due: Due)
 /// What a tick does, before it is done.
 #[derive(Drop)]
 struct Plan {
-    /// What is sent, in order; none where memory is wanting for it.
+    /// What is sent, in order; none without memory for it.
     out: Option<Datagrams>,
     /// What is given up, in order.
     given_up: GivenUp,
@@ -164,7 +164,7 @@ pub(crate) fn apply(sending: &mut Vec<Queued>, dues: &[Due], now: Moment)
 /// What a tick did.
 #[derive(Drop)]
 pub struct Ticked {
-    /// What is sent, in order; nothing where memory is wanting for it.
+    /// What is sent, in order; nothing without memory for it.
     pub out: Datagrams,
     /// Which were given up, in order.
     pub given_up: GivenUp,

@@ -1,4 +1,4 @@
--- What is open at the message layer of a proxy belongs to exchanges that are open: once one is closed, nothing of it is sent any more.
+-- The requests that are open at the message layer of a proxy belong to exchanges that are open: once one is closed, its request isn't sent any more.
 use Rattle.std.specs.Prelude.{◌≡◌, ℕ, Bool, true, ◌&&◌, not, List, filter, slice_index_or}
 use Rattle.std.specs.List.{All, list_any}
 use Rattle.osc_coap.specs.Code.{is_request_code}

@@ -55,7 +55,7 @@ abbrev pub without_over_in : Moment → State → EndpointState
 without_over_in now state = record state.endpoint { sending = without_over now state.exchanges state.endpoint.sending }
 
 -- First the messages of exchanges that are over leave, so that their peers are free; then what is due of the others goes out; and then
--- the answers that say that none came, each in at most 1,152 bytes. Where memory is wanting for datagrams they are lost, as on the way,
+-- the answers that say that none came, each in at most 1,152 bytes. Without memory for datagrams they are lost, as on the way,
 -- and all else is done. Nothing is sealed or opened.
 pub record Ticks (old : State) (now : Moment) (draw : Draw) (step : Step) (new : State) : Type 0 where
   pub repeats : List Datagram

@@ -49,10 +49,10 @@ impl Changes {
 
 /// What a line says. PATH has a `/` before each segment, as in `/a/b`. A number is of decimal digits, without a
 /// sign, below 2^64. BYTES is `-` for none, or parts joined by `+`, each pairs of hexadecimal digits, or one pair, `*`
-/// and a count: `68+69*2` is `hii`; of a datagram's and of a request's, which are too long then, the first 1,153 are kept. METHOD is `GET`, `POST`, `PUT` or `DELETE`. CLIENT is `c1` to `c9`, PROXY `p1` to `p9`; NODE,
+/// and a count: `68+69*2` is `hii`. METHOD is `GET`, `POST`, `PUT` or `DELETE`. CLIENT is `c1` to `c9`, PROXY `p1` to `p9`; NODE,
 /// FROM and TO are `s`, a client, a proxy, or `x`. J and K count the datagrams from 1, as they are sent.
 ///
-/// Of a datagram's bytes and of a payload's the first 1,153 stand here: with so many it is too long, whatever stands behind them.
+/// Of a datagram's bytes and of a payload's the first 1,153 stand here: with so many it is too long, whatever comes after them.
 #[derive(Debug, Drop)]
 pub enum Line {
     /// Nothing: the line is empty, or begins with `#`.

@@ -212,7 +212,7 @@ pub(crate) fn algorithm<'a, 'b>(words: &'a [&'b str]) -> (&'a [&'b str], Algorit
     }
 }
 
-/// The first 1,153 of the bytes of a word: a datagram with so many is too long, whatever stands behind them.
+/// The first 1,153 of the bytes of a word: a datagram with so many is too long, whatever comes after them.
 #[tactic(auto, unfolding(crate::specs::Reading::kept_in))]
 pub(crate) fn kept_bytes(alloc: Global, word: &[u8]) -> Result<Option<Bytes>, AllocError>
     ensures { IfOk result (λ found. found ≡ kept_in word.now) }

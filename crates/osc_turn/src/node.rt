@@ -34,7 +34,7 @@ pub trait Node<A: Ciphers> {
         ensures heard { IfOk result (λ step. is_step self.old now draw.now (Some (from, bytes.now)) step self.new) }
         ensures err { OnErr result (self.new ≡ self.old) };
 
-    /// Nothing came by this moment: the step that sends what is due. It is done whatever memory there is: what can't be sent for want of
+    /// Nothing came by this moment: the step that sends what is due. It is done whatever memory there is: what can't be sent without
     /// it is lost, as on the way.
     fn tick(&mut self, alloc: Global, now: Moment, draw: &Draw) -> Step
         ensures ticked { is_step self.old now draw.now None result self.new };
