@@ -135,6 +135,10 @@ refusals_at now refusals = if now.ms / 1000 == refusals.second then refusals els
 abbrev pub left_out_text : Moment → ℕ → List ℕ
 left_out_text now count = line (decimal now.ms ++ codes " left out " ++ decimal count ++ codes " refusals")
 
+-- N lines could not be written
+abbrev pub dropped_text : ℕ → List ℕ
+dropped_text count = line (decimal count ++ codes " lines could not be written")
+
 -- what comes first in a new second: how many were left out before
 abbrev pub ended_text : Moment → Refusals → List ℕ
 ended_text now refusals = if now.ms / 1000 == refusals.second || refusals.left_out == 0 then [] else left_out_text now refusals.left_out

@@ -1,4 +1,6 @@
 //! A writer that never waits.
+ghost use Rattle.std.specs.Prelude.{◌≡◌};
+
 use libc::net::{POLLOUT, poll};
 use libc::types::pollfd;
 use std::cmp::min;
@@ -18,7 +20,9 @@ pub struct AtOnce<W: Write + AsRawFd + Drop> {
 
 impl<W: Write + AsRawFd + Drop> AtOnce<W> {
     /// Writes to this writer.
-    pub fn new(writer: W) -> AtOnce<W> {
+    pub fn new(writer: W) -> AtOnce<W>
+        ensures { result.writer ≡ writer }
+    {
         AtOnce { writer }
     }
 }

@@ -171,7 +171,9 @@ fn count_lines(text: &[u8]) -> u64
     text.iter().filter(|b| **b == b'\n').count() as u64
 }
 
-fn dropped_line(alloc: Global, count: u64) -> Result<String, AllocError> {
+fn dropped_line(alloc: Global, count: u64) -> Result<String, AllocError>
+    ensures { IfOk result (λ text. string_bytes text ≡ spec.dropped_text count) }
+{
     format!(in alloc; "{count} lines could not be written\n")
 }
 
