@@ -502,6 +502,18 @@ static void server_shapes(void) {
     option(11, PATH, 4);
     end_counted("", count, " If-Match of 8 bytes");
     get_of_server();
+    count = options(1, 1, 6);
+    option(11, PATH, 4);
+    end_counted("", count, " If-Match of a byte");
+    get_of_server();
+    count = options(1, 0, 6);
+    option(11, PATH, 4);
+    end_counted("", count, " If-Match, empty");
+    get_of_server();
+    count = options(8, 0, 6);
+    option(11, PATH, 4);
+    end_counted("", count, " Location-Path, empty");
+    get_of_server();
     count = options(4, 8, 6);
     option(11, PATH, 4);
     end_counted("", count, " ETag of 8 bytes");

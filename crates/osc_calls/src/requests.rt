@@ -71,6 +71,6 @@ fn tags(alloc: Global, options: &PlainOptions) -> Result<ETags, Outcome>
     let (tag, _) = options
         .if_match_bytes
         .split_at(options.if_match_length as usize);
-    tags.push(alloc, Bytes::from_slice(alloc, tag)?)?;
+    tags.push(alloc, tag)?;
     Ok(tags)
 }

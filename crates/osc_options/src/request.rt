@@ -72,8 +72,7 @@ fn add_tag(alloc: Global, tags: &mut ETags, number: u16, value: &[u8]) -> Result
     if number != IF_MATCH {
         return Ok(());
     }
-    tags.push(alloc, Bytes::from_slice(alloc, value)?)?;
-    Ok(())
+    tags.push(alloc, value)
 }
 
 /// The value of the first option of the wanted number, among those that were known and this one.

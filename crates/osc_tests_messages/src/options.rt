@@ -154,8 +154,8 @@ fn replies(rt: HostRuntime) {
 
 fn two_tags(alloc: Global) -> Result<ETags, AllocError> {
     let mut tags = ETags::new(alloc);
-    tags.push(alloc, Bytes::from_slice(alloc, b"e")?)?;
-    tags.push(alloc, Bytes::new(alloc))?;
+    tags.push(alloc, b"e")?;
+    tags.push(alloc, &[])?;
     Ok(tags)
 }
 

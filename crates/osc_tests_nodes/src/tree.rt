@@ -31,7 +31,7 @@ type Answer = (Code, usize, Option<u16>);
 fn if_match(alloc: Global, with: With) -> Result<ETags, AllocError> {
     let mut tags = ETags::new(alloc);
     if let With::IfMatch(tag) = with {
-        tags.push(alloc, Bytes::from_slice(alloc, tag)?)?;
+        tags.push(alloc, tag)?;
     }
     Ok(tags)
 }

@@ -8,7 +8,7 @@ ghost use Rattle.osc_model.specs.Checks.{AllowsWrite, refusal as refuses, method
 
 use crate::tags::etag;
 use crate::tree::{LONGEST_PAYLOAD, Tree};
-use osc_model::{Bytes, Code, Method, Path, Request, Resource};
+use osc_model::{Code, ETag, Method, Path, Request, Resource};
 use osc_scope::{Scope, Verdict};
 
 /// What the path has, where no check fails, and else the code of the first that does; what passes can be written. Looks the
@@ -123,7 +123,7 @@ fn payload_length(found: Option<&Resource>) -> usize
 
 // If-Match (RFC 7252 section 5.10.8.1): whether there is no value, or one of them is the ETag of what is there, or
 // is empty and something is there.
-fn is_matched(found: Option<&Resource>, tags: &[Bytes]) -> bool
+fn is_matched(found: Option<&Resource>, tags: &[ETag]) -> bool
     ensures { result ≡ matches (option_copied found.entry) tags.now }
 {
     if tags.is_empty() {
@@ -136,7 +136,7 @@ fn is_matched(found: Option<&Resource>, tags: &[Bytes]) -> bool
 }
 
 // Whether one of these is empty or the resource's own.
-fn has_match(tags: &[Bytes], own: &[u8]) -> bool
+fn has_match(tags: &[ETag], own: &[u8]) -> bool
     ensures { result ≡ list_any (λ t. length t == 0 || bytes_eq t own.now) tags.now }
 {
     tags.iter()
