@@ -474,6 +474,13 @@ static void long_proxy_uri(const char *start, const char *letters) {
 
 static void get_of_server(void) { begin(SERVER, 0x44, 1, 1); }
 
+/* A post of a token that opens, whose scope has as many entries as fit. */
+static void many_subtrees(void) {
+    begin(SERVER, 0x40, 2, 0);
+    written->length = osc_bench_flood_valid(65535, written->bytes, LIMIT);
+    end("a token that opens, whose scope has 163 subtrees");
+}
+
 static void server_shapes(void) {
     static void (*const PAYLOADS[])(void) = {
         two_byte_keys, two_byte_keys_rising, two_byte_keys_falling, two_byte_keys_folded, one_pair_equal, three_byte_keys, nine_byte_keys, sixteen_byte_keys,
@@ -486,6 +493,8 @@ static void server_shapes(void) {
         exit(2);
     }
     for (size_t i = 0; i < sizeof PAYLOADS / sizeof PAYLOADS[0]; i++) post_to_server(PAYLOADS[i]);
+
+    many_subtrees();
 
     get_of_server();
     end_counted("", bare_options(1), " options of a byte, of each number");
@@ -559,6 +568,33 @@ static void server_shapes(void) {
     option(11, PATH, 4);
     sealed_rest();
     end("a PUT without protection, as long as fits");
+}
+
+/* What a holder seals: a code, options and a payload, as long as a request may be around them. Its options are those of class E. */
+static void begin_text(void) {
+    begin(HOLDER, 1, 0, 0);
+    written->length = 0;
+    put(1);
+}
+
+/* The most bytes of such a text: a datagram less header, token, option OSCORE, marker and tag. */
+enum { LONGEST_TEXT = LIMIT - 4 - 8 - 11 - 1 - 8 };
+
+static void holder_shapes(void) {
+    static const struct {
+        unsigned number, length;
+        const char *name;
+    } ALL[] = {{1, 0, " If-Match, empty"}, {1, 1, " If-Match of a byte"}, {8, 0, " Location-Path, empty"}, {15, 1, " Uri-Query of a byte"}, {UNKNOWN, 0, " options that nobody knows, empty"}};
+    for (size_t i = 0; i < sizeof ALL / sizeof ALL[0]; i++) {
+        begin_text();
+        if (ALL[i].number > 11) option(11, "log", 3);
+        unsigned count = options(ALL[i].number, ALL[i].length, LIMIT - LONGEST_TEXT + 6);
+        if (ALL[i].number < 11) option(11, "log", 3);
+        end_counted("", count, ALL[i].name);
+    }
+    begin_text();
+    option(11, "log", 3);
+    end_counted("", options(11, 1, LIMIT - LONGEST_TEXT), " Uri-Path of a byte");
 }
 
 /* What a client hears of its server, while something waits. */
@@ -699,6 +735,7 @@ static void target_shapes(void) {
 static void make_shapes(void) {
     shape_count = 0;
     server_shapes();
+    holder_shapes();
     client_shapes();
     proxy_shapes();
     target_shapes();

@@ -10,7 +10,8 @@ use osc_token::{Claims, MintError, mint};
 use std::alloc::{AllocError, Global};
 
 /// Writes a valid datagram: number 0 is the second request of the client that `osc_bench_flood_server` serves, a protected GET; each other one
-/// posts a token of its own to authz-info, whose id is the number's two bytes. Answers how many bytes it has; 0 for want of memory or room.
+/// posts a token of its own to authz-info, whose id is the number's two bytes, and that of 65,535 has a scope of 163 subtrees. Answers how many bytes it
+/// has; 0 for want of memory or room.
 #[unsafe(no_mangle)]
 pub extern "C" fn osc_bench_flood_valid(alloc: Global, number: u16, out: &mut [u8]) -> u64 {
     match valid(alloc, number) {
@@ -34,6 +35,11 @@ const MARK: usize = 65521;
 
 // How many datagrams come in a millisecond.
 const PACE: u32 = 10;
+
+// The token that has a scope of many subtrees, and how many.
+const MANY: u16 = 65535;
+
+const SUBTREES: u8 = 163;
 
 // A tick comes behind so many datagrams: once in a second.
 const EACH_TICK: u32 = 10_000;
@@ -170,7 +176,26 @@ fn token_of(alloc: Global, number: u16) -> Result<Bytes, AllocError> {
 fn claims_of(alloc: Global, number: u16) -> Result<Claims, AllocError> {
     let mut claims = claims(alloc, right_of(number))?;
     claims.material.id = Bytes::from_slice(alloc, &number.to_be_bytes())?;
+    if number == MANY {
+        claims.scope = many_subtrees(alloc)?;
+    }
     Ok(claims)
+}
+
+// GET on a path of two letters and on each below it, once for each of so many paths.
+fn many_subtrees(alloc: Global) -> Result<Bytes, AllocError> {
+    let mut scope = Vec::from_slice(alloc, &[0x98, SUBTREES])?;
+    for number in 0..SUBTREES {
+        scope.extend_from_slice(&[
+            0x82,
+            0x63,
+            b'/',
+            b'a' + number / 16,
+            b'a' + number % 16,
+            0x11,
+        ])?;
+    }
+    Ok(Bytes::from_vec(scope))
 }
 
 // The claims under the server's key, and an IV that ends in the number.

@@ -74,7 +74,7 @@ fn number(datagram: &mut [u8], round: u32) {
 }
 
 // Marks the end of the call that gave this step. The code of what it sends first, or that it sends nothing.
-fn told(alloc: Global, step: Step) -> Result<u64, AllocError> {
+pub(crate) fn told(alloc: Global, step: Step) -> Result<u64, AllocError> {
     let marked = mark(alloc);
     let code = code_in(&step);
     drop(step);

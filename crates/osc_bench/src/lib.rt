@@ -8,6 +8,7 @@ mod asking;
 mod cipher;
 mod flood;
 mod hearing;
+mod holder;
 mod messages;
 mod objects;
 mod protected;
