@@ -9,6 +9,7 @@ pub mod AgainLaws
 pub mod RefuseLaws
 pub mod FailLaws
 pub mod ReadLaws
+pub mod NumberLaws
 pub mod OneItem
 pub mod TokenLaws
 pub mod ExtentLaws

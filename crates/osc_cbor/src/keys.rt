@@ -137,11 +137,37 @@ fn order(a: &Key, b: &Key, spelled: &[u8]) -> Ordering {
     a.cmp(&b)
 }
 
+/// Sorts those from one index to another by their spellings.
+fn sort_part(start: usize, end: usize, spelled: &[u8], keys: &mut [Key])
+    requires { (start ≤ end) × (end ≤ length keys.old) }
+    ensures permutation { IsPermutation keys.old keys.new }
+    ensures len { length keys.new ≡ length keys.old }
+{
+    keys[start..end].sort_unstable_by(|a, b| order(a, b, spelled));
+}
+
+/// Sorts neighbours with equal prefixes by their spellings.
+fn sort_neighbours(keys: &mut [Key], spelled: &[u8])
+    ensures { IsPermutation keys.old keys.new }
+{
+    let mut start = 0;
+    for end in 1..keys.len() {
+        if keys[end].prefix != keys[start].prefix {
+            if start + 1 < end {
+                sort_part(start, end, spelled, keys);
+            }
+            start = end;
+        }
+    }
+    sort_part(start, keys.len(), spelled, keys);
+}
+
 /// Sorts keys by their spellings.
 fn sort(keys: &mut [Key], spelled: &[u8])
     ensures { IsPermutation keys.old keys.new }
 {
-    keys.sort_unstable_by(|a, b| order(a, b, spelled));
+    keys.sort_unstable_by_key(|key| key.prefix);
+    sort_neighbours(keys, spelled);
 }
 
 /// Whether keys in the order of their spellings are apart.

@@ -3,7 +3,7 @@
 //! The pass notes the shortest spelling of all that it goes by. So the spelling of each key is one part of it, and the keys of
 //! a map are sorted and compared when the map ends, or when a fault in it ends the pass.
 
-ghost use Rattle.std.specs.Prelude.{◌≡◌, ◌++◌, [], take, drop};
+ghost use Rattle.std.specs.Prelude.{◌≡◌, ◌∷◌, ◌++◌, [], ℕ, suc, take, drop, IfSome, IfNone, Ok};
 ghost use Rattle.arrayvec.specs.ArrayVec.{array_vec_len};
 ghost use Rattle.osc_cbor.specs.Data.{no_items, no_pairs};
 ghost use Rattle.osc_cbor.specs.Head as head_spec;
@@ -55,6 +55,30 @@ fn pass_simple<'a>(bits: u8, bytes: &'a [u8], spelled: &mut Spelled) -> Result<&
     }
     note(&[224 + bits], spelled)?;
     Ok(bytes)
+}
+
+/// Passes a number that begins with this byte, where its head is the shortest, takes at most two bytes, and there is room for it.
+fn pass_number<'a>(first: u8, rest: &'a [u8], spelled: &mut Spelled) -> Option<&'a [u8]>
+    ensures passed { (left : ℕ) → IfSome result (λ after. Passes spelling (λ x. x.now) spelled.old.items spelled.new.items (Ok after) (item_at (suc left) (first ∷ rest.now))) }
+    ensures none { IfNone result (spelled.new.items ≡ spelled.old.items) }
+{
+    if first >= 64 {
+        return None;
+    }
+    if first % 32 < 24 {
+        return match spelled.try_push(first) {
+            Ok(()) => Some(rest),
+            Err(_) => None,
+        };
+    }
+    let (argument, after) = rest.split_first()?;
+    if first % 32 > 24 || *argument < 24 {
+        return None;
+    }
+    match spelled.try_extend_from_slice(&[first, *argument]) {
+        Ok(()) => Some(after),
+        Err(_) => None,
+    }
 }
 
 /// Passes so many items.
@@ -166,6 +190,9 @@ pub(crate) fn pass<'a>(
     };
     if left == 0 {
         return Err(Stop::Fault(ReadError::TooDeep));
+    }
+    if let Some(rest) = pass_number(*first, rest, spelled) {
+        return Ok(rest);
     }
     let Some(major) = major_of(*first / 32) else {
         return pass_simple(*first % 32, rest, spelled);

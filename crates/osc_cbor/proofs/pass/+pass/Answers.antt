@@ -2,11 +2,13 @@ use Rattle.std.proofs.Common.{◌≡◌, [], ◌∷◌, ◌++◌, ℕ, List, dro
 use Rattle.std.proofs.lemmas.Result.{err_from_is_err_and}
 use Rattle.osc_cbor.specs.Data.{unsigned, negative}
 use Rattle.osc_cbor.specs.Head.{head}
+use Rattle.osc_cbor.specs.Spelling.{spelling}
 use Rattle.osc_cbor.specs.Notes.{AreApart, Repeats, pieces}
 use Rattle.osc_cbor.specs.declared.keys.Key.{Key}
 use Rattle.osc_cbor.specs.Reading.{content_at, item_at}
 use Rattle.osc_cbor.proofs.FoundLaws.{item_takes}
 use Rattle.osc_cbor.proofs.PassLaws.{bytes_behind, text_behind, items_behind, pairs_behind, number_behind, items_start, item_ends, item_passed, items_passed, pairs_start, key_ends, room_ends, key_passed, value_ends, pair_passed, all_passed, they_are_apart, one_repeats}
+use Rattle.osc_cbor.proofs.NumberLaws.{number_passed}
 use Rattle.osc_cbor.proofs.pass.+pass.Goals as goal
 
 -- ---- contents
@@ -115,3 +117,12 @@ pass_pairs-returns-in-Repeated-clause-passed t c =
     let rows_are : pieces c.as_slice.result.now (drop c.len-first.result end.new.keys.items) ≡ pieces end.new.spelled.items (drop (length c.args.keys.now.items) end.new.keys.items) =
     ap₂ (λ (s : List ℕ) (n : ℕ). pieces s (drop n end.new.keys.items)) c.as_slice.ensures.value c.len-first.ensures.value in
     one_repeats _ _ _ (subst Repeats rows_are c.in-Repeated.ensures.says) end.ensures.passed
+
+-- ---- a short number
+
+pub pass-returns-in-Some-pass_number-clause-passed : goal.pass-returns-in-Some-pass_number-clause-passed
+pass-returns-in-Some-pass_number-clause-passed t c =
+    number_passed c.args.left c.in-Some.first.now c.in-Some.rest.now c.args.bytes.now c.in-Some-pass_number.rest.now c.args.spelled.now.items c.pass_number.new.spelled.items c.in-Some.ensures.cases.0 (omega (arith, c.if-left-eq0.false)) c.in-Some-pass_number.ensures.passed
+
+pub pass-returns-in-Some-pass_number-clause-grown : goal.pass-returns-in-Some-pass_number-clause-grown
+pass-returns-in-Some-pass_number-clause-grown t c = let (d, _, more) = c.in-Some-pass_number.ensures.passed 0 in (spelling d, more)
