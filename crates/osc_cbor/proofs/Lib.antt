@@ -18,3 +18,4 @@ pub mod RowLaws
 pub mod NoteLaws
 pub mod PassLaws
 pub mod AnyLaws
+pub mod LentLaws

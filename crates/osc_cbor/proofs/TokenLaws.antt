@@ -49,25 +49,25 @@ unfolding token_behind
 text_behind content after = rw (string_again content after) refl
 
 -- a head with no string behind it
-plain_token : (major n : ℕ) (front after : List ℕ) → major < 7 → major ≢ 2 → major ≢ 3 → IsHead major n front → token_at (front ++ after) ≡ Ok ((major, n, []), after)
+pub plain_token : (major n : ℕ) (front after : List ℕ) → major < 7 → major ≢ 2 → major ≢ 3 → IsHead major n front → token_at (front ++ after) ≡ Ok ((major, n, []), after)
 plain_token major n front after low a b is = token_headed major n front after low is ∙ plain_behind major n after a b
 
 -- a head and what follows it
-follows_token : (major n : ℕ) (Rest : List ℕ → Type 0) (bytes after : List ℕ) → major < 7 → major ≢ 2 → major ≢ 3 → (f : Follows major n Rest bytes) → token_at (bytes ++ after) ≡ Ok ((major, n, []), f.rest ++ after)
+pub follows_token : (major n : ℕ) (Rest : List ℕ → Type 0) (bytes after : List ℕ) → major < 7 → major ≢ 2 → major ≢ 3 → (f : Follows major n Rest bytes) → token_at (bytes ++ after) ≡ Ok ((major, n, []), f.rest ++ after)
 follows_token major n Rest bytes after low a b f =
     ap (λ (x : List ℕ). token_at (x ++ after)) f.whole ∙ ap token_at (append_assoc f.front f.rest after) ∙ plain_token major n f.front (f.rest ++ after) low a b f.is_head
 
-bytes_token : (content bytes after : List ℕ) → Follows 2 (length content) (λ rest. rest ≡ content) bytes → token_at (bytes ++ after) ≡ Ok ((2, length content, content), after)
+pub bytes_token : (content bytes after : List ℕ) → Follows 2 (length content) (λ rest. rest ≡ content) bytes → token_at (bytes ++ after) ≡ Ok ((2, length content, content), after)
 bytes_token content bytes after f =
     ap (λ (x : List ℕ). token_at (x ++ after)) f.whole ∙ ap token_at (append_assoc f.front f.rest after) ∙ token_headed 2 (length content) f.front (f.rest ++ after) (omega arith) f.is_head
     ∙ ap (λ (x : List ℕ). token_behind 2 (length content) (x ++ after)) f.is_rest ∙ bytes_behind content after
 
-text_token : (content bytes after : List ℕ) → Follows 3 (length content) (λ rest. rest ≡ content) bytes → token_at (bytes ++ after) ≡ Ok ((3, length content, content), after)
+pub text_token : (content bytes after : List ℕ) → Follows 3 (length content) (λ rest. rest ≡ content) bytes → token_at (bytes ++ after) ≡ Ok ((3, length content, content), after)
 text_token content bytes after f =
     ap (λ (x : List ℕ). token_at (x ++ after)) f.whole ∙ ap token_at (append_assoc f.front f.rest after) ∙ token_headed 3 (length content) f.front (f.rest ++ after) (omega arith) f.is_head
     ∙ ap (λ (x : List ℕ). token_behind 3 (length content) (x ++ after)) f.is_rest ∙ text_behind content after
 
-simple_token : (bits : ℕ) (bytes after : List ℕ) → bits < 32 → bytes ≡ (224 + bits) ∷ [] → token_at (bytes ++ after) ≡ Ok ((7, bits, []), after)
+pub simple_token : (bits : ℕ) (bytes after : List ℕ) → bits < 32 → bytes ≡ (224 + bits) ∷ [] → token_at (bytes ++ after) ≡ Ok ((7, bits, []), after)
 unfolding token_at
 simple_token bits bytes after lt whole =
     let high : (224 + bits) / 32 ≡ 7 = omega (arith, major_part 7 bits lt) in

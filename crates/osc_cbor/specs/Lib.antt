@@ -11,3 +11,5 @@ pub mod Reading
 pub mod Tokens
 pub mod Ends
 pub mod Notes
+pub mod Code
+pub mod Lent

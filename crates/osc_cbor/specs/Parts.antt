@@ -1,6 +1,6 @@
 -- What an item holds, if it is of one kind.
-use Rattle.std.specs.Prelude.{ℕ, Option, Some, None, option_and_then, List}
-use Rattle.osc_cbor.specs.Data.{DataItem, unsigned, byte_string, text_string, array, map, Items, Pairs, value_under}
+use Rattle.std.specs.Prelude.{ℕ, ◌==◌, if◌then◌else◌, Option, Some, None, option_and_then, List}
+use Rattle.osc_cbor.specs.Data.{DataItem, unsigned, byte_string, text_string, array, map, tag, Items, Pairs, value_under}
 
 abbrev pub as_unsigned : DataItem → Option ℕ
 as_unsigned (unsigned n) = Some n
@@ -25,3 +25,8 @@ as_map _ = None
 -- the value under an unsigned number in a map
 abbrev pub value : ℕ → DataItem → Option DataItem
 value label d = option_and_then (value_under label) (as_map d)
+
+-- the item under this tag's number, and else the item itself
+abbrev pub untagged : ℕ → DataItem → DataItem
+untagged number (tag n d) = if n == number then d else tag n d
+untagged number d = d

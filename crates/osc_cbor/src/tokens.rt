@@ -13,7 +13,7 @@ use crate::heads::Major;
 use crate::reader::{argument_of, string_of};
 
 /// A head with the string behind it: major type, argument and string. Of a simple value the argument is its five bits.
-type Token<'a> = (u8, u64, &'a [u8]);
+pub(crate) type Token<'a> = (u8, u64, &'a [u8]);
 
 /// What stands behind a head.
 #[tactic(auto, unfolding(crate::specs::Tokens::token_behind))]
@@ -29,7 +29,7 @@ fn behind_head(major: u8, argument: u64, bytes: &[u8]) -> Result<(Token, &[u8]),
 
 /// The first head of the bytes with its string, and the bytes after them.
 #[tactic(auto, unfolding(crate::specs::Tokens::token_at))]
-fn token_of(bytes: &[u8]) -> Result<(Token, &[u8]), ReadError>
+pub(crate) fn token_of(bytes: &[u8]) -> Result<(Token, &[u8]), ReadError>
     ensures { Reads (λ x. ((x.0.0, x.0.1, x.0.2.now), x.1.now)) result (token_at bytes.now) }
 {
     let Some((first, rest)) = bytes.split_first() else {
@@ -109,6 +109,16 @@ pub(crate) fn behind_item(bytes: &[u8]) -> &[u8]
         rest = after;
     }
     rest
+}
+
+/// The bytes after the item that stands at their beginning, told at once where no other stands inside.
+pub(crate) fn after_item(bytes: &[u8]) -> &[u8]
+    ensures { (d : DataItem) (front rest : List ℕ) → Spells front d → bytes.now ≡ front ++ rest → result.now ≡ rest }
+{
+    match token_of(bytes) {
+        Ok((token, after)) if inside(token.0, token.1) == 0 => after,
+        _ => behind_item(bytes),
+    }
 }
 
 /// What stands before the rest.

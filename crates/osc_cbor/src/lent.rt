@@ -1,0 +1,155 @@
+//! Items lent as the bytes that spell them. No memory is taken.
+
+ghost use Rattle.std.specs.Prelude.{◌≡◌, MatchOption, Ok, option_copied, option_map};
+ghost use Rattle.osc_cbor.specs.Data.{DataItem, value_under};
+ghost use Rattle.osc_cbor.specs.Lent.{Stands, Opens};
+ghost use Rattle.osc_cbor.specs.Parts as part;
+ghost use Rattle.osc_cbor.specs.Reading.{item_at};
+ghost use Rattle.osc_cbor.specs.Spelling.{IsWhole, Spells};
+ghost use Rattle.osc_cbor.specs.View.{items_of, pairs_of};
+
+use crate::heads::Major;
+use crate::lent_lists::{ItemRefs, PairRefs};
+use crate::tokens::{Token, after_item, taken, token_of};
+use crate::whole::is_whole;
+use std::fmt;
+use std::marker::Model;
+
+/// A data item (RFC 8949 section 2) of the subset, lent as the bytes that spell it. Contracts see the item.
+#[derive(Clone, Drop)]
+pub struct ItemRef<'a> {
+    bytes: &'a [u8],
+}
+
+// It may be part of a plaintext, and isn't printed.
+impl<'a> fmt::Debug for ItemRef<'a> {
+    fn fmt<W: fmt::Write>(&self, f: &mut fmt::Formatter<W>) -> fmt::Result {
+        f.write_str("ItemRef")
+    }
+}
+
+impl<'a> Model for ItemRef<'a> {
+    ghost use Rattle.osc_cbor.specs.Code.{coded_item};
+    ghost use Rattle.osc_cbor.specs.Data.{DataItem};
+    ghost use Rattle.osc_cbor.specs.Lent.{item_in};
+    ghost use Rattle.osc_cbor.specs.Spelling.{IsWhole};
+
+    ghost Value = { DataItem };
+
+    ghost coded = { coded_item };
+
+    ghost view = { λ item. item_in item.bytes.now };
+
+    ghost invariant = { λ item. IsWhole item.bytes.now (item_in item.bytes.now) };
+}
+
+/// The head of a spelled item with its string, and the bytes after them.
+fn opened<'a>(bytes: &'a [u8]) -> (Token<'a>, &'a [u8])
+    requires { (d : DataItem) × Spells bytes.now d }
+    ensures { (d : DataItem) → Spells bytes.now d → Opens d result.0.0 result.0.1 result.0.2.now result.1.now }
+{
+    match token_of(bytes) {
+        Ok(found) => found,
+        Err(_) => unreachable!(),
+    }
+}
+
+/// The item at the beginning of the bytes, and the bytes after it.
+pub(crate) fn first_item<'a>(bytes: &'a [u8]) -> (ItemRef<'a>, &'a [u8])
+    requires { Stands bytes.now }
+    ensures { item_at 9 bytes.now ≡ Ok (result.0, result.1.now) }
+{
+    let rest = after_item(bytes);
+    let item = ItemRef {
+        bytes: taken(bytes, rest),
+    };
+    (item, rest)
+}
+
+/// The value under this unsigned number, in the first pair that has it as its key.
+fn value_in<'a>(pairs: PairRefs<'a>, label: u64) -> Option<ItemRef<'a>>
+    ensures { result ≡ value_under label (pairs_of pairs.entry) }
+{
+    for (key, value) in pairs {
+        if key.as_unsigned() == Some(label) {
+            return Some(value);
+        }
+    }
+    None
+}
+
+impl<'a> ItemRef<'a> {
+    /// The item that the bytes are, all of them, where they are one. The time is that of [`crate::extent`].
+    pub fn whole(bytes: &'a [u8]) -> Option<ItemRef<'a>>
+        ensures { MatchOption result
+            ((d : DataItem) → ¬ IsWhole bytes.now d)
+            (λ item. IsWhole bytes.now item × ((d : DataItem) → IsWhole bytes.now d → item ≡ d)) }
+    {
+        if !is_whole(bytes) {
+            return None;
+        }
+        Some(ItemRef { bytes })
+    }
+
+    /// The number, if this is an unsigned one.
+    pub fn as_unsigned(&self) -> Option<u64>
+        ensures { result ≡ part.as_unsigned self.now }
+    {
+        let (token, _) = opened(self.bytes);
+        if token.0 != Major::Unsigned.number() {
+            return None;
+        }
+        Some(token.1)
+    }
+
+    /// The bytes, if this is a byte string.
+    pub fn as_bytes(&self) -> Option<&'a [u8]>
+        ensures { option_copied result ≡ part.as_bytes self.now }
+    {
+        let (token, _) = opened(self.bytes);
+        if token.0 != Major::Bytes.number() {
+            return None;
+        }
+        Some(token.2)
+    }
+
+    /// The items, if this is an array.
+    pub fn as_array(&self) -> Option<ItemRefs<'a>>
+        ensures { option_map items_of result ≡ part.as_array self.now }
+    {
+        let (token, inner) = opened(self.bytes);
+        if token.0 != Major::Array.number() {
+            return None;
+        }
+        Some(ItemRefs::new(token.1, inner))
+    }
+
+    /// The pairs, if this is a map.
+    pub fn as_map(&self) -> Option<PairRefs<'a>>
+        ensures { option_map pairs_of result ≡ part.as_map self.now }
+    {
+        let (token, inner) = opened(self.bytes);
+        if token.0 != Major::Map.number() {
+            return None;
+        }
+        Some(PairRefs::new(token.1, inner))
+    }
+
+    /// The item under this tag's number, if this is one, and else this item itself.
+    pub fn untagged(&self, number: u64) -> ItemRef<'a>
+        ensures { result ≡ part.untagged number self.now }
+    {
+        let (token, inner) = opened(self.bytes);
+        if token.0 == Major::Tag.number() && token.1 == number {
+            return ItemRef { bytes: inner };
+        }
+        ItemRef { bytes: self.bytes }
+    }
+
+    /// The value under this unsigned number in a map.
+    pub fn value(&self, label: u64) -> Option<ItemRef<'a>>
+        ensures { result ≡ part.value label self.now }
+    {
+        value_in(self.as_map()?, label)
+    }
+}

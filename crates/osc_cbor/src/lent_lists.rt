@@ -1,0 +1,117 @@
+//! What stands in arrays and maps, lent item by item. No memory is taken.
+
+ghost use Rattle.std.specs.Prelude.{◌≡◌};
+ghost use Rattle.std.specs.Iterator.{YieldsFirstBy, item_count};
+ghost use Rattle.osc_cbor.specs.Lent.{items_in, pairs_in, AreItems, ArePairs};
+
+use crate::lent::{ItemRef, first_item};
+use std::marker::Model;
+
+/// The items of an array that are left, in order.
+#[derive(Clone, Drop)]
+pub struct ItemRefs<'a> {
+    left: u64,
+    rest: &'a [u8],
+}
+
+impl<'a> Model for ItemRefs<'a> {
+    ghost use Rattle.std.specs.Prelude.{List};
+    ghost use Rattle.std.specs.Coded.{coded_list};
+    ghost use Rattle.osc_cbor.specs.Code.{coded_item};
+    ghost use Rattle.osc_cbor.specs.Data.{DataItem};
+    ghost use Rattle.osc_cbor.specs.Lent.{items_in, AreItems};
+
+    ghost Value = { List DataItem };
+
+    ghost coded = { coded_list coded_item };
+
+    ghost view = { λ items. items_in items.left items.rest.now };
+
+    ghost invariant = { λ items. AreItems items.left items.rest.now };
+}
+
+impl<'a> ItemRefs<'a> {
+    /// So many items, one after the other.
+    pub(crate) fn new(count: u64, bytes: &'a [u8]) -> ItemRefs<'a>
+        requires { AreItems count bytes.now }
+        ensures { result ≡ items_in count bytes.now }
+    {
+        ItemRefs {
+            left: count,
+            rest: bytes,
+        }
+    }
+}
+
+impl<'a> Iterator for ItemRefs<'a> {
+    type Item = ItemRef<'a>;
+
+    ghost next_gives = { YieldsFirstBy (λ item. item) (λ items. items) };
+
+    ghost remaining = { item_count (λ items. items) };
+
+    fn next(&mut self) -> Option<ItemRef<'a>> {
+        if self.left == 0 {
+            return None;
+        }
+        let (item, rest) = first_item(self.rest);
+        self.left -= 1;
+        self.rest = rest;
+        Some(item)
+    }
+}
+
+/// The pairs of a map that are left, in order: key and value.
+#[derive(Clone, Drop)]
+pub struct PairRefs<'a> {
+    left: u64,
+    rest: &'a [u8],
+}
+
+impl<'a> Model for PairRefs<'a> {
+    ghost use Rattle.std.specs.Prelude.{List};
+    ghost use Rattle.std.specs.Coded.{coded_list, coded×};
+    ghost use Rattle.osc_cbor.specs.Code.{coded_item};
+    ghost use Rattle.osc_cbor.specs.Data.{DataItem};
+    ghost use Rattle.osc_cbor.specs.Lent.{pairs_in, ArePairs};
+
+    ghost Value = { List (DataItem × DataItem) };
+
+    ghost coded = { coded_list (coded× coded_item coded_item) };
+
+    ghost view = { λ pairs. pairs_in pairs.left pairs.rest.now };
+
+    ghost invariant = { λ pairs. ArePairs pairs.left pairs.rest.now };
+}
+
+impl<'a> PairRefs<'a> {
+    /// So many pairs, one after the other.
+    pub(crate) fn new(count: u64, bytes: &'a [u8]) -> PairRefs<'a>
+        requires { ArePairs count bytes.now }
+        ensures { result ≡ pairs_in count bytes.now }
+    {
+        PairRefs {
+            left: count,
+            rest: bytes,
+        }
+    }
+}
+
+impl<'a> Iterator for PairRefs<'a> {
+    type Item = (ItemRef<'a>, ItemRef<'a>);
+
+    ghost next_gives = { YieldsFirstBy (λ pair. pair) (λ pairs. pairs) };
+
+    ghost remaining = { item_count (λ pairs. pairs) };
+
+    fn next(&mut self) -> Option<(ItemRef<'a>, ItemRef<'a>)> {
+        if self.left == 0 {
+            return None;
+        }
+        let (key, behind_key) = first_item(self.rest);
+        let (value, rest) = first_item(behind_key);
+        self.left -= 1;
+        self.rest = rest;
+        Some((key, value))
+    }
+}
