@@ -1,7 +1,8 @@
 //! Items lent as the bytes that spell them. No memory is taken.
 
 ghost use Rattle.std.specs.Prelude.{◌≡◌, MatchOption, Ok, option_copied, option_map};
-ghost use Rattle.osc_cbor.specs.Data.{DataItem, value_under};
+ghost use Rattle.std.specs.Option.{option_or};
+ghost use Rattle.osc_cbor.specs.Data.{DataItem, Pairs, pair, value_under};
 ghost use Rattle.osc_cbor.specs.Lent.{Stands, Opens};
 ghost use Rattle.osc_cbor.specs.Parts as part;
 ghost use Rattle.osc_cbor.specs.Reading.{item_at};
@@ -64,6 +65,24 @@ pub(crate) fn first_item<'a>(bytes: &'a [u8]) -> (ItemRef<'a>, &'a [u8])
         bytes: taken(bytes, rest),
     };
     (item, rest)
+}
+
+/// What stands under the wanted number in the first pair that has it as its key: `known`, where one of the pairs before had
+/// it, and else the value of this pair, where the wanted number is its label. So one pass over a map's pairs finds all that is
+/// wanted of it.
+pub fn first_value<'a>(
+    known: Option<ItemRef<'a>>,
+    wanted: u64,
+    label: Option<u64>,
+    value: &ItemRef<'a>,
+) -> Option<ItemRef<'a>>
+    ensures { (key : DataItem) (rest : Pairs) → part.as_unsigned key ≡ label
+        → option_or result (value_under wanted rest) ≡ option_or known.entry (value_under wanted (pair key value.now rest)) }
+{
+    if known.is_some() || label != Some(wanted) {
+        return known;
+    }
+    Some(ItemRef { bytes: value.bytes })
 }
 
 /// The value under this unsigned number, in the first pair that has it as its key.

@@ -23,7 +23,7 @@ pub use error::ReadError;
 pub use extents::extent;
 pub use heads::{HEAD_LIMIT, Major, head};
 pub use item::Item;
-pub use lent::ItemRef;
+pub use lent::{ItemRef, first_value};
 pub use lent_lists::{ItemRefs, PairRefs};
 pub use reader::read;
 pub use whole::{is_whole, is_whole_map, read_whole};
