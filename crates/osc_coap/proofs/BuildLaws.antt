@@ -1,6 +1,7 @@
 -- What a message's bytes become as it grows.
 use Rattle.std.proofs.Common.{◌≡◌, ℕ, ◌+◌, ◌-◌, ◌*◌, ◌/◌, ◌%◌, ◌^◌, ◌<◌, ◌≤◌, List, [], ◌∷◌, ◌++◌, length, Option, None, Result, Ok, Err, refl, sym, ap, subst, ◌∙◌, append_assoc, arith}
 use Rattle.std.specs.Prelude.{IfSome, IsOk, OnOk, OnErr}
+use Rattle.std.proofs.lemmas.Bool.{lt-ltb}
 use Rattle.std.proofs.lemmas.List.{append-nil, length-append}
 use Rattle.osc_coap.specs.declared.kind.Kind.{Kind}
 use Rattle.osc_coap.specs.Kind.{kind_bits}
@@ -21,6 +22,15 @@ option_appended out before number value =
     let d = extension (number - before) in
     let s = extension (length value) in
     append_assoc ((out ++ b ∷ []) ++ d) s value ∙ append_assoc (out ++ b ∷ []) d (s ++ value) ∙ append_assoc out (b ∷ []) (d ++ (s ++ value)) ∙ ap (λ (t : List ℕ). out ++ (b ∷ t)) (sym (append_assoc d s value))
+
+-- an option whose delta and length have no extension
+pub short_spelling : (before number : ℕ) (value : List ℕ) → number - before < 13 → length value < 13 → option_spelling before (number, value) ≡ (16 * (number - before) + length value) ∷ value
+unfolding option_spelling nibble extension
+short_spelling before number value delta size = rw (lt-ltb (number - before) 13 delta, lt-ltb (length value) 13 size) refl
+
+-- the pieces of such an option, appended in turn
+pub short_appended : (out : List ℕ) (before number : ℕ) (value : List ℕ) → number - before < 13 → length value < 13 → (out ++ (16 * (number - before) + length value) ∷ []) ++ value ≡ out ++ option_spelling before (number, value)
+short_appended out before number value delta size = append_assoc out ((16 * (number - before) + length value) ∷ []) value ∙ ap (λ (t : List ℕ). out ++ t) (sym (short_spelling before number value delta size))
 
 -- the spelling of one option more
 pub options-push : (before : ℕ) (options : List NumberAndValue) (option : NumberAndValue) → options_spelling before (options ++ option ∷ []) ≡ options_spelling before options ++ option_spelling (last_number before options) option

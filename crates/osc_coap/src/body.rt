@@ -1,6 +1,6 @@
 //! Options and a payload, written behind one another: what messages and plaintexts have alike.
 
-ghost use Rattle.std.specs.Prelude.{◌≡◌, ◌<◌, ◌≤◌, ◌↔◌, ◌+◌, ◌++◌, ℕ, List, length, replicate, IsOk, OnOk, OnErr};
+ghost use Rattle.std.specs.Prelude.{◌≡◌, ◌<◌, ◌≤◌, ◌↔◌, ◌+◌, ◌-◌, ◌++◌, ℕ, List, length, replicate, IsOk, OnOk, OnErr};
 ghost use Rattle.arrayvec.specs.ArrayVec.{array_vec_len};
 ghost use Rattle.osc_coap.specs.Message.{nibble, extension, option_spelling, payload_spelling};
 ghost use Rattle.osc_coap.specs.Building.{payload_of};
@@ -81,6 +81,31 @@ pub(crate) fn append(out: &mut ArrayVec<u8, DATAGRAM_LIMIT>, bytes: &[u8])
     let _ = out.try_extend_from_slice(bytes);
 }
 
+/// Appends an option behind one of number `before` whose delta and length have no extension, if there is room.
+fn push_short(
+    out: &mut ArrayVec<u8, DATAGRAM_LIMIT>,
+    before: u16,
+    number: u16,
+    value: &[u8],
+) -> Result<(), DatagramTooLong>
+    requires order { before ≤ number }
+    requires delta { number - before < 13 }
+    requires size { length value.now < 13 }
+    ensures variant { IsOk result
+        ↔ (length (out.old.items ++ option_spelling before (number, value.now)) ≤ datagram_limit) }
+    ensures ok { OnOk result
+        (out.new.items ≡ out.old.items ++ option_spelling before (number, value.now)) }
+    ensures err { OnErr result (out.new ≡ out.old) }
+{
+    let size = value.len();
+    if out.remaining_capacity() <= size {
+        return Err(DatagramTooLong);
+    }
+    out.push(16 * (number - before) as u8 + size as u8);
+    append(out, value);
+    Ok(())
+}
+
 /// Appends an option behind one of number `before`, if there is room.
 pub(crate) fn push_option(
     out: &mut ArrayVec<u8, DATAGRAM_LIMIT>,
@@ -95,11 +120,14 @@ pub(crate) fn push_option(
         (out.new.items ≡ out.old.items ++ option_spelling before (number, value.now)) }
     ensures err { OnErr result (out.new ≡ out.old) }
 {
+    let delta = (number - before) as usize;
+    if delta < 13 && value.len() < 13 {
+        return push_short(out, before, number, value);
+    }
     let room = out.remaining_capacity();
     if room < value.len() {
         return Err(DatagramTooLong);
     }
-    let delta = (number - before) as usize;
     let delta_extension = extension_of(delta);
     let size_extension = extension_of(value.len());
     if room < 1 + delta_extension.len() + size_extension.len() + value.len() {

@@ -1,6 +1,6 @@
 //! The options of a message, read from its bytes (RFC 7252 section 3.1).
 
-ghost use Rattle.std.specs.Prelude.{◌≡◌, ◌<◌, ◌+◌, ◌^◌, length, IfSome};
+ghost use Rattle.std.specs.Prelude.{◌≡◌, ◌<◌, ◌↔◌, ◌+◌, ◌/◌, ◌%◌, ◌^◌, ◌∷◌, length, IfSome, IsTrue};
 ghost use Rattle.std.specs.Option.{option_map, option_copied};
 ghost use Rattle.std.specs.Iterator.{YieldsFirstBy, item_count};
 ghost use Rattle.osc_coap.specs.Reading as spec;
@@ -33,6 +33,30 @@ fn extended(bits: u8, bytes: &[u8]) -> Option<(u32, &[u8])>
     }
 }
 
+/// Whether an option's first byte holds its delta and its length, without extensions.
+fn is_short(head: u8) -> bool
+    ensures { IsTrue result ↔ ((head / 16 < 13) × (head % 16 < 13)) }
+{
+    head < 0xd0 && head % 16 < 13
+}
+
+/// The option behind one of number `before` that this first byte and the bytes behind it start with, and the bytes after it,
+/// where delta and length have no extension.
+#[tactic(auto, unfolding(crate::specs::Reading::option_at, crate::specs::Reading::extended_at))]
+fn short_option_of(before: u16, head: u8, rest: &[u8]) -> Option<((u16, &[u8]), &[u8])>
+    requires delta { head / 16 < 13 }
+    requires size { head % 16 < 13 }
+    ensures { option_map (λ x. ((x.0.0, x.0.1.now), x.1.now)) result ≡ option_at before (head ∷ rest.now) }
+{
+    let number = before as u32 + (head / 16) as u32;
+    let size = (head % 16) as usize;
+    if number > 65535 || rest.len() < size {
+        return None;
+    }
+    let (value, rest) = rest.split_at(size);
+    Some(((number as u16, value), rest))
+}
+
 /// The option at the front of the bytes, behind one of number `before`, and the bytes after it.
 /// Numbers have 16 bits.
 #[tactic(auto, unfolding(crate::specs::Reading::option_at))]
@@ -40,6 +64,9 @@ fn option_of(before: u16, bytes: &[u8]) -> Option<((u16, &[u8]), &[u8])>
     ensures { option_map (λ x. ((x.0.0, x.0.1.now), x.1.now)) result ≡ option_at before bytes.now }
 {
     let (head, rest) = bytes.split_first()?;
+    if is_short(*head) {
+        return short_option_of(before, *head, rest);
+    }
     let (delta, rest) = extended(*head / 16, rest)?;
     let (size, rest) = extended(*head % 16, rest)?;
     let number = before as u32 + delta;
