@@ -1,8 +1,8 @@
--- Which options of a message are recognised (RFC 7252 sections 5.4.1, 5.4.3 and 5.4.5).
+-- Which options of a message are recognised (RFC 7252 sections 5.4.1, 5.4.2, 5.4.3 and 5.4.5).
 use Rattle.std.specs.Prelude.{ℕ, Bool, false, not, ◌&&◌, ◌||◌, ◌==◌, nat_le, if◌then◌else◌, List, [], ◌∷◌, length, Option, Some, None}
 use Rattle.osc_coap.specs.Message.{NumberAndValue}
 use Rattle.osc_options.specs.declared.table.Rule.{Rule}
-use Rattle.osc_options.specs.Table.{is_critical, rule_of}
+use Rattle.osc_options.specs.Table.{is_critical, is_unsafe, rule_of}
 
 -- Its length is right, and it is no second copy of one that doesn't repeat. Options stand in the order of their
 -- numbers, so a copy stands right behind an option of its own number, here called `before`; no option of the table
@@ -26,3 +26,9 @@ abbrev pub unrecognised_critical : ℕ → List NumberAndValue → Option ℕ
 unrecognised_critical before [] = None
 unrecognised_critical before (option ∷ options) =
     if is_critical option.0 && not (is_recognised before option) then Some option.0 else unrecognised_critical option.0 options
+
+-- whether an option that isn't recognised is unsafe to forward; the options stand behind one of number `before`
+abbrev pub has_unrecognised_unsafe : ℕ → List NumberAndValue → Bool
+has_unrecognised_unsafe before [] = false
+has_unrecognised_unsafe before (option ∷ options) =
+    (is_unsafe option.0 && not (is_recognised before option)) || has_unrecognised_unsafe option.0 options

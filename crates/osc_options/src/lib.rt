@@ -11,6 +11,7 @@ mod protection;
 mod recognised;
 mod reply;
 mod request;
+mod survey;
 mod table;
 mod written_request;
 
@@ -21,5 +22,6 @@ pub use protection::{plaintext_of, protected_message, unprotected_message};
 pub use recognised::{has_option, is_recognised, unrecognised_critical, value_of};
 pub use reply::{error_message, reply_message, reply_of};
 pub use request::{request_of, request_of_message, uint};
+pub use survey::{Named, Standing, Survey, survey_of};
 pub use table::{Class, Rule, class_of, is_critical, is_unsafe, rule_of};
 pub use written_request::request_message;

@@ -76,7 +76,7 @@ fn add_tag(alloc: Global, tags: &mut ETags, number: u16, value: &[u8]) -> Result
 }
 
 /// The value of the first option of the wanted number, among those that were known and this one.
-fn first_of<'a>(
+pub(crate) fn first_of<'a>(
     known: Option<&'a [u8]>,
     wanted: u16,
     number: u16,

@@ -1,0 +1,206 @@
+//! What the options of a message say to a node before it acts on them (RFC 7252 sections 5.4.1, 5.4.2 and 5.10.2, RFC 8613
+//! section 2).
+ghost use Rattle.std.specs.Prelude.{◌≡◌, ◌==◌, ◌||◌, ◌∷◌, ℕ, List};
+ghost use Rattle.std.specs.List.{list_any};
+ghost use Rattle.std.specs.Option.{option_map, option_or};
+ghost use Rattle.osc_coap.specs.Message.{NumberAndValue};
+ghost use Rattle.osc_options.specs.Recognised as spec;
+ghost use Rattle.osc_options.specs.Recognised.{recognised};
+ghost use Rattle.osc_options.specs.Requests.{value as value_in};
+
+use crate::numbers::{OSCORE, PROXY_SCHEME, PROXY_URI, URI_HOST, URI_PORT};
+use crate::recognised::is_recognised;
+use crate::request::first_of;
+use crate::table::{is_critical, is_unsafe};
+use osc_coap::MessageRef;
+use std::fmt;
+
+/// The options that name the target of a request, by the values of the first of each that is recognised.
+#[derive(Clone, Copy)]
+pub struct Named<'a> {
+    pub uri_host: Option<&'a [u8]>,
+    pub uri_port: Option<&'a [u8]>,
+    pub proxy_uri: Option<&'a [u8]>,
+    pub proxy_scheme: Option<&'a [u8]>,
+}
+
+/// The options of a message that concern OSCORE and proxies, recognised or not.
+#[derive(Clone, Copy)]
+pub struct Standing<'a> {
+    /// The value of the first OSCORE option.
+    pub oscore: Option<&'a [u8]>,
+    pub has_proxy_uri: bool,
+    pub has_proxy_scheme: bool,
+}
+
+/// What the options of a message say to a node before it acts on them.
+#[derive(Clone, Copy)]
+pub struct Survey<'a> {
+    /// The first critical option that isn't recognised, by its number.
+    pub unrecognised_critical: Option<u16>,
+    /// Whether an option that isn't recognised is unsafe to forward.
+    pub has_unrecognised_unsafe: bool,
+    /// What stands there, recognised or not.
+    pub standing: Standing<'a>,
+    /// The target that the recognised options name.
+    pub named: Named<'a>,
+}
+
+// What a message carries isn't printed.
+impl<'a> fmt::Debug for Survey<'a> {
+    fn fmt<W: fmt::Write>(&self, f: &mut fmt::Formatter<W>) -> fmt::Result {
+        f.write_str("Survey")
+    }
+}
+
+impl<'a> fmt::Debug for Standing<'a> {
+    fn fmt<W: fmt::Write>(&self, f: &mut fmt::Formatter<W>) -> fmt::Result {
+        f.write_str("Standing")
+    }
+}
+
+impl<'a> fmt::Debug for Named<'a> {
+    fn fmt<W: fmt::Write>(&self, f: &mut fmt::Formatter<W>) -> fmt::Result {
+        f.write_str("Named")
+    }
+}
+
+/// The first critical option that isn't recognised, among those before and this one.
+fn first_critical(before: Option<u16>, number: u16, known: bool) -> Option<u16>
+    ensures { (behind : ℕ) (value : List ℕ) (rest : List NumberAndValue) → known ≡ spec.is_recognised behind (number, value)
+        → option_or result (spec.unrecognised_critical number rest)
+        ≡ option_or before (spec.unrecognised_critical behind ((number, value) ∷ rest)) }
+{
+    if before.is_some() || known || !is_critical(number) {
+        return before;
+    }
+    Some(number)
+}
+
+/// Whether an option that isn't recognised is unsafe to forward, among those before and this one.
+fn any_unsafe(before: bool, number: u16, known: bool) -> bool
+    ensures { (behind : ℕ) (value : List ℕ) (rest : List NumberAndValue) → known ≡ spec.is_recognised behind (number, value)
+        → (result || spec.has_unrecognised_unsafe number rest)
+        ≡ (before || spec.has_unrecognised_unsafe behind ((number, value) ∷ rest)) }
+{
+    before || (!known && is_unsafe(number))
+}
+
+/// Adds a recognised option.
+fn add_named<'a>(named: &mut Named<'a>, number: u16, value: &'a [u8])
+    ensures host { (rest : List NumberAndValue)
+        → option_or (option_map (λ v. v.now) named.new.uri_host) (value_in 3 rest)
+        ≡ option_or (option_map (λ v. v.now) named.old.uri_host) (value_in 3 ((number, value.now) ∷ rest)) }
+    ensures port { (rest : List NumberAndValue)
+        → option_or (option_map (λ v. v.now) named.new.uri_port) (value_in 7 rest)
+        ≡ option_or (option_map (λ v. v.now) named.old.uri_port) (value_in 7 ((number, value.now) ∷ rest)) }
+    ensures uri { (rest : List NumberAndValue)
+        → option_or (option_map (λ v. v.now) named.new.proxy_uri) (value_in 35 rest)
+        ≡ option_or (option_map (λ v. v.now) named.old.proxy_uri) (value_in 35 ((number, value.now) ∷ rest)) }
+    ensures scheme { (rest : List NumberAndValue)
+        → option_or (option_map (λ v. v.now) named.new.proxy_scheme) (value_in 39 rest)
+        ≡ option_or (option_map (λ v. v.now) named.old.proxy_scheme) (value_in 39 ((number, value.now) ∷ rest)) }
+{
+    named.uri_host = first_of(named.uri_host, URI_HOST, number, value);
+    named.uri_port = first_of(named.uri_port, URI_PORT, number, value);
+    named.proxy_uri = first_of(named.proxy_uri, PROXY_URI, number, value);
+    named.proxy_scheme = first_of(named.proxy_scheme, PROXY_SCHEME, number, value);
+}
+
+/// Adds an option, recognised or not.
+fn add_standing<'a>(standing: &mut Standing<'a>, number: u16, value: &'a [u8])
+    ensures oscore { (rest : List NumberAndValue)
+        → option_or (option_map (λ v. v.now) standing.new.oscore) (value_in 9 rest)
+        ≡ option_or (option_map (λ v. v.now) standing.old.oscore) (value_in 9 ((number, value.now) ∷ rest)) }
+    ensures uri { (rest : List NumberAndValue)
+        → (standing.new.has_proxy_uri || list_any (λ option. option.0 == 35) rest)
+        ≡ (standing.old.has_proxy_uri || list_any (λ option. option.0 == 35) ((number, value.now) ∷ rest)) }
+    ensures scheme { (rest : List NumberAndValue)
+        → (standing.new.has_proxy_scheme || list_any (λ option. option.0 == 39) rest)
+        ≡ (standing.old.has_proxy_scheme || list_any (λ option. option.0 == 39) ((number, value.now) ∷ rest)) }
+{
+    standing.oscore = first_of(standing.oscore, OSCORE, number, value);
+    standing.has_proxy_uri = standing.has_proxy_uri || number == PROXY_URI;
+    standing.has_proxy_scheme = standing.has_proxy_scheme || number == PROXY_SCHEME;
+}
+
+/// Adds an option of which it is known whether it is recognised.
+fn add<'a>(
+    standing: &mut Standing<'a>,
+    named: &mut Named<'a>,
+    number: u16,
+    value: &'a [u8],
+    known: bool,
+)
+    ensures oscore { (rest : List NumberAndValue)
+        → option_or (option_map (λ v. v.now) standing.new.oscore) (value_in 9 rest)
+        ≡ option_or (option_map (λ v. v.now) standing.old.oscore) (value_in 9 ((number, value.now) ∷ rest)) }
+    ensures has_uri { (rest : List NumberAndValue)
+        → (standing.new.has_proxy_uri || list_any (λ option. option.0 == 35) rest)
+        ≡ (standing.old.has_proxy_uri || list_any (λ option. option.0 == 35) ((number, value.now) ∷ rest)) }
+    ensures has_scheme { (rest : List NumberAndValue)
+        → (standing.new.has_proxy_scheme || list_any (λ option. option.0 == 39) rest)
+        ≡ (standing.old.has_proxy_scheme || list_any (λ option. option.0 == 39) ((number, value.now) ∷ rest)) }
+    ensures host { (behind : ℕ) (rest : List NumberAndValue) → known ≡ spec.is_recognised behind (number, value.now)
+        → option_or (option_map (λ v. v.now) named.new.uri_host) (value_in 3 (recognised number rest))
+        ≡ option_or (option_map (λ v. v.now) named.old.uri_host) (value_in 3 (recognised behind ((number, value.now) ∷ rest))) }
+    ensures port { (behind : ℕ) (rest : List NumberAndValue) → known ≡ spec.is_recognised behind (number, value.now)
+        → option_or (option_map (λ v. v.now) named.new.uri_port) (value_in 7 (recognised number rest))
+        ≡ option_or (option_map (λ v. v.now) named.old.uri_port) (value_in 7 (recognised behind ((number, value.now) ∷ rest))) }
+    ensures uri { (behind : ℕ) (rest : List NumberAndValue) → known ≡ spec.is_recognised behind (number, value.now)
+        → option_or (option_map (λ v. v.now) named.new.proxy_uri) (value_in 35 (recognised number rest))
+        ≡ option_or (option_map (λ v. v.now) named.old.proxy_uri) (value_in 35 (recognised behind ((number, value.now) ∷ rest))) }
+    ensures scheme { (behind : ℕ) (rest : List NumberAndValue) → known ≡ spec.is_recognised behind (number, value.now)
+        → option_or (option_map (λ v. v.now) named.new.proxy_scheme) (value_in 39 (recognised number rest))
+        ≡ option_or (option_map (λ v. v.now) named.old.proxy_scheme) (value_in 39 (recognised behind ((number, value.now) ∷ rest))) }
+{
+    match number {
+        OSCORE | URI_HOST | URI_PORT | PROXY_URI | PROXY_SCHEME => {}
+        _ => return,
+    }
+    add_standing(standing, number, value);
+    if known {
+        add_named(named, number, value);
+    }
+}
+
+/// What the options of a message say, found in one pass over them.
+pub fn survey_of<'a>(message: &MessageRef<'a>) -> Survey<'a>
+    ensures critical { result.unrecognised_critical ≡ spec.unrecognised_critical 0 message.now.options }
+    ensures unsafe_option { result.has_unrecognised_unsafe ≡ spec.has_unrecognised_unsafe 0 message.now.options }
+    ensures oscore { option_map (λ v. v.now) result.standing.oscore ≡ value_in 9 message.now.options }
+    ensures has_uri { result.standing.has_proxy_uri ≡ list_any (λ option. option.0 == 35) message.now.options }
+    ensures has_scheme { result.standing.has_proxy_scheme ≡ list_any (λ option. option.0 == 39) message.now.options }
+    ensures host { option_map (λ v. v.now) result.named.uri_host ≡ value_in 3 (recognised 0 message.now.options) }
+    ensures port { option_map (λ v. v.now) result.named.uri_port ≡ value_in 7 (recognised 0 message.now.options) }
+    ensures uri { option_map (λ v. v.now) result.named.proxy_uri ≡ value_in 35 (recognised 0 message.now.options) }
+    ensures scheme { option_map (λ v. v.now) result.named.proxy_scheme ≡ value_in 39 (recognised 0 message.now.options) }
+{
+    let mut critical = None;
+    let mut cannot_go = false;
+    let mut standing = Standing {
+        oscore: None,
+        has_proxy_uri: false,
+        has_proxy_scheme: false,
+    };
+    let mut named = Named {
+        uri_host: None,
+        uri_port: None,
+        proxy_uri: None,
+        proxy_scheme: None,
+    };
+    let mut before = 0;
+    for (number, value) in message.options() {
+        let known = is_recognised(before, number, value);
+        critical = first_critical(critical, number, known);
+        cannot_go = any_unsafe(cannot_go, number, known);
+        add(&mut standing, &mut named, number, value, known);
+        before = number;
+    }
+    Survey {
+        unrecognised_critical: critical,
+        has_unrecognised_unsafe: cannot_go,
+        standing,
+        named,
+    }
+}
