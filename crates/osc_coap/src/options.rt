@@ -34,14 +34,16 @@ fn extended(bits: u8, bytes: &[u8]) -> Option<(u32, &[u8])>
 }
 
 /// Whether an option's first byte holds its delta and its length, without extensions.
+#[inline(always)]
 fn is_short(head: u8) -> bool
     ensures { IsTrue result ↔ ((head / 16 < 13) × (head % 16 < 13)) }
 {
     head < 0xd0 && head % 16 < 13
 }
 
-/// The option behind one of number `before` that this first byte and the bytes behind it start with, and the bytes after it,
-/// where delta and length have no extension.
+/// The option behind one of number `before` that starts with this byte, and the bytes after it, where delta and length have no
+/// extension.
+#[inline(always)]
 #[tactic(auto, unfolding(crate::specs::Reading::option_at, crate::specs::Reading::extended_at))]
 fn short_option_of(before: u16, head: u8, rest: &[u8]) -> Option<((u16, &[u8]), &[u8])>
     requires delta { head / 16 < 13 }
@@ -57,24 +59,35 @@ fn short_option_of(before: u16, head: u8, rest: &[u8]) -> Option<((u16, &[u8]), 
     Some(((number as u16, value), rest))
 }
 
-/// The option at the front of the bytes, behind one of number `before`, and the bytes after it.
-/// Numbers have 16 bits.
+/// The option behind one of number `before` that starts with this byte, and the bytes after it.
+#[inline(never)]
 #[tactic(auto, unfolding(crate::specs::Reading::option_at))]
-fn option_of(before: u16, bytes: &[u8]) -> Option<((u16, &[u8]), &[u8])>
-    ensures { option_map (λ x. ((x.0.0, x.0.1.now), x.1.now)) result ≡ option_at before bytes.now }
+fn extended_option_of(before: u16, head: u8, rest: &[u8]) -> Option<((u16, &[u8]), &[u8])>
+    ensures { option_map (λ x. ((x.0.0, x.0.1.now), x.1.now)) result ≡ option_at before (head ∷ rest.now) }
 {
-    let (head, rest) = bytes.split_first()?;
-    if is_short(*head) {
-        return short_option_of(before, *head, rest);
-    }
-    let (delta, rest) = extended(*head / 16, rest)?;
-    let (size, rest) = extended(*head % 16, rest)?;
+    let (delta, rest) = extended(head / 16, rest)?;
+    let (size, rest) = extended(head % 16, rest)?;
     let number = before as u32 + delta;
     if number > 65535 || rest.len() < size as usize {
         return None;
     }
     let (value, rest) = rest.split_at(size as usize);
     Some(((number as u16, value), rest))
+}
+
+/// The option at the front of the bytes, behind one of number `before`, and the bytes after it.
+/// Numbers have 16 bits.
+#[inline(always)]
+#[tactic(auto, unfolding(crate::specs::Reading::option_at))]
+fn option_of(before: u16, bytes: &[u8]) -> Option<((u16, &[u8]), &[u8])>
+    ensures { option_map (λ x. ((x.0.0, x.0.1.now), x.1.now)) result ≡ option_at before bytes.now }
+{
+    let (head, rest) = bytes.split_first()?;
+    if is_short(*head) {
+        short_option_of(before, *head, rest)
+    } else {
+        extended_option_of(before, *head, rest)
+    }
 }
 
 /// Whether no option stands at the front of the bytes.
@@ -166,6 +179,7 @@ impl<'a> Iterator for Options<'a> {
 
     ghost remaining = { item_count (λ options. options) };
 
+    #[inline(always)]
     fn next(&mut self) -> Option<(u16, &'a [u8])> {
         if is_end(self.rest) {
             return None;

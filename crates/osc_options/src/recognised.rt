@@ -12,6 +12,7 @@ use std::marker::Model;
 
 /// Whether this option, behind one of number `before` or first behind 0, is recognised: it has a row in the table,
 /// the length that the row allows, and is no second copy of one that doesn't repeat.
+#[inline(always)]
 pub fn is_recognised(before: u16, number: u16, value: &[u8]) -> bool
     ensures { result ≡ spec.is_recognised before (number, value.now) }
 {

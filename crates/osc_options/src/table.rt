@@ -41,6 +41,7 @@ pub fn is_unsafe(number: u16) -> bool
 }
 
 /// The row of the table for this number.
+#[inline(always)]
 pub fn rule_of(number: u16) -> Option<Rule>
     ensures { result ≡ spec.rule_of number }
 {
