@@ -1,11 +1,10 @@
 -- Items in their bytes.
-use Rattle.std.proofs.Common.{◌≡◌, ◌≢◌, ℕ, zero, suc, ◌+◌, ◌-◌, ◌<◌, ◌≤◌, true, false, List, [], ◌∷◌, ◌++◌, length, Option, Some, None, Ok, Err, refl, sym, ap, ap₂, subst, ◌∙◌, append_assoc, arith, eq-eqb}
+use Rattle.std.proofs.Common.{◌≡◌, ℕ, suc, ◌+◌, ◌-◌, ◌<◌, ◌≤◌, true, false, List, [], ◌++◌, length, Some, Ok, refl, sym, ap, ap₂, subst, ◌∙◌, append_assoc, arith}
 use Rattle.std.proofs.lemmas.List.{append-nil}
-use Rattle.std.proofs.lemmas.Bool.{ne_eqb}
 use Rattle.osc_cbor.specs.Data.{DataItem, unsigned, negative, byte_string, text_string, array, map, tag, bool, null, Items, no_items, item, Pairs, no_pairs, pair, item_count, pair_count, nesting, items_nesting, pairs_nesting, most_nesting}
 use Rattle.osc_cbor.specs.Lent.{item_of, rest_of, item_in, items_in, pairs_in, Stands, AreItems, ArePairs, Opens}
 use Rattle.osc_cbor.specs.Parts as part
-use Rattle.osc_cbor.specs.Reading.{Found, item_at}
+use Rattle.osc_cbor.specs.Reading.{item_at}
 use Rattle.osc_cbor.specs.Spelling.{Spells, SpellsItems, SpellsPairs, IsWhole}
 use Rattle.osc_cbor.specs.Tokens.{Token, token_at, inside}
 use Rattle.osc_cbor.specs.View.{items_of, pairs_of}
@@ -83,50 +82,6 @@ opens bytes (bool false) t after s read = major_is (7, 20, []) t (same_token byt
 opens bytes null t after s read = major_is (7, 22, []) t (same_token bytes (7, 22, []) [] t after (simple_token 22 bytes [] (omega arith) s) read).0
 
 module _ (argument : ℕ) (content inner : List ℕ) where
-  pub unsigned_if : (d : DataItem) (major : ℕ) → Opens d major argument content inner → major ≡ 0 → Some argument ≡ part.as_unsigned d
-  unsigned_if (unsigned n) major o e = ap (λ (x : ℕ). Some x) o.1
-  unsigned_if (negative n) major o e = absurd (omega (arith, o.0))
-  unsigned_if (byte_string x) major o e = absurd (omega (arith, o.0))
-  unsigned_if (text_string x) major o e = absurd (omega (arith, o.0))
-  unsigned_if (array ds) major o e = absurd (omega (arith, o.0))
-  unsigned_if (map ps) major o e = absurd (omega (arith, o.0))
-  unsigned_if (tag n d) major o e = absurd (omega (arith, o.0))
-  unsigned_if (bool b) major o e = absurd (omega (arith, o))
-  unsigned_if null major o e = absurd (omega (arith, o))
-
-  pub unsigned_unless : (d : DataItem) (major : ℕ) → Opens d major argument content inner → major ≢ 0 → None ≡ part.as_unsigned d
-  unsigned_unless (unsigned n) major o e = absurd (e o.0)
-  unsigned_unless (negative n) major o e = refl
-  unsigned_unless (byte_string x) major o e = refl
-  unsigned_unless (text_string x) major o e = refl
-  unsigned_unless (array ds) major o e = refl
-  unsigned_unless (map ps) major o e = refl
-  unsigned_unless (tag n d) major o e = refl
-  unsigned_unless (bool b) major o e = refl
-  unsigned_unless null major o e = refl
-
-  pub bytes_if : (d : DataItem) (major : ℕ) → Opens d major argument content inner → major ≡ 2 → Some content ≡ part.as_bytes d
-  bytes_if (byte_string x) major o e = ap (λ (y : List ℕ). Some y) o.1
-  bytes_if (unsigned n) major o e = absurd (omega (arith, o.0))
-  bytes_if (negative n) major o e = absurd (omega (arith, o.0))
-  bytes_if (text_string x) major o e = absurd (omega (arith, o.0))
-  bytes_if (array ds) major o e = absurd (omega (arith, o.0))
-  bytes_if (map ps) major o e = absurd (omega (arith, o.0))
-  bytes_if (tag n d) major o e = absurd (omega (arith, o.0))
-  bytes_if (bool b) major o e = absurd (omega (arith, o))
-  bytes_if null major o e = absurd (omega (arith, o))
-
-  pub bytes_unless : (d : DataItem) (major : ℕ) → Opens d major argument content inner → major ≢ 2 → None ≡ part.as_bytes d
-  bytes_unless (byte_string x) major o e = absurd (e o.0)
-  bytes_unless (unsigned n) major o e = refl
-  bytes_unless (negative n) major o e = refl
-  bytes_unless (text_string x) major o e = refl
-  bytes_unless (array ds) major o e = refl
-  bytes_unless (map ps) major o e = refl
-  bytes_unless (tag n d) major o e = refl
-  bytes_unless (bool b) major o e = refl
-  bytes_unless null major o e = refl
-
   -- what an array is
   pub items_if : (d : DataItem) (major : ℕ) → Opens d major argument content inner → major ≡ 4 → (ds : Items) × (d ≡ array ds) × (argument ≡ item_count ds) × SpellsItems inner ds
   items_if (array ds) major o e = (ds, refl, o.1, o.2)
@@ -138,17 +93,6 @@ module _ (argument : ℕ) (content inner : List ℕ) where
   items_if (tag n d) major o e = absurd (omega (arith, o.0))
   items_if (bool b) major o e = absurd (omega (arith, o))
   items_if null major o e = absurd (omega (arith, o))
-
-  pub items_unless : (d : DataItem) (major : ℕ) → Opens d major argument content inner → major ≢ 4 → None ≡ part.as_array d
-  items_unless (array ds) major o e = absurd (e o.0)
-  items_unless (unsigned n) major o e = refl
-  items_unless (negative n) major o e = refl
-  items_unless (byte_string x) major o e = refl
-  items_unless (text_string x) major o e = refl
-  items_unless (map ps) major o e = refl
-  items_unless (tag n d) major o e = refl
-  items_unless (bool b) major o e = refl
-  items_unless null major o e = refl
 
   -- what a map is
   pub pairs_if : (d : DataItem) (major : ℕ) → Opens d major argument content inner → major ≡ 5 → (ps : Pairs) × (d ≡ map ps) × (argument ≡ pair_count ps) × SpellsPairs inner ps
@@ -162,17 +106,6 @@ module _ (argument : ℕ) (content inner : List ℕ) where
   pairs_if (bool b) major o e = absurd (omega (arith, o))
   pairs_if null major o e = absurd (omega (arith, o))
 
-  pub pairs_unless : (d : DataItem) (major : ℕ) → Opens d major argument content inner → major ≢ 5 → None ≡ part.as_map d
-  pairs_unless (map ps) major o e = absurd (e o.0)
-  pairs_unless (unsigned n) major o e = refl
-  pairs_unless (negative n) major o e = refl
-  pairs_unless (byte_string x) major o e = refl
-  pairs_unless (text_string x) major o e = refl
-  pairs_unless (array ds) major o e = refl
-  pairs_unless (tag n d) major o e = refl
-  pairs_unless (bool b) major o e = refl
-  pairs_unless null major o e = refl
-
   -- what a tagged item is
   pub tag_if : (d : DataItem) (major : ℕ) → Opens d major argument content inner → major ≡ 6 → (e : DataItem) × (d ≡ tag argument e) × Spells inner e
   tag_if (tag n d) major o e = (d, ap (λ (x : ℕ). tag x d) (sym o.1), o.2)
@@ -185,30 +118,13 @@ module _ (argument : ℕ) (content inner : List ℕ) where
   tag_if (bool b) major o e = absurd (omega (arith, o))
   tag_if null major o e = absurd (omega (arith, o))
 
-  pub tag_unless : (number : ℕ) (d : DataItem) (major : ℕ) → Opens d major argument content inner → ¬ ((major ≡ 6) × (argument ≡ number)) → d ≡ part.untagged number d
-  tag_unless number (tag n d) major o e = rw (ne_eqb n number (λ h. e (o.0, o.1 ∙ h))) refl
-  tag_unless number (unsigned n) major o e = refl
-  tag_unless number (negative n) major o e = refl
-  tag_unless number (byte_string x) major o e = refl
-  tag_unless number (text_string x) major o e = refl
-  tag_unless number (array ds) major o e = refl
-  tag_unless number (map ps) major o e = refl
-  tag_unless number (bool b) major o e = refl
-  tag_unless number null major o e = refl
-
-pub array_are : (d : DataItem) (ds : Items) (argument : ℕ) (inner : List ℕ) → d ≡ array ds → argument ≡ item_count ds → SpellsItems inner ds → nesting d ≤ most_nesting → AreItems argument inner
-array_are d ds argument inner is counted spelled shallow = record { items = ds; spelled = spelled; counted = sym counted; shallow = subst (λ (x : DataItem). nesting x ≤ most_nesting) is shallow }
-
-pub map_are : (d : DataItem) (ps : Pairs) (argument : ℕ) (inner : List ℕ) → d ≡ map ps → argument ≡ pair_count ps → SpellsPairs inner ps → nesting d ≤ most_nesting → ArePairs argument inner
-map_are d ps argument inner is counted spelled shallow = record { pairs = ps; spelled = spelled; counted = sym counted; shallow = subst (λ (x : DataItem). nesting x ≤ most_nesting) is shallow }
-
 pub inner_whole : (d e : DataItem) (n : ℕ) (inner : List ℕ) → d ≡ tag n e → Spells inner e → nesting d ≤ most_nesting → IsWhole inner e
 inner_whole d e n inner is spelled shallow =
     let h : nesting (tag n e) ≤ most_nesting = subst (λ (x : DataItem). nesting x ≤ most_nesting) is shallow in
     record { spelled = spelled; shallow = omega (arith, h) }
 
-pub untagged_is : (number n : ℕ) (d e : DataItem) → d ≡ tag n e → n ≡ number → e ≡ part.untagged number d
-untagged_is number n d e is same = sym (ap (part.untagged number) is ∙ rw (eq-eqb n number same) refl)
+pub tag_is : (d : DataItem) (n : ℕ) (e x : DataItem) → d ≡ tag n e → x ≡ e → Some (n, x) ≡ part.as_tag d
+tag_is d n e x is same = ap (λ (y : DataItem). Some (n, y)) same ∙ sym (ap part.as_tag is)
 
 -- ---- items one after the other
 
@@ -246,15 +162,6 @@ items_left count bytes d rest a some read =
     let f = first_of count bytes a some in
     let after : f.rest ≡ rest = ap rest_of (sym (first_read count bytes f) ∙ read) in
     record { items = f.others; spelled = subst (λ (x : List ℕ). SpellsItems x f.others) after f.are_others; counted = omega (arith, f.counted); shallow = f.shallow }
-
-pub items_step : (count : ℕ) (bytes : List ℕ) (d : DataItem) (rest : List ℕ) → 0 < count → item_at 9 bytes ≡ Ok (d, rest) → items_in count bytes ≡ d ∷ items_in (count - 1) rest
-items_step zero bytes d rest some read = absurd (omega arith)
-items_step (suc n) bytes d rest some read =
-    let e : suc n - 1 ≡ n = omega arith in
-    rw (e, read) refl
-
-pub items_none : (count : ℕ) (bytes : List ℕ) → count ≡ 0 → items_in count bytes ≡ []
-items_none count bytes none = rw none refl
 
 pub items_are : (ds : Items) (bytes : List ℕ) → SpellsItems bytes ds → items_nesting ds ≤ most_nesting → items_of (items_in (item_count ds) bytes) ≡ ds
 items_are no_items bytes s shallow = refl
@@ -330,16 +237,6 @@ pairs_left count bytes k behind_key v rest a some read_key read_value =
     let behind : f.value_bytes ++ f.rest ≡ behind_key = ap rest_of (sym (key_read count bytes f) ∙ read_key) in
     let after : f.rest ≡ rest = ap rest_of (sym (value_read count bytes f) ∙ ap (item_at 9) behind ∙ read_value) in
     record { pairs = f.others; spelled = subst (λ (x : List ℕ). SpellsPairs x f.others) after f.are_others; counted = omega (arith, f.counted); shallow = f.shallow }
-
-pub pairs_step : (count : ℕ) (bytes : List ℕ) (k : DataItem) (behind_key : List ℕ) (v : DataItem) (rest : List ℕ) → 0 < count → item_at 9 bytes ≡ Ok (k, behind_key) → item_at 9 behind_key ≡ Ok (v, rest)
-    → pairs_in count bytes ≡ (k, v) ∷ pairs_in (count - 1) rest
-pairs_step zero bytes k behind_key v rest some read_key read_value = absurd (omega arith)
-pairs_step (suc n) bytes k behind_key v rest some read_key read_value =
-    let e : suc n - 1 ≡ n = omega arith in
-    rw (e, read_key, read_value) refl
-
-pub pairs_none : (count : ℕ) (bytes : List ℕ) → count ≡ 0 → pairs_in count bytes ≡ []
-pairs_none count bytes none = rw none refl
 
 pub pairs_are : (ps : Pairs) (bytes : List ℕ) → SpellsPairs bytes ps → pairs_nesting ps ≤ most_nesting → pairs_of (pairs_in (pair_count ps) bytes) ≡ ps
 pairs_are no_pairs bytes s shallow = refl

@@ -1,5 +1,5 @@
 -- Items in their bytes: which item they spell, and which items or pairs stand there one after the other.
-use Rattle.std.specs.Prelude.{◌≡◌, ℕ, zero, suc, ◌≤◌, List, [], ◌∷◌, ◌++◌, Result, Ok, Err}
+use Rattle.std.specs.Prelude.{◌≡◌, ℕ, zero, suc, ◌≤◌, List, [], ◌∷◌, ◌++◌, Ok, Err}
 use Rattle.osc_cbor.specs.Data.{DataItem, unsigned, negative, byte_string, text_string, array, map, tag, bool, null, Items, Pairs, item_count, pair_count, nesting, items_nesting, pairs_nesting, most_nesting}
 use Rattle.osc_cbor.specs.Reading.{Found, item_at}
 use Rattle.osc_cbor.specs.Spelling.{Spells, SpellsItems, SpellsPairs}

@@ -17,7 +17,7 @@ use std::fmt;
 use std::marker::Model;
 
 /// A data item (RFC 8949 section 2) of the subset, lent as the bytes that spell it. Contracts see the item.
-#[derive(Clone, Drop)]
+#[derive(Drop)]
 pub struct ItemRef<'a> {
     bytes: &'a [u8],
 }
@@ -110,12 +110,30 @@ impl<'a> ItemRef<'a> {
         Some(ItemRef { bytes })
     }
 
+    /// The same item, lent once more.
+    pub fn reborrow(&self) -> ItemRef<'a>
+        ensures { result ≡ self.now }
+    {
+        ItemRef { bytes: self.bytes }
+    }
+
     /// The number, if this is an unsigned one.
     pub fn as_unsigned(&self) -> Option<u64>
         ensures { result ≡ part.as_unsigned self.now }
     {
         let (token, _) = opened(self.bytes);
         if token.0 != Major::Unsigned.number() {
+            return None;
+        }
+        Some(token.1)
+    }
+
+    /// The argument n, if this is the number -1 - n.
+    pub fn as_negative(&self) -> Option<u64>
+        ensures { result ≡ part.as_negative self.now }
+    {
+        let (token, _) = opened(self.bytes);
+        if token.0 != Major::Negative.number() {
             return None;
         }
         Some(token.1)
@@ -130,6 +148,20 @@ impl<'a> ItemRef<'a> {
             return None;
         }
         Some(token.2)
+    }
+
+    /// The text, if this is one.
+    pub fn as_text(&self) -> Option<&'a str>
+        ensures { option_copied result ≡ part.as_text self.now }
+    {
+        let (token, _) = opened(self.bytes);
+        if token.0 != Major::Text.number() {
+            return None;
+        }
+        match std::str::from_utf8(token.2) {
+            Ok(text) => Some(text),
+            Err(_) => unreachable!(),
+        }
     }
 
     /// The items, if this is an array.
@@ -154,15 +186,15 @@ impl<'a> ItemRef<'a> {
         Some(PairRefs::new(token.1, inner))
     }
 
-    /// The item under this tag's number, if this is one, and else this item itself.
-    pub fn untagged(&self, number: u64) -> ItemRef<'a>
-        ensures { result ≡ part.untagged number self.now }
+    /// The tag's number and the item under it, if this is an item under a tag.
+    pub fn as_tag(&self) -> Option<(u64, ItemRef<'a>)>
+        ensures { result ≡ part.as_tag self.now }
     {
         let (token, inner) = opened(self.bytes);
-        if token.0 == Major::Tag.number() && token.1 == number {
-            return ItemRef { bytes: inner };
+        if token.0 != Major::Tag.number() {
+            return None;
         }
-        ItemRef { bytes: self.bytes }
+        Some((token.1, ItemRef { bytes: inner }))
     }
 
     /// The value under this unsigned number in a map.

@@ -8,7 +8,7 @@ use crate::lent::{ItemRef, first_item};
 use std::marker::Model;
 
 /// The items of an array that are left, in order.
-#[derive(Clone, Drop)]
+#[derive(Drop)]
 pub struct ItemRefs<'a> {
     left: u64,
     rest: &'a [u8],
@@ -62,7 +62,7 @@ impl<'a> Iterator for ItemRefs<'a> {
 }
 
 /// The pairs of a map that are left, in order: key and value.
-#[derive(Clone, Drop)]
+#[derive(Drop)]
 pub struct PairRefs<'a> {
     left: u64,
     rest: &'a [u8],

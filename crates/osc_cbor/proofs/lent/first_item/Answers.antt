@@ -1,4 +1,4 @@
-use Rattle.std.proofs.Common.{◌≡◌, List, ℕ, ◌++◌, sym, ap, ◌∙◌}
+use Rattle.std.proofs.Common.{List, ℕ, ◌++◌, sym, ap, ◌∙◌}
 use Rattle.osc_cbor.proofs.LentLaws.{front_whole, front_read}
 use Rattle.osc_cbor.proofs.lent.first_item.Goals as goal
 

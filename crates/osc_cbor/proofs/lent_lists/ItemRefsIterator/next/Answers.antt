@@ -1,4 +1,4 @@
-use Rattle.std.proofs.Common.{◌≡◌, arith}
+use Rattle.std.proofs.Common.{arith}
 use Rattle.osc_cbor.proofs.LentLaws.{items_stand, items_left}
 use Rattle.osc_cbor.proofs.lent_lists.ItemRefsIterator.next.Goals as goal
 

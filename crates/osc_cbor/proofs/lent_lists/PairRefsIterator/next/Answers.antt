@@ -1,4 +1,4 @@
-use Rattle.std.proofs.Common.{◌≡◌, arith}
+use Rattle.std.proofs.Common.{arith}
 use Rattle.osc_cbor.proofs.LentLaws.{key_stands, value_stands, pairs_left}
 use Rattle.osc_cbor.proofs.lent_lists.PairRefsIterator.next.Goals as goal
 
