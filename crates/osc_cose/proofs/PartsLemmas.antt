@@ -9,13 +9,6 @@ use Rattle.osc_cose.specs.Encrypt0.{IsObject, IsProtected, untagged}
 use Rattle.osc_cose.specs.Parts.{three_of, typed, parts_of}
 use Rattle.osc_cose.specs.declared.encrypt0.Encrypt0.{Encrypt0}
 
-pub not_three : (xs : List Item) → length xs ≢ 3 → three_of (items_view xs) ≡ None
-not_three [] ne = refl
-not_three (a ∷ []) ne = refl
-not_three (a ∷ b ∷ []) ne = refl
-not_three (a ∷ b ∷ c ∷ []) ne = absurd (ne refl)
-not_three (a ∷ b ∷ c ∷ d ∷ xs) ne = refl
-
 some_is : {A : Type 0} (x y : A) → Some x ≡ Some y → x ≡ y
 some_is x y e = cc
 

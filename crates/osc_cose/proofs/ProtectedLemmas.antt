@@ -1,5 +1,5 @@
 -- Protected headers, and what they name.
-use Rattle.std.proofs.Common.{◌≡◌, ◌≢◌, ℕ, true, false, List, [], length, Option, Some, None, sym, ap, ◌∙◌, nat_eq}
+use Rattle.std.proofs.Common.{◌≡◌, ◌≢◌, ℕ, false, List, [], length, Some, sym, ap, ◌∙◌, nat_eq}
 use Rattle.std.proofs.lemmas.Bool.{false≢true}
 use Rattle.osc_cbor.specs.Data.{Pairs, DataItem, unsigned, negative, byte_string, text_string, array, map, tag, bool, null}
 use Rattle.osc_cbor.specs.Parts.{value}
@@ -27,11 +27,6 @@ none_names bytes none some (NamesAlgorithm.named ps w e) = none (map ps) w
 
 pub some_bytes : (bytes : List ℕ) → nat_eq (length bytes) 0 ≡ false → bytes ≢ []
 some_bytes bytes e none = false≢true (sym e ∙ ap (λ x. nat_eq (length x) 0) none)
-
--- what names the algorithm and isn't empty is a map
-pub names_in_map : (bytes : List ℕ) → bytes ≢ [] → NamesAlgorithm bytes → (ps : Pairs) × IsWhole bytes (map ps)
-names_in_map bytes some (NamesAlgorithm.no_name none) = absurd (some none)
-names_in_map bytes some (NamesAlgorithm.named ps w e) = (ps, w)
 
 pub protected_in_map : (bytes : List ℕ) → bytes ≢ [] → IsProtected bytes → (ps : Pairs) × IsWhole bytes (map ps)
 protected_in_map bytes some (IsProtected.empty none) = absurd (some none)

@@ -47,7 +47,7 @@ pub fn open0<A: Aead>(
     ensures memory { result ≡ Err OpenError.Memory → IsProtected object.now.protected }
 {
     let protected = object.protected.as_slice();
-    if !names_algorithm(alloc, protected)? {
+    if !names_algorithm(protected) {
         return Err(OpenError::Algorithm);
     }
     let mut aad = Vec::new(alloc);

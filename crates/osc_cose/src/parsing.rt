@@ -1,9 +1,8 @@
 //! Reading COSE_Encrypt0 objects.
 
 ghost use Rattle.std.specs.Prelude.{◌≡◌, ◌⊎◌, ℕ, List, Option, option_map, option_copied, IfOk, IfSome, Ok, Err, Some};
-ghost use Rattle.osc_cbor.specs.Data.{DataItem, byte_string};
-ghost use Rattle.osc_cbor.specs.Parts as part;
-ghost use Rattle.osc_cbor.specs.View.{view};
+ghost use Rattle.osc_cbor.specs.Data.{DataItem, byte_string, value_under};
+ghost use Rattle.osc_cbor.specs.View.{pairs_of};
 ghost use Rattle.osc_cbor.specs.Spelling.{IsWhole};
 ghost use Rattle.osc_cose.specs.Encrypt0.{IsObject};
 ghost use Rattle.osc_cose.specs.Parts.{object_of_parts};
@@ -13,7 +12,7 @@ use crate::encrypt0::Encrypt0;
 use crate::error::ParseError;
 use crate::parts::parts;
 use crate::protected::is_protected;
-use osc_cbor::{Item, read_whole};
+use osc_cbor::{ItemRef, PairRefs, first_value};
 use osc_model::Bytes;
 use std::alloc::{AllocError, Global};
 
@@ -36,7 +35,7 @@ pub fn parse0(alloc: Global, bytes: &[u8]) -> Result<Encrypt0, ParseError>
         → (result ≡ Ok object) ⊎ (result ≡ Err ParseError.Memory) }
     ensures memory { result ≡ Err ParseError.Memory → (d : DataItem) × IsWhole bytes.now d }
 {
-    match read_whole(alloc, bytes)? {
+    match ItemRef::whole(bytes) {
         Some(item) => object_of(alloc, &item),
         None => Err(ParseError::Shape),
     }
@@ -49,27 +48,28 @@ pub fn parse0(alloc: Global, bytes: &[u8]) -> Result<Encrypt0, ParseError>
 /// # Errors
 ///
 /// `Shape` where the item is none, `Memory` for want of memory, which comes only where it is one.
-pub fn object_of(alloc: Global, item: &Item) -> Result<Encrypt0, ParseError>
+pub fn object_of(alloc: Global, item: &ItemRef<'_>) -> Result<Encrypt0, ParseError>
     // What is found is such an object ..
-    ensures found { IfOk result (λ object. IsObject (view item.now) object) }
+    ensures found { IfOk result (λ object. IsObject item.now object) }
     // .. and each such object is found.
-    ensures only { (object : AnyObject) → IsObject (view item.now) object
+    ensures only { (object : AnyObject) → IsObject item.now object
         → (result ≡ Ok object) ⊎ (result ≡ Err ParseError.Memory) }
-    ensures memory { result ≡ Err ParseError.Memory → (object : AnyObject) × IsObject (view item.now) object }
+    ensures memory { result ≡ Err ParseError.Memory → (object : AnyObject) × IsObject item.now object }
 {
-    let Some((protected, unprotected, ciphertext)) = parts(item) else {
+    let Some(parts) = parts(item) else {
         return Err(ParseError::Shape);
     };
-    if !is_protected(protected) {
+    if !is_protected(parts.protected) {
         return Err(ParseError::Shape);
     }
-    let Some(kid) = parameter(unprotected, KID) else {
+    let (kid, iv) = labelled(parts.unprotected);
+    let Some(kid) = parameter(kid) else {
         return Err(ParseError::Shape);
     };
-    let Some(iv) = parameter(unprotected, IV) else {
+    let Some(iv) = parameter(iv) else {
         return Err(ParseError::Shape);
     };
-    Ok(object_with(alloc, protected, kid, iv, ciphertext)?)
+    Ok(object_with(alloc, parts.protected, kid, iv, parts.ciphertext)?)
 }
 
 /// The object of these parts.
@@ -100,13 +100,28 @@ fn copied(alloc: Global, bytes: Option<&[u8]>) -> Result<Option<Bytes>, AllocErr
     }
 }
 
-/// The bytes under a label of a header, where it is there; `None` where something else stands under it.
-fn parameter(header: &Item, label: u64) -> Option<Option<&[u8]>>
-    ensures found { IfSome result (λ bytes. part.value label (view header.now) ≡ option_map byte_string (option_copied bytes)) }
-    ensures only { (bytes : Option (List ℕ)) → part.value label (view header.now) ≡ option_map byte_string bytes
+/// The items under the labels of kid and IV, in one pass over a header's pairs.
+fn labelled<'a>(header: PairRefs<'a>) -> (Option<ItemRef<'a>>, Option<ItemRef<'a>>)
+    ensures kid { result.0 ≡ value_under 4 (pairs_of header.entry) }
+    ensures iv { result.1 ≡ value_under 5 (pairs_of header.entry) }
+{
+    let mut kid = None;
+    let mut iv = None;
+    for (key, value) in header {
+        let label = key.as_unsigned();
+        kid = first_value(kid, KID, label, &value);
+        iv = first_value(iv, IV, label, &value);
+    }
+    (kid, iv)
+}
+
+/// The bytes of a header's parameter, where it is there; `None` where it is something else.
+fn parameter<'a>(value: Option<ItemRef<'a>>) -> Option<Option<&'a [u8]>>
+    ensures found { IfSome result (λ bytes. value.entry ≡ option_map byte_string (option_copied bytes)) }
+    ensures only { (bytes : Option (List ℕ)) → value.entry ≡ option_map byte_string bytes
         → option_map (λ found. option_copied found) result ≡ Some bytes }
 {
-    match header.value(label) {
+    match value {
         Some(value) => match value.as_bytes() {
             Some(bytes) => Some(Some(bytes)),
             None => None,

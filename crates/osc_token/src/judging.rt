@@ -5,7 +5,6 @@ ghost use Rattle.osc_model.specs.Grant.{HasBegun, IsNotOver};
 ghost use Rattle.osc_cbor.specs.Data.{DataItem, text_string};
 ghost use Rattle.osc_cbor.specs.Parts as part;
 ghost use Rattle.osc_cbor.specs.Spelling.{IsWhole};
-ghost use Rattle.osc_cbor.specs.View.{view};
 ghost use Rattle.osc_token.specs.Claims.{ComesTo};
 ghost use Rattle.osc_token.specs.Judging as spec;
 ghost use Rattle.osc_token.specs.Opening.{answer_of};
@@ -16,7 +15,7 @@ use crate::claims::Claims;
 use crate::error::TokenError;
 use crate::labels::{AUDIENCE, EXPIRES, NOT_BEFORE, SCOPE};
 use crate::material::{MaterialRef, material_in};
-use osc_cbor::{Item, read_whole};
+use osc_cbor::ItemRef;
 use osc_model::{Bytes, Moment};
 use osc_scope::{Scope, ScopeError};
 use std::alloc::{AllocError, Global};
@@ -45,7 +44,7 @@ pub fn judge(
     ensures judged { IfOk result (λ outcome. ComesTo text.now audience.now now outcome) }
     ensures memory { IsErr result → (d : DataItem) × IsWhole text.now d }
 {
-    match read_whole(alloc, text)? {
+    match ItemRef::whole(text) {
         Some(claims) => judge_claims(alloc, &claims, audience, now),
         None => Ok(Err(TokenError::BadClaims)),
     }
@@ -54,14 +53,14 @@ pub fn judge(
 /// What claims of this item grant, as [`judge`] says.
 fn judge_claims(
     alloc: Global,
-    claims: &Item,
+    claims: &ItemRef<'_>,
     audience: &Audience,
     now: Moment,
 ) -> Result<Result<(Claims, Scope), TokenError>, AllocError>
-    ensures judged { (text : List ℕ) → reading.IsItem text (view claims.now)
+    ensures judged { (text : List ℕ) → reading.IsItem text claims.now
         → IfOk result (λ outcome. ComesTo text audience.now now outcome) }
     // Memory is taken for what the claims grant, and not to refuse them.
-    ensures memory { IsErr result → spec.IsGranting (view claims.now) audience.now now }
+    ensures memory { IsErr result → spec.IsGranting claims.now audience.now now }
 {
     let (dates, material) = match bound_in(claims, audience, now) {
         Ok(bound) => bound,
@@ -82,12 +81,12 @@ fn judge_claims(
 /// The dates and the input material of claims that are in their time and for this audience; else the first check that
 /// fails, as [`judge`] says. Takes no memory.
 fn bound_in<'a>(
-    claims: &'a Item,
+    claims: &ItemRef<'a>,
     audience: &Audience,
     now: Moment,
 ) -> Result<(Dates, MaterialRef<'a>), TokenError>
-    ensures bound { IfOk result (λ bound. spec.AreBound (view claims.now) audience.now now bound.0 bound.1) }
-    ensures refused { IfErr result (λ error. (text : List ℕ) → reading.IsItem text (view claims.now)
+    ensures bound { IfOk result (λ bound. spec.AreBound claims.now audience.now now bound.0 bound.1) }
+    ensures refused { IfErr result (λ error. (text : List ℕ) → reading.IsItem text claims.now
         → ComesTo text audience.now now (Err error)) }
 {
     let Some(dates) = dates_in(claims) else {
@@ -134,8 +133,8 @@ fn granted(
 }
 
 /// The dates of the claims, if they are a map whose dates are numbers.
-fn dates_in(claims: &Item) -> Option<Dates>
-    ensures { result ≡ reading.dates_in (view claims.now) }
+fn dates_in(claims: &ItemRef<'_>) -> Option<Dates>
+    ensures { result ≡ reading.dates_in claims.now }
 {
     claims.as_map()?;
     Some(Dates {
@@ -145,8 +144,8 @@ fn dates_in(claims: &Item) -> Option<Dates>
 }
 
 /// The date under a label, where it is there; none where it is no number.
-fn date(claims: &Item, label: u64) -> Option<Option<u64>>
-    ensures { result ≡ reading.date_of (part.value label (view claims.now)) }
+fn date(claims: &ItemRef<'_>, label: u64) -> Option<Option<u64>>
+    ensures { result ≡ reading.date_of (part.value label claims.now) }
 {
     match claims.value(label) {
         Some(value) => Some(Some(value.as_unsigned()?)),
@@ -175,8 +174,8 @@ fn is_over(expires: Option<u64>, now: Moment) -> bool
 }
 
 /// Whether the claims are for this audience.
-fn is_for(claims: &Item, audience: &Audience) -> bool
-    ensures { IsTrue result ↔ (part.value 3 (view claims.now) ≡ Some (text_string audience.now)) }
+fn is_for(claims: &ItemRef<'_>, audience: &Audience) -> bool
+    ensures { IsTrue result ↔ (part.value 3 claims.now ≡ Some (text_string audience.now)) }
 {
     match claims.value(AUDIENCE) {
         Some(value) => value.as_text() == Some(audience.as_str()),
@@ -197,8 +196,8 @@ fn scope_found(read: Result<Scope, ScopeError>) -> Result<Option<Scope>, AllocEr
 }
 
 /// The bytes of the claim scope, if it is a byte string.
-fn scope_bytes(claims: &Item) -> Option<&[u8]>
-    ensures { option_copied result ≡ option_and_then part.as_bytes (part.value 9 (view claims.now)) }
+fn scope_bytes<'a>(claims: &ItemRef<'a>) -> Option<&'a [u8]>
+    ensures { option_copied result ≡ option_and_then part.as_bytes (part.value 9 claims.now) }
 {
     claims.value(SCOPE)?.as_bytes()
 }

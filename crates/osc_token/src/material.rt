@@ -2,14 +2,13 @@
 
 ghost use Rattle.std.specs.Prelude.{◌≡◌, IfOk, option_map, option_copied};
 ghost use Rattle.osc_cbor.specs.Parts as part;
-ghost use Rattle.osc_cbor.specs.View.{view};
 ghost use Rattle.osc_token.specs.Reading as spec;
 
 use crate::claims::InputMaterial;
 use crate::labels::{
     ALGORITHM, CONFIRMATION, HKDF, ID, ID_CONTEXT, MATERIAL, SALT, SECRET, VERSION,
 };
-use osc_cbor::Item;
+use osc_cbor::ItemRef;
 use osc_model::{Algorithm, Bytes};
 use std::alloc::{AllocError, Global};
 use std::marker::Model;
@@ -65,15 +64,15 @@ impl<'a> MaterialRef<'a> {
 }
 
 /// The input material of the claims, where they have it.
-pub(crate) fn material_in(claims: &Item) -> Option<MaterialRef<'_>>
-    ensures { result ≡ spec.material_in (view claims.now) }
+pub(crate) fn material_in<'a>(claims: &ItemRef<'a>) -> Option<MaterialRef<'a>>
+    ensures { result ≡ spec.material_in claims.now }
 {
-    material_of(claims.value(CONFIRMATION)?.value(MATERIAL)?)
+    material_of(&claims.value(CONFIRMATION)?.value(MATERIAL)?)
 }
 
 /// The input material of these fields, where they name what is supported.
-fn material_of(fields: &Item) -> Option<MaterialRef<'_>>
-    ensures { result ≡ spec.material_of (view fields.now) }
+fn material_of<'a>(fields: &ItemRef<'a>) -> Option<MaterialRef<'a>>
+    ensures { result ≡ spec.material_of fields.now }
 {
     if are_known(fields) {
         parts_of(fields)
@@ -83,12 +82,12 @@ fn material_of(fields: &Item) -> Option<MaterialRef<'_>>
 }
 
 /// The input material of these fields, whatever version and hash they name.
-fn parts_of(fields: &Item) -> Option<MaterialRef<'_>>
-    ensures { result ≡ spec.parts_of (view fields.now) }
+fn parts_of<'a>(fields: &ItemRef<'a>) -> Option<MaterialRef<'a>>
+    ensures { result ≡ spec.parts_of fields.now }
 {
     Some(MaterialRef {
-        id: sized(fields.value(ID)?, 0)?,
-        secret: sized(fields.value(SECRET)?, 1)?,
+        id: sized(&fields.value(ID)?, 0)?,
+        secret: sized(&fields.value(SECRET)?, 1)?,
         salt: salt(fields)?,
         id_context: id_context(fields)?,
         alg: algorithm(fields)?,
@@ -96,28 +95,28 @@ fn parts_of(fields: &Item) -> Option<MaterialRef<'_>>
 }
 
 /// The salt, empty where there is none.
-fn salt(fields: &Item) -> Option<&[u8]>
-    ensures { option_copied result ≡ spec.salt_of (part.value 5 (view fields.now)) }
+fn salt<'a>(fields: &ItemRef<'a>) -> Option<&'a [u8]>
+    ensures { option_copied result ≡ spec.salt_of (part.value 5 fields.now) }
 {
     match fields.value(SALT) {
-        Some(value) => sized(value, 0),
+        Some(value) => sized(&value, 0),
         None => Some(&[]),
     }
 }
 
 /// The id context, where there is one; none where it is no such field.
-fn id_context(fields: &Item) -> Option<Option<&[u8]>>
-    ensures { option_map option_copied result ≡ spec.id_context_of (part.value 6 (view fields.now)) }
+fn id_context<'a>(fields: &ItemRef<'a>) -> Option<Option<&'a [u8]>>
+    ensures { option_map option_copied result ≡ spec.id_context_of (part.value 6 fields.now) }
 {
     match fields.value(ID_CONTEXT) {
-        Some(value) => Some(Some(sized(value, 0)?)),
+        Some(value) => Some(Some(sized(&value, 0)?)),
         None => Some(None),
     }
 }
 
 /// The algorithm, AES-CCM-16-64-128 where none is named; none where it is another than the two.
-fn algorithm(fields: &Item) -> Option<Algorithm>
-    ensures { result ≡ spec.alg_of (part.value 4 (view fields.now)) }
+fn algorithm(fields: &ItemRef<'_>) -> Option<Algorithm>
+    ensures { result ≡ spec.alg_of (part.value 4 fields.now) }
 {
     match fields.value(ALGORITHM) {
         Some(value) => Algorithm::from_number(value.as_unsigned()?),
@@ -126,8 +125,8 @@ fn algorithm(fields: &Item) -> Option<Algorithm>
 }
 
 /// The bytes of a field, if it is a byte string of at least so many and at most [`LONGEST`].
-fn sized(value: &Item, least: usize) -> Option<&[u8]>
-    ensures { option_copied result ≡ spec.sized least (view value.now) }
+fn sized<'a>(value: &ItemRef<'a>, least: usize) -> Option<&'a [u8]>
+    ensures { option_copied result ≡ spec.sized least value.now }
 {
     let bytes = value.as_bytes()?;
     if bytes.len() < least || bytes.len() > LONGEST {
@@ -138,15 +137,15 @@ fn sized(value: &Item, least: usize) -> Option<&[u8]>
 }
 
 /// Whether version and HKDF are those that are supported, where they are named.
-fn are_known(fields: &Item) -> bool
-    ensures { result ≡ spec.are_known (view fields.now) }
+fn are_known(fields: &ItemRef<'_>) -> bool
+    ensures { result ≡ spec.are_known fields.now }
 {
-    is_absent_or(fields.value(VERSION), OSCORE_1) && is_hkdf(fields.value(HKDF))
+    is_absent_or(&fields.value(VERSION), OSCORE_1) && is_hkdf(&fields.value(HKDF))
 }
 
 /// Whether the value is this number, where there is one.
-fn is_absent_or(value: Option<&Item>, number: u64) -> bool
-    ensures { result ≡ spec.is_absent_or number (option_map (λ item. view item.now) value.entry) }
+fn is_absent_or(value: &Option<ItemRef<'_>>, number: u64) -> bool
+    ensures { result ≡ spec.is_absent_or number value.now }
 {
     match value {
         Some(item) => item.as_unsigned() == Some(number),
@@ -155,11 +154,13 @@ fn is_absent_or(value: Option<&Item>, number: u64) -> bool
 }
 
 /// Whether the value is HKDF with SHA-256, where there is one.
-fn is_hkdf(value: Option<&Item>) -> bool
-    ensures { result ≡ spec.is_hkdf (option_map (λ item. view item.now) value.entry) }
+fn is_hkdf(value: &Option<ItemRef<'_>>) -> bool
+    ensures { result ≡ spec.is_hkdf value.now }
 {
-    match value {
-        Some(Item::Negative(argument)) => *argument == HKDF_SHA_256,
-        _ => is_absent_or(value, HMAC_256),
+    if let Some(item) = value
+        && let Some(argument) = item.as_negative()
+    {
+        return argument == HKDF_SHA_256;
     }
+    is_absent_or(value, HMAC_256)
 }

@@ -3,13 +3,12 @@
 ghost use Rattle.std.specs.Prelude.{◌≡◌, ◌≢◌, ◌⊎◌, ◌↔◌, ℕ, List, [], length, IfOk, IfSome, IsErr, Ok, Err, Some, None};
 ghost use Rattle.osc_cbor.specs.Data.{DataItem};
 ghost use Rattle.osc_cbor.specs.Spelling.{IsWhole};
-ghost use Rattle.osc_cbor.specs.View.{view};
 ghost use Rattle.osc_cose.specs.Encrypt0.{IsObject, NamesAlgorithm, enc_structure as structure};
 ghost use Rattle.osc_cose.specs.declared.encrypt0.Encrypt0.{Encrypt0 as AnyObject};
 ghost use Rattle.osc_token.specs.Opening.{HoldsText, answer_of, has_tag as is_tagged};
 ghost use Rattle.osc_token.specs.Token.{IsToken, token_name, token_note, without_cwt_tag as unwrapped};
 
-use osc_cbor::{Item, read_whole};
+use osc_cbor::ItemRef;
 use osc_ccm::Aead;
 use osc_cose::{Encrypt0, OpenError, ParseError, enc_structure, object_of, open0};
 use osc_model::{Algorithm, Bytes, ContextName, Note, SharedName, Side};
@@ -53,8 +52,8 @@ fn object_in(alloc: Global, bytes: &[u8]) -> Result<Option<Encrypt0>, AllocError
         → IfOk result (λ found. found ≡ Some object) }
     ensures memory { IsErr result → (d : DataItem) × IsWhole bytes.now d }
 {
-    match read_whole(alloc, bytes)? {
-        Some(item) => object_found(object_of(alloc, without_cwt_tag(&item))),
+    match ItemRef::whole(bytes) {
+        Some(item) => object_found(object_of(alloc, &without_cwt_tag(&item))),
         None => Ok(None),
     }
 }
@@ -72,22 +71,22 @@ fn object_found(found: Result<Encrypt0, ParseError>) -> Result<Option<Encrypt0>,
 }
 
 /// The item without the tag of a CWT, where that stands round the tag of COSE_Encrypt0.
-fn without_cwt_tag(item: &Item) -> &Item
-    ensures { view result.now ≡ unwrapped (view item.now) }
+fn without_cwt_tag<'a>(item: &ItemRef<'a>) -> ItemRef<'a>
+    ensures { result ≡ unwrapped item.now }
 {
-    match item {
-        Item::Tag(number, inner) if *number == CWT_TAG && has_tag(inner, ENCRYPT0_TAG) => inner,
-        _ => item,
+    match item.as_tag() {
+        Some((number, inner)) if number == CWT_TAG && has_tag(&inner, ENCRYPT0_TAG) => inner,
+        _ => item.reborrow(),
     }
 }
 
 /// Whether the item is one under this tag.
-fn has_tag(item: &Item, tag: u64) -> bool
-    ensures { result ≡ is_tagged tag (view item.now) }
+fn has_tag(item: &ItemRef<'_>, tag: u64) -> bool
+    ensures { result ≡ is_tagged tag item.now }
 {
-    match item {
-        Item::Tag(number, _) => *number == tag,
-        _ => false,
+    match item.as_tag() {
+        Some((number, _)) => number == tag,
+        None => false,
     }
 }
 
