@@ -6,7 +6,6 @@ ghost use Rattle.osc_context.specs.Derivation.{taken_of, sender_of, recipient_of
 ghost use Rattle.osc_context.specs.Nonce.{greatest_number};
 ghost use Rattle.osc_cbor.specs.Data.{DataItem};
 ghost use Rattle.osc_cbor.specs.Spelling.{IsWhole, spelling};
-ghost use Rattle.osc_cbor.specs.View.{view};
 ghost use Rattle.osc_model.specs.Code.{code as code_of};
 ghost use Rattle.osc_model.specs.Draw.{nonce_drawn};
 ghost use Rattle.osc_token.specs.Reading.{IsItem};
@@ -19,7 +18,7 @@ use crate::derivation::derived;
 use crate::error::FinishError;
 use crate::granted::ClientDesk;
 use crate::payload::{answer_fields, write_post};
-use osc_cbor::{Item, read_whole};
+use osc_cbor::ItemRef;
 use osc_context::{Exhausted, RecipientContext, SendNumber, SenderContext, joined_salt};
 use osc_model::{Bytes, Code, ContextName, Draw, SharedName, Side};
 use std::alloc::{AllocError, Global};
@@ -205,7 +204,7 @@ impl ClientDesk {
         if code != Code::CREATED {
             return Ok(Err(FinishError::Fields));
         }
-        match read_whole(alloc, payload)? {
+        match ItemRef::whole(payload) {
             Some(item) => self.made(alloc, exchange, &item),
             None => Ok(Err(FinishError::Fields)),
         }
@@ -216,12 +215,12 @@ impl ClientDesk {
         &self,
         alloc: Global,
         exchange: &OpenExchange,
-        item: &Item,
+        item: &ItemRef<'_>,
     ) -> Result<Result<ClientContext, FinishError>, AllocError>
-        ensures finished { (payload : List ℕ) → IsItem payload (view item.now)
+        ensures finished { (payload : List ℕ) → IsItem payload item.now
             → IfOk result (λ made. Finishes self.now exchange.now (code_of 2 1) payload made) }
         ensures memory { IsErr result → (nonce2 server_id : List ℕ)
-            × (fields_of (view item.now) ≡ Some (nonce2, server_id)) × (server_id ≢ exchange.now.recipient_id ∷ []) }
+            × (fields_of item.now ≡ Some (nonce2, server_id)) × (server_id ≢ exchange.now.recipient_id ∷ []) }
     {
         let Some(answer) = answer_fields(item) else {
             return Ok(Err(FinishError::Fields));

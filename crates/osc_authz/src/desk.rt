@@ -8,7 +8,6 @@ ghost use Rattle.osc_context.specs.Nonce.{greatest_number};
 ghost use Rattle.osc_window.specs.Window.{IsFresh};
 ghost use Rattle.osc_cbor.specs.Data.{DataItem};
 ghost use Rattle.osc_cbor.specs.Spelling.{IsWhole};
-ghost use Rattle.osc_cbor.specs.View.{view};
 ghost use Rattle.osc_model.specs.Scope.{Scope as AnyScope};
 ghost use Rattle.osc_token.specs.Claims.{ComesTo};
 ghost use Rattle.osc_token.specs.declared.claims.Claims.{Claims as AnyClaims};
@@ -26,7 +25,7 @@ use crate::holding::Holding;
 use crate::payload::{PostFields, post_fields};
 use crate::post::{Post, PostAnswer};
 use crate::table;
-use osc_cbor::{Item, read_whole};
+use osc_cbor::ItemRef;
 use osc_ccm::Aead;
 use osc_context::AcceptedNumber;
 use osc_model::{Draw, Moment};
@@ -119,7 +118,7 @@ impl ServerDesk {
         ensures err { OnErr result (self.new ≡ self.old) }
         ensures memory { IsErr result → (d : DataItem) × IsWhole body.now d }
     {
-        match read_whole(alloc, body)? {
+        match ItemRef::whole(body) {
             Some(item) => self.post_item::<A>(alloc, now, &item, draw),
             None => Ok(Post::refused(PostError::Fields)),
         }
@@ -130,13 +129,13 @@ impl ServerDesk {
         &mut self,
         alloc: Global,
         now: Moment,
-        item: &Item,
+        item: &ItemRef<'_>,
         draw: &Draw,
     ) -> Result<Post, AllocError>
-        ensures posted { (body : List ℕ) → IsItem body (view item.now)
+        ensures posted { (body : List ℕ) → IsItem body item.now
             → IfOk result (λ post. Posts A.is_sealing self.old now body draw.now post self.new) }
         ensures err { OnErr result (self.new ≡ self.old) }
-        ensures memory { IsErr result → IsSome (fields_of (view item.now)) }
+        ensures memory { IsErr result → IsSome (fields_of item.now) }
     {
         let Some(fields) = post_fields(item) else {
             return Ok(Post::refused(PostError::Fields));

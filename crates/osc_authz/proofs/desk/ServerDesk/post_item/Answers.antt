@@ -1,5 +1,4 @@
 use Rattle.std.proofs.Common.{refl, sym, ap}
-use Rattle.osc_cbor.specs.View.{view}
 use Rattle.osc_authz.specs.Post.{Posts}
 use Rattle.osc_authz.proofs.PayloadLemmas.{no_post, post_from_fields}
 use Rattle.osc_authz.proofs.PostLemmas.{opened_post, unopened_post}
@@ -7,13 +6,13 @@ use Rattle.osc_authz.proofs.desk.ServerDesk.post_item.Goals as goal
 
 pub returns-in_default-clause-posted : goal.returns-in_default-clause-posted
 returns-in_default-clause-posted g c = λ body item.
-    Posts.no_post (no_post body (view c.args.item.now) item.only (sym c.in_default.ensures)) c.refused.ensures refl
+    Posts.no_post (no_post body c.args.item.now item.only (sym c.in_default.ensures)) c.refused.ensures refl
 
 pub returns-in_ok-answer-in-Some-2-clause-posted :
     goal.returns-in_ok-answer-in-Some-2-clause-posted
 returns-in_ok-answer-in-Some-2-clause-posted g c = λ body item.
     let fields = c.in-Some.fields in
-    let is_post = post_from_fields body (view c.args.item.now) fields.token.now fields.nonce1.now fields.client_id.now item.whole (sym c.in-Some.ensures) in
+    let is_post = post_from_fields body c.args.item.now fields.token.now fields.nonce1.now fields.client_id.now item.whole (sym c.in-Some.ensures) in
     let found = rw c.in-Some-2.is at c.in_ok-note.ensures.opened in
     opened_post g.A.Aead.is_sealing c.args.self.now c.answer.new.self c.args.now body c.args.draw.now
     fields.token.now fields.nonce1.now fields.client_id.now c.self.inside.key (ap (λ desk. desk.key) c.self.view_is) is_post
@@ -23,7 +22,7 @@ returns-in_ok-answer-in-Some-2-clause-posted g c = λ body item.
 pub returns-in-None-clause-posted : goal.returns-in-None-clause-posted
 returns-in-None-clause-posted g c = λ body item.
     let fields = c.in-Some.fields in
-    let is_post = post_from_fields body (view c.args.item.now) fields.token.now fields.nonce1.now fields.client_id.now item.whole (sym c.in-Some.ensures) in
+    let is_post = post_from_fields body c.args.item.now fields.token.now fields.nonce1.now fields.client_id.now item.whole (sym c.in-Some.ensures) in
     unopened_post g.A.Aead.is_sealing c.args.self.now c.args.self.now c.args.now body c.args.draw.now
     fields.token.now fields.nonce1.now fields.client_id.now c.self.inside.key (ap (λ desk. desk.key) c.self.view_is) is_post
     c.refused-in-None.result c.in_ok-note.field-0 c.in_ok-note.ensures.only c.in-None.is c.refused-in-None.ensures refl
