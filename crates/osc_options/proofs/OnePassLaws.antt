@@ -1,12 +1,13 @@
 -- One pass over the options of a request.
-use Rattle.std.proofs.Common.{◌≡◌, ℕ, ◌<◌, ◌≤◌, true, false, nat_le, List, ◌∷◌, ◌++◌, length, take, Option, Some, None, refl, sym, ap, ◌∙◌, arith, inl, inr, eq-eqb}
+use Rattle.std.proofs.Common.{◌≡◌, ℕ, ◌<◌, ◌≤◌, true, false, nat_le, List, ◌∷◌, ◌++◌, length, take, [], ◌==◌, Option, Some, None, refl, sym, ap, ◌∙◌, arith, inl, inr, eq-eqb}
 use Rattle.std.specs.Prelude.{IfSome, is_some}
+use Rattle.std.specs.List.{list_any}
 use Rattle.std.specs.Option.{option_map}
-use Rattle.std.proofs.lemmas.Bool.{cases_lt, ne_eqb}
+use Rattle.std.proofs.lemmas.Bool.{cases_Bool, cases_lt, ne_eqb}
 use Rattle.std.proofs.lemmas.Bool.Decides.{nat_tests}
 use Rattle.std.proofs.lemmas.List.{take_all, take-append-le, length-take}
 use Rattle.osc_model.specs.Path.{path_of}
-use Rattle.osc_coap.specs.Message.{NumberAndValue}
+use Rattle.osc_coap.specs.Message.{NumberAndValue, AreOptions}
 use Rattle.osc_options.specs.Requests.{value, values}
 
 -- ---- one option more
@@ -58,3 +59,28 @@ shown_within shown (Some v) h = h
 pub shown_some : {A : Type 0} (shown : A → List ℕ) (o : Option A) → is_some (option_map shown o) ≡ is_some o
 shown_some shown None = refl
 shown_some shown (Some v) = refl
+
+-- ---- one that is there
+
+pub value_there : (number : ℕ) (options : List NumberAndValue) → is_some (value number options) ≡ list_any (λ option. option.0 == number) options
+value_there number [] = refl
+value_there number (option ∷ options) =
+    elim (cases_Bool (option.0 == number)) [
+      | inl same ↦ rw same refl
+      | inr other ↦ rw other (value_there number options)
+    ]
+
+-- options behind one of a larger number
+pub none_behind : (number before : ℕ) (options : List NumberAndValue) → AreOptions before options → number < before → list_any (λ option. option.0 == number) options ≡ false
+none_behind number before [] order less = refl
+none_behind number before (option ∷ options) order less =
+    rw (ne_eqb option.0 number (λ e. omega (arith, e, order.0.rises))) (none_behind number option.0 options order.1 (omega (arith, order.0.rises)))
+
+-- one of no smaller number tells whether one of this number is there
+pub first_tells : (number other : ℕ) (bytes : List ℕ) (rest : List NumberAndValue) → AreOptions other rest → number ≤ other
+    → (other == number) ≡ list_any (λ option. option.0 == number) ((other, bytes) ∷ rest)
+first_tells number other bytes rest order le =
+    elim (cases_lt number other) [
+      | inl less ↦ rw (ne_eqb other number (λ e. omega (arith, e))) (sym (none_behind number other rest order less))
+      | inr ge ↦ rw (eq-eqb other number (omega arith)) refl
+    ]

@@ -48,13 +48,14 @@ pub fn unrecognised_critical(message: &MessageRef<'_>) -> Option<u16>
     unrecognised_among(message.options())
 }
 
-/// Whether an option of this number stands in the message, recognised or not.
+/// Whether an option of this number stands in the message, recognised or not. It is looked for up to a larger number, since numbers
+/// don't fall.
 pub fn has_option(message: &MessageRef<'_>, number: u16) -> bool
     ensures { result ≡ list_any (λ option. option.0 == number) message.now.options }
 {
     for (other, _) in message.options() {
-        if other == number {
-            return true;
+        if other >= number {
+            return other == number;
         }
     }
     false

@@ -1,6 +1,6 @@
 //! What the options of a message say to a node before it acts on them (RFC 7252 sections 5.4.1, 5.4.2 and 5.10.2, RFC 8613
 //! section 2).
-ghost use Rattle.std.specs.Prelude.{◌≡◌, ◌==◌, ◌||◌, ◌∷◌, ℕ, List};
+ghost use Rattle.std.specs.Prelude.{◌≡◌, ◌≤◌, ◌==◌, ◌||◌, ◌∷◌, ℕ, List, length, IfSome, is_some};
 ghost use Rattle.std.specs.List.{list_any};
 ghost use Rattle.std.specs.Option.{option_map, option_or};
 ghost use Rattle.osc_coap.specs.Message.{NumberAndValue};
@@ -169,10 +169,13 @@ pub fn survey_of<'a>(message: &MessageRef<'a>) -> Survey<'a>
     ensures critical { result.unrecognised_critical ≡ spec.unrecognised_critical 0 message.now.options }
     ensures unsafe_option { result.has_unrecognised_unsafe ≡ spec.has_unrecognised_unsafe 0 message.now.options }
     ensures oscore { option_map (λ v. v.now) result.standing.oscore ≡ value_in 9 message.now.options }
+    ensures has_oscore { is_some result.standing.oscore ≡ list_any (λ option. option.0 == 9) message.now.options }
     ensures has_uri { result.standing.has_proxy_uri ≡ list_any (λ option. option.0 == 35) message.now.options }
     ensures has_scheme { result.standing.has_proxy_scheme ≡ list_any (λ option. option.0 == 39) message.now.options }
     ensures host { option_map (λ v. v.now) result.named.uri_host ≡ value_in 3 (recognised 0 message.now.options) }
     ensures port { option_map (λ v. v.now) result.named.uri_port ≡ value_in 7 (recognised 0 message.now.options) }
+    // A port has two bytes at most.
+    ensures port_length { IfSome result.named.uri_port (λ v. length v.now ≤ 2) }
     ensures uri { option_map (λ v. v.now) result.named.proxy_uri ≡ value_in 35 (recognised 0 message.now.options) }
     ensures scheme { option_map (λ v. v.now) result.named.proxy_scheme ≡ value_in 39 (recognised 0 message.now.options) }
 {

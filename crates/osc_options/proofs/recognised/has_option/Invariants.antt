@@ -1,6 +1,10 @@
-use Rattle.std.proofs.Common.{◌≡◌, ◌==◌}
+use Rattle.std.proofs.Common.{◌≡◌, ℕ, ◌==◌}
 use Rattle.std.specs.List.{list_any}
+use Rattle.osc_coap.specs.Message.{AreOptions}
 use Rattle.osc_options.proofs.recognised.has_option.Given as goal
 
 abbrev pub invariant-loop-other : goal.invariant-loop-other
-invariant-loop-other l = list_any (λ option. option.0 == l.number) l.other-iterator ≡ list_any (λ option. option.0 == l.number) l.message.options
+invariant-loop-other l = record {
+  there : list_any (λ option. option.0 == l.number) l.other-iterator ≡ list_any (λ option. option.0 == l.number) l.message.options;
+  order : (before : ℕ) × AreOptions before l.other-iterator;
+}

@@ -1,0 +1,19 @@
+use Rattle.std.proofs.Common.{◌≡◌, ◌≤◌, ℕ, List, length, Option, rules, sym, ap, subst, ◌∙◌, arith}
+use Rattle.std.specs.Prelude.{IfSome, is_some}
+use Rattle.std.specs.Option.{option_map}
+use Rattle.osc_options.specs.Recognised.{recognised}
+use Rattle.osc_options.specs.Requests.{value}
+use Rattle.osc_options.proofs.OnePassLaws.{shown_some, shown_within, value_there}
+use Rattle.osc_options.proofs.RecognisedLaws.{value_within}
+use Rattle.osc_options.proofs.survey.survey_of.Goals as goal
+
+pub returns-clause-has_oscore : goal.returns-clause-has_oscore
+returns-clause-has_oscore c =
+    let found : option_map (λ v. v.now) c.loop-number.standing.oscore ≡ value 9 c.args.message.now.options = search rules in
+    sym (shown_some (λ v. v.now) c.loop-number.standing.oscore) ∙ ap is_some found ∙ value_there 9 c.args.message.now.options
+
+pub returns-clause-port_length : goal.returns-clause-port_length
+returns-clause-port_length c =
+    let found : option_map (λ v. v.now) c.loop-number.named.uri_port ≡ value 7 (recognised 0 c.args.message.now.options) = search rules in
+    shown_within (λ v. v.now) c.loop-number.named.uri_port
+    (subst (λ (found : Option (List ℕ)). IfSome found (λ bytes. length bytes ≤ 2)) (sym found) (value_within 7 2 0 c.args.message.now.options (omega arith)))
