@@ -15,6 +15,7 @@ pub mod TokenLaws
 pub mod ExtentLaws
 pub mod WholeLemmas
 pub mod RowLaws
+pub mod PrefixLaws
 pub mod NoteLaws
 pub mod PassLaws
 pub mod AnyLaws

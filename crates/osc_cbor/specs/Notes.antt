@@ -1,6 +1,6 @@
 -- What a pass over the bytes notes: spellings with the shortest heads, and where the keys of maps stand among them. No public
 -- contract rests on this.
-use Rattle.std.specs.Prelude.{◌≡◌, ℕ, ◌≤◌, List, [], ◌∷◌, ◌++◌, length, take, drop, map, count_by, Result, Ok, Err}
+use Rattle.std.specs.Prelude.{◌≡◌, ℕ, ◌+◌, ◌*◌, ◌≤◌, List, [], ◌∷◌, ◌++◌, length, get_or, take, drop, map, count_by, Result, Ok, Err}
 use Rattle.std.specs.Str.{bytes_eq}
 use Rattle.osc_cbor.specs.Data.{DataItem, Pairs, no_pairs, pair}
 use Rattle.osc_cbor.specs.Spelling.{spelling, pairs_spelling}
@@ -36,6 +36,10 @@ piece spelled key = drop key.start (take key.end spelled)
 
 abbrev pub pieces : List ℕ → List Key → List (List ℕ)
 pieces spelled keys = map (piece spelled) keys
+
+-- the first four bytes as a number, as if zeros followed
+abbrev pub first_four : List ℕ → ℕ
+first_four bytes = 16777216 * get_or bytes 0 0 + 65536 * get_or bytes 1 0 + 256 * get_or bytes 2 0 + get_or bytes 3 0
 
 -- how often these bytes are among others
 abbrev pub times : List ℕ → List (List ℕ) → ℕ

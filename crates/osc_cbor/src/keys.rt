@@ -2,7 +2,9 @@
 //!
 //! Two items are equal where their shortest spellings are. So the keys of a map are sorted by these, and neighbours compared.
 
-ghost use Rattle.std.specs.Prelude.{◌≡◌, ◌≤◌, ◌∷◌, ◌++◌, [], length, take, drop, IsPermutation};
+ghost use Rattle.std.specs.Prelude.{◌≡◌, ◌<◌, ◌≤◌, ◌∷◌, ◌++◌, [], ℕ, get_or, length, take, drop, IsPermutation};
+ghost use Rattle.std.specs.Ordering.{nat_cmp};
+ghost use Rattle.std.specs.Cmp.Lexicographic.{slice_cmp};
 ghost use Rattle.arrayvec.specs.ArrayVec.{array_vec_len};
 ghost use Rattle.osc_cbor.specs.Head as head_spec;
 ghost use Rattle.osc_cbor.specs.Major.{major_number};
@@ -79,7 +81,10 @@ pub(crate) fn note_head(major: Major, argument: u64, spelled: &mut Spelled) -> R
 }
 
 /// The first four bytes, or as many as there are, as a number.
-fn prefix_of(bytes: &[u8]) -> u32 {
+fn prefix_of(bytes: &[u8]) -> u32
+    ensures value { result ≡ spec.first_four bytes.now }
+    ensures fits { (i : ℕ) → get_or bytes.now i 0 < 256 }
+{
     match bytes {
         [] => 0,
         [a] => u32::from_be_bytes([*a, 0, 0, 0]),
@@ -123,21 +128,23 @@ pub(crate) fn note_key(start: usize, spelled: &[u8], keys: &mut Keys) -> Result<
     }
 }
 
-/// Which of two keys comes first in the order of their spellings. Their first eight bytes are compared as two numbers.
+/// The bytes after so many, if there are any.
+fn bytes_after(count: usize, bytes: &[u8]) -> &[u8] {
+    &bytes[count.min(bytes.len())..]
+}
+
+/// Which of two keys with equal prefixes comes first in the order of their spellings. The next four bytes are compared as numbers.
 fn order(a: &Key, b: &Key, spelled: &[u8]) -> Ordering {
-    if a.prefix != b.prefix {
-        return a.prefix.cmp(&b.prefix);
-    }
-    let (a, b) = (piece(a, spelled), piece(b, spelled));
-    let next_of_a = prefix_of(&a[a.len().min(4)..]);
-    let next_of_b = prefix_of(&b[b.len().min(4)..]);
+    let a = bytes_after(4, piece(a, spelled));
+    let b = bytes_after(4, piece(b, spelled));
+    let (next_of_a, next_of_b) = (prefix_of(a), prefix_of(b));
     if next_of_a != next_of_b {
         return next_of_a.cmp(&next_of_b);
     }
-    a.cmp(&b)
+    bytes_after(4, a).cmp(&bytes_after(4, b))
 }
 
-/// Sorts those from one index to another by their spellings.
+/// Sorts the keys from one index to another, which have equal prefixes, by their spellings.
 fn sort_part(start: usize, end: usize, spelled: &[u8], keys: &mut [Key])
     requires { (start ≤ end) × (end ≤ length keys.old) }
     ensures permutation { IsPermutation keys.old keys.new }
@@ -146,7 +153,7 @@ fn sort_part(start: usize, end: usize, spelled: &[u8], keys: &mut [Key])
     keys[start..end].sort_unstable_by(|a, b| order(a, b, spelled));
 }
 
-/// Sorts neighbours with equal prefixes by their spellings.
+/// Sorts keys that are in the order of their prefixes by their spellings: only neighbours with equal prefixes may have to be exchanged.
 fn sort_neighbours(keys: &mut [Key], spelled: &[u8])
     ensures { IsPermutation keys.old keys.new }
 {
@@ -170,6 +177,16 @@ fn sort(keys: &mut [Key], spelled: &[u8])
     sort_neighbours(keys, spelled);
 }
 
+/// Which of two spellings comes first. Their first four bytes are compared as numbers, which mostly tells.
+fn compare(a: &[u8], b: &[u8]) -> Ordering
+    ensures { result ≡ slice_cmp nat_cmp a.now b.now }
+{
+    if prefix_of(a) < prefix_of(b) {
+        return Ordering::Less;
+    }
+    a.cmp(&b)
+}
+
 /// Whether keys in the order of their spellings are apart.
 fn neighbours_say(keys: &[Key], spelled: &[u8]) -> Verdict
     ensures { Says result (spec.pieces spelled.now keys.now) }
@@ -180,7 +197,7 @@ fn neighbours_say(keys: &[Key], spelled: &[u8]) -> Verdict
     let mut last = piece(first, spelled);
     for key in others {
         let this = piece(key, spelled);
-        match last.cmp(&this) {
+        match compare(last, this) {
             Ordering::Less => last = this,
             Ordering::Equal => return Verdict::Repeated,
             Ordering::Greater => return Verdict::Unordered,
