@@ -284,6 +284,64 @@ fn parts(rt: HostRuntime) {
     assert!(rt; taken == bytes.len() - 1);
 }
 
+/// The bytes under 4 in the map under 8.
+fn bytes_inside(bytes: &[u8]) -> Option<&[u8]> {
+    ItemRef::whole(bytes)?.value(8)?.value(4)?.as_bytes()
+}
+
+#[test]
+fn a_nested_map_is_lent(rt: HostRuntime) {
+    let cases: [(&[u8], Option<&[u8]>); 9] = [
+        // {8: {4: h'0102', 2: 7}, 1: 0}
+        (
+            b"\xa2\x08\xa2\x04\x42\x01\x02\x02\x07\x01\x00",
+            Some(b"\x01\x02"),
+        ),
+        // The same with longer heads.
+        (
+            b"\xb8\x02\x18\x08\xb9\x00\x02\x1a\x00\x00\x00\x04\x59\x00\x02\x01\x02\x02\x07\x01\x00",
+            Some(b"\x01\x02"),
+        ),
+        // {1: [5, {2: 3}], "a": -1, 8: {-5: 16("b"), 4: h'', 5: false}}
+        (
+            b"\xa3\x01\x82\x05\xa1\x02\x03\x61a\x20\x08\xa3\x24\xd0\x61b\x04\x40\x05\xf4",
+            Some(b""),
+        ),
+        // {-9: {4: h'00'}}
+        (b"\xa1\x28\xa1\x04\x41\x00", None),
+        // {8: {5: h'00'}}
+        (b"\xa1\x08\xa1\x05\x41\x00", None),
+        // {8: {4: "x"}}
+        (b"\xa1\x08\xa1\x04\x61x", None),
+        // {8: [4, h'00']}
+        (b"\xa1\x08\x82\x04\x41\x00", None),
+        // A byte is left over, and one is missing.
+        (b"\xa1\x08\xa1\x04\x41\x00\x00", None),
+        (b"\xa1\x08\xa1\x04\x41", None),
+    ];
+    for (bytes, inside) in cases {
+        assert!(rt; bytes_inside(bytes) == inside, "at {bytes:?}");
+    }
+}
+
+/// Whether the item is 16([1, -1, "a", {}]).
+fn is_lent_array(item: &ItemRef<'_>) -> Option<bool> {
+    let (number, inner) = item.as_tag()?;
+    let mut items = inner.as_array()?;
+    let first = items.next()?.as_unsigned()?;
+    let second = items.next()?.as_negative()?;
+    let third = items.next()?.as_text()?;
+    let mut pairs = items.next()?.as_map()?;
+    let ends = items.next().is_none() && pairs.next().is_none();
+    Some(number == 16 && first == 1 && second == 0 && third == "a" && ends)
+}
+
+#[test]
+fn an_array_is_lent(rt: HostRuntime) {
+    let item = ItemRef::whole(b"\xd0\x84\x01\x20\x61a\xa0").expect(&rt, "an item");
+    assert!(rt; is_lent_array(&item) == Some(true));
+}
+
 #[test]
 fn heads(rt: HostRuntime) {
     let heads: [(Major, u64, &[u8]); 6] = [
