@@ -1,13 +1,12 @@
 //! Which case a datagram is.
-ghost use Rattle.std.specs.Prelude.{◌≡◌, ◌||◌, option_map, if◌then◌else◌, IfOk, OnErr, IsTrue};
+ghost use Rattle.std.specs.Prelude.{◌≡◌, option_map, if◌then◌else◌, IfOk, OnErr, IsTrue};
 ghost use Rattle.osc_server.specs.Case as spec;
 ghost use Rattle.osc_server.specs.Parts.{AsksGet};
 
 use osc_coap::{Kind, MessageRef, is_request_code};
 use osc_message::{Heard, is_confirmable};
 use osc_model::{Path, Request};
-use osc_options::numbers::{OSCORE, PROXY_SCHEME, PROXY_URI};
-use osc_options::{has_option, request_of_message, unrecognised_critical};
+use osc_options::{request_of_message, survey_of};
 use osc_scope::{Scope, Verdict};
 use std::alloc::{AllocError, Global};
 
@@ -77,13 +76,6 @@ fn refused_option<'a>(message: MessageRef<'a>) -> Case<'a>
     }
 }
 
-/// Whether the request wants a proxy.
-fn asks_proxy(message: &MessageRef<'_>) -> bool
-    ensures { result ≡ (spec.has_option 35 message.now.options || spec.has_option 39 message.now.options) }
-{
-    has_option(message, PROXY_URI) || has_option(message, PROXY_SCHEME)
-}
-
 /// Which case an unprotected request is that wants no proxy.
 fn unprotected_case<'a>(open_scope: &Scope, message: MessageRef<'a>, request: Request) -> Case<'a>
     ensures case { result ≡ spec.unprotected_case open_scope.now message.entry request }
@@ -112,11 +104,12 @@ fn request_case<'a>(
     ensures get { IfOk result AsksGet }
     ensures needs_memory { OnErr result (spec.IsAnsweredAnew (spec.request_case open_scope.now message.entry)) }
 {
-    if unrecognised_critical(&message).is_some() {
+    let survey = survey_of(&message);
+    if survey.unrecognised_critical.is_some() {
         Ok(refused_option(message))
-    } else if asks_proxy(&message) {
+    } else if survey.standing.has_proxy_uri || survey.standing.has_proxy_scheme {
         Ok(Case::ProxyAsked(message))
-    } else if has_option(&message, OSCORE) {
+    } else if survey.standing.oscore.is_some() {
         Ok(Case::Protected(message))
     } else {
         let request = request_of_message(alloc, &message)?;
