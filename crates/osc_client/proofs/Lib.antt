@@ -3,6 +3,7 @@ pub mod Outcomes
 pub mod Fitting
 pub mod Opened
 pub mod Own
+pub mod Posting
 pub mod Reading
 pub mod Sent
 pub mod Skipping

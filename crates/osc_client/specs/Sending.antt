@@ -29,7 +29,7 @@ use Rattle.osc_authz.specs.declared.granted.ClientDesk.{ClientDesk}
 use Rattle.osc_run.specs.ClientKinds.{request_note}
 use Rattle.osc_message.specs.Sending.{GoesOut, datagram}
 use Rattle.osc_client.specs.State.{State}
-use Rattle.osc_client.specs.Way.{through}
+use Rattle.osc_client.specs.Way.{HostAndPort, through}
 use Rattle.osc_client.specs.declared.waiting.Awaited.{Awaited}
 use Rattle.osc_client.specs.declared.waiting.Awaited.TheVariants.{Exchange, Ask}
 use Rattle.osc_client.specs.declared.waiting.Waiting.{Waiting}
@@ -78,6 +78,20 @@ post_of desk begun id token = post_with id token (item_spelling (post_item desk.
 
 abbrev pub post_by : State → Draw → Message
 post_by old draw = through old.origin (post_of old.desk (begun_by old draw) (own_id draw old.endpoint.next_id) (token_drawn draw))
+
+-- Of each post of a token so granted, on this way, this is true of how many bytes it has, however it is begun: nonces and tokens of requests
+-- have 8 bytes, as drawn.
+abbrev pub OfEachPost : (ℕ → Type 0) → ClientDesk → Option HostAndPort → Type 0
+OfEachPost Is desk origin =
+    (begun : Begun) (id : ℕ) (token : List ℕ) → length begun.nonce1 ≡ 8 → length token ≡ 8
+    → Is (length (spelling (through origin (post_of desk begun id token))))
+
+-- the post of the client's token fits a datagram, whatever is drawn; or it is longer, whatever is
+abbrev pub PostFits : State → Type 0
+PostFits client = OfEachPost (λ size. size ≤ longest_message) client.desk client.origin
+
+abbrev pub PostIsTooLong : State → Type 0
+PostIsTooLong client = OfEachPost (λ size. longest_message < size) client.desk client.origin
 
 -- 17 where something is open, 14 where the post is longer than a datagram may be, and else it goes out, as bytes that are read again
 -- as it

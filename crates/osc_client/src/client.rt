@@ -1,5 +1,5 @@
 //! The client.
-ghost use Rattle.std.specs.Prelude.{◌≡◌, ◌≤◌, ◌<◌, ◌↔◌, [], ◌∷◌, length, false, true, None, IfOk, IfErr, IfNone, IfSome, IsErr, IsSome, OnOk, OnErr, Some, is_some, option_map};
+ghost use Rattle.std.specs.Prelude.{◌≡◌, ◌≤◌, ◌<◌, ◌↔◌, [], ◌∷◌, length, false, true, None, IfOk, IfErr, IfNone, IfSome, IsErr, IsSome, IsTrue, IsFalse, OnOk, OnErr, Some, is_some, option_map};
 ghost use Rattle.osc_coap.specs.Message.{Spells, spelling};
 ghost use Rattle.osc_model.specs.StepNotes.{quiet};
 ghost use Rattle.osc_model.specs.declared.node.Moment.{Moment as AnyMoment};
@@ -21,7 +21,7 @@ ghost use Rattle.osc_client.specs.Table.{Answers, Counts, SendsOne, Settles, Tak
 ghost use Rattle.osc_message.specs.Ticks.{acts};
 ghost use Rattle.osc_run.specs.ClientKinds.{ClientStep, IsSkipped};
 ghost use Rattle.osc_client.specs.State.{core, skipped_to};
-ghost use Rattle.osc_client.specs.Sending.{IsFree, IsHindered, acts_at, is_over_by, opened, plain_of, restarted};
+ghost use Rattle.osc_client.specs.Sending.{IsFree, IsHindered, PostFits, PostIsTooLong, acts_at, is_over_by, opened, plain_of, restarted};
 ghost use Rattle.osc_client.specs.Bounds.{AsksFor, IsLawful, NeedsContext, room_for};
 ghost use Rattle.osc_client.specs.Lawful.{IsLawfulClient};
 ghost use Rattle.osc_client.specs.Way.{IsLawfulOrigin};
@@ -30,7 +30,7 @@ use crate::Endpoint;
 use crate::answering::{Learnt, learn, outcome_of};
 use crate::asking::{AskRoom, Asked, fitting, protected};
 use crate::case::{Case, case_of, is_ended};
-use crate::exchanging::post_message;
+use crate::exchanging::{each_post_fits, post_message};
 use crate::lying::{lie_under, outside};
 use crate::refusing::{BUSY, EXHAUSTED, NO_CONTEXT, TOO_LONG, refused};
 use crate::sending::{acknowledged, refusal};
@@ -184,6 +184,15 @@ impl Client {
         ensures { result ≡ length self.now.endpoint.sending }
     {
         self.endpoint.open_messages()
+    }
+
+    /// Whether the post of its token fits a datagram, whatever is drawn for it. Where it doesn't, no [`Client::exchange`] begins: each is refused
+    /// by 14, or by 17. Takes no memory.
+    pub fn post_fits(&self) -> bool
+        ensures fits { IsTrue result ↔ PostFits self.now }
+        ensures too_long { IsFalse result ↔ PostIsTooLong self.now }
+    {
+        each_post_fits(&self.origin, &self.desk)
     }
 
     /// Begins an exchange: posts the token, a drawn nonce and the recipient ID that it offers to authz-info. Refused, with nothing

@@ -1,14 +1,17 @@
 //! The post that begins an exchange.
-ghost use Rattle.std.specs.Prelude.{◌≡◌, ◌≤◌, ◌<◌, ◌↔◌, length, IsOk, IfOk, IfErr};
+ghost use Rattle.std.specs.Prelude.{◌≡◌, ◌≤◌, ◌<◌, ◌↔◌, length, IsOk, IsTrue, IsFalse, IfOk, IfErr};
+ghost use Rattle.osc_cbor.specs.Head.{head};
 ghost use Rattle.osc_coap.specs.Length.{datagram_limit};
 ghost use Rattle.osc_coap.specs.Message.{spelling};
-ghost use Rattle.osc_client.specs.Sending.{post_with};
+ghost use Rattle.osc_client.specs.Sending.{OfEachPost, post_with};
 ghost use Rattle.osc_client.specs.Way.{through as through_of};
+ghost use Rattle.osc_protect.specs.Protection.{longest_message};
 
 use crate::proxied::through;
 use crate::way::Origin;
+use osc_authz::ClientDesk;
 use osc_coap::laws::length_of_spelling;
-use osc_coap::{DatagramTooLong, Kind, MessageBuilder};
+use osc_coap::{DATAGRAM_LIMIT, DatagramTooLong, Kind, MessageBuilder};
 use osc_options::laws::merged_options;
 use osc_options::numbers::{CONTENT_FORMAT, URI_PATH};
 
@@ -17,6 +20,10 @@ const POST: u8 = 0x02;
 
 /// Content-Format 19, application/ace+cbor (RFC 9203 section 3).
 const ACE_CBOR: u8 = 19;
+
+/// How many bytes a post has of its payload and of the marker of that, beside its token and the token's head: a map of three, a nonce of 8 bytes
+/// and a recipient ID of one (RFC 9203 section 4.1).
+const BESIDE_TOKEN: usize = 18;
 
 /// The post with this body, as one to the next hop; refused only where it is longer than a datagram may be.
 fn direct_post(id: u16, token: &[u8; 8], body: &[u8]) -> Result<MessageBuilder, DatagramTooLong>
@@ -45,4 +52,38 @@ pub(crate) fn post_message(
     merged_options();
     let post = direct_post(id, token, body)?;
     through(origin, post)
+}
+
+/// How many bytes the head of a byte string of so many has (RFC 8949 section 3), of none that is longer than a datagram may be.
+fn head_size(size: usize) -> usize
+    requires { size ≤ datagram_limit }
+    ensures size { result ≡ length (head 2 size) }
+    ensures few { result ≤ 3 }
+{
+    if size < 24 {
+        1
+    } else if size < 256 {
+        2
+    } else {
+        3
+    }
+}
+
+/// Whether each post of this grant's token fits a datagram on this way, whatever is drawn for it; else none does.
+pub(crate) fn each_post_fits(origin: &Option<Origin>, desk: &ClientDesk) -> bool
+    ensures fits { IsTrue result → OfEachPost (λ size. size ≤ longest_message) desk.now origin.now }
+    ensures too_long { IsFalse result → OfEachPost (λ size. longest_message < size) desk.now origin.now }
+{
+    length_of_spelling();
+    let token = desk.token.len();
+    if token > DATAGRAM_LIMIT {
+        return false;
+    }
+    // What is around the payload is as long in each.
+    match post_message(origin, 0, &[0; 8], &[]) {
+        Ok(post) => {
+            post.bytes().len() + BESIDE_TOKEN + head_size(token) + token <= DATAGRAM_LIMIT
+        }
+        Err(_) => false,
+    }
 }
