@@ -8,7 +8,7 @@ use Rattle.osc_proxy.specs.Table.{answer_to, failure}
 use Rattle.osc_model.specs.Code.{code}
 use Rattle.osc_proxy.specs.Forwarding.{answer}
 use Rattle.osc_proxy.specs.Own.{kind_of}
-use Rattle.osc_proxy.specs.UnsafeOptions.{has_unrecognised_unsafe}
+use Rattle.osc_options.specs.Recognised.{has_unrecognised_unsafe}
 use Rattle.osc_proxy.specs.declared.exchanges.Exchange.{Exchange}
 
 code_of : (message : Message) → slice_index_or (spelling message) 1 0 ≡ message.code

@@ -7,7 +7,7 @@ use Rattle.osc_model.specs.declared.node.Peer.{Peer}
 use Rattle.osc_coap.specs.Code.{is_request_code, is_response_code}
 use Rattle.osc_coap.specs.Message.{Message, spelling}
 use Rattle.osc_coap.specs.declared.kind.Kind.TheVariants.{Confirmable, Acknowledgement}
-use Rattle.osc_options.specs.Recognised.{recognised}
+use Rattle.osc_options.specs.Recognised.{has_unrecognised_unsafe, recognised}
 use Rattle.osc_options.specs.Requests.{value}
 use Rattle.osc_dedup.specs.Table.{Entry, looked}
 use Rattle.osc_message.specs.Heard.{heard, is_reserved}
@@ -20,7 +20,6 @@ use Rattle.osc_proxy.specs.Exchanges.{Table, answers, first_key}
 use Rattle.osc_proxy.specs.ProxyUri.{HostAndPort}
 use Rattle.osc_proxy.specs.Targets.{peer_of}
 use Rattle.osc_proxy.specs.ThereAndBack.{IsCarried}
-use Rattle.osc_proxy.specs.UnsafeOptions.{has_unrecognised_unsafe}
 use Rattle.osc_proxy.specs.declared.case.Case.TheVariants.{Forwarded, Counted}
 use Rattle.osc_proxy.specs.declared.targets.Target.{Target}
 

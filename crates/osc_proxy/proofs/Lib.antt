@@ -1,4 +1,3 @@
-mod RecognisedLaws
 mod AddLaws
 mod UriLaws
 mod OptionLaws

@@ -2,7 +2,6 @@
 pub mod ProxyUri
 pub mod Reading
 pub mod Targets
-pub mod UnsafeOptions
 pub mod Route
 pub mod Forwarding
 pub mod Rewriting

@@ -2,11 +2,10 @@
 use Rattle.std.specs.Prelude.{◌≡◌, ℕ, Bool, ◌||◌, bytes_eq, if◌then◌else◌, List, Option, Some, None, is_some, option_map, codes}
 use Rattle.osc_model.specs.declared.node.Peer.{Peer}
 use Rattle.osc_coap.specs.Message.{NumberAndValue}
-use Rattle.osc_options.specs.Recognised.{recognised}
+use Rattle.osc_options.specs.Recognised.{has_unrecognised_unsafe, recognised}
 use Rattle.osc_options.specs.Requests.{uint, value}
 use Rattle.osc_proxy.specs.ProxyUri.{HostAndPort, Reads}
 use Rattle.osc_proxy.specs.Targets.{peer_of}
-use Rattle.osc_proxy.specs.UnsafeOptions.{has_unrecognised_unsafe}
 use Rattle.osc_proxy.specs.declared.route.Route.{Route}
 use Rattle.osc_proxy.specs.declared.route.Route.TheVariants.{BadOption, NotFound, NotSupported, To}
 use Rattle.osc_proxy.specs.declared.targets.Target.{Target}

@@ -21,7 +21,7 @@ use Rattle.osc_proxy.specs.Exchanges.{Changes, Table, count, free_key, get}
 use Rattle.osc_proxy.specs.Forwarding.{answer, forwarded, forwarded_token}
 use Rattle.osc_proxy.specs.Own.{goes_now, has_room, kind_of, sends_own, with_own}
 use Rattle.osc_proxy.specs.State.{State}
-use Rattle.osc_proxy.specs.UnsafeOptions.{has_unrecognised_unsafe}
+use Rattle.osc_options.specs.Recognised.{has_unrecognised_unsafe}
 use Rattle.osc_proxy.specs.declared.case.Case.{Case}
 use Rattle.osc_proxy.specs.declared.case.Case.TheVariants.{Ignored, Reset, Repeated, Empty, Ended, Refused, Forwarded, Rejected, Dropped, Counted}
 use Rattle.osc_proxy.specs.declared.exchanges.Exchange.{Exchange}

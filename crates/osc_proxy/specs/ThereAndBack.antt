@@ -9,7 +9,7 @@ use Rattle.osc_coap.specs.Code.{is_request_code, is_response_code}
 use Rattle.osc_coap.specs.Length.{datagram_limit}
 use Rattle.osc_coap.specs.Message.{HasSpelling, Message, spelling}
 use Rattle.osc_coap.specs.declared.kind.Kind.TheVariants.{Confirmable, Acknowledgement}
-use Rattle.osc_options.specs.Recognised.{recognised}
+use Rattle.osc_options.specs.Recognised.{has_unrecognised_unsafe, recognised}
 use Rattle.osc_options.specs.Requests.{value}
 use Rattle.osc_dedup.specs.Table.{Entry, looked}
 use Rattle.osc_message.specs.Confirmables.{acknowledged, has_open, takes, with_open}
@@ -23,7 +23,6 @@ use Rattle.osc_proxy.specs.Route.{port_in}
 use Rattle.osc_proxy.specs.State.{State}
 use Rattle.osc_proxy.specs.Table.{exchange_of, forwarded_by, next_own}
 use Rattle.osc_proxy.specs.Targets.{peer_of}
-use Rattle.osc_proxy.specs.UnsafeOptions.{has_unrecognised_unsafe}
 
 -- a message that a datagram can carry
 pub record IsCarried (message : Message) : Type 0 where

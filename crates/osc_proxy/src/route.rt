@@ -1,6 +1,6 @@
 //! Where a request goes (RFC 7252 sections 5.7.2 and 5.10.2).
-ghost use Rattle.std.specs.Prelude.{◌≡◌, true, false, Option, option_map, IfSome, IfNone};
-ghost use Rattle.osc_options.specs.Recognised.{recognised};
+ghost use Rattle.std.specs.Prelude.{◌≡◌, ◌≤◌, ◌||◌, true, false, List, length, Option, is_some, option_map, IfSome, IfNone};
+ghost use Rattle.osc_coap.specs.Message.{NumberAndValue};
 ghost use Rattle.osc_options.specs.Requests.{value as value_in};
 ghost use Rattle.osc_proxy.specs.ProxyUri.{HostAndPort};
 ghost use Rattle.osc_proxy.specs.Route as spec;
@@ -8,11 +8,9 @@ ghost use Rattle.osc_proxy.specs.Route as spec;
 use crate::laws::something_is_named;
 use crate::proxy_uri::{DEFAULT_PORT, Origin, read_proxy_uri};
 use crate::targets::Targets;
-use crate::unsafe_options::has_unrecognised_unsafe;
 use osc_coap::MessageRef;
 use osc_model::Peer;
-use osc_options::numbers::{PROXY_SCHEME, PROXY_URI, URI_HOST, URI_PORT};
-use osc_options::{uint, value_of};
+use osc_options::{Named, survey_of, uint};
 
 /// Where a request goes.
 #[derive(Clone, Copy, Debug, PartialEq, Eq)]
@@ -29,53 +27,65 @@ pub enum Route {
 }
 
 /// The port that Uri-Port names, or that of the scheme.
-fn port_in(message: &MessageRef<'_>) -> u16
-    ensures { result ≡ spec.port_in (value_in 7 (recognised 0 message.now.options)) }
+fn port_in(port: Option<&[u8]>) -> u16
+    requires { IfSome port (λ v. length v.now ≤ 2) }
+    ensures { result ≡ spec.port_in (option_map (λ v. v.now) port.entry) }
 {
-    match value_of(message, URI_PORT) {
+    match port {
         Some(bytes) => uint(bytes),
         None => DEFAULT_PORT,
     }
 }
 
 /// What Proxy-Scheme, Uri-Host and Uri-Port name.
-fn named_by_scheme<'a>(message: &MessageRef<'a>, scheme: &[u8]) -> Option<Origin<'a>>
+fn named_by_scheme<'a>(
+    scheme: &[u8],
+    host: Option<&'a [u8]>,
+    port: Option<&[u8]>,
+) -> Option<Origin<'a>>
+    requires { IfSome port (λ v. length v.now ≤ 2) }
     ensures { option_map (λ origin. (origin.host.now, origin.port)) result
-        ≡ spec.by_scheme scheme.now (value_in 3 (recognised 0 message.now.options)) (value_in 7 (recognised 0 message.now.options)) }
+        ≡ spec.by_scheme scheme.now (option_map (λ v. v.now) host.entry) (option_map (λ v. v.now) port.entry) }
 {
     if scheme != b"coap".as_slice() {
         return None;
     }
-    let host = value_of(message, URI_HOST)?;
+    let host = host?;
     Some(Origin {
         host,
-        port: port_in(message),
+        port: port_in(port),
     })
 }
 
 /// What a request that is for a proxy names for its target, lent from it: a host and a port, or nothing that is known. A Proxy-Uri decides
 /// alone where it is there; else Proxy-Scheme has to be `coap`, and Uri-Host has to be there. `None` where the request is for no proxy.
-fn named_to_proxy<'a>(message: &MessageRef<'a>) -> Option<Option<Origin<'a>>>
-    ensures some { IfSome result (λ named. (spec.is_for_proxy message.now.options ≡ true)
-        × spec.Names message.now.options (option_map (λ origin. (origin.host.now, origin.port)) named)) }
-    ensures none { IfNone result (spec.is_for_proxy message.now.options ≡ false) }
+fn named_to_proxy<'a>(named: &Named<'a>) -> Option<Option<Origin<'a>>>
+    requires { IfSome named.now.uri_port (λ v. length v.now ≤ 2) }
+    ensures some { IfSome result (λ origin. ((is_some named.now.proxy_uri || is_some named.now.proxy_scheme) ≡ true)
+        × ((options : List NumberAndValue)
+        → value_in 3 options ≡ option_map (λ v. v.now) named.now.uri_host
+        → value_in 7 options ≡ option_map (λ v. v.now) named.now.uri_port
+        → spec.NamesBy (option_map (λ v. v.now) named.now.proxy_uri) (option_map (λ v. v.now) named.now.proxy_scheme) options
+        (option_map (λ origin. (origin.host.now, origin.port)) origin))) }
+    ensures none { IfNone result ((is_some named.now.proxy_uri || is_some named.now.proxy_scheme) ≡ false) }
 {
-    if let Some(uri) = value_of(message, PROXY_URI) {
+    if let Some(uri) = named.proxy_uri {
         return Some(read_proxy_uri(uri));
     }
-    let scheme = value_of(message, PROXY_SCHEME)?;
-    Some(named_by_scheme(message, scheme))
+    let scheme = named.proxy_scheme?;
+    Some(named_by_scheme(scheme, named.uri_host, named.uri_port))
 }
 
-/// Where a request with these options goes; takes no memory. Each option is looked for once.
+/// Where a request with these options goes; takes no memory. They are gone over once.
 pub fn route_of(targets: &Targets, message: &MessageRef<'_>) -> Route
     ensures { (named : Option HostAndPort) × spec.Names message.now.options named × (result ≡ spec.route targets.now message.now.options named) }
 {
     something_is_named();
-    if has_unrecognised_unsafe(message) {
+    let survey = survey_of(message);
+    if survey.has_unrecognised_unsafe {
         return Route::BadOption;
     }
-    match named_to_proxy(message) {
+    match named_to_proxy(&survey.named) {
         Some(named) => to_named(targets, named),
         None => Route::NotFound,
     }

@@ -1,6 +1,6 @@
 //! Options that a proxy can't forward (RFC 7252 sections 5.4.2 and 5.7.1).
 ghost use Rattle.std.specs.Prelude.{◌≡◌};
-ghost use Rattle.osc_proxy.specs.UnsafeOptions as spec;
+ghost use Rattle.osc_options.specs.Recognised as spec;
 
 use osc_coap::MessageRef;
 use osc_options::{is_recognised, is_unsafe};

@@ -32,7 +32,7 @@ use Rattle.osc_client.specs.declared.waiting.Awaited.TheVariants.{Ask}
 use Rattle.osc_client.specs.declared.waiting.Waiting.{Waiting}
 use Rattle.osc_proxy.specs.Forwarding.{answer as sent_back, forwarded, forwarded_options, has_proxy_uri, is_taken_out}
 use Rattle.osc_proxy.specs.ThereAndBack.{IsAnswerTo, IsCarried}
-use Rattle.osc_proxy.specs.UnsafeOptions.{has_unrecognised_unsafe}
+use Rattle.osc_options.specs.Recognised.{has_unrecognised_unsafe}
 use Rattle.osc_rounds.specs.AskRound.{IsLawfulServer, asked_text}
 use Rattle.osc_rounds.specs.Asked.{AwaitsReply, AwaitsRequest, CarriesReply, IsAnsweredWith, IsServed, a_uri_host, in_confirmable}
 use Rattle.osc_rounds.specs.ForProxy.{IsForProxy}

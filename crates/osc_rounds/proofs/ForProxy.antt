@@ -2,7 +2,7 @@
 use Rattle.std.proofs.Common.{◌≡◌, ◌∙◌, sym, ap, refl, ℕ, ◌<◌, ◌≤◌, Bool, true, false, ◌==◌, if◌then◌else◌, List, [], ◌∷◌, ◌++◌, length, Some, None, codes, arith, inl, inr}
 use Rattle.std.proofs.lemmas.Bool.{cases_eq, cases_lt, eqb-true, le-leb, le-ltb, lt-ltb, ne_eqb}
 use Rattle.osc_coap.specs.Message.{NumberAndValue}
-use Rattle.osc_options.specs.Recognised.{recognised}
+use Rattle.osc_options.specs.Recognised.{has_unrecognised_unsafe, recognised}
 use Rattle.osc_options.specs.Replies.{uint_bytes}
 use Rattle.osc_options.specs.Requests.{uint, value}
 use Rattle.osc_options.specs.Split.{merge}
@@ -10,7 +10,6 @@ use Rattle.osc_client.specs.Sending.{post_with}
 use Rattle.osc_client.specs.Way.{HostAndPort, IsLawfulOrigin, through}
 use Rattle.osc_proxy.specs.Forwarding.{forwarded, has_proxy_uri}
 use Rattle.osc_proxy.specs.Route.{port_in}
-use Rattle.osc_proxy.specs.UnsafeOptions.{has_unrecognised_unsafe}
 use Rattle.osc_rounds.proofs.Agreement.{post_to}
 
 -- ---- a port, as Uri-Port

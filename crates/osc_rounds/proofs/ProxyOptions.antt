@@ -3,7 +3,7 @@ use Rattle.std.proofs.Common.{◌≡◌, ◌∙◌, sym, ap, subst, refl, ℕ, �
 use Rattle.std.specs.Prelude.{◌==◌, ◌&&◌}
 use Rattle.std.proofs.lemmas.Bool.{cases_Bool, cases_eq, cases_lt, eqb-true, le-leb, le-ltb, lt-ltb, ne_eqb}
 use Rattle.osc_coap.specs.Message.{NumberAndValue}
-use Rattle.osc_options.specs.Recognised.{recognised}
+use Rattle.osc_options.specs.Recognised.{has_unrecognised_unsafe, recognised}
 use Rattle.osc_options.specs.Replies.{uint_bytes}
 use Rattle.osc_options.specs.Requests.{uint, value}
 use Rattle.osc_options.specs.Split.{AreInOrder, insert, merge, outer_options, same_class}
@@ -12,7 +12,6 @@ use Rattle.osc_options.specs.declared.table.Class.TheVariants.{U}
 use Rattle.osc_client.specs.Way.{HostAndPort, IsHost, proxy_options}
 use Rattle.osc_proxy.specs.Forwarding.{forwarded_options, has_proxy_uri}
 use Rattle.osc_proxy.specs.Route.{port_in}
-use Rattle.osc_proxy.specs.UnsafeOptions.{has_unrecognised_unsafe}
 
 -- ---- a whole number is read again
 

@@ -3,13 +3,12 @@ use Rattle.std.specs.Prelude.{◌≡◌, true, false, length, Some, None, codes}
 use Rattle.osc_coap.specs.Code.{is_request_code}
 use Rattle.osc_coap.specs.Message.{Message}
 use Rattle.osc_coap.specs.declared.kind.Kind.TheVariants.{Confirmable}
-use Rattle.osc_options.specs.Recognised.{recognised}
+use Rattle.osc_options.specs.Recognised.{has_unrecognised_unsafe, recognised}
 use Rattle.osc_options.specs.Requests.{value}
 use Rattle.osc_client.specs.Way.{HostAndPort}
 use Rattle.osc_proxy.specs.Forwarding.{has_proxy_uri}
 use Rattle.osc_proxy.specs.Route.{port_in}
 use Rattle.osc_proxy.specs.ThereAndBack.{IsCarried}
-use Rattle.osc_proxy.specs.UnsafeOptions.{has_unrecognised_unsafe}
 
 -- A request that a proxy can take up: a message that a datagram can carry, confirmable, with a token of 8 bytes. None of its
 -- options keeps it from being forwarded, and its Proxy-Scheme (39), its Uri-Host (3) and its Uri-Port (7) name this server, without a
