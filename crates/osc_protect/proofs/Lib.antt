@@ -1,3 +1,4 @@
+mod OrderLaws
 pub mod ValuePartialIv
 pub mod ValueLaws
 pub mod ValueWriting

@@ -54,13 +54,16 @@ impl<'a> Model for SealedResponseRef<'a> {
     ghost invariant = { λ response. IfSome response.own (λ n. n ≤ greatest_number) };
 }
 
-/// The value of the first OSCORE option.
+/// The value of the first OSCORE option. It is looked for up to a larger number, since numbers don't fall.
 fn oscore_value<'a>(message: &MessageRef<'a>) -> Option<&'a [u8]>
     ensures { option_copied result ≡ value_in 9 message.now.options }
 {
     for (number, value) in message.options() {
         if number == OSCORE {
             return Some(value);
+        }
+        if number > OSCORE {
+            return None;
         }
     }
     None
