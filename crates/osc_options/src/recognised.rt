@@ -6,7 +6,8 @@ ghost use Rattle.std.specs.Iterator.{YieldsFirstBy, item_count};
 ghost use Rattle.osc_options.specs.Recognised as spec;
 ghost use Rattle.osc_options.specs.Requests.{value as value_in};
 
-use crate::table::{is_critical, rule_of};
+use crate::numbers;
+use crate::table::is_critical;
 use osc_coap::{MessageRef, Options};
 use std::marker::Model;
 
@@ -16,13 +17,23 @@ use std::marker::Model;
 pub fn is_recognised(before: u16, number: u16, value: &[u8]) -> bool
     ensures { result ≡ spec.is_recognised before (number, value.now) }
 {
-    match rule_of(number) {
-        Some(rule) => {
-            rule.shortest as usize <= value.len()
-                && value.len() <= rule.longest as usize
-                && (rule.repeats || number != before)
+    let size = value.len();
+    match number {
+        numbers::IF_MATCH => size <= 8,
+        numbers::ETAG => 1 <= size && size <= 8,
+        numbers::LOCATION_PATH | numbers::URI_PATH | numbers::URI_QUERY | numbers::LOCATION_QUERY =>
+            size <= 255,
+        numbers::URI_HOST | numbers::PROXY_SCHEME => {
+            number != before && 1 <= size && size <= 255
         }
-        None => false,
+        numbers::IF_NONE_MATCH => number != before && size == 0,
+        numbers::URI_PORT | numbers::CONTENT_FORMAT | numbers::ACCEPT => {
+            number != before && size <= 2
+        }
+        numbers::OSCORE => number != before && size <= 255,
+        numbers::MAX_AGE | numbers::SIZE1 => number != before && size <= 4,
+        numbers::PROXY_URI => number != before && 1 <= size && size <= 1034,
+        _ => false,
     }
 }
 
