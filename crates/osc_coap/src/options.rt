@@ -86,7 +86,9 @@ fn option_of(before: u16, bytes: &[u8]) -> Option<((u16, &[u8]), &[u8])>
     if is_short(*head) {
         short_option_of(before, *head, rest)
     } else {
-        extended_option_of(before, *head, rest)
+        // Taken apart, so that short options are held in registers.
+        let (option, after) = extended_option_of(before, *head, rest)?;
+        Some((option, after))
     }
 }
 
