@@ -78,6 +78,9 @@ pub(crate) fn append(out: &mut ArrayVec<u8, DATAGRAM_LIMIT>, bytes: &[u8])
     requires { array_vec_len out.old + length bytes.now ≤ datagram_limit }
     ensures { out.new.items ≡ out.old.items ++ bytes.now }
 {
+    if bytes.is_empty() {
+        return;
+    }
     let _ = out.try_extend_from_slice(bytes);
 }
 
