@@ -1,25 +1,17 @@
 -- Entries and the items that they are.
-use Rattle.std.proofs.Common.{◌≡◌, ◌≢◌, ℕ, zero, suc, ◌+◌, ◌<◌, List, [], ◌∷◌, ◌++◌, length, get_or, take, map, None, refl, sym, ap, subst, ◌∙◌, arith, Result, Ok, Err, ◌⊎◌, inl, inr}
+use Rattle.std.proofs.Common.{◌≡◌, ℕ, List, [], ◌∷◌, ◌++◌, append-nil, map, refl, sym, ap, subst, ◌∙◌, Result, Ok, Err, ◌⊎◌, inl, inr}
 use Rattle.std.specs.List.{All}
 use Rattle.std.specs.Result.{IfOk}
-use Rattle.std.proofs.lemmas.List.{take_more, map-append}
+use Rattle.std.proofs.lemmas.List.{map-append}
 use Rattle.std.proofs.lemmas.List.Elements.{All-nil, All-cons, All-push, All-head, All-tail}
 use Rattle.osc_cbor.specs.Data.{DataItem, array, Items, no_items, item}
-use Rattle.osc_cbor.specs.View.{view, items_view}
+use Rattle.osc_cbor.specs.View.{view, items_of, items_view}
 use Rattle.osc_cbor.specs.declared.item.Item.{Item}
 use Rattle.osc_model.specs.Scope.{Scope as Permissions}
 use Rattle.osc_scope.specs.Entries.{Entry, IsLawful, scope_of, entry_item, entry_items}
 use Rattle.osc_scope.specs.declared.error.ScopeError.{ScopeError}
 use Rattle.osc_scope.specs.declared.error.ScopeError.TheVariants.{BadScope, Memory}
-use Rattle.osc_scope.specs.Reading.{two_of, entry_with, HasMethods, AreEntries}
-
--- ---- one entry
-
-pub not_two : (xs : List Item) → length xs ≢ 2 → two_of (items_view xs) ≡ None
-not_two [] ne = refl
-not_two (a ∷ []) ne = refl
-not_two (a ∷ b ∷ []) ne = absurd (ne refl)
-not_two (a ∷ b ∷ c ∷ xs) ne = refl
+use Rattle.osc_scope.specs.Reading.{entry_with, HasMethods, AreEntries, AreEntriesBefore}
 
 -- ---- entries in a row
 
@@ -34,18 +26,38 @@ pushed (c ∷ ds) d (f ∷ entries) e same one =
     let more = pushed ds d entries e tail one in
     cc
 
+-- the items of entries are those of their list
+pub as_list : (entries : List Entry) → items_of (map entry_item entries) ≡ entry_items entries
+as_list [] = refl
+as_list (e ∷ entries) = ap (item (entry_item e)) (as_list entries)
+
+moved : (entries : List Entry) (e : Entry) (left : List DataItem)
+    → map entry_item entries ++ entry_item e ∷ left ≡ map entry_item (entries ++ e ∷ []) ++ left
+moved [] e left = refl
+moved (f ∷ entries) e left = ap (λ ds. entry_item f ∷ ds) (moved entries e left)
+
+-- with none left, the entries are all
+pub all_are_entries : (all : List DataItem) (pairs : List (List ℕ × ℕ)) → AreEntriesBefore [] all pairs → AreEntries (items_of all) pairs
+all_are_entries all pairs so_far = record {
+  lawful = so_far.lawful;
+  spelled =
+      ap items_of (so_far.spelled ∙ append-nil (map entry_item (map entry_with pairs)))
+      ∙ as_list (map entry_with pairs);
+}
+
 -- one entry more
-pub one_more : (ds : List Item) (i : ℕ) (d : Item) (pairs new : List (List ℕ × ℕ)) (pair : List ℕ × ℕ) → i < length ds → d ≡ get_or ds i d
-    → AreEntries (items_view (take i ds)) pairs → IsLawful (entry_with pair) → view d ≡ entry_item (entry_with pair) → new ≡ pairs ++ pair ∷ []
-    → AreEntries (items_view (take (i + 1) ds)) new
-one_more ds i d pairs new pair lt is so_far lawful one added =
+pub one_more : (all left : List DataItem) (d : DataItem) (pairs new : List (List ℕ × ℕ)) (pair : List ℕ × ℕ)
+    → AreEntriesBefore (d ∷ left) all pairs → IsLawful (entry_with pair) → d ≡ entry_item (entry_with pair) → new ≡ pairs ++ pair ∷ []
+    → AreEntriesBefore left all new
+one_more all left d pairs new pair so_far lawful one added =
     let mapped : map entry_with new ≡ map entry_with pairs ++ entry_with pair ∷ [] = ap (map entry_with) added ∙ map-append entry_with pairs (pair ∷ []) in
     record {
       lawful = subst (All IsLawful) (sym mapped) (All-push IsLawful (map entry_with pairs) (entry_with pair) so_far.lawful lawful);
       spelled =
-          ap items_view (take_more ds i d lt)
-          ∙ pushed (take i ds) (get_or ds i d) (map entry_with pairs) (entry_with pair) so_far.spelled (ap view (sym is) ∙ one)
-          ∙ ap entry_items (sym mapped);
+          so_far.spelled
+          ∙ ap (λ x. map entry_item (map entry_with pairs) ++ x ∷ left) one
+          ∙ moved (map entry_with pairs) (entry_with pair) left
+          ∙ ap (λ es. map entry_item es ++ left) (sym mapped);
     }
 
 -- entries have methods
@@ -55,19 +67,21 @@ have_methods (pair ∷ pairs) h =
     let first = All-head IsLawful (entry_with pair) (map entry_with pairs) h in
     All-cons HasMethods pair pairs (first.some, first.known) (have_methods pairs (All-tail IsLawful (entry_with pair) (map entry_with pairs) h))
 
-none_at : (ds : List Item) (i : ℕ) (d : Item) → i < length ds
-    → ((e : Entry) → IsLawful e → view (get_or ds i d) ≡ entry_item e → ⊥)
-    → (entries : List Entry) → All IsLawful entries → items_view ds ≡ entry_items entries → ⊥
-none_at [] i d lt none entries lawful same = absurd (omega arith)
-none_at (c ∷ ds) i d lt none [] lawful same = cc
-none_at (c ∷ ds) zero d lt none (e ∷ entries) lawful same = none e (All-head IsLawful e entries lawful) cc
-none_at (c ∷ ds) (suc i) d lt none (e ∷ entries) lawful same = none_at ds i d (omega arith) none entries (All-tail IsLawful e entries lawful) cc
+none_after : (before left : List DataItem) (d : DataItem)
+    → ((e : Entry) → IsLawful e → d ≡ entry_item e → ⊥)
+    → (entries : List Entry) → All IsLawful entries → items_of (before ++ d ∷ left) ≡ entry_items entries → ⊥
+none_after [] left d none [] lawful same = cc
+none_after [] left d none (e ∷ entries) lawful same = none e (All-head IsLawful e entries lawful) cc
+none_after (b ∷ before) left d none [] lawful same = cc
+none_after (b ∷ before) left d none (e ∷ entries) lawful same =
+    none_after before left d none entries (All-tail IsLawful e entries lawful) cc
 
 -- an item that is no entry
-pub no_entry_at : (ds : List Item) (i : ℕ) (d : Item) → i < length ds → d ≡ get_or ds i d
-    → ((e : Entry) → IsLawful e → view d ≡ entry_item e → ⊥)
-    → (entries : List Entry) → All IsLawful entries → items_view ds ≡ entry_items entries → ⊥
-no_entry_at ds i d lt is none = none_at ds i d lt (λ e lawful same. none e lawful (ap view is ∙ same))
+pub no_entry_after : (pairs : List (List ℕ × ℕ)) (left : List DataItem) (d : DataItem) (all : List DataItem)
+    → AreEntriesBefore (d ∷ left) all pairs → ((e : Entry) → IsLawful e → d ≡ entry_item e → ⊥)
+    → (entries : List Entry) → All IsLawful entries → items_of all ≡ entry_items entries → ⊥
+no_entry_after pairs left d all so_far none entries lawful same =
+    none_after (map entry_item (map entry_with pairs)) left d none entries lawful (ap items_of (sym so_far.spelled) ∙ same)
 
 -- entries are told by their items
 pub one_entry_list : (entries others : List Entry) → entry_items entries ≡ entry_items others → entries ≡ others

@@ -5,7 +5,7 @@ use Rattle.osc_model.specs.Path.{IsPath}
 use Rattle.osc_model.specs.declared.code.Method.{Method}
 use Rattle.osc_cbor.specs.Data.{DataItem, Items, no_items, item}
 use Rattle.osc_cbor.specs.Parts.{as_array, as_text, as_unsigned}
-use Rattle.osc_scope.specs.Entries.{Entry, IsLawful, bit_of, has, entry_items}
+use Rattle.osc_scope.specs.Entries.{Entry, IsLawful, bit_of, has, entry_item, entry_items}
 use Rattle.osc_scope.specs.Text.{Written, AreApart, name_of, below_word, below_bit, entry_text, entry_of}
 
 -- ---- bytes
@@ -37,6 +37,11 @@ grants mask (Some method) = has mask method
 pub record AreEntries (items : Items) (pairs : List (List ℕ × ℕ)) : Type 0 where
   pub lawful : All IsLawful (map entry_with pairs)
   pub spelled : items ≡ entry_items (map entry_with pairs)
+
+-- the same, with these items left of all
+pub record AreEntriesBefore (left all : List DataItem) (pairs : List (List ℕ × ℕ)) : Type 0 where
+  pub lawful : All IsLawful (map entry_with pairs)
+  pub spelled : all ≡ map entry_item (map entry_with pairs) ++ left
 
 -- ---- text
 

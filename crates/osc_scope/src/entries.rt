@@ -4,14 +4,14 @@ ghost use Rattle.std.specs.Prelude.{◌≡◌, ◌⊎◌, List, IfOk, Ok, Err, o
 ghost use Rattle.std.specs.List.{All};
 ghost use Rattle.osc_cbor.specs.Data.{DataItem, array};
 ghost use Rattle.osc_cbor.specs.Spelling.{IsWhole};
-ghost use Rattle.osc_cbor.specs.View.{view, items_view};
+ghost use Rattle.osc_cbor.specs.View.{items_of};
 ghost use Rattle.osc_scope.specs.Entries.{Entry, IsLawful, IsScope, scope_of, entry_item, entry_items};
 ghost use Rattle.osc_scope.specs.Reading.{two_of, pair_of, entry_with, AreEntries};
 
 use crate::error::ScopeError;
 use crate::methods::{ALL_BITS, BELOW};
 use crate::scope::Scope;
-use osc_cbor::{Item, read_whole};
+use osc_cbor::{ItemRef, ItemRefs};
 use osc_model::Path;
 use std::alloc::Global;
 
@@ -33,7 +33,7 @@ impl Scope {
         // Bytes that are no item take no memory.
         ensures needs_memory { result ≡ Err ScopeError.Memory → (item : DataItem) × IsWhole bytes.now item }
     {
-        match read_whole(alloc, bytes)? {
+        match ItemRef::whole(bytes) {
             Some(item) => scope_in(alloc, &item),
             None => Err(ScopeError::BadScope),
         }
@@ -41,11 +41,11 @@ impl Scope {
 }
 
 /// The scope of the entries that the item is an array of.
-fn scope_in(alloc: Global, item: &Item) -> Result<Scope, ScopeError>
+fn scope_in(alloc: Global, item: &ItemRef<'_>) -> Result<Scope, ScopeError>
     ensures found { IfOk result (λ scope. (entries : List Entry) × All IsLawful entries
-        × (view item.now ≡ array (entry_items entries)) × (scope ≡ scope_of entries)) }
+        × (item.now ≡ array (entry_items entries)) × (scope ≡ scope_of entries)) }
     ensures bad { result ≡ Err ScopeError.BadScope
-        → (entries : List Entry) → All IsLawful entries → ¬ (view item.now ≡ array (entry_items entries)) }
+        → (entries : List Entry) → All IsLawful entries → ¬ (item.now ≡ array (entry_items entries)) }
 {
     match item.as_array() {
         Some(items) => Ok(Scope::of_entries(entries(alloc, items)?)),
@@ -54,24 +54,24 @@ fn scope_in(alloc: Global, item: &Item) -> Result<Scope, ScopeError>
 }
 
 /// The entries that the items are; each path is copied once.
-fn entries(alloc: Global, items: &[Item]) -> Result<Vec<(Path, u64)>, ScopeError>
-    ensures found { IfOk result (λ entries. AreEntries (items_view items.now) entries.items) }
+fn entries(alloc: Global, items: ItemRefs<'_>) -> Result<Vec<(Path, u64)>, ScopeError>
+    ensures found { IfOk result (λ entries. AreEntries (items_of items.entry) entries.items) }
     ensures bad { result ≡ Err ScopeError.BadScope
-        → (entries : List Entry) → All IsLawful entries → ¬ (items_view items.now ≡ entry_items entries) }
+        → (entries : List Entry) → All IsLawful entries → ¬ (items_of items.entry ≡ entry_items entries) }
 {
-    let mut entries = Vec::with_capacity(alloc, items.len())?;
+    let mut entries = Vec::new(alloc);
     for item in items {
-        entries.push(entry(alloc, item)?)?;
+        entries.push(entry(alloc, &item)?)?;
     }
     Ok(entries)
 }
 
 /// The path and the set of methods of the entry that the item is.
-fn entry(alloc: Global, item: &Item) -> Result<(Path, u64), ScopeError>
+fn entry(alloc: Global, item: &ItemRef<'_>) -> Result<(Path, u64), ScopeError>
     ensures lawful { IfOk result (λ found. IsLawful (entry_with found)) }
-    ensures found { IfOk result (λ found. view item.now ≡ entry_item (entry_with found)) }
+    ensures found { IfOk result (λ found. item.now ≡ entry_item (entry_with found)) }
     ensures bad { result ≡ Err ScopeError.BadScope
-        → (entry : Entry) → IsLawful entry → ¬ (view item.now ≡ entry_item entry) }
+        → (entry : Entry) → IsLawful entry → ¬ (item.now ≡ entry_item entry) }
 {
     let Some((text, mask)) = text_and_number(item) else {
         return Err(ScopeError::BadScope);
@@ -86,19 +86,22 @@ fn entry(alloc: Global, item: &Item) -> Result<(Path, u64), ScopeError>
 }
 
 /// The text and the number, where the item is an array of these two.
-fn text_and_number(item: &Item) -> Option<(&str, u64)>
-    ensures { option_map (λ found. (found.0.now, found.1)) result ≡ pair_of (view item.now) }
+fn text_and_number<'a>(item: &ItemRef<'a>) -> Option<(&'a str, u64)>
+    ensures { option_map (λ found. (found.0.now, found.1)) result ≡ pair_of item.now }
 {
     let (text, number) = two(item.as_array()?)?;
     Some((text.as_text()?, number.as_unsigned()?))
 }
 
 /// The items, where they are two.
-fn two(items: &[Item]) -> Option<(&Item, &Item)>
-    ensures { option_map (λ found. (view found.0.now, view found.1.now)) result ≡ two_of (items_view items.now) }
+fn two<'a>(items: ItemRefs<'a>) -> Option<(ItemRef<'a>, ItemRef<'a>)>
+    ensures { result ≡ two_of (items_of items.entry) }
 {
-    match items {
-        [first, second] => Some((first, second)),
-        _ => None,
+    let mut items = items;
+    let first = items.next()?;
+    let second = items.next()?;
+    match items.next() {
+        None => Some((first, second)),
+        Some(_) => None,
     }
 }
