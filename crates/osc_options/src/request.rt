@@ -64,17 +64,6 @@ fn add_segment<'a>(segments: &mut ArrayVec<&'a [u8], 9>, number: u16, value: &'a
     segments.push(value);
 }
 
-/// Adds the value of an If-Match option.
-fn add_tag(alloc: Global, tags: &mut ETags, number: u16, value: &[u8]) -> Result<(), AllocError>
-    ensures { OnOk result ((rest : List NumberAndValue)
-        → tags.new ++ values_in 1 rest ≡ tags.old ++ values_in 1 ((number, value.now) ∷ rest)) }
-{
-    if number != IF_MATCH {
-        return Ok(());
-    }
-    tags.push(alloc, value)
-}
-
 /// The value of the first option of the wanted number, among those that were known and this one.
 pub(crate) fn first_of<'a>(
     known: Option<&'a [u8]>,
@@ -106,6 +95,41 @@ struct Fields<'a> {
     if_none_match: Option<&'a [u8]>,
 }
 
+/// Adds an option; refused only for want of memory.
+fn add_field<'a>(
+    alloc: Global,
+    fields: &mut Fields<'a>,
+    number: u16,
+    value: &'a [u8],
+) -> Result<(), AllocError>
+    ensures segments { OnOk result ((rest : List NumberAndValue)
+        → take 9 (map (λ s. s.now) fields.new.segments.items ++ values_in 11 rest)
+        ≡ take 9 (map (λ s. s.now) fields.old.segments.items ++ values_in 11 ((number, value.now) ∷ rest))) }
+    ensures format { OnOk result ((rest : List NumberAndValue)
+        → option_or (option_map (λ v. v.now) fields.new.format) (value_in 12 rest)
+        ≡ option_or (option_map (λ v. v.now) fields.old.format) (value_in 12 ((number, value.now) ∷ rest))) }
+    ensures accept { OnOk result ((rest : List NumberAndValue)
+        → option_or (option_map (λ v. v.now) fields.new.accept) (value_in 17 rest)
+        ≡ option_or (option_map (λ v. v.now) fields.old.accept) (value_in 17 ((number, value.now) ∷ rest))) }
+    ensures tags { OnOk result ((rest : List NumberAndValue)
+        → fields.new.if_match ++ values_in 1 rest ≡ fields.old.if_match ++ values_in 1 ((number, value.now) ∷ rest)) }
+    ensures none_match { OnOk result ((rest : List NumberAndValue)
+        → option_or (option_map (λ v. v.now) fields.new.if_none_match) (value_in 5 rest)
+        ≡ option_or (option_map (λ v. v.now) fields.old.if_none_match) (value_in 5 ((number, value.now) ∷ rest))) }
+{
+    match number {
+        IF_MATCH => return fields.if_match.push(alloc, value),
+        URI_PATH => add_segment(&mut fields.segments, number, value),
+        CONTENT_FORMAT => fields.format = first_of(fields.format, number, number, value),
+        ACCEPT => fields.accept = first_of(fields.accept, number, number, value),
+        IF_NONE_MATCH => {
+            fields.if_none_match = first_of(fields.if_none_match, number, number, value);
+        }
+        _ => {}
+    }
+    Ok(())
+}
+
 /// The values that a request is made of, in one pass over the options; refused only for want of memory.
 fn fields_of<'a>(alloc: Global, options: RecognisedOptions<'a>) -> Result<Fields<'a>, AllocError>
     ensures segments { IfOk result (λ f. take 9 (map (λ s. s.now) f.segments.items) ≡ take 9 (values_in 11 options.entry)) }
@@ -114,25 +138,17 @@ fn fields_of<'a>(alloc: Global, options: RecognisedOptions<'a>) -> Result<Fields
     ensures tags { IfOk result (λ f. f.if_match ≡ values_in 1 options.entry) }
     ensures none_match { IfOk result (λ f. option_map (λ v. v.now) f.if_none_match ≡ value_in 5 options.entry) }
 {
-    let mut segments = ArrayVec::new();
-    let mut if_match = ETags::new(alloc);
-    let mut format = None;
-    let mut accept = None;
-    let mut if_none_match = None;
+    let mut fields = Fields {
+        segments: ArrayVec::new(),
+        format: None,
+        accept: None,
+        if_match: ETags::new(alloc),
+        if_none_match: None,
+    };
     for (number, value) in options {
-        add_tag(alloc, &mut if_match, number, value)?;
-        add_segment(&mut segments, number, value);
-        format = first_of(format, CONTENT_FORMAT, number, value);
-        accept = first_of(accept, ACCEPT, number, value);
-        if_none_match = first_of(if_none_match, IF_NONE_MATCH, number, value);
+        add_field(alloc, &mut fields, number, value)?;
     }
-    Ok(Fields {
-        segments,
-        format,
-        accept,
-        if_match,
-        if_none_match,
-    })
+    Ok(fields)
 }
 
 /// The request of a code, recognised options and a payload; refused only for want of memory.
