@@ -1,6 +1,6 @@
 //! Items passed over and compared in their bytes, by their heads and strings. No memory is taken.
 
-ghost use Rattle.std.specs.Prelude.{◌≡◌, ◌↔◌, ◌^◌, ◌≤◌, ◌++◌, List, ℕ, length, IsTrue};
+ghost use Rattle.std.specs.Prelude.{◌≡◌, ◌↔◌, ◌^◌, ◌≤◌, ◌∷◌, ◌++◌, List, ℕ, length, IsTrue, IfSome, Ok};
 ghost use Rattle.osc_cbor.specs.Data.{DataItem, Pairs, pair_count, map as spelled_map};
 ghost use Rattle.osc_cbor.specs.Reading.{Reads};
 ghost use Rattle.osc_cbor.specs.Same as equality;
@@ -27,6 +27,25 @@ fn behind_head(major: u8, argument: u64, bytes: &[u8]) -> Result<(Token, &[u8]),
     Ok(((major, argument, &[]), bytes))
 }
 
+/// What begins with this byte, and the bytes after it, where it is a number that takes one or two bytes.
+#[inline(always)]
+#[tactic(auto, unfolding(crate::specs::Tokens::token_at, crate::specs::Tokens::token_behind, crate::specs::Reading::argument_at))]
+fn number_of(first: u8, rest: &[u8]) -> Option<(Token, &[u8])>
+    ensures { IfSome result (λ x. token_at (first ∷ rest.now) ≡ Ok ((x.0.0, x.0.1, x.0.2.now), x.1.now)) }
+{
+    if first >= 64 {
+        return None;
+    }
+    if first % 32 < 24 {
+        return Some(((first / 32, (first % 32) as u64, &[]), rest));
+    }
+    if first % 32 > 24 {
+        return None;
+    }
+    let (argument, after) = rest.split_first()?;
+    Some(((first / 32, *argument as u64, &[]), after))
+}
+
 /// The first head of the bytes with its string, and the bytes after them.
 #[tactic(auto, unfolding(crate::specs::Tokens::token_at))]
 pub(crate) fn token_of(bytes: &[u8]) -> Result<(Token, &[u8]), ReadError>
@@ -35,6 +54,9 @@ pub(crate) fn token_of(bytes: &[u8]) -> Result<(Token, &[u8]), ReadError>
     let Some((first, rest)) = bytes.split_first() else {
         return Err(ReadError::Truncated);
     };
+    if let Some(found) = number_of(*first, rest) {
+        return Ok(found);
+    }
     if *first / 32 == 7 {
         return Ok(((7, (*first % 32) as u64, &[]), rest));
     }
