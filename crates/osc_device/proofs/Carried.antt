@@ -1,19 +1,25 @@
 -- What a slice of one datagram, and what a node answered, come to.
-use Rattle.std.proofs.Common.{◌≡◌, ◌∙◌, ap, sym, subst, ℕ, ◌≤◌, ◌<◌, false, List, [], ◌∷◌, length, slice_index_or, Option, Some, None, Result, Ok, Err, arith}
-use Rattle.std.specs.Prelude.{IfOk, IsOk, OnErr}
+use Rattle.std.proofs.Common.{◌≡◌, ◌∙◌, ap, sym, subst, ℕ, ◌≤◌, ◌<◌, Bool, true, false, List, [], ◌∷◌, length, slice_index_or, Option, Some, None, Result, Ok, Err, arith}
+use Rattle.std.specs.Prelude.{IfOk, OnErr}
 use Rattle.std.specs.Result.{result_ok}
 use Rattle.std.specs.declared.alloc.AllocError.{AllocError}
+use Rattle.osc_model.specs.StepNotes.{StepNotes}
 use Rattle.osc_model.specs.declared.node.Draw.{Draw}
 use Rattle.osc_model.specs.declared.node.Moment.{Moment}
+use Rattle.osc_model.specs.declared.request.Request.{Request}
 use Rattle.osc_model.specs.declared.step.Datagram.{Datagram}
 use Rattle.osc_model.specs.declared.step.Step.{Step}
-use Rattle.osc_protect.specs.Ciphers.{Sealings}
+use Rattle.osc_protect.specs.Ciphers.{Sealings, Tags}
+use Rattle.osc_authz.specs.declared.granted.ClientDesk.{ClientDesk}
+use Rattle.osc_protect.specs.Protection.{longest_message}
 use Rattle.osc_run.specs.ClientKinds.{ClientStep}
+use Rattle.osc_run.specs.States.{ClientState}
 use Rattle.osc_run.specs.ServerKinds.{ServerStep}
-use Rattle.osc_client.specs.Hearing.{Hears as ClientHears}
+use Rattle.osc_client.specs.Hearing.{Hears as ClientHears, Ticks}
+use Rattle.osc_client.specs.Sending.{Asks, Exchanges, OfEachPost, PostFits, TicksBy, is_over}
 use Rattle.osc_client.specs.State.{State as Client, core as client_core}
-use Rattle.osc_message.specs.Endpoint.{after_tick}
-use Rattle.osc_server.specs.Hearing.{Hears as ServerHears, Ticks as ServerTicks}
+use Rattle.osc_client.specs.Way.{HostAndPort}
+use Rattle.osc_server.specs.Hearing.{Hears as ServerHears}
 use Rattle.osc_server.specs.State.{State as Server, core as server_core}
 use Rattle.osc_device.specs.Carrying.{ClientTakesMemory, ComesBack, Reaches, ServerTakesMemory}
 use Rattle.osc_device.specs.State.{own_address, server_address}
@@ -30,6 +36,48 @@ one_datagram out one other a b = cc
 
 one_step : (o : Option Step) (a b : Step) → o ≡ Some a → o ≡ Some b → a ≡ b
 one_step o a b e f = cc
+
+-- ---- the device sends straight to its server, and its post fits a datagram
+
+abbrev IsStraight : Client → Type 0
+IsStraight client = (client.origin ≡ None) × (client.next_hop ≡ server_address) × PostFits client
+
+ticked_by : (over : Bool) (old : Client) (now : Moment) (step : Step) (new : Client) → TicksBy over old now step new → IsStraight old → IsStraight new
+ticked_by false old now step new it straight = subst IsStraight (sym it.3) straight
+ticked_by true old now step new it straight = subst IsStraight (sym it.3) straight
+
+pub ticked_straight : (old : Client) (now : Moment) (step : Step) (new : Client) → Ticks old now step new → IsStraight old → IsStraight new
+ticked_straight old now step new it straight = ticked_by (is_over now old.endpoint.sending old.waiting) old now step new it.ticks straight
+
+pub begun_straight : (old : Client) (now : Moment) (draw : Draw) (step : Step) (new : Client) → Exchanges old now draw step new → IsStraight old → IsStraight new
+begun_straight old now draw step new (Exchanges.busy waits refused) straight = subst IsStraight (sym refused.kept) straight
+begun_straight old now draw step new (Exchanges.too_long idle long refused) straight = subst IsStraight (sym refused.kept) straight
+begun_straight old now draw step new (Exchanges.begins idle fits spells told kept) straight = subst IsStraight (sym kept) straight
+
+module _ (is_sealing : Sealings) (tag : Tags) where
+  pub asked_straight : (old : Client) (now : Moment) (request : Request) (draw : Draw) (step : Step) (new : Client)
+      → Asks is_sealing tag old now request draw step new → IsStraight old → IsStraight new
+  asked_straight old now request draw step new (Asks.hindered number hinders refused) straight = subst IsStraight (sym refused.kept) straight
+  asked_straight old now request draw step new (Asks.asks context protected free is spells told kept) straight = subst IsStraight (sym kept) straight
+
+-- what was granted stays
+desk_kept : (notes : StepNotes) (old new : ClientState) → ClientStep false old notes new → new.desk ≡ old.desk
+desk_kept notes old new (ClientStep.ClientIdle it) = ap (λ (c : ClientState). c.desk) it.is
+desk_kept notes old new (ClientStep.Started honest it) = ap (λ (c : ClientState). c.desk) it.is
+desk_kept notes old new (ClientStep.Made honest it) = ap (λ (c : ClientState). c.desk) it.is
+desk_kept notes old new (ClientStep.Asked honest it) = ap (λ (c : ClientState). c.desk) it.is
+desk_kept notes old new (ClientStep.Answered honest it) = ap (λ (c : ClientState). c.desk) it.is
+desk_kept notes old new (ClientStep.Ended honest it) = ap (λ (c : ClientState). c.desk) it.is
+desk_kept notes old new (ClientStep.Lied lied it) = ap (λ (c : ClientState). c.desk) it.is
+desk_kept notes old new (ClientStep.ClientRestarted honest it) = ap (λ (c : ClientState). c.desk) it.is
+
+-- so the post of its token is as long
+still_fits : (old new : Client) → new.desk ≡ old.desk → new.origin ≡ old.origin → PostFits old → PostFits new
+still_fits old new desk origin fits =
+    subst (λ (d : ClientDesk). OfEachPost (λ size. size ≤ longest_message) d new.origin) (sym desk)
+    (subst (λ (o : Option HostAndPort). OfEachPost (λ size. size ≤ longest_message) old.desk o) (sym origin) fits)
+
+-- ---- the ways
 
 module _ (is_sealing : Sealings) where
   pub reaches : (inside old new : Server) (now : Moment) (draw : Draw) (out : List Datagram) (one : Datagram) (bytes : List ℕ) (result : Result Step AllocError) (step : Option Step)
@@ -59,11 +107,11 @@ module _ (is_sealing : Sealings) where
       subst (λ (bs : List ℕ). ClientTakesMemory inside now bs)
       (b ∙ ap (λ (d : Datagram). d.bytes) (one_datagram answer.out one other only (ap (λ (s : Step). s.out) same ∙ sent))) memory) (is, kept))
 
-  -- the device still sends straight to its server
+  -- and what it hears changes neither
   pub still_straight : (old new : Client) (now : Moment) (bytes : List ℕ) (result : Result Step AllocError)
-      → IfOk result (λ s. ClientHears is_sealing old now server_address bytes s new) → OnErr result (new ≡ old)
-      → (old.origin ≡ None) × (old.next_hop ≡ server_address) → (new.origin ≡ None) × (new.next_hop ≡ server_address)
-  still_straight old new now bytes (Ok s) heard kept straight =
+      → IfOk result (λ s. ClientHears is_sealing old now server_address bytes s new) → IfOk result (λ s. ClientStep false (client_core old) s.notes (client_core new))
+      → OnErr result (new ≡ old) → IsStraight old → IsStraight new
+  still_straight old new now bytes (Ok s) heard kind kept straight =
       let same = hears_same is_sealing old now server_address bytes s new heard in
-      (same.1 ∙ straight.0, same.0 ∙ straight.1)
-  still_straight old new now bytes (Err error) heard kept straight = (ap (λ (c : Client). c.origin) kept ∙ straight.0, ap (λ (c : Client). c.next_hop) kept ∙ straight.1)
+      (same.1 ∙ straight.0, same.0 ∙ straight.1, still_fits old new (desk_kept s.notes (client_core old) (client_core new) kind) same.1 straight.2)
+  still_straight old new now bytes (Err error) heard kind kept straight = subst IsStraight (sym kept) straight

@@ -9,6 +9,7 @@ use Rattle.osc_cbor.specs.Spelling.{items_spelling, pairs_spelling, spelling}
 use Rattle.osc_ccm.specs.Limits.{most_tag}
 use Rattle.osc_cose.specs.Encrypt0.{enc_structure, object_item}
 use Rattle.osc_authz.specs.HoldsToken.{HoldsToken}
+use Rattle.osc_client.specs.Sending.{PostIsTooLong}
 use Rattle.osc_client.specs.State.{State as Client}
 use Rattle.osc_model.specs.Grant.{HasBegun, IsNotOver}
 use Rattle.osc_model.specs.declared.algorithm.Algorithm.TheVariants.{EightByteTag}
@@ -22,7 +23,7 @@ use Rattle.osc_world.specs.Refusals.{FitAToken, IsLawful}
 use Rattle.osc_world.specs.Starts.{Beginning, Enrols, begun, first_nodes}
 use Rattle.osc_world.specs.declared.nodes.Placed.{Placed}
 use Rattle.osc_world.specs.declared.start.Holder.{Holder}
-use Rattle.osc_device.specs.Begun.{IsBegun, IsGranted, own_claims, own_holder, server_alone}
+use Rattle.osc_device.specs.Begun.{IsBegun, IsGranted, IsTooLongToPost, own_claims, own_holder, server_alone}
 use Rattle.osc_device.specs.State.{State, server_address}
 use Rattle.osc_device.specs.declared.own_token.OwnToken.{OwnToken}
 use Rattle.osc_device.specs.declared.own_token.ServerParts.{ServerParts}
@@ -157,3 +158,22 @@ pub straight : (is_sealing : Sealings) (parts : ServerParts) (own : OwnToken) (s
 straight is_sealing parts own start placed enrols there =
     let same = ap (λ (p : Placed). p.client) (same_client start.clients placed enrols.placed there (one_client is_sealing parts own start enrols)) in
     (ap (λ (c : Client). c.origin) same ∙ enrols.enrolled.client.origin, ap (λ (c : Client). c.next_hop) same ∙ enrols.enrolled.client.next_hop)
+
+-- what stands against it: the post of its token
+pub too_long : (is_sealing : Sealings) (tag : ℕ) → IsLongerBy tag (is_sealing EightByteTag) → tag ≡ 8
+    → (parts : ServerParts) (own : OwnToken) (start : Beginning) (placed : Placed)
+    → Enrols is_sealing (server_alone parts) (own_holder parts own) start → start.clients ≡ placed ∷ [] → PostIsTooLong placed.client
+    → IsTooLongToPost (own_holder parts own)
+too_long is_sealing tag sealed_length eight parts own start placed enrols there long =
+    let enrolled = enrols.enrolled in
+    record {
+      ciphertext = enrolled.ciphertext;
+      sealed_size = omega (
+        arith,
+        eight,
+        sealed_length parts.key own.iv (enc_structure algorithm_header []) (spelling (claims_item (own_claims parts own))) enrolled.ciphertext enrolled.sealed,
+      );
+      placed = enrols.placed;
+      client = enrolled.client;
+      too_long = subst (λ (p : Placed). PostIsTooLong p.client) (same_client start.clients placed enrols.placed there (one_client is_sealing parts own start enrols)) long;
+    }

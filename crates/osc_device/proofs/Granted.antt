@@ -1,5 +1,12 @@
 -- A device whose token counts may post it.
-use Rattle.std.proofs.Common.{◌≡◌, ◌∙◌, ap, sym, subst, List, [], None, arith}
+use Rattle.std.proofs.Common.{◌≡◌, ◌≢◌, ◌∙◌, ap, sym, subst, ℕ, List, [], length, drop, Option, Some, None, arith}
+use Rattle.std.proofs.lemmas.List.{length-drop, length-take}
+use Rattle.osc_client.specs.Sending.{Exchanges, PostFits, begun_by}
+use Rattle.osc_client.specs.State.{State as Client}
+use Rattle.osc_model.specs.Draw.{nonce_drawn, token_drawn}
+use Rattle.osc_model.specs.declared.step.ClientResult.{ClientResult}
+use Rattle.osc_model.specs.declared.step.ClientResult.TheVariants.{Refused}
+use Rattle.osc_model.specs.declared.step.Step.{Step}
 use Rattle.osc_dedup.specs.Table.{looked}
 use Rattle.osc_message.specs.Endpoint.{own_id}
 use Rattle.osc_model.specs.declared.node.Draw.{Draw}
@@ -31,3 +38,20 @@ may_open is_sealing device now draw claims entries granted idle empty unheard = 
   };
   unheard = ap (looked now own_address (own_id draw device.own.endpoint.next_id)) unheard;
 }
+
+-- by which number it is refused, where it is
+abbrev number_in : Option ClientResult → ℕ
+number_in (Some (Refused number)) = number
+number_in result = 0
+
+-- a post that fits is never refused as too long
+pub never_too_long : (old new : Client) (now : Moment) (draw : Draw) (step : Step) → length draw.0 ≡ 32 → PostFits old → Exchanges old now draw step new
+    → step.notes.result ≢ Some (Refused 14)
+never_too_long old new now draw step size fits (Exchanges.busy waits refused) is =
+    let other : 17 ≡ 14 = ap number_in (sym (ap (λ (s : Step). s.notes.result) refused.told) ∙ is) in absurd (omega (arith, other))
+never_too_long old new now draw step size fits (Exchanges.too_long idle long refused) is =
+    let nonce : length (nonce_drawn draw) ≡ 8 = omega (arith, size, length-take 8 draw.0) in
+    let token : length (token_drawn draw) ≡ 8 = omega (arith, size, length-drop 8 draw.0, length-take 8 (drop 8 draw.0)) in
+    absurd (omega (arith, long, fits (begun_by old draw) (own_id draw old.endpoint.next_id) (token_drawn draw) nonce token))
+never_too_long old new now draw step size fits (Exchanges.begins idle short spelled told kept) is =
+    let none = sym (ap (λ (s : Step). s.notes.result) told) ∙ is in absurd cc

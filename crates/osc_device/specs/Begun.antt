@@ -1,17 +1,22 @@
 -- Where a device begins: as a world does whose server is the device's, and whose one client is the device itself.
-use Rattle.std.specs.Prelude.{◌≡◌, ◌<◌, List, [], length, None}
+use Rattle.std.specs.Prelude.{◌≡◌, ◌<◌, ℕ, ◌+◌, List, [], length, None}
 use Rattle.osc_authz.specs.HoldsToken.{HoldsToken}
+use Rattle.osc_cbor.specs.Spelling.{spelling}
+use Rattle.osc_client.specs.Sending.{PostIsTooLong}
+use Rattle.osc_cose.specs.Encrypt0.{object_item}
 use Rattle.osc_model.specs.declared.algorithm.Algorithm.TheVariants.{EightByteTag}
 use Rattle.osc_protect.specs.Ciphers.{Sealings}
 use Rattle.osc_scope.specs.Entries.{Entry}
 use Rattle.osc_token.specs.Minted.{HasLawfulParts}
+use Rattle.osc_token.specs.Token.{claims_item, token_object}
 use Rattle.osc_token.specs.declared.claims.Claims.{Claims}
 use Rattle.osc_world.specs.Refusals.{Refuses}
-use Rattle.osc_world.specs.Starts.{Beginning, Enrols, first_nodes}
+use Rattle.osc_world.specs.Starts.{Beginning, Enrols, IsPlaced, first_nodes}
+use Rattle.osc_world.specs.declared.nodes.Placed.{Placed}
 use Rattle.osc_world.specs.declared.start.Holder.{Holder}
 use Rattle.osc_device.specs.State.{State, own_address, server_address}
 use Rattle.osc_device.specs.declared.error.NewError.{NewError}
-use Rattle.osc_device.specs.declared.error.NewError.TheVariants.{Id, Token}
+use Rattle.osc_device.specs.declared.error.NewError.TheVariants.{Id, Token, TooLong}
 use Rattle.osc_device.specs.declared.own_token.OwnToken.{OwnToken}
 use Rattle.osc_device.specs.declared.own_token.ServerParts.{ServerParts}
 
@@ -47,10 +52,20 @@ server_alone parts = record {
   proxies = [];
 }
 
--- Why there is none: a token id that is too long, or why the device can't be enrolled.
+-- The post of a token of these claims would be longer than a datagram may be, whatever is drawn for it. Sealed, the text of the claims is longer by
+-- a tag of 8 bytes.
+pub record IsTooLongToPost (holder : Holder) : Type 0 where
+  pub ciphertext : List ℕ
+  pub sealed_size : length ciphertext ≡ length (spelling (claims_item holder.claims)) + 8
+  pub placed : Placed
+  pub client : IsPlaced holder (spelling (object_item (token_object holder.iv ciphertext))) placed
+  pub too_long : PostIsTooLong placed.client
+
+-- Why there is none: a token id that is too long; why the device can't be enrolled; or a token whose post fits no datagram.
 abbrev pub IsNoDevice : ServerParts → OwnToken → NewError → Type 0
 IsNoDevice parts own Id = 64 < length own.id
 IsNoDevice parts own (Token error) = Refuses (server_alone parts) (own_holder parts own) error
+IsNoDevice parts own TooLong = IsTooLongToPost (own_holder parts own)
 
 -- `is_sealing algorithm` is the relation of the algorithm's cipher
 module _ (is_sealing : Sealings) where

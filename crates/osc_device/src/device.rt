@@ -1,9 +1,9 @@
 //! The device.
-ghost use Rattle.std.specs.Prelude.{◌≡◌, ◌∷◌, ◌<◌, ◌≤◌, ◌↔◌, true, false, [], List, None, length, IfErr, IfNone, IfOk, IfSome, OnErr};
+ghost use Rattle.std.specs.Prelude.{◌≡◌, ◌≢◌, ◌∷◌, ◌<◌, ◌≤◌, ◌↔◌, true, false, [], List, None, Some, length, IfErr, IfNone, IfOk, IfSome, OnErr};
 ghost use Rattle.osc_scope.specs.Entries.{Entry, IsScope};
 ghost use Rattle.osc_token.specs.declared.claims.Claims.{Claims as AnyClaims};
 ghost use Rattle.osc_client.specs.Hearing.{Begins, Requests, Ticks};
-ghost use Rattle.osc_client.specs.Sending.{acts_at, restarted};
+ghost use Rattle.osc_client.specs.Sending.{PostFits, acts_at, restarted};
 ghost use Rattle.osc_client.specs.State.{State as Own, core as own_core};
 ghost use Rattle.osc_run.specs.ClientKinds.{ClientStep};
 ghost use Rattle.osc_run.specs.Notes.{by_server};
@@ -16,6 +16,7 @@ ghost use Rattle.osc_message.specs.Endpoint.{after_tick, fresh};
 ghost use Rattle.osc_authz.specs.Begun.{ClientContextState};
 ghost use Rattle.osc_authz.specs.Held.{Held};
 ghost use Rattle.osc_rounds.specs.AskRound.{IsLawfulServer};
+ghost use Rattle.osc_model.specs.declared.step.ClientResult.TheVariants as result_of;
 ghost use Rattle.osc_model.specs.declared.code.Method.TheVariants.{Delete, Get, Post, Put};
 ghost use Rattle.osc_device.specs.Answered.{IsAnsweredWhereReady, IsOpen, IsWhole, MayOpen, own_request as own_request_of};
 ghost use Rattle.osc_device.specs.Begun.{IsBegun, IsGranted, IsNoDevice, own_claims};
@@ -61,6 +62,7 @@ impl Model for Device {
     ghost use Rattle.std.specs.Coded.{codes};
     ghost use Rattle.osc_model.specs.Scope.{coded_scope};
     ghost use Rattle.osc_model.specs.Tree.{coded_tree};
+    ghost use Rattle.osc_client.specs.Sending.{PostFits};
     ghost use Rattle.osc_device.specs.State.{State, server_address};
 
     ghost Value = { State };
@@ -69,7 +71,7 @@ impl Model for Device {
 
     ghost view = { λ d. record { server = d.server; own = d.own.client } };
 
-    ghost invariant = { λ d. (d.own.client.origin ≡ None) × (d.own.client.next_hop ≡ server_address) };
+    ghost invariant = { λ d. (d.own.client.origin ≡ None) × (d.own.client.next_hop ≡ server_address) × PostFits d.own.client };
 }
 
 /// A request of this method on this path, with a payload, its format, and no other option.
@@ -115,8 +117,9 @@ impl Device {
     ///
     /// # Errors
     ///
-    /// The first that stands: `Id` where the token's id has more than 64 bytes, and `Token` where its scope is none, its claims have more than
-    /// 65535 bytes, or its secret doesn't have 1 to 64; or `Token` for want of memory, whatever they are.
+    /// The first that stands: `Id` where the token's id has more than 64 bytes, `Token` where its scope is none, its claims have more than
+    /// 65535 bytes, or its secret doesn't have 1 to 64, and `TooLong` where its post, which [`Device::open`] sends, would be longer than a datagram
+    /// may be: 1152 bytes; or `Token` for want of memory, whatever they are.
     pub fn new<A: Ciphers>(
         alloc: Global,
         parts: ServerParts,
@@ -124,6 +127,7 @@ impl Device {
     ) -> Result<Device, NewError>
         ensures begun { IfOk result (λ device. IsBegun A.is_sealing parts own device) }
         ensures granted { IfOk result (λ device. (entries : List Entry) × IsScope own.scope entries × IsGranted A.is_sealing device (own_claims parts own) entries) }
+        ensures fits { IfOk result (λ device. PostFits device.own) }
         ensures refused { IfErr result (λ error. IsNoDevice parts own error) }
     {
         where_a_world_begins::<A>();
@@ -138,6 +142,9 @@ impl Device {
             Err(error) => return Err(NewError::Token(error)),
         };
         let (server, own) = nodes_of(alloc, start)?;
+        if !own.client.post_fits() {
+            return Err(NewError::TooLong);
+        }
         Ok(Device { server, own })
     }
 
@@ -334,12 +341,15 @@ impl Device {
         // Where it may, and no step wants memory.
         ensures made { IfOk result (λ round. (claims : AnyClaims) (entries : List Entry)
             → MayOpen A.is_sealing self.old now draw.now claims entries → IsWhole round → IsOpen now entries self.new) }
+        // Its post is never too long for a datagram.
+        ensures fits { IfOk result (λ round. round.begun.notes.result ≢ Some (result_of.Refused 14)) }
         ensures run { IfOk result (λ round. AllGoOn self.old (λ number. noted number round) self.new) }
         ensures err { OnErr result (self.new ≡ self.old) }
     {
         a_context_is_made::<A>();
         runs_go_on::<A>();
         is_drawn(server_draw);
+        is_drawn(draw);
         let begun = self.own.client.exchange(alloc, now, draw)?;
         self.own.client.has_lawful_parts();
         Ok(self.carry::<A>(alloc, now, begun, server_draw))

@@ -16,6 +16,9 @@ pub enum NewError {
     /// Its token can't be minted, or there was no memory.
     #[error("{0}")]
     Token(EnrollError),
+    /// The post of its token would be longer than a datagram may be.
+    #[error("the post of the device's token would be longer than a datagram may be")]
+    TooLong,
 }
 
 impl From<EnrollError> for NewError {

@@ -6,6 +6,7 @@ use Rattle.osc_model.specs.declared.step.Step.{Step}
 use Rattle.osc_rounds.specs.AskRound.{IsLawfulServer}
 use Rattle.osc_server.specs.State.{State as Server}
 use Rattle.osc_device.specs.Carrying.{Carries}
+use Rattle.osc_device.proofs.Carried.{asked_straight}
 use Rattle.osc_device.proofs.device.Device.ask.Goals as goal
 
 pub returns-clause-asked : goal.returns-clause-asked
@@ -41,3 +42,8 @@ pub returns-clause-entry : goal.returns-clause-entry
 returns-clause-entry g c =
     let asked = returns-clause-asked g c in
     c.runs_keep_their_promises.ensures.entered c.args.self.now c.carry.new.self asked.asked c.args.self.now.server c.args.now c.args.server_draw.now c.carry.result asked.kind refl asked.carries
+
+pub invariant_of-self-2 : goal.invariant_of-self-2
+invariant_of-self-2 g c =
+    asked_straight g.A.Ciphers.is_sealing g.A.Ciphers.TAG c.self.inside.own.client c.args.now c.args.request.now c.args.draw.now c.in_ok-begun.begun c.ask.new.self
+    c.in_ok-begun.ensures.asked.asks c.self.invariant

@@ -5,7 +5,7 @@ use Rattle.osc_device.proofs.device.Device.learnt.Goals as goal
 pub invariant_of-self : goal.invariant_of-self
 invariant_of-self g c =
     still_straight g.A.Ciphers.is_sealing c.self.inside.own.client c.on_datagram.new.self c.args.now c.as_slice-in-len1.result.now c.on_datagram.result
-    c.on_datagram.ensures.heard c.on_datagram.ensures.err c.self.invariant
+    c.on_datagram.ensures.heard c.on_datagram.ensures.kind c.on_datagram.ensures.err c.self.invariant
 
 pub returns-in-len1-clause-learnt : goal.returns-in-len1-clause-learnt
 returns-in-len1-clause-learnt g c =

@@ -1,10 +1,10 @@
-use Rattle.std.proofs.Common.{arith, sym, subst}
+use Rattle.std.proofs.Common.{rules, arith, sym, subst}
 use Rattle.osc_model.specs.declared.algorithm.Algorithm.TheVariants.{EightByteTag}
 use Rattle.osc_world.specs.Refusals.{IsLawful, Refuses}
 use Rattle.osc_world.specs.Starts.{Beginning}
 use Rattle.osc_world.specs.declared.start.Holder.{Holder}
 use Rattle.osc_device.specs.Begun.{own_holder}
-use Rattle.osc_device.proofs.FirstOf.{enrolled, granted, is_begun, lawful_parts, one_client, straight}
+use Rattle.osc_device.proofs.FirstOf.{enrolled, granted, is_begun, lawful_parts, one_client, straight, too_long}
 use Rattle.osc_device.proofs.device.Device.new.Goals as goal
 
 pub returns-in-Err-clause-refused : goal.returns-in-Err-clause-refused
@@ -20,7 +20,8 @@ nodes_of-requires g c =
 pub invariant_of-result : goal.invariant_of-result
 invariant_of-result g c =
     let enrols = enrolled g.A.Ciphers.is_sealing c.args.parts c.args.own c.server_alone-alone.result c.own_holder.result c.in-Ok.start c.server_alone-alone.ensures (c.own_holder.ensures c.args.parts (sym c.in_ok-audience.ensures.cases)) c.in-Ok.ensures.enrolled in
-    straight g.A.Ciphers.is_sealing c.args.parts c.args.own c.in-Ok.start c.in_ok-server.own enrols c.in_ok-server.ensures.own
+    let way = straight g.A.Ciphers.is_sealing c.args.parts c.args.own c.in-Ok.start c.in_ok-server.own enrols c.in_ok-server.ensures.own in
+    (way.0, way.1, c.post_fits.ensures.fits.0 (search rules))
 
 pub returns-clause-begun : goal.returns-clause-begun
 returns-clause-begun g c =
@@ -37,3 +38,9 @@ returns-clause-granted g c =
       granted g.A.Ciphers.is_sealing (g.A.Ciphers.TAG EightByteTag) (g.met.A.Ciphers.sealed_length EightByteTag) (g.met.A.Ciphers.short_tag EightByteTag)
           c.where_a_world_begins.ensures.may_exchange c.args.parts c.args.own _ begun lawful has c.fits.ensures.iv,
     )
+
+pub returns-then-not-post_fits-clause-refused : goal.returns-then-not-post_fits-clause-refused
+returns-then-not-post_fits-clause-refused g c =
+    let enrols = enrolled g.A.Ciphers.is_sealing c.args.parts c.args.own c.server_alone-alone.result c.own_holder.result c.in-Ok.start c.server_alone-alone.ensures (c.own_holder.ensures c.args.parts (sym c.in_ok-audience.ensures.cases)) c.in-Ok.ensures.enrolled in
+    too_long g.A.Ciphers.is_sealing (g.A.Ciphers.TAG EightByteTag) (g.met.A.Ciphers.sealed_length EightByteTag) g.met.A.Ciphers.tags.0
+    c.args.parts c.args.own c.in-Ok.start c.in_ok-server.own enrols c.in_ok-server.ensures.own (c.post_fits.ensures.too_long.0 (search rules))

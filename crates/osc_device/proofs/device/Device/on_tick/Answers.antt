@@ -6,6 +6,7 @@ use Rattle.osc_model.specs.declared.step.Step.{Step}
 use Rattle.osc_run.specs.ClientKinds.{ClientStep}
 use Rattle.osc_server.specs.State.{State as Server}
 use Rattle.osc_device.specs.Carrying.{Carries}
+use Rattle.osc_device.proofs.Carried.{ticked_straight}
 use Rattle.osc_device.proofs.device.Device.on_tick.Goals as goal
 
 pub returns-clause-ticked : goal.returns-clause-ticked
@@ -34,3 +35,7 @@ returns-clause-entry g c =
     c.runs_keep_their_promises.ensures.entered c.args.self.now c.carry.new.self ticked.0
     (record c.args.self.now.server { endpoint = after_tick c.args.now c.args.self.now.server.endpoint })
     c.args.now c.args.server_draw.now c.carry.result ticked.2 refl ticked.3
+
+pub invariant_of-self : goal.invariant_of-self
+invariant_of-self g c =
+    ticked_straight c.self.inside.own.client c.args.now c.on_tick-begun.result c.on_tick-begun.new.self c.on_tick-begun.ensures.ticked c.self.invariant

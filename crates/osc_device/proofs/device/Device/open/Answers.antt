@@ -1,10 +1,13 @@
-use Rattle.std.proofs.Common.{false, ◌∙◌, ap, refl, sym, subst}
+use Rattle.std.proofs.Common.{◌≢◌, false, Some, ◌∙◌, ap, refl, sym, subst}
 use Rattle.osc_client.specs.Hearing.{Begins}
 use Rattle.osc_client.specs.State.{State as Client, core}
 use Rattle.osc_run.specs.ClientKinds.{ClientStep}
 use Rattle.osc_model.specs.declared.step.Step.{Step}
 use Rattle.osc_server.specs.State.{State as Server}
 use Rattle.osc_device.specs.Carrying.{Carries}
+use Rattle.osc_model.specs.declared.step.ClientResult.TheVariants.{Refused}
+use Rattle.osc_device.proofs.Granted.{never_too_long}
+use Rattle.osc_device.proofs.Carried.{begun_straight}
 use Rattle.osc_device.proofs.device.Device.open.Goals as goal
 
 pub returns-clause-begun : goal.returns-clause-begun
@@ -34,3 +37,13 @@ pub returns-clause-run : goal.returns-clause-run
 returns-clause-run g c =
     let begun = returns-clause-begun g c in
     c.runs_go_on.ensures c.args.self.now c.carry.new.self begun.0 c.args.self.now.server c.args.now c.args.server_draw.now c.carry.result begun.2 refl begun.3
+
+pub returns-clause-fits : goal.returns-clause-fits
+returns-clause-fits g c =
+    subst (λ (begun : Step). begun.notes.result ≢ Some (Refused 14)) (sym c.carry.ensures.begun)
+    (never_too_long c.self.inside.own.client c.exchange.new.self c.args.now c.args.draw.now c.in_ok-begun.begun c.is_drawn-2.ensures c.self.invariant.2
+    c.in_ok-begun.ensures.begun.exchanges)
+
+pub invariant_of-self-2 : goal.invariant_of-self-2
+invariant_of-self-2 g c =
+    begun_straight c.self.inside.own.client c.args.now c.args.draw.now c.in_ok-begun.begun c.exchange.new.self c.in_ok-begun.ensures.begun.exchanges c.self.invariant
