@@ -2,7 +2,7 @@
 ghost use Rattle.std.specs.Prelude.{◌<◌};
 
 use osc_ccm::Ccm;
-use osc_device::{Device, OwnToken, Round, ServerParts};
+use osc_device::{Device, NewError, OwnToken, Round, ServerParts};
 use osc_fixtures::{CLIENT, GET, KEY, POST, PUT, at, drawn, request, sent_in};
 use osc_model::{Bytes, ClientResult, Path};
 use osc_scope::Scope;
@@ -28,12 +28,12 @@ fn parts(alloc: Global) -> Result<ServerParts, AllocError> {
     })
 }
 
-/// A token by which the device may do all of that.
-fn own_token(alloc: Global, id: &[u8]) -> Result<OwnToken, AllocError> {
+/// A token of this scope.
+fn own_token(alloc: Global, scope: &[u8]) -> Result<OwnToken, AllocError> {
     Ok(OwnToken {
-        id: Bytes::from_slice(alloc, id)?,
+        id: Bytes::from_slice(alloc, b"own")?,
         secret: Bytes::from_slice(alloc, b"a secret of its own")?,
-        scope: Bytes::from_slice(alloc, SCOPE)?,
+        scope: Bytes::from_slice(alloc, scope)?,
         iv: [7; 13],
     })
 }
@@ -41,7 +41,7 @@ fn own_token(alloc: Global, id: &[u8]) -> Result<OwnToken, AllocError> {
 /// A device without resources, which may do all of that to itself.
 fn device(rt: &impl Abort, alloc: Global) -> Device {
     let parts = parts(alloc).expect(rt, "memory");
-    let own = own_token(alloc, b"own").expect(rt, "memory");
+    let own = own_token(alloc, SCOPE).expect(rt, "memory");
     Device::new::<(Ccm<8>, Ccm<16>)>(alloc, parts, own).expect(rt, "a device")
 }
 
@@ -245,5 +245,45 @@ fn each_call_of_its_own(rt: HostRuntime) -> Result<(), Fail> {
     let mut device = device(&rt, rt.alloc());
     writes(&rt, rt.alloc(), &mut device);
     drop(device);
+    Ok(())
+}
+
+/// Adds every method on a path of so many bytes: segments of 32 of these letters.
+fn push_entry(scope: &mut Vec<u8>, letter: u8, size: u8) -> Result<(), AllocError> {
+    scope.extend_from_slice(&[0x82, 0x78, size])?;
+    for at in 0..size {
+        scope.push(if at % 33 == 0 { b'/' } else { letter })?;
+    }
+    scope.extend_from_slice(&[0x0f])
+}
+
+/// A scope of 782 bytes more than the last of its four paths has.
+fn long_scope(alloc: Global, last: u8) -> Result<Vec<u8>, AllocError> {
+    let mut scope = Vec::new(alloc);
+    scope.extend_from_slice(&[0x84])?;
+    push_entry(&mut scope, b'a', 255)?;
+    push_entry(&mut scope, b'b', 255)?;
+    push_entry(&mut scope, b'c', 255)?;
+    push_entry(&mut scope, b'd', last)?;
+    Ok(scope)
+}
+
+/// A device whose token has that scope. Its post has 116 bytes more than the scope.
+fn with_long_scope(alloc: Global, last: u8) -> Result<Device, NewError> {
+    let scope = long_scope(alloc, last)?;
+    let parts = parts(alloc)?;
+    let own = own_token(alloc, &scope)?;
+    Device::new::<(Ccm<8>, Ccm<16>)>(alloc, parts, own)
+}
+
+/// A device is made where the post of its token has 1152 bytes, and opens; where it would have one more, there is none.
+#[test]
+fn a_token_as_long_as_its_post_may_be(rt: HostRuntime) -> Result<(), Fail> {
+    let mut device = with_long_scope(rt.alloc(), 254).expect(&rt, "a device");
+    let opened = opens(rt.alloc(), &mut device, 1);
+    drop(device);
+    assert!(rt; opened);
+    let error = with_long_scope(rt.alloc(), 255).err();
+    assert!(rt; error == Some(NewError::TooLong));
     Ok(())
 }
