@@ -123,14 +123,14 @@ typedef struct osc_proxy { void *held; } osc_proxy;
 /* Makes a device without resources. Its server takes tokens that are sealed under `key` and for `audience` (UTF-8). GETs that `open` grants need
  * no protection ("" for none). The device itself may do what `own` grants: its own token, of the id "device", which no other token may have, is
  * minted here; its secret and its IV come of the draw. An empty `own` is no scope. Heap: some 38 KB, for as long as it is held.
- * Also OSC_BAD_SCOPE, OSC_BAD_ARGUMENT, OSC_TOO_LONG, OSC_NO_MEMORY. */
+ * OSC_TOO_LONG where `own` and `audience` are so long that the post of the device's token, which `open` sends, fits no datagram: together they may
+ * have some 900 bytes. Also OSC_BAD_SCOPE, OSC_BAD_ARGUMENT, OSC_NO_MEMORY. */
 int32_t osc_device_new(osc_device *device, const osc_key *key, const uint8_t *audience, size_t audience_length, const uint8_t *open,
                        size_t open_length, const uint8_t *own, size_t own_length, const osc_draw *draw);
 
 /* Gives the device a security context with its server, which `put`, `append` and `remove` need; also behind `restart`. OSC_UNVERIFIED with the
- * code where the server refuses it; else `code` is 0. OSC_TOO_LONG where `own` and `audience` are so long that the post of the device's token fits no
- * datagram: together they may have some 900 bytes. Also OSC_BUSY, OSC_LOST, OSC_BAD_ARGUMENT, OSC_NO_MEMORY. Heap: while the context lives, some
- * 950 bytes. */
+ * code where the server refuses it; else `code` is 0. Also OSC_BUSY, OSC_LOST, OSC_BAD_ARGUMENT, OSC_NO_MEMORY. Heap: while the context lives,
+ * some 950 bytes. */
 int32_t osc_device_open(osc_device *device, uint64_t now, const osc_draws *draws, uint8_t *code);
 
 /* The device writes, appends to, or removes a resource of its own server, as a holder of its token: what is promised of holders holds of it.

@@ -446,15 +446,27 @@ static void bad_devices(void) {
     osc_device_free(&it);
 }
 
-/* A scope that is longer than a token may be. */
-static void a_long_scope(void) {
-    enum { ENTRIES = 4000, ENTRY = 20 };
-    static char scope[ENTRIES * ENTRY + 1];
-    osc_device it = {0};
+enum { MOST_ENTRIES = 4000, ENTRY = 20 };
+
+/* A device whose own scope has so many entries. */
+static int32_t of_long_scope(osc_device *it, size_t entries) {
+    static char scope[MOST_ENTRIES * ENTRY + 1];
     osc_draw d = draw();
-    for (size_t at = 0; at < ENTRIES; at++) snprintf(scope + at * ENTRY, ENTRY + 1, "/aaaaaaaaaa%04zu:GET,", at);
-    ANSWERS(OSC_TOO_LONG, osc_device_new(&it, &KEY, TEXT("door"), TEXT(""), (const uint8_t *)scope, sizeof scope - 2, &d));
+    for (size_t at = 0; at < entries; at++) snprintf(scope + at * ENTRY, ENTRY + 1, "/aaaaaaaaaa%04zu:GET,", at);
+    return osc_device_new(it, &KEY, TEXT("door"), TEXT(""), (const uint8_t *)scope, entries * ENTRY - 1, &d);
+}
+
+/* A scope that is longer than a token may be, one whose token's post fits no datagram, and one whose token's does: 1028 bytes of the 1033 that may be. */
+static void a_long_scope(void) {
+    osc_device it = {0};
+    osc_draws draws = two_draws();
+    uint8_t code;
+    ANSWERS(OSC_TOO_LONG, of_long_scope(&it, MOST_ENTRIES));
+    ANSWERS(OSC_TOO_LONG, of_long_scope(&it, 58));
     CLAIM(it.held == NULL && held == 0);
+    ANSWERS(OSC_DONE, of_long_scope(&it, 57));
+    ANSWERS(OSC_DONE, osc_device_open(&it, 0, &draws, &code));
+    osc_device_free(&it);
 }
 
 static const char *const BAD_PATHS[] = {"", "/", "e", "//", "/e/", "/a/b/c/d/e/f/g/h/i", "/123456789012345678901234567890123", "/\xff"};
