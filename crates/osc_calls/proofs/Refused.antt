@@ -1,5 +1,6 @@
 -- Where nothing was begun, nothing has changed.
-use Rattle.std.proofs.Common.{◌≡◌, ◌∙◌, ℕ, ap, refl, subst, sym, List, [], ◌∷◌, Option, None, Some, if◌then◌else◌}
+use Rattle.std.proofs.Common.{◌≡◌, ◌≢◌, ◌∙◌, ◌==◌, ℕ, inl, inr, ap, refl, subst, sym, List, [], ◌∷◌, Option, None, Some, if◌then◌else◌}
+use Rattle.std.proofs.lemmas.Bool.{cases_Bool, eqb-true}
 use Rattle.osc_model.specs.declared.node.Draw.{Draw}
 use Rattle.osc_model.specs.declared.node.Moment.{Moment}
 use Rattle.osc_model.specs.declared.request.Request.{Request}
@@ -16,8 +17,9 @@ use Rattle.osc_device.specs.State.{State}
 use Rattle.osc_device.specs.declared.round.Round.{Round}
 use Rattle.osc_calls.specs.Last.{LastStep, nothing}
 use Rattle.osc_calls.specs.Own.{IsRefusal, is_refused_by, last_after}
-use Rattle.osc_calls.specs.Told.{begun_as, learnt_as, told_by, told_of}
+use Rattle.osc_calls.specs.Told.{begun_as, learnt_as, refused_as, told_by, told_of}
 use Rattle.osc_calls.specs.declared.device.DeviceNode.{DeviceNode}
+use Rattle.osc_calls.specs.declared.outcome.Outcome.TheVariants as outcome
 use Rattle.osc_calls.specs.declared.round.Told.{Told}
 
 -- ---- it is told so where nothing was begun alone
@@ -41,6 +43,28 @@ refused_by (Some (Answer reply)) learnt is = absurd (step_none learnt is)
 refused_by (Some (Unverified code)) learnt is = absurd (step_none learnt is)
 refused_by (Some TimedOut) learnt is = absurd (step_none learnt is)
 refused_by None learnt is = absurd (step_none learnt is)
+
+-- ---- and as too long where the client said so alone
+
+number_is : (number : ℕ) → refused_as number ≡ outcome.TooLong → number ≡ 14
+number_is number is =
+    elim (cases_Bool (number == 14)) [
+      | inl long ↦ eqb-true number 14 long
+      | inr not_long ↦ elim (cases_Bool (number == 17)) [
+        | inl busy ↦ let wrong : outcome.Busy ≡ outcome.TooLong = rw (not_long, busy) at is in absurd cc
+        | inr idle ↦ elim (cases_Bool (number == 18)) [
+          | inl over ↦ let wrong : outcome.Exhausted ≡ outcome.TooLong = rw (not_long, idle, over) at is in absurd cc
+          | inr lasts ↦ let wrong : outcome.NoContext ≡ outcome.TooLong = rw (not_long, idle, lasts) at is in absurd cc
+        ]
+      ]
+    ]
+
+pub never_too_long : (round : Round) (told : Told) → told ≡ told_of round → round.begun.notes.result ≢ Some (Refused 14) → told.outcome ≢ outcome.TooLong
+never_too_long round told is_told fits is =
+    let same : (told_of round).outcome ≡ outcome.TooLong = sym (ap (λ (t : Told). t.outcome) is_told) ∙ is in
+    let why = refused_by round.begun.notes.result round.learnt (subst IsRefusal (sym same) tt) in
+    let number : why.0 ≡ 14 = number_is why.0 (sym (ap (λ (result : Option ClientResult). (told_by result round.learnt).outcome) why.1) ∙ same) in
+    fits (why.1 ∙ ap (λ (n : ℕ). Some (Refused n)) number)
 
 -- ---- then nothing is carried
 

@@ -9,6 +9,7 @@ use Rattle.osc_scope.specs.Entries.{Entry, IsScope, scope_of}
 use Rattle.osc_device.specs.Begun.{IsBegun, IsGranted, IsNoDevice, own_claims}
 use Rattle.osc_device.specs.declared.error.NewError.{NewError}
 use Rattle.osc_device.specs.declared.error.NewError.TheVariants.{Token}
+use Rattle.osc_device.specs.declared.error.NewError.TheVariants as device
 use Rattle.osc_device.specs.declared.own_token.OwnToken.{OwnToken}
 use Rattle.osc_device.specs.declared.own_token.ServerParts.{ServerParts}
 use Rattle.osc_world.specs.declared.error.EnrollError.TheVariants as enroll
@@ -53,6 +54,7 @@ abbrev pub unmade_as : NewError → Outcome
 unmade_as (Token enroll.Memory) = NoMemory
 unmade_as (Token enroll.BadScope) = BadScope
 unmade_as (Token enroll.TooLong) = TooLong
+unmade_as device.TooLong = TooLong
 unmade_as other = BadArgument
 
 abbrev pub IsNoNewDevice : List ℕ → List ℕ → List ℕ → List ℕ → List ℕ → Outcome → Type 0

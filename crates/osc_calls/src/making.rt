@@ -115,7 +115,7 @@ fn refused(error: NewError) -> Outcome
     match error {
         NewError::Token(EnrollError::Memory) => Outcome::NoMemory,
         NewError::Token(EnrollError::BadScope) => Outcome::BadScope,
-        NewError::Token(EnrollError::TooLong) => Outcome::TooLong,
+        NewError::Token(EnrollError::TooLong) | NewError::TooLong => Outcome::TooLong,
         _ => Outcome::BadArgument,
     }
 }

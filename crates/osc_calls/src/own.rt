@@ -1,10 +1,11 @@
 //! What a device does at its own server.
-ghost use Rattle.std.specs.Prelude.{◌≡◌, [], IfErr, IfOk, None};
+ghost use Rattle.std.specs.Prelude.{◌≡◌, ◌≢◌, [], IfErr, IfOk, None};
 ghost use Rattle.osc_model.specs.declared.code.Method.TheVariants.{Delete, Post, Put};
 ghost use Rattle.osc_calls.specs.Arguments.{IsFormat, IsUnfit};
 ghost use Rattle.osc_calls.specs.Own.{Asks, AsksBy, ComesTo, IsNoValue, Opens, OpensBy, RemovesBy, is_refused_by, last_after};
 ghost use Rattle.osc_calls.specs.Plain.{draw_of};
 ghost use Rattle.osc_calls.specs.Told.{told_of};
+ghost use Rattle.osc_calls.specs.declared.outcome.Outcome.TheVariants as outcome;
 
 use crate::arguments;
 use crate::arguments::moment;
@@ -57,9 +58,10 @@ fn is_refused(round: &Round) -> bool
 }
 
 impl DeviceNode {
-    /// Gives the device a security context with its server.
+    /// Gives the device a security context with its server. It is never too long: of a device whose post would be, there is none.
     pub fn open<A: Ciphers>(&mut self, alloc: Global, now: u64, draws: &PlainDraws) -> Told
-        ensures { OpensBy A.is_sealing self.old now draws.now result self.new }
+        ensures opens { OpensBy A.is_sealing self.old now draws.now result self.new }
+        ensures fits { result.outcome ≢ outcome.TooLong }
     {
         match moment(now) {
             Ok(now) => self.open_at::<A>(alloc, now, draws),
@@ -68,7 +70,8 @@ impl DeviceNode {
     }
 
     fn open_at<A: Ciphers>(&mut self, alloc: Global, now: Moment, draws: &PlainDraws) -> Told
-        ensures { ComesTo self.old result self.new (λ round. Opens A.is_sealing self.old now draws.now round self.new) }
+        ensures opens { ComesTo self.old result self.new (λ round. Opens A.is_sealing self.old now draws.now round self.new) }
+        ensures fits { result.outcome ≢ outcome.TooLong }
     {
         let own = draws.own.bytes;
         let server = draws.server.bytes;

@@ -2,5 +2,5 @@
 use Rattle.std.proofs.Common.{inl}
 use Rattle.osc_calls.proofs.device.DeviceNode.open.Goals as goal
 
-pub returns-in-Ok : goal.returns-in-Ok
-returns-in-Ok g c = inl (c.in-Ok.now, c.in-Ok.ensures.ok, c.open_at.ensures)
+pub returns-in-Ok-clause-opens : goal.returns-in-Ok-clause-opens
+returns-in-Ok-clause-opens g c = inl (c.in-Ok.now, c.in-Ok.ensures.ok, c.open_at.ensures.opens)

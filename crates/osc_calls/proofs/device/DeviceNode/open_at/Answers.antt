@@ -1,11 +1,14 @@
 -- What came of it.
 use Rattle.std.proofs.Common.{inl}
 use Rattle.osc_calls.specs.Plain.{draw_of}
-use Rattle.osc_calls.proofs.Refused.{begun_kept, kept}
+use Rattle.osc_calls.proofs.Refused.{begun_kept, kept, never_too_long}
 use Rattle.osc_calls.proofs.device.DeviceNode.open_at.Goals as goal
 
-pub returns-in-Ok : goal.returns-in-Ok
-returns-in-Ok g c =
+pub returns-in-Ok-clause-fits : goal.returns-in-Ok-clause-fits
+returns-in-Ok-clause-fits g c = never_too_long c.in-Ok.round c.keep.result c.keep.ensures.told c.in-Ok.ensures.fits
+
+pub returns-in-Ok-clause-opens : goal.returns-in-Ok-clause-opens
+returns-in-Ok-clause-opens g c =
     let old = c.args.self.now in
     let new = c.open.new.self in
     let round = c.in-Ok.round in
