@@ -1,9 +1,10 @@
 -- Calls on handles that hold something.
-use Rattle.std.proofs.Common.{◌≡◌, ◌∙◌, ℕ, ℤ, ap, inl, inr, pos, refl, subst}
+use Rattle.std.proofs.Common.{◌≡◌, ◌∙◌, ℕ, ℤ, ap, inl, inr, nat_abs, pos, refl, subst, arith}
 use Rattle.std.specs.declared.option.Option.{Option}
 use Rattle.std.specs.declared.option.Option.TheVariants.{Some}
 use Rattle.osc_calls.specs.Outcome.{number_of}
 use Rattle.osc_calls.specs.declared.outcome.Outcome.{Outcome}
+use Rattle.osc_calls.specs.declared.outcome.Outcome.TheVariants as outcome
 use Rattle.osc_calls.specs.declared.round.Told.{Told}
 use Rattle.osc_c.specs.Calls.{Calls, Makes, Tells}
 
@@ -27,3 +28,23 @@ module _ {A : Type 0} {old : Option A} {number : ℤ} (Is : A → Type 0) (IsWhy
 
   pub not_made : (outcome : Outcome) → number ≡ pos (number_of outcome) → IsWhyNot outcome → Makes old number old Is IsWhyNot
   not_made outcome is why = inr ((outcome, is, why), refl)
+
+-- ---- the number 14
+
+numbered : (told : Outcome) → number_of told ≡ 14 → told ≡ outcome.TooLong
+numbered outcome.TooLong is = refl
+numbered outcome.Done is = absurd (omega (arith, is))
+numbered outcome.TooShort is = absurd (omega (arith, is))
+numbered outcome.NoMemory is = absurd (omega (arith, is))
+numbered outcome.Busy is = absurd (omega (arith, is))
+numbered outcome.Exhausted is = absurd (omega (arith, is))
+numbered outcome.NoContext is = absurd (omega (arith, is))
+numbered outcome.BadScope is = absurd (omega (arith, is))
+numbered outcome.Nothing is = absurd (omega (arith, is))
+numbered outcome.BadArgument is = absurd (omega (arith, is))
+numbered outcome.Lost is = absurd (omega (arith, is))
+numbered outcome.Unverified is = absurd (omega (arith, is))
+numbered outcome.NotNow is = absurd (omega (arith, is))
+
+pub too_long : (told : Outcome) → pos (number_of told) ≡ pos 14 → told ≡ outcome.TooLong
+too_long told is = numbered told (ap (λ (z : ℤ). nat_abs z) is)

@@ -17,8 +17,8 @@ use std::alloc::Global;
 /// Makes a device without resources, in the place of one that is held. Its server takes tokens that are sealed under `key` and for `audience`.
 /// GETs that `free` grants need no protection. The device itself may do what `own` grants.
 ///
-/// Answers 0; or 9 without memory, 14 where its token is too long, 24 where a text is no scope, and 34 where the audience is no UTF-8. Then what
-/// was held is held. Heap: some 38 KiB, for as long as it is held.
+/// Answers 0; or 9 without memory, 14 where its token is too long to be posted in a datagram, 24 where a text is no scope, and 34 where the
+/// audience is no UTF-8. Then what was held is held. Heap: some 38 KiB, for as long as it is held.
 #[unsafe(no_mangle)]
 pub extern "C" fn osc_device_new(
     alloc: Global,

@@ -1,5 +1,5 @@
 //! What a device does at its own server.
-ghost use Rattle.std.specs.Prelude.{◌≡◌, pos};
+ghost use Rattle.std.specs.Prelude.{◌≡◌, ◌≢◌, pos};
 ghost use Rattle.osc_calls.specs.Outcome.{number_of};
 ghost use Rattle.osc_model.specs.declared.code.Method.TheVariants.{Post, Put};
 ghost use Rattle.osc_calls.specs.Own.{AsksBy, OpensBy, RemovesBy};
@@ -32,7 +32,8 @@ pub extern "C" fn osc_device_open(
     draws: &PlainDraws,
     code: &mut u8,
 ) -> i32
-    ensures { Tells device.old.held code.old result device.new.held code.new (λ old told new. OpensBy sealing old now draws.now told new) }
+    ensures tells { Tells device.old.held code.old result device.new.held code.new (λ old told new. OpensBy sealing old now draws.now told new) }
+    ensures fits { result ≢ pos 14 }
 {
     match device.take(alloc) {
         None => Outcome::Nothing.number(),
