@@ -10,3 +10,5 @@ mod SameScope
 mod LookupLemmas
 mod Spelled
 mod SharedPaths
+mod KeptLemmas
+mod BelowLemmas

@@ -1,18 +1,18 @@
 -- What entries say of a method on a path.
-use Rattle.std.proofs.Common.{◌≡◌, ℕ, ◌≤◌, ◌<◌, ◌+◌, ◌%◌, Bool, true, false, ◌&&◌, ◌||◌, if◌then◌else◌, List, [], ◌∷◌, map, drop, length, get_or, Option, Some, None, refl, sym, ap, ◌∙◌}
+use Rattle.std.proofs.Common.{◌≡◌, ℕ, ◌≤◌, ◌%◌, Bool, true, false, ◌&&◌, ◌||◌, if◌then◌else◌, List, [], ◌∷◌, map, Option, Some, None, refl, sym, ap, ◌∙◌}
 use Rattle.std.specs.List.{All, list_any}
-use Rattle.std.proofs.Math.ListN.{drop_of_length-le}
-use Rattle.std.proofs.lemmas.List.{drop_more}
-use Rattle.std.proofs.lemmas.List.Elements.{All-map, All-weaker}
+use Rattle.std.proofs.lemmas.List.Elements.{All-map, All-weaker, All-head, All-tail}
 use Rattle.osc_model.specs.Code.{method_of}
+use Rattle.osc_model.specs.Path.{IsPath}
 use Rattle.osc_model.specs.Scope.{allows, names}
 use Rattle.osc_model.specs.declared.code.Code.{Code}
 use Rattle.osc_model.specs.declared.code.Method.{Method}
-use Rattle.osc_scope.specs.Entries.{Entry, has, has_path, scope_of}
+use Rattle.osc_scope.specs.Entries.{Entry, IsLawful, has, has_path, is_below, scope_of}
 use Rattle.osc_scope.specs.Reading.{HasMethods, entry_with, grants}
 use Rattle.osc_scope.specs.Verdict.{verdict_of}
 use Rattle.osc_scope.specs.declared.verdict.Verdict.{Verdict}
 use Rattle.osc_scope.specs.declared.verdict.Verdict.TheVariants.{Granted, NoMethod, NoPath}
+use Rattle.osc_scope.proofs.EntryLemmas.{have_methods}
 use Rattle.osc_scope.proofs.Grants.{AnyPermission, any-map, scope_allows, scope_names}
 
 abbrev pub reaches : List ℕ × ℕ → List ℕ → Bool
@@ -62,6 +62,54 @@ hits pair pairs path method verdict at it = go (reaches pair path) (grants pair.
     go true false ea eb = cc
     go false b ea eb = cc
 
+-- ---- the pass
+
+-- what the pairs that are left say from here on is what all say
+pub record GoesOn (pairs left : List (List ℕ × ℕ)) (path : List ℕ) (method : Option Method) (verdict : Verdict) : Type 0 where
+  pub same : says left path method verdict ≡ says pairs path method NoPath
+  pub lawful : All IsLawful (map entry_with left)
+  pub below : list_any (λ pair. is_below pair.1) left ≡ true → list_any (λ pair. is_below pair.1) pairs ≡ true
+
+or_true : (a : Bool) → (a || true) ≡ true
+or_true true = refl
+or_true false = refl
+
+module _
+    (pairs left : List (List ℕ × ℕ)) (path : List ℕ) (method : Option Method) (verdict : Verdict) (pair : List ℕ × ℕ)
+    (on : GoesOn pairs (pair ∷ left) path method verdict)
+  where
+    next_lawful : All IsLawful (map entry_with left)
+    next_lawful = All-tail IsLawful (entry_with pair) (map entry_with left) on.lawful
+
+    next_below : list_any (λ p. is_below p.1) left ≡ true → list_any (λ p. is_below p.1) pairs ≡ true
+    next_below e = on.below (ap (λ b. is_below pair.1 || b) e ∙ or_true (is_below pair.1))
+
+    pub is_path : IsPath pair.0
+    is_path = (All-head IsLawful (entry_with pair) (map entry_with left) on.lawful).is_path
+
+    pub goes_below : is_below pair.1 ≡ true → list_any (λ p. is_below p.1) pairs ≡ true
+    goes_below e = on.below (ap (λ b. b || list_any (λ p. is_below p.1) left) e)
+
+    -- past a pair without the path
+    pub passed : reaches pair path ≡ false → GoesOn pairs left path method verdict
+    passed no_path = record { same = sym (skips (reaches pair path) no_path) ∙ on.same; lawful = next_lawful; below = next_below }
+      where
+        skips : (a : Bool) → a ≡ false
+            → (if a then (if grants pair.1 method then Granted else says left path method NoMethod) else says left path method verdict) ≡ says left path method verdict
+        skips true e = cc
+        skips false e = refl
+
+    -- past a pair with the path alone
+    pub noted : reaches pair path ≡ true → grants pair.1 method ≡ false → GoesOn pairs left path method NoMethod
+    noted at no_method =
+        record { same = sym (skips (reaches pair path) (grants pair.1 method) at no_method) ∙ on.same; lawful = next_lawful; below = next_below }
+      where
+        skips : (a b : Bool) → a ≡ true → b ≡ false
+            → (if a then (if b then Granted else says left path method NoMethod) else says left path method verdict) ≡ says left path method NoMethod
+        skips true true e f = cc
+        skips true false e f = refl
+        skips false b e f = cc
+
 -- ---- the scope of the entries
 
 none_of : (pairs : List (List ℕ × ℕ)) (path : List ℕ) → false ≡ has_pair pairs path None
@@ -93,24 +141,16 @@ module _ (any : AnyPermission) where
       ∙ (λ i. if sym (allows_is pairs path (method_of c)) i then Granted else (if sym (names_is pairs path h) i then NoMethod else NoPath))
 
   -- at the end of the pass
-  pub at_end : (pairs : List (List ℕ × ℕ)) (path : List ℕ) (c : Code) (method : Option Method) (i : ℕ) (verdict : Verdict) → All HasMethods pairs
-      → method ≡ method_of c → length pairs ≤ i → says (drop i pairs) path method verdict ≡ says pairs path method NoPath
-      → verdict ≡ verdict_of (scope_of (map entry_with pairs)) (Some path) c
-  at_end pairs path c method i verdict h named all so_far =
-      ap (λ rest. says rest path method verdict) (sym (drop_of_length-le pairs all))
-      ∙ so_far
-      ∙ ap (λ m. says pairs path m NoPath) named
-      ∙ verdict_is pairs path c h
+  pub at_end : (pairs : List (List ℕ × ℕ)) (path : List ℕ) (c : Code) (method : Option Method) (verdict : Verdict) → All IsLawful (map entry_with pairs)
+      → method ≡ method_of c → GoesOn pairs [] path method verdict → verdict ≡ verdict_of (scope_of (map entry_with pairs)) (Some path) c
+  at_end pairs path c method verdict lawful named on = on.same ∙ ap (λ m. says pairs path m NoPath) named ∙ verdict_is pairs path c (have_methods pairs lawful)
 
   -- where a pair has path and method
-  pub at_hit : (pairs : List (List ℕ × ℕ)) (path : List ℕ) (c : Code) (method : Option Method) (i : ℕ) (verdict : Verdict) (pair : List ℕ × ℕ) → All HasMethods pairs
-      → method ≡ method_of c → i < length pairs → pair ≡ get_or pairs i pair → reaches pair path ≡ true → grants pair.1 method ≡ true
-      → says (drop i pairs) path method verdict ≡ says pairs path method NoPath
-      → Granted ≡ verdict_of (scope_of (map entry_with pairs)) (Some path) c
-  at_hit pairs path c method i verdict pair h named more is at it so_far =
-      sym (hits pair (drop (i + 1) pairs) path method verdict at it)
-      ∙ ap (λ p. says (p ∷ drop (i + 1) pairs) path method verdict) is
-      ∙ ap (λ rest. says rest path method verdict) (sym (drop_more pairs i pair more))
-      ∙ so_far
+  pub at_hit : (pairs left : List (List ℕ × ℕ)) (path : List ℕ) (c : Code) (method : Option Method) (verdict : Verdict) (pair : List ℕ × ℕ)
+      → All IsLawful (map entry_with pairs) → method ≡ method_of c → reaches pair path ≡ true → grants pair.1 method ≡ true
+      → GoesOn pairs (pair ∷ left) path method verdict → Granted ≡ verdict_of (scope_of (map entry_with pairs)) (Some path) c
+  at_hit pairs left path c method verdict pair lawful named at it on =
+      sym (hits pair left path method verdict at it)
+      ∙ on.same
       ∙ ap (λ m. says pairs path m NoPath) named
-      ∙ verdict_is pairs path c h
+      ∙ verdict_is pairs path c (have_methods pairs lawful)

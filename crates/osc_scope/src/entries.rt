@@ -1,6 +1,6 @@
 //! Scopes as bytes (RFC 9237): an array of pairs of a path and a set of methods.
 
-ghost use Rattle.std.specs.Prelude.{◌≡◌, ◌⊎◌, List, IfOk, Ok, Err, option_map};
+ghost use Rattle.std.specs.Prelude.{◌≡◌, ◌⊎◌, List, IfOk, IfSome, IfNone, Ok, Err, option_map};
 ghost use Rattle.std.specs.List.{All};
 ghost use Rattle.osc_cbor.specs.Data.{DataItem, array};
 ghost use Rattle.osc_cbor.specs.Spelling.{IsWhole};
@@ -9,6 +9,7 @@ ghost use Rattle.osc_scope.specs.Entries.{Entry, IsLawful, IsScope, scope_of, en
 ghost use Rattle.osc_scope.specs.Reading.{two_of, pair_of, entry_with, AreEntries};
 
 use crate::error::ScopeError;
+use crate::kept::Entries;
 use crate::methods::{ALL_BITS, BELOW};
 use crate::scope::Scope;
 use osc_cbor::{ItemRef, ItemRefs};
@@ -53,36 +54,34 @@ fn scope_in(alloc: Global, item: &ItemRef<'_>) -> Result<Scope, ScopeError>
     }
 }
 
-/// The entries that the items are; each path is copied once.
-fn entries(alloc: Global, items: ItemRefs<'_>) -> Result<Vec<(Path, u64)>, ScopeError>
-    ensures found { IfOk result (λ entries. AreEntries (items_of items.entry) entries.items) }
+/// The entries that the items are; each path's text is copied once.
+fn entries(alloc: Global, items: ItemRefs<'_>) -> Result<Entries, ScopeError>
+    ensures found { IfOk result (λ entries. AreEntries (items_of items.entry) entries) }
     ensures bad { result ≡ Err ScopeError.BadScope
         → (entries : List Entry) → All IsLawful entries → ¬ (items_of items.entry ≡ entry_items entries) }
 {
-    let mut entries = Vec::new(alloc);
+    let mut entries = Entries::new(alloc);
     for item in items {
-        entries.push(entry(alloc, &item)?)?;
+        let Some((text, mask)) = entry(&item) else {
+            return Err(ScopeError::BadScope);
+        };
+        entries.push(text, mask)?;
     }
     Ok(entries)
 }
 
-/// The path and the set of methods of the entry that the item is.
-fn entry(alloc: Global, item: &ItemRef<'_>) -> Result<(Path, u64), ScopeError>
-    ensures lawful { IfOk result (λ found. IsLawful (entry_with found)) }
-    ensures found { IfOk result (λ found. item.now ≡ entry_item (entry_with found)) }
-    ensures bad { result ≡ Err ScopeError.BadScope
-        → (entry : Entry) → IsLawful entry → ¬ (item.now ≡ entry_item entry) }
+/// The path's text and the set of methods of the entry that the item is.
+fn entry<'a>(item: &ItemRef<'a>) -> Option<(&'a [u8], u64)>
+    ensures lawful { IfSome result (λ found. IsLawful (entry_with (found.0.now, found.1))) }
+    ensures found { IfSome result (λ found. item.now ≡ entry_item (entry_with (found.0.now, found.1))) }
+    ensures none { IfNone result ((entry : Entry) → IsLawful entry → ¬ (item.now ≡ entry_item entry)) }
 {
-    let Some((text, mask)) = text_and_number(item) else {
-        return Err(ScopeError::BadScope);
-    };
+    let (text, mask) = text_and_number(item)?;
     if mask % BELOW == 0 || mask > ALL_BITS {
-        return Err(ScopeError::BadScope);
+        return None;
     }
-    match Path::from_text(alloc, text.as_bytes())? {
-        Some(path) => Ok((path, mask)),
-        None => Err(ScopeError::BadScope),
-    }
+    let path = text.as_bytes();
+    Path::is_text(path).then_some((path, mask))
 }
 
 /// The text and the number, where the item is an array of these two.

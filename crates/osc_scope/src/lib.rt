@@ -4,6 +4,7 @@
 
 mod entries;
 mod error;
+mod kept;
 pub mod laws;
 mod lookup;
 mod methods;

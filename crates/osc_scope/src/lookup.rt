@@ -1,37 +1,44 @@
 //! Look-ups in entries, each a path and a set of methods.
-ghost use Rattle.std.specs.Prelude.{◌≡◌, Some, IsTrue, map, bytes_eq, not, ◌&&◌};
-ghost use Rattle.std.specs.List.{All, list_any};
+ghost use Rattle.std.specs.Prelude.{◌≡◌, Some, IsTrue, map, take, bytes_eq, not, ◌&&◌, ◌==◌};
+ghost use Rattle.std.specs.List.{All, list_all, list_any};
+ghost use Rattle.osc_model.specs.Path.{IsPath, segments_of, begins_with};
 ghost use Rattle.osc_scope.specs.Entries as spec;
-ghost use Rattle.osc_scope.specs.Entries.{scope_of};
-ghost use Rattle.osc_scope.specs.Reading.{HasMethods, entry_with, grants};
+ghost use Rattle.osc_scope.specs.Entries.{IsLawful, scope_of};
+ghost use Rattle.osc_scope.specs.Reading.{entry_with, grants};
 ghost use Rattle.osc_scope.specs.Verdict.{verdict_of};
 
+use crate::kept::Entries;
 use crate::methods::{has, is_below};
 use crate::verdict::Verdict;
 use osc_model::{Code, Method, Path};
 
 /// Whether one of the entries has the method on exactly this path.
-pub(crate) fn has_exactly(entries: &[(Path, u64)], path: &Path, method: Method) -> bool
+pub(crate) fn has_exactly(entries: &Entries, path: &Path, method: Method) -> bool
     ensures { result ≡ list_any (λ entry. bytes_eq path.now entry.0 && (not (spec.is_below entry.1) && spec.has entry.1 method)) entries.now }
 {
-    entries.iter().any(|entry| *path == entry.0 && (!is_below(entry.1) && has(entry.1, method)))
+    for entry in entries.iter() {
+        if path.text() == entry.0 && (!is_below(entry.1) && has(entry.1, method)) {
+            return true;
+        }
+    }
+    false
 }
 
 /// Whether one of the entries counts on the paths below its own, too.
-pub(crate) fn goes_below(entries: &[(Path, u64)]) -> bool
+pub(crate) fn goes_below(entries: &Entries) -> bool
     ensures { result ≡ list_any (λ entry. spec.is_below entry.1) entries.now }
 {
-    entries.iter().any(|entry| is_below(entry.1))
+    for entry in entries.iter() {
+        if is_below(entry.1) {
+            return true;
+        }
+    }
+    false
 }
 
 /// What the entries say of a request with this path and this code; goes over them once.
-pub(crate) fn verdict_on(
-    entries: &[(Path, u64)],
-    goes_below: bool,
-    path: &Path,
-    code: Code,
-) -> Verdict
-    requires methods { All HasMethods entries.now }
+pub(crate) fn verdict_on(entries: &Entries, goes_below: bool, path: &Path, code: Code) -> Verdict
+    requires lawful { All IsLawful (map entry_with entries.now) }
     requires below { goes_below ≡ list_any (λ entry. spec.is_below entry.1) entries.now }
     ensures { result ≡ verdict_of (scope_of (map entry_with entries.now)) (Some path.now) code }
 {
@@ -43,15 +50,15 @@ pub(crate) fn verdict_on(
 }
 
 /// The same, made for entries of which one goes below its path, or none: then the loop only compares paths.
-fn verdict_by<const GOES_BELOW: bool>(entries: &[(Path, u64)], path: &Path, code: Code) -> Verdict
-    requires methods { All HasMethods entries.now }
+fn verdict_by<const GOES_BELOW: bool>(entries: &Entries, path: &Path, code: Code) -> Verdict
+    requires lawful { All IsLawful (map entry_with entries.now) }
     requires below { GOES_BELOW ≡ list_any (λ entry. spec.is_below entry.1) entries.now }
     ensures { result ≡ verdict_of (scope_of (map entry_with entries.now)) (Some path.now) code }
 {
     osc_model::laws::any_permission();
     let method = Method::from_code(code);
     let mut verdict = Verdict::NoPath;
-    for entry in entries {
+    for entry in entries.iter() {
         if has_path::<GOES_BELOW>(entry, path) {
             if has_named(entry.1, method) {
                 return Verdict::Granted;
@@ -63,15 +70,35 @@ fn verdict_by<const GOES_BELOW: bool>(entries: &[(Path, u64)], path: &Path, code
 }
 
 /// Whether the entry has the path.
-fn has_path<const GOES_BELOW: bool>(entry: &(Path, u64), path: &Path) -> bool
-    requires { IsTrue (spec.is_below entry.now.1) → IsTrue GOES_BELOW }
-    ensures { result ≡ spec.has_path (entry_with entry.now) path.now }
+fn has_path<const GOES_BELOW: bool>(entry: (&[u8], u64), path: &Path) -> bool
+    requires is_path { IsPath entry.0.now }
+    requires below { IsTrue (spec.is_below entry.1) → IsTrue GOES_BELOW }
+    ensures { result ≡ spec.has_path (entry_with (entry.entry.0.now, entry.entry.1)) path.now }
 {
     if GOES_BELOW && is_below(entry.1) {
-        path.begins_with(&entry.0)
+        begins_with(path, entry.0)
     } else {
-        *path == entry.0
+        path.text() == entry.0
     }
+}
+
+/// Whether the path begins with all segments of the one with this text: it is that path, or one below it.
+fn begins_with(path: &Path, above: &[u8]) -> bool
+    requires { IsPath above.now }
+    ensures { result ≡ begins_with (segments_of path.now) (segments_of above.now) }
+{
+    osc_model::laws::paths_are_cut_at_slashes();
+    match path.text().strip_prefix(above) {
+        Some(rest) => ends_a_segment(rest),
+        None => false,
+    }
+}
+
+/// Whether a segment is whole where this follows: nothing, or a further segment.
+fn ends_a_segment(rest: &[u8]) -> bool
+    ensures { result ≡ list_all (λ b. b == 47) (take 1 rest.now) }
+{
+    matches!(rest, [] | [b'/', ..])
 }
 
 /// Whether the set has the method, where one is known.

@@ -3,10 +3,11 @@ ghost use Rattle.std.specs.Prelude.{◌≡◌, OnOk, OnErr, IsOk, IsTrue, map, o
 ghost use Rattle.std.specs.List.{All};
 ghost use Rattle.std.specs.FinSet as set;
 ghost use Rattle.osc_model.specs.Scope.{exactly};
-ghost use Rattle.osc_scope.specs.Entries.{scope_of};
-ghost use Rattle.osc_scope.specs.Reading.{HasMethods, entry_with};
+ghost use Rattle.osc_scope.specs.Entries.{IsLawful, scope_of};
+ghost use Rattle.osc_scope.specs.Reading.{entry_with};
 ghost use Rattle.osc_scope.specs.Verdict.{verdict_of};
 
+use crate::kept::Entries;
 use crate::lookup::{goes_below, has_exactly, verdict_on};
 use crate::methods::bit_of;
 use crate::verdict::Verdict;
@@ -15,12 +16,12 @@ use std::alloc::{AllocError, Global};
 use std::marker::Model;
 
 /// Which methods a holder may use on which paths, as contracts see it: a set of permissions, each of a method on a path, or on that
-/// path and each path below it. It is kept as entries of a path and a set of methods (RFC 9237 section 3); a look-up goes over them
-/// once, so it takes time linear in their number, and no memory.
+/// path and each path below it. It is kept as entries of a path and a set of methods (RFC 9237 section 3), in two blocks of memory;
+/// a look-up goes over them once, so it takes time linear in their number, and no memory.
 #[derive(Debug, Drop)]
 pub struct Scope {
     // Each with some method; a path may stand in several.
-    entries: Vec<(Path, u64)>,
+    entries: Entries,
     // Whether one of them counts on the paths below its own, too.
     goes_below: bool,
 }
@@ -34,12 +35,12 @@ impl Model for Scope {
     ghost coded = { coded_scope };
 
     ghost use Rattle.std.specs.List.{All, list_any};
-    ghost use Rattle.osc_scope.specs.Entries.{scope_of, is_below};
-    ghost use Rattle.osc_scope.specs.Reading.{HasMethods, entry_with};
+    ghost use Rattle.osc_scope.specs.Entries.{IsLawful, scope_of, is_below};
+    ghost use Rattle.osc_scope.specs.Reading.{entry_with};
 
-    ghost view = { λ s. scope_of (map entry_with s.entries.items) };
+    ghost view = { λ s. scope_of (map entry_with s.entries) };
 
-    ghost invariant = { λ s. All HasMethods s.entries.items × (s.goes_below ≡ list_any (λ entry. is_below entry.1) s.entries.items) };
+    ghost invariant = { λ s. All IsLawful (map entry_with s.entries) × (s.goes_below ≡ list_any (λ entry. is_below entry.1) s.entries) };
 }
 
 impl Scope {
@@ -48,15 +49,15 @@ impl Scope {
         ensures { result ≡ set.empty }
     {
         Scope {
-            entries: Vec::new(alloc),
+            entries: Entries::new(alloc),
             goes_below: false,
         }
     }
 
     /// The scope of these entries, which are not copied.
-    pub(crate) fn of_entries(entries: Vec<(Path, u64)>) -> Self
-        requires { All HasMethods entries.items }
-        ensures { result ≡ scope_of (map entry_with entries.items) }
+    pub(crate) fn of_entries(entries: Entries) -> Self
+        requires { All IsLawful (map entry_with entries) }
+        ensures { result ≡ scope_of (map entry_with entries) }
     {
         let goes_below = goes_below(&entries);
         Scope {
@@ -74,7 +75,7 @@ impl Scope {
     {
         osc_model::laws::permissions_are_ordered();
         if !self.has_exactly(&path, method) {
-            self.entries.push((path, bit_of(method)))?;
+            self.entries.push(path.text(), bit_of(method))?;
         }
         Ok(())
     }

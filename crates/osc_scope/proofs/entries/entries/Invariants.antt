@@ -3,4 +3,4 @@ use Rattle.osc_scope.proofs.entries.entries.Given as goal
 
 -- the entries of the items so far
 abbrev pub invariant-loop-item : goal.invariant-loop-item
-invariant-loop-item l = AreEntriesBefore l.item-iterator l.fn.items l.entries.items
+invariant-loop-item l = AreEntriesBefore l.item-iterator l.fn.items l.entries

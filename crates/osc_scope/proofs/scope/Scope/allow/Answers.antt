@@ -4,18 +4,22 @@ use Rattle.osc_model.specs.Scope.{exactly}
 use Rattle.osc_scope.specs.Entries.{scope_of}
 use Rattle.osc_scope.specs.Reading.{entry_with}
 use Rattle.osc_scope.proofs.Sets.{insert_present, scope_push}
+use Rattle.osc_scope.proofs.scope.Scope.allow.Goals.{then-not-has_exactly+in_ok-push, else-not-has_exactly}
 use Rattle.osc_scope.proofs.scope.Scope.allow.Goals as goal
 
 -- one such entry more is one more in the set
-pub returns-in_ok-push-clause-ok : goal.returns-in_ok-push-clause-ok
-returns-in_ok-push-clause-ok c =
+pub returns-clause-ok : goal.returns-clause-ok
+returns-clause-ok c =
     let order = c.permissions_are_ordered.ensures in
-    let items = c.self.inside.entries.items in
-    ap (λ es. scope_of (map entry_with es)) (c.in_ok-push.ensures.items ∙ ap (λ bit. items ++ (c.args.path, bit) ∷ []) c.bit_of.ensures)
-    ∙ scope_push order.total order.exact items c.args.path c.args.method
-    ∙ ap (λ s. set.insert s (exactly c.args.path c.args.method)) c.self.view_is
-
-pub returns-else-not-has_exactly-clause-ok : goal.returns-else-not-has_exactly-clause-ok
-returns-else-not-has_exactly-clause-ok c =
-    let order = c.permissions_are_ordered.ensures in
-    sym (insert_present order.total order.exact c.args.self.now (exactly c.args.path c.args.method) (sym c.has_exactly.ensures ∙ c.if-not-has_exactly.false))
+    let entries = c.self.inside.entries in
+    elim c.if-not-has_exactly.branch [
+      | then-not-has_exactly+in_ok-push w ↦
+          w.self-is
+          ∙ ap (λ es. scope_of (map entry_with es))
+          (w.in_ok-push.ensures.ok ∙ (λ i. entries ++ (w.text.ensures.text i, w.bit_of.ensures i) ∷ []))
+          ∙ scope_push order.total order.exact entries c.args.path c.args.method
+          ∙ ap (λ s. set.insert s (exactly c.args.path c.args.method)) c.self.view_is
+      | else-not-has_exactly w ↦
+          w.self-is
+          ∙ sym (insert_present order.total order.exact c.args.self.now (exactly c.args.path c.args.method) (sym c.has_exactly.ensures ∙ w.if-not-has_exactly.false))
+    ]

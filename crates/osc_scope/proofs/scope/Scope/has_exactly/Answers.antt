@@ -1,5 +1,4 @@
 use Rattle.std.proofs.Common.{◌∙◌, sym, ap, map, not, bytes_eq, ◌&&◌}
-use Rattle.std.specs.List.{list_any}
 use Rattle.std.specs.FinSet as set
 use Rattle.osc_model.specs.Scope.{exactly}
 use Rattle.osc_scope.specs.Entries.{Entry, has, is_below}
@@ -14,9 +13,8 @@ returns c =
     let order = c.permissions_are_ordered.ensures in
     let path = c.args.path.now in
     let method = c.args.method in
-    let pairs = c.self.inside.entries.items in
+    let pairs = c.self.inside.entries in
     c.has_exactly.ensures
-    ∙ ap (list_any (λ pair. bytes_eq path pair.0 && (not (is_below pair.1) && has pair.1 method))) c.deref.ensures.value
     ∙ sym (any-map (λ (entry : Entry). bytes_eq path entry.path && (not (is_below entry.mask) && has entry.mask method)) entry_with pairs)
     ∙ sym (scope_has order.total order.exact order.same (map entry_with pairs) path method)
     ∙ ap (λ s. set.contains s (exactly path method)) c.self.view_is
