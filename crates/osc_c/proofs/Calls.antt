@@ -1,5 +1,5 @@
 -- Calls on handles that hold something.
-use Rattle.std.proofs.Common.{◌≡◌, ◌∙◌, ℕ, ℤ, ap, inl, inr, nat_abs, pos, refl, subst, arith}
+use Rattle.std.proofs.Common.{◌≡◌, ◌≢◌, ◌∙◌, ℕ, ℤ, ap, inl, inr, nat_abs, pos, refl, subst, sym, arith}
 use Rattle.std.specs.declared.option.Option.{Option}
 use Rattle.std.specs.declared.option.Option.TheVariants.{Some}
 use Rattle.osc_calls.specs.Outcome.{number_of}
@@ -46,5 +46,5 @@ numbered outcome.Lost is = absurd (omega (arith, is))
 numbered outcome.Unverified is = absurd (omega (arith, is))
 numbered outcome.NotNow is = absurd (omega (arith, is))
 
-pub too_long : (told : Outcome) → pos (number_of told) ≡ pos 14 → told ≡ outcome.TooLong
-too_long told is = numbered told (ap (λ (z : ℤ). nat_abs z) is)
+pub apart : {number : ℤ} (told : Outcome) → number ≡ pos (number_of told) → told ≢ outcome.TooLong → number ≢ pos 14
+apart told is other at = other (numbered told (ap (λ (z : ℤ). nat_abs z) (sym is ∙ at)))

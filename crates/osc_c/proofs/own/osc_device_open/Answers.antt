@@ -1,12 +1,12 @@
 -- What was held goes on so.
-use Rattle.std.proofs.Common.{rules, ◌∙◌, sym}
+use Rattle.std.proofs.Common.{rules}
 use Rattle.osc_calls.specs.Own.{OpensBy}
 use Rattle.osc_c.specs.Ciphers.{sealing}
-use Rattle.osc_c.proofs.Calls.{tells, too_long}
+use Rattle.osc_c.proofs.Calls.{apart, tells}
 use Rattle.osc_c.proofs.own.osc_device_open.Goals as goal
 
 pub returns-in-Some-clause-fits : goal.returns-in-Some-clause-fits
-returns-in-Some-clause-fits c = λ is. c.open-told.ensures.fits (too_long c.open-told.result.outcome (sym c.answer.ensures.number ∙ is))
+returns-in-Some-clause-fits c = apart c.open-told.result.outcome (search rules) c.open-told.ensures.fits
 
 pub returns-in-Some-clause-tells : goal.returns-in-Some-clause-tells
 returns-in-Some-clause-tells c =
