@@ -13,8 +13,8 @@ ghost use Rattle.osc_token.specs.Reading as reading;
 use crate::audience::Audience;
 use crate::claims::Claims;
 use crate::error::TokenError;
-use crate::labels::{AUDIENCE, EXPIRES, NOT_BEFORE, SCOPE};
-use crate::material::{MaterialRef, material_in};
+use crate::found::ClaimsRef;
+use crate::material::{MaterialRef, material_under};
 use osc_cbor::ItemRef;
 use osc_model::{Bytes, Moment};
 use osc_scope::{Scope, ScopeError};
@@ -45,15 +45,28 @@ pub fn judge(
     ensures memory { IsErr result → (d : DataItem) × IsWhole text.now d }
 {
     match ItemRef::whole(text) {
-        Some(claims) => judge_claims(alloc, &claims, audience, now),
+        Some(item) => judge_item(alloc, item, audience, now),
         None => Ok(Err(TokenError::BadClaims)),
     }
 }
 
 /// What claims of this item grant, as [`judge`] says.
+fn judge_item(
+    alloc: Global,
+    item: ItemRef<'_>,
+    audience: &Audience,
+    now: Moment,
+) -> Result<Result<(Claims, Scope), TokenError>, AllocError>
+    ensures judged { (text : List ℕ) → reading.IsItem text item.entry
+        → IfOk result (λ outcome. ComesTo text audience.now now outcome) }
+{
+    judge_claims(alloc, &ClaimsRef::new(item), audience, now)
+}
+
+/// What these claims grant, as [`judge`] says.
 fn judge_claims(
     alloc: Global,
-    claims: &ItemRef<'_>,
+    claims: &ClaimsRef<'_>,
     audience: &Audience,
     now: Moment,
 ) -> Result<Result<(Claims, Scope), TokenError>, AllocError>
@@ -81,7 +94,7 @@ fn judge_claims(
 /// The dates and the input material of claims that are in their time and for this audience; else the first check that
 /// fails, as [`judge`] says. Takes no memory.
 fn bound_in<'a>(
-    claims: &ItemRef<'a>,
+    claims: &ClaimsRef<'a>,
     audience: &Audience,
     now: Moment,
 ) -> Result<(Dates, MaterialRef<'a>), TokenError>
@@ -132,22 +145,29 @@ fn granted(
     })
 }
 
+/// The input material of the claims, where they have it.
+fn material_in<'a>(claims: &ClaimsRef<'a>) -> Option<MaterialRef<'a>>
+    ensures { result ≡ reading.material_in claims.now }
+{
+    material_under(&claims.confirmation)
+}
+
 /// The dates of the claims, if they are a map whose dates are numbers.
-fn dates_in(claims: &ItemRef<'_>) -> Option<Dates>
+fn dates_in(claims: &ClaimsRef<'_>) -> Option<Dates>
     ensures { result ≡ reading.dates_in claims.now }
 {
-    claims.as_map()?;
+    claims.item().as_map()?;
     Some(Dates {
-        not_before: date(claims, NOT_BEFORE)?,
-        expires: date(claims, EXPIRES)?,
+        not_before: date(&claims.not_before)?,
+        expires: date(&claims.expires)?,
     })
 }
 
-/// The date under a label, where it is there; none where it is no number.
-fn date(claims: &ItemRef<'_>, label: u64) -> Option<Option<u64>>
-    ensures { result ≡ reading.date_of (part.value label claims.now) }
+/// The date, where it is there; none where it is no number.
+fn date(value: &Option<ItemRef<'_>>) -> Option<Option<u64>>
+    ensures { result ≡ reading.date_of value.now }
 {
-    match claims.value(label) {
+    match value {
         Some(value) => Some(Some(value.as_unsigned()?)),
         None => Some(None),
     }
@@ -174,10 +194,10 @@ fn is_over(expires: Option<u64>, now: Moment) -> bool
 }
 
 /// Whether the claims are for this audience.
-fn is_for(claims: &ItemRef<'_>, audience: &Audience) -> bool
+fn is_for(claims: &ClaimsRef<'_>, audience: &Audience) -> bool
     ensures { IsTrue result ↔ (part.value 3 claims.now ≡ Some (text_string audience.now)) }
 {
-    match claims.value(AUDIENCE) {
+    match &claims.audience {
         Some(value) => value.as_text() == Some(audience.as_str()),
         None => false,
     }
@@ -196,8 +216,8 @@ fn scope_found(read: Result<Scope, ScopeError>) -> Result<Option<Scope>, AllocEr
 }
 
 /// The bytes of the claim scope, if it is a byte string.
-fn scope_bytes<'a>(claims: &ItemRef<'a>) -> Option<&'a [u8]>
+fn scope_bytes<'a>(claims: &ClaimsRef<'a>) -> Option<&'a [u8]>
     ensures { option_copied result ≡ option_and_then part.as_bytes (part.value 9 claims.now) }
 {
-    claims.value(SCOPE)?.as_bytes()
+    claims.scope.as_ref()?.as_bytes()
 }

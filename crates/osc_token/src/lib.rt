@@ -7,6 +7,7 @@
 mod audience;
 mod claims;
 mod error;
+mod found;
 mod judging;
 mod labels;
 pub mod laws;

@@ -1,13 +1,12 @@
 //! The input material of claims.
 
-ghost use Rattle.std.specs.Prelude.{◌≡◌, IfOk, option_map, option_copied};
+ghost use Rattle.std.specs.Prelude.{◌≡◌, IfOk, option_map, option_and_then, option_copied};
 ghost use Rattle.osc_cbor.specs.Parts as part;
 ghost use Rattle.osc_token.specs.Reading as spec;
 
 use crate::claims::InputMaterial;
-use crate::labels::{
-    ALGORITHM, CONFIRMATION, HKDF, ID, ID_CONTEXT, MATERIAL, SALT, SECRET, VERSION,
-};
+use crate::found::FieldsRef;
+use crate::labels::MATERIAL;
 use osc_cbor::ItemRef;
 use osc_model::{Algorithm, Bytes};
 use std::alloc::{AllocError, Global};
@@ -63,15 +62,15 @@ impl<'a> MaterialRef<'a> {
     }
 }
 
-/// The input material of the claims, where they have it.
-pub(crate) fn material_in<'a>(claims: &ItemRef<'a>) -> Option<MaterialRef<'a>>
-    ensures { result ≡ spec.material_in claims.now }
+/// The input material of the claim cnf, where it has it.
+pub(crate) fn material_under<'a>(confirmation: &Option<ItemRef<'a>>) -> Option<MaterialRef<'a>>
+    ensures { result ≡ option_and_then spec.material_of (option_and_then (part.value 4) confirmation.now) }
 {
-    material_of(&claims.value(CONFIRMATION)?.value(MATERIAL)?)
+    material_of(&FieldsRef::new(confirmation.as_ref()?.value(MATERIAL)?))
 }
 
 /// The input material of these fields, where they name what is supported.
-fn material_of<'a>(fields: &ItemRef<'a>) -> Option<MaterialRef<'a>>
+fn material_of<'a>(fields: &FieldsRef<'a>) -> Option<MaterialRef<'a>>
     ensures { result ≡ spec.material_of fields.now }
 {
     if are_known(fields) {
@@ -82,46 +81,53 @@ fn material_of<'a>(fields: &ItemRef<'a>) -> Option<MaterialRef<'a>>
 }
 
 /// The input material of these fields, whatever version and hash they name.
-fn parts_of<'a>(fields: &ItemRef<'a>) -> Option<MaterialRef<'a>>
+fn parts_of<'a>(fields: &FieldsRef<'a>) -> Option<MaterialRef<'a>>
     ensures { result ≡ spec.parts_of fields.now }
 {
     Some(MaterialRef {
-        id: sized(&fields.value(ID)?, 0)?,
-        secret: sized(&fields.value(SECRET)?, 1)?,
+        id: sized(fields.id.as_ref()?, 0)?,
+        secret: sized(fields.secret.as_ref()?, 1)?,
         salt: salt(fields)?,
         id_context: id_context(fields)?,
-        alg: algorithm(fields)?,
+        alg: algorithm(&fields.alg)?,
     })
 }
 
 /// The salt, empty where there is none.
-fn salt<'a>(fields: &ItemRef<'a>) -> Option<&'a [u8]>
+fn salt<'a>(fields: &FieldsRef<'a>) -> Option<&'a [u8]>
     ensures { option_copied result ≡ spec.salt_of (part.value 5 fields.now) }
 {
-    match fields.value(SALT) {
-        Some(value) => sized(&value, 0),
+    match &fields.salt {
+        Some(value) => sized(value, 0),
         None => Some(&[]),
     }
 }
 
 /// The id context, where there is one; none where it is no such field.
-fn id_context<'a>(fields: &ItemRef<'a>) -> Option<Option<&'a [u8]>>
+fn id_context<'a>(fields: &FieldsRef<'a>) -> Option<Option<&'a [u8]>>
     ensures { option_map option_copied result ≡ spec.id_context_of (part.value 6 fields.now) }
 {
-    match fields.value(ID_CONTEXT) {
-        Some(value) => Some(Some(sized(&value, 0)?)),
+    match &fields.id_context {
+        Some(value) => Some(Some(sized(value, 0)?)),
         None => Some(None),
     }
 }
 
 /// The algorithm, AES-CCM-16-64-128 where none is named; none where it is another than the two.
-fn algorithm(fields: &ItemRef<'_>) -> Option<Algorithm>
-    ensures { result ≡ spec.alg_of (part.value 4 fields.now) }
+fn algorithm(value: &Option<ItemRef<'_>>) -> Option<Algorithm>
+    ensures { result ≡ spec.alg_of value.now }
 {
-    match fields.value(ALGORITHM) {
-        Some(value) => Algorithm::from_number(value.as_unsigned()?),
+    match value {
+        Some(item) => numbered(item),
         None => Some(Algorithm::EightByteTag),
     }
+}
+
+/// The algorithm of this number, if it is one of the two.
+fn numbered(item: &ItemRef<'_>) -> Option<Algorithm>
+    ensures { result ≡ option_and_then spec.algorithm_numbered (part.as_unsigned item.now) }
+{
+    Algorithm::from_number(item.as_unsigned()?)
 }
 
 /// The bytes of a field, if it is a byte string of at least so many and at most [`LONGEST`].
@@ -137,10 +143,10 @@ fn sized<'a>(value: &ItemRef<'a>, least: usize) -> Option<&'a [u8]>
 }
 
 /// Whether version and HKDF are those that are supported, where they are named.
-fn are_known(fields: &ItemRef<'_>) -> bool
+fn are_known(fields: &FieldsRef<'_>) -> bool
     ensures { result ≡ spec.are_known fields.now }
 {
-    is_absent_or(&fields.value(VERSION), OSCORE_1) && is_hkdf(&fields.value(HKDF))
+    is_absent_or(&fields.version, OSCORE_1) && is_hkdf(&fields.hkdf)
 }
 
 /// Whether the value is this number, where there is one.
