@@ -45,6 +45,7 @@ impl<'a> Model for ItemRef<'a> {
 }
 
 /// The head of a spelled item with its string, and the bytes after them.
+#[inline(always)]
 fn opened<'a>(bytes: &'a [u8]) -> (Token<'a>, &'a [u8])
     requires { (d : DataItem) × Spells bytes.now d }
     ensures { (d : DataItem) → Spells bytes.now d → Opens d result.0.0 result.0.1 result.0.2.now result.1.now }
@@ -56,6 +57,7 @@ fn opened<'a>(bytes: &'a [u8]) -> (Token<'a>, &'a [u8])
 }
 
 /// The item at the beginning of the bytes, and the bytes after it.
+#[inline(always)]
 pub(crate) fn first_item<'a>(bytes: &'a [u8]) -> (ItemRef<'a>, &'a [u8])
     requires { Stands bytes.now }
     ensures { item_at 9 bytes.now ≡ Ok (result.0, result.1.now) }
@@ -70,6 +72,7 @@ pub(crate) fn first_item<'a>(bytes: &'a [u8]) -> (ItemRef<'a>, &'a [u8])
 /// What stands under the wanted number in the first pair that has it as its key: `known`, where one of the pairs before had
 /// it, and else the value of this pair, where the wanted number is its label. So one pass over a map's pairs finds all that is
 /// wanted of it.
+#[inline(always)]
 pub fn first_value<'a>(
     known: Option<ItemRef<'a>>,
     wanted: u64,
@@ -118,6 +121,7 @@ impl<'a> ItemRef<'a> {
     }
 
     /// The number, if this is an unsigned one.
+    #[inline(always)]
     pub fn as_unsigned(&self) -> Option<u64>
         ensures { result ≡ part.as_unsigned self.now }
     {
@@ -140,6 +144,7 @@ impl<'a> ItemRef<'a> {
     }
 
     /// The bytes, if this is a byte string.
+    #[inline(always)]
     pub fn as_bytes(&self) -> Option<&'a [u8]>
         ensures { option_copied result ≡ part.as_bytes self.now }
     {
@@ -165,6 +170,7 @@ impl<'a> ItemRef<'a> {
     }
 
     /// The items, if this is an array.
+    #[inline(always)]
     pub fn as_array(&self) -> Option<ItemRefs<'a>>
         ensures { option_map items_of result ≡ part.as_array self.now }
     {

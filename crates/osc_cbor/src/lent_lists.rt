@@ -50,6 +50,7 @@ impl<'a> Iterator for ItemRefs<'a> {
 
     ghost remaining = { item_count (λ items. items) };
 
+    #[inline(always)]
     fn next(&mut self) -> Option<ItemRef<'a>> {
         if self.left == 0 {
             return None;
@@ -104,6 +105,7 @@ impl<'a> Iterator for PairRefs<'a> {
 
     ghost remaining = { item_count (λ pairs. pairs) };
 
+    #[inline(always)]
     fn next(&mut self) -> Option<(ItemRef<'a>, ItemRef<'a>)> {
         if self.left == 0 {
             return None;

@@ -1,6 +1,6 @@
 //! Items passed over and compared in their bytes, by their heads and strings. No memory is taken.
 
-ghost use Rattle.std.specs.Prelude.{◌≡◌, ◌↔◌, ◌^◌, ◌≤◌, ◌∷◌, ◌++◌, List, ℕ, length, IsTrue, IfSome, Ok};
+ghost use Rattle.std.specs.Prelude.{◌≡◌, ◌⊎◌, ◌↔◌, ◌^◌, ◌/◌, ◌%◌, ◌≤◌, ◌<◌, ◌∷◌, ◌++◌, List, ℕ, length, IsTrue, IfSome, Ok};
 ghost use Rattle.osc_cbor.specs.Data.{DataItem, Pairs, pair_count, map as spelled_map};
 ghost use Rattle.osc_cbor.specs.Reading.{Reads};
 ghost use Rattle.osc_cbor.specs.Same as equality;
@@ -27,26 +27,57 @@ fn behind_head(major: u8, argument: u64, bytes: &[u8]) -> Result<(Token, &[u8]),
     Ok(((major, argument, &[]), bytes))
 }
 
-/// What begins with this byte, and the bytes after it, where it is a number that takes one or two bytes.
+/// The string whose head is this byte alone, as a head with its string, and the bytes after it.
 #[inline(always)]
-#[tactic(auto, unfolding(crate::specs::Tokens::token_at, crate::specs::Tokens::token_behind, crate::specs::Reading::argument_at))]
-fn number_of(first: u8, rest: &[u8]) -> Option<(Token, &[u8])>
+#[tactic(auto, unfolding(crate::specs::Tokens::token_at, crate::specs::Tokens::token_behind, crate::specs::Reading::argument_at, crate::specs::Reading::string_at))]
+fn short_string_of(first: u8, rest: &[u8]) -> Option<(Token, &[u8])>
+    requires string { (first / 32 ≡ 2) ⊎ (first / 32 ≡ 3) }
+    requires short { first % 32 < 24 }
     ensures { IfSome result (λ x. token_at (first ∷ rest.now) ≡ Ok ((x.0.0, x.0.1, x.0.2.now), x.1.now)) }
 {
-    if first >= 64 {
+    let size = (first % 32) as usize;
+    if rest.len() < size {
         return None;
     }
+    let (content, after) = rest.split_at(size);
+    Some(((first / 32, (first % 32) as u64, content), after))
+}
+
+/// The head that begins with this byte, with its string, and the bytes after them, where the head takes one byte, or two and is that of a number.
+#[inline(always)]
+#[tactic(auto, unfolding(crate::specs::Tokens::token_at, crate::specs::Tokens::token_behind, crate::specs::Reading::argument_at))]
+fn short_token_of(first: u8, rest: &[u8]) -> Option<(Token, &[u8])>
+    ensures { IfSome result (λ x. token_at (first ∷ rest.now) ≡ Ok ((x.0.0, x.0.1, x.0.2.now), x.1.now)) }
+{
     if first % 32 < 24 {
-        return Some(((first / 32, (first % 32) as u64, &[]), rest));
+        return match first / 32 {
+            2 | 3 => short_string_of(first, rest),
+            7 => None,
+            major => Some(((major, (first % 32) as u64, &[]), rest)),
+        };
     }
-    if first % 32 > 24 {
+    if first >= 64 || first % 32 > 24 {
         return None;
     }
     let (argument, after) = rest.split_first()?;
     Some(((first / 32, *argument as u64, &[]), after))
 }
 
+/// The head that begins with this byte, with its string, and the bytes after them.
+#[inline(never)]
+#[tactic(auto, unfolding(crate::specs::Tokens::token_at))]
+fn token_behind_byte(first: u8, rest: &[u8]) -> Result<(Token, &[u8]), ReadError>
+    ensures { Reads (λ x. ((x.0.0, x.0.1, x.0.2.now), x.1.now)) result (token_at (first ∷ rest.now)) }
+{
+    if first / 32 == 7 {
+        return Ok(((7, (first % 32) as u64, &[]), rest));
+    }
+    let (argument, rest) = argument_of(first % 32, rest)?;
+    behind_head(first / 32, argument, rest)
+}
+
 /// The first head of the bytes with its string, and the bytes after them.
+#[inline(always)]
 #[tactic(auto, unfolding(crate::specs::Tokens::token_at))]
 pub(crate) fn token_of(bytes: &[u8]) -> Result<(Token, &[u8]), ReadError>
     ensures { Reads (λ x. ((x.0.0, x.0.1, x.0.2.now), x.1.now)) result (token_at bytes.now) }
@@ -54,14 +85,10 @@ pub(crate) fn token_of(bytes: &[u8]) -> Result<(Token, &[u8]), ReadError>
     let Some((first, rest)) = bytes.split_first() else {
         return Err(ReadError::Truncated);
     };
-    if let Some(found) = number_of(*first, rest) {
-        return Ok(found);
+    match short_token_of(*first, rest) {
+        Some(found) => Ok(found),
+        None => token_behind_byte(*first, rest),
     }
-    if *first / 32 == 7 {
-        return Ok(((7, (*first % 32) as u64, &[]), rest));
-    }
-    let (argument, rest) = argument_of(*first % 32, rest)?;
-    behind_head(*first / 32, argument, rest)
 }
 
 /// Whether two tokens are equal.
@@ -94,6 +121,7 @@ pub(crate) fn same_spelled(a: &[u8], b: &[u8]) -> bool
 }
 
 /// How many items stand inside one with this head.
+#[inline(always)]
 #[tactic(auto, unfolding(crate::specs::Tokens::inside))]
 fn inside(major: u8, argument: u64) -> u128
     ensures count { result ≡ spec.inside major argument }
@@ -115,6 +143,7 @@ fn size_of(bytes: &[u8]) -> u64
 }
 
 /// The bytes behind the item that stands at their beginning.
+#[inline(never)]
 pub(crate) fn behind_item(bytes: &[u8]) -> &[u8]
     ensures { (d : DataItem) (front rest : List ℕ) → Spells front d → bytes.now ≡ front ++ rest → result.now ≡ rest }
 {
@@ -134,6 +163,7 @@ pub(crate) fn behind_item(bytes: &[u8]) -> &[u8]
 }
 
 /// The bytes after the item that stands at their beginning, told at once where no other stands inside.
+#[inline(always)]
 pub(crate) fn after_item(bytes: &[u8]) -> &[u8]
     ensures { (d : DataItem) (front rest : List ℕ) → Spells front d → bytes.now ≡ front ++ rest → result.now ≡ rest }
 {
@@ -144,6 +174,7 @@ pub(crate) fn after_item(bytes: &[u8]) -> &[u8]
 }
 
 /// What stands before the rest.
+#[inline(always)]
 pub(crate) fn taken<'a>(bytes: &'a [u8], rest: &[u8]) -> &'a [u8]
     ensures { (front : List ℕ) → bytes.now ≡ front ++ rest.now → result.now ≡ front }
 {

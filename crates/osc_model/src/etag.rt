@@ -45,6 +45,7 @@ impl fmt::Debug for ETag {
 
 impl ETag {
     /// A copy of these bytes; memory is taken where there are more than 8.
+    #[inline(always)]
     pub fn copied(alloc: Global, bytes: &[u8]) -> Result<ETag, AllocError>
         ensures { IfOk result (λ tag. tag ≡ bytes.now) }
     {
@@ -60,6 +61,7 @@ impl ETag {
     }
 
     /// The bytes, lent.
+    #[inline(always)]
     pub fn as_slice(&self) -> &[u8]
         ensures { result.now ≡ self.now }
     {
@@ -134,6 +136,7 @@ impl ETags {
     }
 
     /// Adds the value of a further option; without memory all stays as it was.
+    #[inline(always)]
     pub fn push(&mut self, alloc: Global, tag: &[u8]) -> Result<(), AllocError>
         ensures ok { OnOk result (self.new ≡ self.old ++ tag.now ∷ []) }
         ensures err { OnErr result (self.new ≡ self.old) }

@@ -73,6 +73,7 @@ pub fn has_option(message: &MessageRef<'_>, number: u16) -> bool
 }
 
 /// Takes options until one is recognised, which it returns; `before` is the number of the option taken last.
+#[inline(always)]
 fn take_recognised<'a>(before: &mut u16, options: &mut Options<'a>) -> Option<(u16, &'a [u8])>
     ensures { MatchOption result
         ((spec.recognised before.old options.old ≡ []) × (spec.recognised before.new options.new ≡ []))
@@ -113,6 +114,7 @@ impl<'a> Iterator for RecognisedOptions<'a> {
 
     ghost remaining = { item_count (λ options. options) };
 
+    #[inline(always)]
     fn next(&mut self) -> Option<(u16, &'a [u8])> {
         take_recognised(&mut self.before, &mut self.options)
     }

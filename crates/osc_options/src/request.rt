@@ -96,6 +96,7 @@ struct Fields<'a> {
 }
 
 /// Adds an option; refused only for want of memory.
+#[inline(always)]
 fn add_field<'a>(
     alloc: Global,
     fields: &mut Fields<'a>,

@@ -74,11 +74,16 @@ pub fn rule_of(number: u16) -> Option<Rule>
 }
 
 /// How OSCORE protects an option of this number; what isn't in the table is encrypted (RFC 8613 section 4.1).
+#[inline(always)]
 pub fn class_of(number: u16) -> Class
     ensures { result ≡ spec.class_of number }
 {
-    match rule_of(number) {
-        Some(rule) => rule.class,
-        None => Class::E,
+    match number {
+        numbers::URI_HOST
+        | numbers::URI_PORT
+        | numbers::OSCORE
+        | numbers::PROXY_URI
+        | numbers::PROXY_SCHEME => Class::U,
+        _ => Class::E,
     }
 }
