@@ -49,7 +49,11 @@ fn scope_in(alloc: Global, item: &ItemRef<'_>) -> Result<Scope, ScopeError>
         → (entries : List Entry) → All IsLawful entries → ¬ (item.now ≡ array (entry_items entries)) }
 {
     match item.as_array() {
-        Some(items) => Ok(Scope::of_entries(entries(alloc, items)?)),
+        Some(items) => {
+            let mut entries = entries(alloc, items)?;
+            entries.shrink_to_fit();
+            Ok(Scope::of_entries(entries))
+        }
         None => Err(ScopeError::BadScope),
     }
 }

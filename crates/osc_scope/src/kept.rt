@@ -60,6 +60,14 @@ impl Entries {
         Ok(())
     }
 
+    /// Gives back the memory that no entry takes.
+    pub(crate) fn shrink_to_fit(&mut self)
+        ensures { self.new ≡ self.old }
+    {
+        self.texts.shrink_to_fit();
+        self.places.shrink_to_fit();
+    }
+
     /// The entries in order, lent.
     pub(crate) fn iter(&self) -> EntryRefs<'_>
         ensures { result ≡ self.now }
