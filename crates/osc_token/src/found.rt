@@ -13,12 +13,12 @@ use std::marker::Model;
 
 /// The values of claims.
 #[derive(Drop)]
-struct ClaimValues<'a> {
-    audience: Option<ItemRef<'a>>,
-    expires: Option<ItemRef<'a>>,
-    not_before: Option<ItemRef<'a>>,
-    confirmation: Option<ItemRef<'a>>,
-    scope: Option<ItemRef<'a>>,
+pub(crate) struct ClaimValues<'a> {
+    pub(crate) audience: Option<ItemRef<'a>>,
+    pub(crate) expires: Option<ItemRef<'a>>,
+    pub(crate) not_before: Option<ItemRef<'a>>,
+    pub(crate) confirmation: Option<ItemRef<'a>>,
+    pub(crate) scope: Option<ItemRef<'a>>,
 }
 
 /// The values of claims, in one pass over the pairs.
@@ -56,11 +56,7 @@ fn claim_values<'a>(pairs: PairRefs<'a>) -> ClaimValues<'a>
 #[derive(Drop)]
 pub(crate) struct ClaimsRef<'a> {
     item: ItemRef<'a>,
-    pub(crate) audience: Option<ItemRef<'a>>,
-    pub(crate) expires: Option<ItemRef<'a>>,
-    pub(crate) not_before: Option<ItemRef<'a>>,
-    pub(crate) confirmation: Option<ItemRef<'a>>,
-    pub(crate) scope: Option<ItemRef<'a>>,
+    pub(crate) values: ClaimValues<'a>,
 }
 
 impl<'a> Model for ClaimsRef<'a> {
@@ -75,8 +71,8 @@ impl<'a> Model for ClaimsRef<'a> {
 
     ghost view = { λ claims. claims.item };
 
-    ghost invariant = { λ claims. (claims.audience ≡ value 3 claims.item) × (claims.expires ≡ value 4 claims.item) × (claims.not_before ≡ value 5 claims.item)
-        × (claims.confirmation ≡ value 8 claims.item) × (claims.scope ≡ value 9 claims.item) };
+    ghost invariant = { λ claims. (claims.values.audience ≡ value 3 claims.item) × (claims.values.expires ≡ value 4 claims.item) × (claims.values.not_before ≡ value 5 claims.item)
+        × (claims.values.confirmation ≡ value 8 claims.item) × (claims.values.scope ≡ value 9 claims.item) };
 }
 
 impl<'a> ClaimsRef<'a> {
@@ -84,33 +80,17 @@ impl<'a> ClaimsRef<'a> {
     pub(crate) fn new(item: ItemRef<'a>) -> ClaimsRef<'a>
         ensures { result ≡ item.entry }
     {
-        match item.as_map() {
-            Some(pairs) => {
-                let ClaimValues {
-                    audience,
-                    expires,
-                    not_before,
-                    confirmation,
-                    scope,
-                } = claim_values(pairs);
-                ClaimsRef {
-                    item,
-                    audience,
-                    expires,
-                    not_before,
-                    confirmation,
-                    scope,
-                }
-            }
-            None => ClaimsRef {
-                item,
+        let values = match item.as_map() {
+            Some(pairs) => claim_values(pairs),
+            None => ClaimValues {
                 audience: None,
                 expires: None,
                 not_before: None,
                 confirmation: None,
                 scope: None,
             },
-        }
+        };
+        ClaimsRef { item, values }
     }
 
     /// The item.
@@ -123,14 +103,14 @@ impl<'a> ClaimsRef<'a> {
 
 /// The values of input material's fields.
 #[derive(Drop)]
-struct FieldValues<'a> {
-    id: Option<ItemRef<'a>>,
-    version: Option<ItemRef<'a>>,
-    secret: Option<ItemRef<'a>>,
-    hkdf: Option<ItemRef<'a>>,
-    alg: Option<ItemRef<'a>>,
-    salt: Option<ItemRef<'a>>,
-    id_context: Option<ItemRef<'a>>,
+pub(crate) struct FieldValues<'a> {
+    pub(crate) id: Option<ItemRef<'a>>,
+    pub(crate) version: Option<ItemRef<'a>>,
+    pub(crate) secret: Option<ItemRef<'a>>,
+    pub(crate) hkdf: Option<ItemRef<'a>>,
+    pub(crate) alg: Option<ItemRef<'a>>,
+    pub(crate) salt: Option<ItemRef<'a>>,
+    pub(crate) id_context: Option<ItemRef<'a>>,
 }
 
 /// The values of input material's fields, in one pass over the pairs.
@@ -175,13 +155,7 @@ fn field_values<'a>(pairs: PairRefs<'a>) -> FieldValues<'a>
 #[derive(Drop)]
 pub(crate) struct FieldsRef<'a> {
     item: ItemRef<'a>,
-    pub(crate) id: Option<ItemRef<'a>>,
-    pub(crate) version: Option<ItemRef<'a>>,
-    pub(crate) secret: Option<ItemRef<'a>>,
-    pub(crate) hkdf: Option<ItemRef<'a>>,
-    pub(crate) alg: Option<ItemRef<'a>>,
-    pub(crate) salt: Option<ItemRef<'a>>,
-    pub(crate) id_context: Option<ItemRef<'a>>,
+    pub(crate) values: FieldValues<'a>,
 }
 
 impl<'a> Model for FieldsRef<'a> {
@@ -196,9 +170,9 @@ impl<'a> Model for FieldsRef<'a> {
 
     ghost view = { λ fields. fields.item };
 
-    ghost invariant = { λ fields. (fields.id ≡ value 0 fields.item) × (fields.version ≡ value 1 fields.item) × (fields.secret ≡ value 2 fields.item)
-        × (fields.hkdf ≡ value 3 fields.item) × (fields.alg ≡ value 4 fields.item) × (fields.salt ≡ value 5 fields.item)
-        × (fields.id_context ≡ value 6 fields.item) };
+    ghost invariant = { λ fields. (fields.values.id ≡ value 0 fields.item) × (fields.values.version ≡ value 1 fields.item) × (fields.values.secret ≡ value 2 fields.item)
+        × (fields.values.hkdf ≡ value 3 fields.item) × (fields.values.alg ≡ value 4 fields.item) × (fields.values.salt ≡ value 5 fields.item)
+        × (fields.values.id_context ≡ value 6 fields.item) };
 }
 
 impl<'a> FieldsRef<'a> {
@@ -206,30 +180,9 @@ impl<'a> FieldsRef<'a> {
     pub(crate) fn new(item: ItemRef<'a>) -> FieldsRef<'a>
         ensures { result ≡ item.entry }
     {
-        match item.as_map() {
-            Some(pairs) => {
-                let FieldValues {
-                    id,
-                    version,
-                    secret,
-                    hkdf,
-                    alg,
-                    salt,
-                    id_context,
-                } = field_values(pairs);
-                FieldsRef {
-                    item,
-                    id,
-                    version,
-                    secret,
-                    hkdf,
-                    alg,
-                    salt,
-                    id_context,
-                }
-            }
-            None => FieldsRef {
-                item,
+        let values = match item.as_map() {
+            Some(pairs) => field_values(pairs),
+            None => FieldValues {
                 id: None,
                 version: None,
                 secret: None,
@@ -238,6 +191,7 @@ impl<'a> FieldsRef<'a> {
                 salt: None,
                 id_context: None,
             },
-        }
+        };
+        FieldsRef { item, values }
     }
 }

@@ -149,7 +149,7 @@ fn granted(
 fn material_in<'a>(claims: &ClaimsRef<'a>) -> Option<MaterialRef<'a>>
     ensures { result ≡ reading.material_in claims.now }
 {
-    material_under(&claims.confirmation)
+    material_under(&claims.values.confirmation)
 }
 
 /// The dates of the claims, if they are a map whose dates are numbers.
@@ -158,8 +158,8 @@ fn dates_in(claims: &ClaimsRef<'_>) -> Option<Dates>
 {
     claims.item().as_map()?;
     Some(Dates {
-        not_before: date(&claims.not_before)?,
-        expires: date(&claims.expires)?,
+        not_before: date(&claims.values.not_before)?,
+        expires: date(&claims.values.expires)?,
     })
 }
 
@@ -197,7 +197,7 @@ fn is_over(expires: Option<u64>, now: Moment) -> bool
 fn is_for(claims: &ClaimsRef<'_>, audience: &Audience) -> bool
     ensures { IsTrue result ↔ (part.value 3 claims.now ≡ Some (text_string audience.now)) }
 {
-    match &claims.audience {
+    match &claims.values.audience {
         Some(value) => value.as_text() == Some(audience.as_str()),
         None => false,
     }
@@ -219,5 +219,5 @@ fn scope_found(read: Result<Scope, ScopeError>) -> Result<Option<Scope>, AllocEr
 fn scope_bytes<'a>(claims: &ClaimsRef<'a>) -> Option<&'a [u8]>
     ensures { option_copied result ≡ option_and_then part.as_bytes (part.value 9 claims.now) }
 {
-    claims.scope.as_ref()?.as_bytes()
+    claims.values.scope.as_ref()?.as_bytes()
 }

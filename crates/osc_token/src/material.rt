@@ -85,11 +85,11 @@ fn parts_of<'a>(fields: &FieldsRef<'a>) -> Option<MaterialRef<'a>>
     ensures { result ≡ spec.parts_of fields.now }
 {
     Some(MaterialRef {
-        id: sized(fields.id.as_ref()?, 0)?,
-        secret: sized(fields.secret.as_ref()?, 1)?,
+        id: sized(fields.values.id.as_ref()?, 0)?,
+        secret: sized(fields.values.secret.as_ref()?, 1)?,
         salt: salt(fields)?,
         id_context: id_context(fields)?,
-        alg: algorithm(&fields.alg)?,
+        alg: algorithm(&fields.values.alg)?,
     })
 }
 
@@ -97,7 +97,7 @@ fn parts_of<'a>(fields: &FieldsRef<'a>) -> Option<MaterialRef<'a>>
 fn salt<'a>(fields: &FieldsRef<'a>) -> Option<&'a [u8]>
     ensures { option_copied result ≡ spec.salt_of (part.value 5 fields.now) }
 {
-    match &fields.salt {
+    match &fields.values.salt {
         Some(value) => sized(value, 0),
         None => Some(&[]),
     }
@@ -107,7 +107,7 @@ fn salt<'a>(fields: &FieldsRef<'a>) -> Option<&'a [u8]>
 fn id_context<'a>(fields: &FieldsRef<'a>) -> Option<Option<&'a [u8]>>
     ensures { option_map option_copied result ≡ spec.id_context_of (part.value 6 fields.now) }
 {
-    match &fields.id_context {
+    match &fields.values.id_context {
         Some(value) => Some(Some(sized(value, 0)?)),
         None => Some(None),
     }
@@ -146,7 +146,7 @@ fn sized<'a>(value: &ItemRef<'a>, least: usize) -> Option<&'a [u8]>
 fn are_known(fields: &FieldsRef<'_>) -> bool
     ensures { result ≡ spec.are_known fields.now }
 {
-    is_absent_or(&fields.version, OSCORE_1) && is_hkdf(&fields.hkdf)
+    is_absent_or(&fields.values.version, OSCORE_1) && is_hkdf(&fields.values.hkdf)
 }
 
 /// Whether the value is this number, where there is one.
