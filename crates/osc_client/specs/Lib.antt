@@ -7,6 +7,7 @@ pub mod Answering
 pub mod Case
 pub mod Table
 pub mod Hearing
+pub mod Steps
 pub mod Lawful
 pub mod Bounds
 pub mod Opened

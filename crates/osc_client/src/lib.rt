@@ -9,6 +9,7 @@ mod client;
 mod exchanging;
 pub mod laws;
 mod lying;
+mod node;
 mod proxied;
 mod refusing;
 mod sending;

@@ -15,4 +15,5 @@ pub mod Going
 pub mod Table
 pub mod Ticks
 pub mod Hearing
+pub mod Steps
 pub mod ThereAndBack

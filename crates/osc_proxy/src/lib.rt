@@ -11,6 +11,7 @@ mod deadline;
 mod exchanges;
 mod forwarding;
 pub mod laws;
+mod node;
 mod opening;
 mod proxy;
 mod proxy_uri;

@@ -7,6 +7,7 @@ pub mod ServerKinds
 pub mod ClientKinds
 pub mod ProxyKinds
 pub mod Runs
+pub mod Nodes
 pub mod Premise
 pub mod History
 pub mod OneHistory

@@ -5,6 +5,7 @@
 pub mod kinds;
 pub mod laws;
 mod minted;
+mod node;
 mod noted;
 mod notes;
 mod premise;
@@ -12,6 +13,7 @@ mod readers;
 mod reading;
 
 pub use minted::{Grant, Minted};
+pub use node::Node;
 pub use noted::{Actor, Noted};
 pub use notes::Notes;
 pub use readers::{Acceptance, Question};

@@ -5,6 +5,7 @@
 mod answer;
 mod case;
 pub mod laws;
+mod node;
 mod posting;
 mod refusal;
 mod server;

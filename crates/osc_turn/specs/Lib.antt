@@ -1,6 +1,5 @@
 -- Definitions that the contracts cite.
 pub mod Ports
-pub mod Nodes
 pub mod Turns
 pub mod Errors
 pub mod Pace

@@ -3,13 +3,11 @@
 #![tactic(auto)]
 
 mod error;
-mod node;
 mod pace;
 mod port;
 mod turning;
 
 pub use error::TurnError;
-pub use node::Node;
 pub use pace::{Pace, paced_turn};
 pub use port::{Port, PortFault};
 pub use turning::{Turned, send_all, turn};

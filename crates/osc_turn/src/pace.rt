@@ -1,14 +1,14 @@
 //! Turns that tick in time, whatever comes: for what is due, and each 10 milliseconds at the latest.
 ghost use Rattle.std.specs.Prelude.{◌≡◌, None, Option, false, IfErr, IfOk, OnErr, is_some};
 ghost use Rattle.osc_turn.specs.Pace.{CameIn, IsRefusedIn, busy_after, is_due, must_tick};
-ghost use Rattle.osc_turn.specs.Ports.{Arrival, CountsFault, grown};
+ghost use Rattle.osc_turn.specs.Ports.{CountsFault, Received, cause_of, grown};
 
 use crate::error::TurnError;
-use crate::node::Node;
 use crate::port::Port;
 use crate::turning::{Turned, send_all, turn};
 use osc_model::{Draw, Moment};
 use osc_protect::Ciphers;
+use osc_run::Node;
 use std::alloc::Global;
 
 // How long a node takes what comes without a tick between, in milliseconds.
@@ -63,10 +63,10 @@ pub fn paced_turn<A: Ciphers, P: Port, N: Node<A>>(
     now: Moment,
     draw: &Draw,
 ) -> Result<Turned, TurnError>
-    ensures done { IfOk result (λ turned. (came : Option Arrival)
+    ensures done { IfOk result (λ turned. (came : Option Received)
         × CameIn (must_tick (N.acts node.old now) pace.old.busy_since now) came (P.received port.old) (P.received port.new)
         × (turned.received ≡ is_some came)
-        × N.is_step node.old now draw.now came turned.step node.new
+        × N.is_step node.old (cause_of now draw.now came) turned.step node.new
         × (P.sent port.new ≡ grown (P.sent port.old) turned.step.out)) }
     ensures fault { IfOk result (λ turned. CountsFault turned.fault (P.failures port.old) (P.failures port.new)) }
     ensures pace { IfOk result (λ turned. pace.new.busy_since ≡ busy_after pace.old.busy_since now turned.received) }
@@ -76,10 +76,20 @@ pub fn paced_turn<A: Ciphers, P: Port, N: Node<A>>(
     ensures not_sent { OnErr result (P.sent port.new ≡ P.sent port.old) }
     ensures pace_kept { OnErr result (pace.new ≡ pace.old) }
 {
-    let due = node.is_due(now) || pace.is_due(now);
+    let due = acts::<A, N>(node, now) || pace.is_due(now);
     let turned = turn_by::<A, P, N>(alloc, port, node, due, now, draw)?;
     *pace = pace.after(now, turned.received);
     Ok(turned)
+}
+
+// Whether something of the node's own is due at this moment: its first deadline isn't above it.
+fn acts<A: Ciphers, N: Node<A>>(node: &N, now: Moment) -> bool
+    ensures { result ≡ N.acts node.now now }
+{
+    match node.next_due() {
+        Some(first) => first <= now.ms,
+        None => false,
+    }
 }
 
 // A turn that is a tick, or that takes what came.
@@ -91,10 +101,10 @@ fn turn_by<A: Ciphers, P: Port, N: Node<A>>(
     now: Moment,
     draw: &Draw,
 ) -> Result<Turned, TurnError>
-    ensures done { IfOk result (λ turned. (came : Option Arrival)
+    ensures done { IfOk result (λ turned. (came : Option Received)
         × CameIn due came (P.received port.old) (P.received port.new)
         × (turned.received ≡ is_some came)
-        × N.is_step node.old now draw.now came turned.step node.new
+        × N.is_step node.old (cause_of now draw.now came) turned.step node.new
         × (P.sent port.new ≡ grown (P.sent port.old) turned.step.out)) }
     ensures fault { IfOk result (λ turned. CountsFault turned.fault (P.failures port.old) (P.failures port.new)) }
     ensures refused { IfErr result (λ error. IsRefusedIn due error
@@ -117,7 +127,7 @@ fn ticked<A: Ciphers, P: Port, N: Node<A>>(
     now: Moment,
     draw: &Draw,
 ) -> Turned
-    ensures ticks { N.is_step node.old now draw.now None result.step node.new }
+    ensures ticks { N.is_step node.old (cause_of now draw.now None) result.step node.new }
     ensures sent { P.sent port.new ≡ grown (P.sent port.old) result.step.out }
     ensures nothing { result.received ≡ false }
     ensures fault { CountsFault result.fault (P.failures port.old) (P.failures port.new) }

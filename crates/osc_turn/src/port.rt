@@ -1,7 +1,7 @@
 //! What takes datagrams and gives them.
 ghost use Rattle.std.specs.Prelude.{◌≡◌, ◌≤◌, ◌<◌, [], ◌∷◌, ℕ, List, Option, IfOk, IfSome, OnErr, OnOk};
 ghost use Rattle.osc_model.specs.declared.step.Datagram.{Datagram};
-ghost use Rattle.osc_turn.specs.Ports.{Arrival, arrival, grown};
+ghost use Rattle.osc_turn.specs.Ports.{Received, grown, received_in};
 
 use osc_model::Peer;
 use thiserror::Error;
@@ -29,7 +29,7 @@ pub trait Port {
     ghost failures: { Self → ℕ };
 
     // What each receive that didn't fail gave so far: a datagram with its sender, or nothing.
-    ghost received: { Self → Option (List (Option Arrival)) };
+    ghost received: { Self → Option (List (Option Received)) };
 
     // The datagrams that it was asked to send so far, whether or not that failed.
     ghost sent: { Self → Option (List Datagram) };
@@ -38,7 +38,7 @@ pub trait Port {
     /// reads has 1152 bytes; of one that is longer than the buffer the first 1153 bytes are handed over.
     fn receive(&mut self, buffer: &mut [u8; 1153]) -> Result<Option<(Peer, usize)>, PortFault>
         ensures within { IfOk result (λ got. IfSome got (λ datagram. datagram.1 ≤ 1153)) }
-        ensures received { IfOk result (λ got. received self.new ≡ grown (received self.old) (arrival buffer.new got ∷ [])) }
+        ensures received { IfOk result (λ got. received self.new ≡ grown (received self.old) (received_in buffer.new got ∷ [])) }
         ensures not_received { OnErr result (received self.new ≡ received self.old) }
         ensures not_sent { sent self.new ≡ sent self.old }
         ensures counted { OnErr result (failures self.old < failures self.new) }

@@ -1,13 +1,13 @@
 //! One turn of a node at its port.
 ghost use Rattle.std.specs.Prelude.{◌≡◌, ◌≤◌, ◌∷◌, [], Option, IfErr, IfOk, IfSome, IsErr, IsSome, OnErr, is_some};
-ghost use Rattle.osc_turn.specs.Ports.{Arrival, CountsFault, arrival, grown};
+ghost use Rattle.osc_turn.specs.Ports.{CountsFault, Received, cause_of, grown, received_in};
 ghost use Rattle.osc_turn.specs.Turns.{IsRefusedBy};
 
 use crate::error::TurnError;
-use crate::node::Node;
 use crate::port::{Port, PortFault};
 use osc_model::{Datagram, Draw, Moment, Peer, Step};
 use osc_protect::Ciphers;
+use osc_run::Node;
 use std::alloc::{AllocError, Global};
 
 /// A turn that made a step.
@@ -34,10 +34,10 @@ pub fn turn<A: Ciphers, P: Port, N: Node<A>>(
     now: Moment,
     draw: &Draw,
 ) -> Result<Turned, TurnError>
-    ensures done { IfOk result (λ turned. (came : Option Arrival)
+    ensures done { IfOk result (λ turned. (came : Option Received)
         × (P.received port.new ≡ grown (P.received port.old) (came ∷ []))
         × (turned.received ≡ is_some came)
-        × N.is_step node.old now draw.now came turned.step node.new
+        × N.is_step node.old (cause_of now draw.now came) turned.step node.new
         × (P.sent port.new ≡ grown (P.sent port.old) turned.step.out)) }
     ensures fault { IfOk result (λ turned. CountsFault turned.fault (P.failures port.old) (P.failures port.new)) }
     ensures refused { IfErr result (λ error. IsRefusedBy error (P.received port.old) (P.received port.new) (P.failures port.old) (P.failures port.new)) }
@@ -69,7 +69,7 @@ fn step_of<A: Ciphers, N: Node<A>>(
     got: Option<(Peer, usize)>,
 ) -> Result<Step, AllocError>
     requires { IfSome got (λ datagram. datagram.1 ≤ 1153) }
-    ensures made { IfOk result (λ step. N.is_step node.old now draw.now (arrival buffer.now got) step node.new) }
+    ensures made { IfOk result (λ step. N.is_step node.old (cause_of now draw.now (received_in buffer.now got)) step node.new) }
     ensures err { OnErr result (node.new ≡ node.old) }
     ensures came { IsErr result → IsSome got }
 {

@@ -1,6 +1,6 @@
 -- What is lost came.
 use Rattle.std.proofs.Common.{ap, is_err}
-use Rattle.osc_turn.proofs.Both.{has_lost}
+use Rattle.osc_turn.proofs.Lost.{has_lost}
 use Rattle.osc_turn.proofs.turning.turn.Goals as goal
 
 pub returns-in-Err-clause-refused : goal.returns-in-Err-clause-refused
