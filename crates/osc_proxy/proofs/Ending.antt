@@ -9,10 +9,11 @@ use Rattle.osc_model.specs.declared.node.Moment.{Moment}
 use Rattle.osc_model.specs.declared.step.Datagram.{Datagram}
 use Rattle.osc_message.specs.Endpoint.{EndpointState}
 use Rattle.osc_message.specs.declared.name.MessageName.{MessageName}
-use Rattle.osc_proxy.specs.Exchanges.{Table, count}
+use Rattle.osc_proxy.specs.Exchanges.{count}
 use Rattle.osc_proxy.specs.Own.{goes_now, sends_own}
+use Rattle.osc_proxy.specs.State.{State}
 use Rattle.osc_proxy.specs.Table.{back_sends, has_way_back}
-use Rattle.osc_proxy.specs.Ticks.{AllEnd, timeout, without_its}
+use Rattle.osc_proxy.specs.Ticks.{AllEnd, timed_out, timeout, without_its}
 use Rattle.osc_proxy.specs.Ticks.AllEnd.{none_is, one_is}
 use Rattle.osc_proxy.specs.declared.exchanges.Exchange.{Exchange}
 
@@ -26,10 +27,11 @@ pub one_back : (endpoint : EndpointState) (exchange : Exchange) (message : Messa
 one_back endpoint exchange message = sends_few (has_way_back endpoint exchange) (goes_now exchange.confirmable exchange.client endpoint) exchange.client (spelling message)
 
 -- each ending sends one datagram at most
-pub few_end : (now : Moment) (draw : Draw) (names : List MessageName) (table last : Table) (endpoint last_endpoint : EndpointState) (out : List Datagram)
-    → AllEnd now draw names table endpoint out last last_endpoint → length out ≤ count table
-few_end now draw names table last endpoint last_endpoint out (none_is t e none) = omega arith
-few_end now draw names table last endpoint last_endpoint out (one_is t next l e le key exchange later found closes lawful rest) =
-    let few = few_end now draw names next last _ last_endpoint later rest in
-    let one = one_back (without_its e exchange) exchange (timeout e draw exchange) in
-    omega (arith, few, one, closes.fewer, length-append (back_sends (without_its e exchange) exchange (timeout e draw exchange)) later)
+pub few_end : (now : Moment) (draw : Draw) (names : List MessageName) (old new : State) (out : List Datagram) → AllEnd now draw names old out new
+    → length out ≤ count old.exchanges
+few_end now draw names old new out (none_is state none) = omega arith
+few_end now draw names old new out (one_is was last left key exchange later found closes lawful rest) =
+    let few = few_end now draw names (timed_out was now draw exchange left) last later rest in
+    let answer = timeout was.endpoint draw exchange in
+    let one = one_back (without_its was.endpoint exchange) exchange answer in
+    omega (arith, few, one, closes.fewer, length-append (back_sends (without_its was.endpoint exchange) exchange answer) later)

@@ -23,8 +23,8 @@ use Rattle.osc_proxy.specs.Ends.{EachHasItsExchange, is_its, is_of_over, is_requ
 use Rattle.osc_proxy.specs.Exchanges.{Table, count, entries, get, is_overdue, lifetime}
 use Rattle.osc_proxy.specs.Own.{goes_now, sends_own}
 use Rattle.osc_proxy.specs.State.{State}
-use Rattle.osc_proxy.specs.Table.{back_kept, back_sends, has_way_back}
-use Rattle.osc_proxy.specs.Ticks.{AllEnd, AreOfExchanges, IsOfExchange, Ticks, is_given_up, is_over, timeout, without_its, without_over_in}
+use Rattle.osc_proxy.specs.Table.{back_sends, has_way_back}
+use Rattle.osc_proxy.specs.Ticks.{AllEnd, AreOfExchanges, IsOfExchange, Ticks, is_given_up, is_over, timed_out, timeout, without_its, without_over_in}
 use Rattle.osc_proxy.specs.Ticks.AllEnd.{none_is, one_is}
 use Rattle.osc_proxy.specs.declared.exchanges.Exchange.{Exchange}
 use Rattle.osc_proxy.proofs.Codes.{no_request}
@@ -34,19 +34,22 @@ use Rattle.osc_proxy.proofs.Keys.{none_found, none_passes, some_found}
 
 -- ---- no exchange is over
 
-none_left : (now : Moment) (draw : Draw) (names : List MessageName) (table last : Table) (endpoint last_endpoint : EndpointState) (out : List Datagram)
-    → AllEnd now draw names table endpoint out last last_endpoint
-    → (key : ℕ) (exchange : Exchange) → get last key ≡ Some exchange → is_over now names exchange ≡ false
-none_left now draw names table last endpoint last_endpoint out (none_is t e none) = none_passes (is_over now names) t none
-none_left now draw names table last endpoint last_endpoint out (one_is t next l e le key exchange later found closes lawful rest) =
-    none_left now draw names next l _ le later rest
+none_left : (now : Moment) (draw : Draw) (names : List MessageName) (old new : State) (out : List Datagram) → AllEnd now draw names old out new
+    → (key : ℕ) (exchange : Exchange) → get new.exchanges key ≡ Some exchange → is_over now names exchange ≡ false
+none_left now draw names old new out (none_is state none) = none_passes (is_over now names) state.exchanges none
+none_left now draw names old new out (one_is was last left key exchange later found closes lawful rest) =
+    none_left now draw names (timed_out was now draw exchange left) last later rest
+
+-- once what is due was done
+abbrev begun : Moment → State → State
+begun now old = record old { endpoint = after_tick now (without_over_in now old) }
 
 pub none_overdue : (old new : State) (now : Moment) (draw : Draw) (step : Step) → Ticks old now draw step new
     → (key : ℕ) (exchange : Exchange) → get new.exchanges key ≡ Some exchange → is_overdue now exchange ≡ false
 none_overdue old new now draw step ticks key exchange is =
     let names = tick_gives_up now (without_over now old.exchanges old.endpoint.sending) in
     (or_parts (is_given_up names exchange) (is_overdue now exchange)
-    (none_left now draw names old.exchanges new.exchanges (after_tick now (without_over_in now old)) new.endpoint ticks.answers ticks.ends key exchange is)).1
+    (none_left now draw names (begun now old) new ticks.answers ticks.ends key exchange is)).1
 
 pub left_ends : (old new : State) (now : Moment) (draw : Draw) (step : Step) → Ticks old now draw step new
     → (key : ℕ) (exchange : Exchange) → get new.exchanges key ≡ Some exchange → now.ms < exchange.opened.ms + lifetime
@@ -58,15 +61,15 @@ left_ends old new now draw step ticks key exchange is =
 timeout_is_none : (endpoint : EndpointState) (draw : Draw) (exchange : Exchange) → is_request (spelling (timeout endpoint draw exchange)) ≡ false
 timeout_is_none endpoint draw exchange = no_request (timeout endpoint draw exchange) refl
 
-each_left : (now : Moment) (draw : Draw) (names : List MessageName) (table last : Table) (endpoint last_endpoint : EndpointState) (out : List Datagram)
-    → AllEnd now draw names table endpoint out last last_endpoint → EachHasItsExchange table endpoint.sending
-    → EachHasItsExchange last last_endpoint.sending
-each_left now draw names table last endpoint last_endpoint out (none_is t e none) each = each
-each_left now draw names table last endpoint last_endpoint out (one_is t next l e le key exchange later found closes lawful rest) each =
-    let answer = timeout e draw exchange in
-    each_left now draw names next l (back_kept (without_its e exchange) now draw exchange answer) le later rest
-    (each_back next exchange.confirmable (without_its e exchange) now draw exchange.client (spelling answer) (λ _. timeout_is_none e draw exchange)
-    (each_closed t next key exchange (is_its exchange) e.sending closes.was closes.closed (λ message its. its) each))
+each_left : (now : Moment) (draw : Draw) (names : List MessageName) (old new : State) (out : List Datagram) → AllEnd now draw names old out new
+    → EachHasItsExchange old.exchanges old.endpoint.sending → EachHasItsExchange new.exchanges new.endpoint.sending
+each_left now draw names old new out (none_is state none) each = each
+each_left now draw names old new out (one_is was last left key exchange later found closes lawful rest) each =
+    let answer = timeout was.endpoint draw exchange in
+    each_left now draw names (timed_out was now draw exchange left) last later rest
+    (each_back left exchange.confirmable (without_its was.endpoint exchange) now draw exchange.client (spelling answer)
+    (λ _. timeout_is_none was.endpoint draw exchange)
+    (each_closed was.exchanges left key exchange (is_its exchange) was.endpoint.sending closes.was closes.closed (λ message its. its) each))
 
 pub each_after : (old new : State) (now : Moment) (draw : Draw) (step : Step) → Ticks old now draw step new
     → EachHasItsExchange old.exchanges old.endpoint.sending → EachHasItsExchange new.exchanges new.endpoint.sending
@@ -74,7 +77,7 @@ each_after old new now draw step ticks each =
     let left = without_over now old.exchanges old.endpoint.sending in
     let kept : EachHasItsExchange old.exchanges left =
     All-filter (λ message. not (is_of_over now (entries old.exchanges) message)) (Its old.exchanges) old.endpoint.sending each in
-    each_left now draw (tick_gives_up now left) old.exchanges new.exchanges (after_tick now (without_over_in now old)) new.endpoint ticks.answers ticks.ends
+    each_left now draw (tick_gives_up now left) (begun now old) new ticks.answers ticks.ends
     (each_ticked now old.exchanges left kept)
 
 -- ---- each request that goes out is that of an exchange
@@ -156,13 +159,14 @@ none_back old now endpoint exchange message other = by (has_way_back endpoint ex
     by true = none_of old now exchange.client (spelling message) (goes_now exchange.confirmable exchange.client endpoint) other
     by false = All-nil (Of old now)
 
-of_answers : (old : State) (now : Moment) (draw : Draw) (names : List MessageName) (table last : Table) (endpoint last_endpoint : EndpointState) (out : List Datagram)
-    → AllEnd now draw names table endpoint out last last_endpoint → All (Of old now) out
-of_answers old now draw names table last endpoint last_endpoint out (none_is t e none) = All-nil (Of old now)
-of_answers old now draw names table last endpoint last_endpoint out (one_is t next l e le key exchange later found closes lawful rest) =
-    All-append (Of old now) (back_sends (without_its e exchange) exchange (timeout e draw exchange)) later
-    (none_back old now (without_its e exchange) exchange (timeout e draw exchange) (timeout_is_none e draw exchange))
-    (of_answers old now draw names next l _ le later rest)
+of_answers : (old : State) (now : Moment) (draw : Draw) (names : List MessageName) (first new : State) (out : List Datagram)
+    → AllEnd now draw names first out new → All (Of old now) out
+of_answers old now draw names first new out (none_is state none) = All-nil (Of old now)
+of_answers old now draw names first new out (one_is was last left key exchange later found closes lawful rest) =
+    let answer = timeout was.endpoint draw exchange in
+    All-append (Of old now) (back_sends (without_its was.endpoint exchange) exchange answer) later
+    (none_back old now (without_its was.endpoint exchange) exchange answer (timeout_is_none was.endpoint draw exchange))
+    (of_answers old now draw names (timed_out was now draw exchange left) last later rest)
 
 of_those : (old : State) (now : Moment) (due out : List Datagram) → GoesOut due out → All (Of old now) due → All (Of old now) out
 of_those old now due out (inl all) each = All-same (Of old now) out due all each
@@ -176,7 +180,7 @@ requests_are old new now draw step ticks each =
     (All-append (Of old now) ticks.repeats ticks.told_answers
     (of_those old now _ ticks.repeats ticks.repeated (of_sent old now each))
     (of_those old now ticks.answers ticks.told_answers ticks.answered
-    (of_answers old now draw names old.exchanges new.exchanges (after_tick now (without_over_in now old)) new.endpoint ticks.answers ticks.ends)))
+    (of_answers old now draw names (begun now old) new ticks.answers ticks.ends)))
 
 -- ---- how much is sent
 
@@ -195,6 +199,6 @@ few_sent few old new now draw step ticks =
     let sent = few now left in
     let kept = fewer (λ message. not (is_of_over now (entries old.exchanges) message)) old.endpoint.sending in
     let answers = those_few ticks.answers ticks.told_answers ticks.answered in
-    let ended = few_end now draw (tick_gives_up now left) old.exchanges new.exchanges (after_tick now (without_over_in now old)) new.endpoint ticks.answers ticks.ends in
+    let ended = few_end now draw (tick_gives_up now left) (begun now old) new ticks.answers ticks.ends in
     let whole = ap (λ (s : Step). length s.out) ticks.told ∙ length-append ticks.repeats ticks.told_answers in
     omega (arith, repeats, sent, kept, answers, ended, whole)

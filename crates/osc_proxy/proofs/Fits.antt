@@ -9,7 +9,7 @@ use Rattle.osc_model.specs.declared.step.Step.{Step}
 use Rattle.osc_coap.specs.Message.{Message, spelling}
 use Rattle.osc_message.specs.Endpoint.{EndpointState}
 use Rattle.osc_message.specs.Sending.{AreSendable, FitsDatagram, acknowledgement, datagram, empty_acknowledgement, is_confirmable, sent_to}
-use Rattle.osc_proxy.specs.Going.{back_sends_by}
+use Rattle.osc_proxy.specs.Inner.Going.{back_sends_by}
 use Rattle.osc_proxy.specs.Own.{goes_now, has_room, sends_own}
 
 none_sendable : AreSendable []

@@ -4,6 +4,7 @@ use Rattle.std.specs.Prelude.{cond, filter, codes}
 use Rattle.std.proofs.lemmas.Bool.{cases_Bool, eqb-true}
 use Rattle.osc_coap.specs.Length.{options_length, payload_length, spelled_length}
 use Rattle.osc_coap.specs.Message.{AreOptions, HasSpelling, Message, NumberAndValue, spelling}
+use Rattle.osc_options.specs.Numbers.{proxy_scheme, proxy_uri, uri_host, uri_port}
 use Rattle.osc_options.specs.Recognised.{recognised}
 use Rattle.osc_options.specs.Requests.{value}
 use Rattle.osc_options.specs.Split.{AreInOrder, of_number}
@@ -101,11 +102,11 @@ no_longer exact fewer id token message lawful short =
 
 -- ---- what a request names
 
-pub named_by_options : (options : List NumberAndValue) (named : Option HostAndPort) (host : List ℕ) → value 35 (recognised 0 options) ≡ None
-    → value 39 (recognised 0 options) ≡ Some (codes "coap") → value 3 (recognised 0 options) ≡ Some host → Names options named
-    → named ≡ Some (host, port_in (value 7 (recognised 0 options)))
+pub named_by_options : (options : List NumberAndValue) (named : Option HostAndPort) (host : List ℕ) → value proxy_uri (recognised 0 options) ≡ None
+    → value proxy_scheme (recognised 0 options) ≡ Some (codes "coap") → value uri_host (recognised 0 options) ≡ Some host → Names options named
+    → named ≡ Some (host, port_in (value uri_port (recognised 0 options)))
 named_by_options options named host no_uri scheme is_host names =
     let known = recognised 0 options in
-    let by : named ≡ by_scheme (codes "coap") (value 3 known) (value 7 known) =
-    subst (λ s. NamesBy None s known named) scheme (subst (λ u. NamesBy u (value 39 known) known named) no_uri names) in
-    by ∙ ap (λ h. by_scheme (codes "coap") h (value 7 known)) is_host
+    let by : named ≡ by_scheme (codes "coap") (value uri_host known) (value uri_port known) =
+    subst (λ s. NamesBy None s known named) scheme (subst (λ u. NamesBy u (value proxy_scheme known) known named) no_uri names) in
+    by ∙ ap (λ h. by_scheme (codes "coap") h (value uri_port known)) is_host

@@ -7,6 +7,7 @@ use Rattle.osc_model.specs.declared.node.Peer.{Peer}
 use Rattle.osc_coap.specs.Code.{is_request_code, is_response_code}
 use Rattle.osc_coap.specs.Message.{Message, spelling}
 use Rattle.osc_coap.specs.declared.kind.Kind.TheVariants.{Confirmable, Acknowledgement}
+use Rattle.osc_options.specs.Numbers.{proxy_scheme, proxy_uri}
 use Rattle.osc_options.specs.Recognised.{has_unrecognised_unsafe, recognised}
 use Rattle.osc_options.specs.Requests.{value}
 use Rattle.osc_dedup.specs.Table.{Entry, looked}
@@ -85,7 +86,7 @@ response_heard seen now from message kind response =
 
 pub request_case : (targets : List Target) (exchanges : Table) (from to : Peer) (message : Message) (host : List ℕ) (port : ℕ)
     → is_request_code message.code ≡ true → has_unrecognised_unsafe 0 message.options ≡ false
-    → value 35 (recognised 0 message.options) ≡ None → value 39 (recognised 0 message.options) ≡ Some (codes "coap")
+    → value proxy_uri (recognised 0 message.options) ≡ None → value proxy_scheme (recognised 0 message.options) ≡ Some (codes "coap")
     → peer_of targets host port ≡ Some to
     → message_case targets exchanges from (Some (host, port)) message ≡ Forwarded message to
 request_case targets exchanges from to message host port request safe no_uri scheme target =

@@ -17,10 +17,10 @@ use Rattle.osc_message.specs.Ticks.{after, due_of, dues, ticked}
 use Rattle.osc_message.specs.Timeout.{timeout_of}
 use Rattle.osc_message.specs.declared.due.Due.{Due}
 use Rattle.osc_message.specs.declared.due.Due.TheVariants.{Keep, Send, GiveUp}
-use Rattle.osc_proxy.specs.Bounds.{names_one}
+use Rattle.osc_proxy.specs.Inner.Bounds.{names_one}
 use Rattle.osc_proxy.specs.Ends.{EachHasItsExchange, has_exchange, is_its, is_request}
 use Rattle.osc_proxy.specs.Exchanges.{Changes, Table, get}
-use Rattle.osc_proxy.specs.Going.{back_kept_by}
+use Rattle.osc_proxy.specs.Inner.Going.{back_kept_by}
 use Rattle.osc_proxy.specs.Own.{has_room, with_own}
 use Rattle.osc_proxy.specs.declared.exchanges.Exchange.{Exchange}
 use Rattle.osc_proxy.proofs.Keys.{some_found, there_any}

@@ -4,7 +4,7 @@ use Rattle.osc_coap.specs.declared.kind.Kind.{Kind}
 use Rattle.osc_coap.specs.Message.{NumberAndValue, Message, AreOptions}
 use Rattle.osc_options.specs.Split.{AreInOrder}
 use Rattle.osc_proxy.specs.Forwarding.{answer}
-use Rattle.osc_proxy.specs.Rewriting.{rewritten, stays, staying}
+use Rattle.osc_proxy.specs.Inner.Rewriting.{rewritten, stays, staying}
 use Rattle.osc_proxy.specs.declared.forwarding.Rewriting.{Rewriting}
 use Rattle.osc_proxy.specs.declared.forwarding.Rewriting.TheVariants.{Whole}
 

@@ -2,13 +2,11 @@
 use Rattle.std.proofs.Common.{◌≡◌, ◌≤◌, ◌++◌, ℕ, Bool, true, false, List, length, ap, Option, Some, None, arith}
 use Rattle.std.proofs.lemmas.List.{length-append}
 use Rattle.std.specs.Prelude.{nat_le}
-use Rattle.osc_model.specs.Code.{code}
+use Rattle.osc_model.specs.Arrival.{Arrival, read_as}
 use Rattle.osc_model.specs.Step.{sends}
 use Rattle.osc_model.specs.StepNotes.{quiet}
 use Rattle.osc_model.specs.declared.bytes.Bytes.{Bytes}
 use Rattle.osc_model.specs.declared.code.Code.{Code}
-use Rattle.osc_model.specs.declared.node.Draw.{Draw}
-use Rattle.osc_model.specs.declared.node.Moment.{Moment}
 use Rattle.osc_model.specs.declared.node.Peer.{Peer}
 use Rattle.osc_model.specs.declared.step.Datagram.{Datagram}
 use Rattle.osc_model.specs.declared.step.RefusedRequest.{RefusedRequest}
@@ -19,7 +17,8 @@ use Rattle.osc_message.specs.Heard.{noted_reply}
 use Rattle.osc_message.specs.Sending.{acknowledgement, again, is_confirmable, sent_to}
 use Rattle.osc_proxy.specs.Own.{goes_now, sends_own}
 use Rattle.osc_proxy.specs.State.{State}
-use Rattle.osc_proxy.specs.Table.{Answers, FitsBy, ForwardsBy, IsForwarded, IsRefused, answer_to, back_sends, counted, failure, forwarded_by, key_for, named, next_own, taken_up}
+use Rattle.osc_proxy.specs.Passage.{Passage}
+use Rattle.osc_proxy.specs.Table.{Answers, FitsBy, ForwardsBy, IsForwarded, IsRefused, answer_for, back_sends, counted, forwarded_by, key_for, named, rejection, taken_up}
 use Rattle.osc_proxy.specs.declared.case.Case.{Case}
 use Rattle.osc_proxy.specs.declared.case.Case.TheVariants.{Ignored, Reset, Repeated, Empty, Ended, Refused, Forwarded, Rejected, Dropped, Counted}
 use Rattle.osc_proxy.proofs.Ending.{one_back}
@@ -48,48 +47,47 @@ one_own false to bytes = omega arith
 two : (xs ys : List Datagram) → length xs ≤ 1 → length ys ≤ 1 → length (xs ++ ys) ≤ 2
 two xs ys a b = omega (arith, a, b, length-append xs ys)
 
-refused_small : (why : Code) (old : State) (now : Moment) (from : Peer) (draw : Draw) (message : Message) (step : Step) (new : State)
-    → IsRefused why old now from draw message step new → IsSmall step
-refused_small why old now from draw message step new is = record {
+refused_small : (why : Code) (old : State) (came : Arrival Message) (step : Step) (new : State) → IsRefused why old came step new → IsSmall step
+refused_small why old came step new is = record {
   few = omega (arith, ap (λ (s : Step). length s.out) is.told);
   refused = Some (record { code = why; reason = None });
   nothing = ap (λ (s : Step). s.notes) is.told;
 }
 
-forwarded_small : (key : ℕ) (old : State) (now : Moment) (from : Peer) (draw : Draw) (message : Message) (to : Peer) (step : Step) (new : State)
-    → IsForwarded key old now from draw message to step new → IsSmall step
-forwarded_small key old now from draw message to step new is =
-    let goes = goes_now (is_confirmable message.kind) to (taken_up old now from message) in
+forwarded_small : (old : State) (passage : Passage) (step : Step) (new : State) → IsForwarded old passage step new → IsSmall step
+forwarded_small old passage step new is =
+    let from = passage.came.from in
+    let message = passage.came.what in
+    let goes = goes_now (is_confirmable message.kind) passage.to (taken_up old passage.came) in
     small step _ is.told
-    (two (sent_to from (acknowledgement message)) (sends_own goes to (spelling (forwarded_by old draw key message))) (one_sent_to from (acknowledgement message))
-    (one_own goes to (spelling (forwarded_by old draw key message))))
+    (two (sent_to from (acknowledgement message)) (sends_own goes passage.to (spelling (forwarded_by old passage))) (one_sent_to from (acknowledgement message))
+    (one_own goes passage.to (spelling (forwarded_by old passage))))
 
-fits_small : (fits : Bool) (key : ℕ) (old : State) (now : Moment) (from : Peer) (draw : Draw) (message : Message) (to : Peer) (step : Step) (new : State)
-    → FitsBy fits key old now from draw message to step new → IsSmall step
-fits_small false key old now from draw message to step new is = refused_small _ old now from draw message step new is
-fits_small true key old now from draw message to step new is = forwarded_small key old now from draw message to step new is
+fits_small : (fits : Bool) (old : State) (passage : Passage) (step : Step) (new : State) → FitsBy fits old passage step new → IsSmall step
+fits_small false old passage step new is = refused_small _ old passage.came step new is
+fits_small true old passage step new is = forwarded_small old passage step new is
 
-forwards_small : (found : Option ℕ) (old : State) (now : Moment) (from : Peer) (draw : Draw) (message : Message) (to : Peer) (step : Step) (new : State)
-    → ForwardsBy found old now from draw message to step new → IsSmall step
-forwards_small None old now from draw message to step new is = refused_small _ old now from draw message step new is
-forwards_small (Some key) old now from draw message to step new is =
-    fits_small (nat_le (length (spelling (forwarded_by old draw key message))) datagram_limit) key old now from draw message to step new is
+forwards_small : (found : Option ℕ) (old : State) (came : Arrival Message) (to : Peer) (step : Step) (new : State)
+    → ForwardsBy found old came to step new → IsSmall step
+forwards_small None old came to step new is = refused_small _ old came step new is
+forwards_small (Some key) old came to step new is =
+    let passage : Passage = record { came = came; to = to; key = key } in
+    fits_small (nat_le (length (spelling (forwarded_by old passage))) datagram_limit) old passage step new is
 
-pub small_step : (old : State) (now : Moment) (from : Peer) (draw : Draw) (case : Case) (step : Step) (new : State)
-    → Answers old now from draw case step new → IsSmall step
-small_step old now from draw Ignored step new is = small step _ is.0 (omega arith)
-small_step old now from draw (Reset id) step new is = small step _ is.0 (omega arith)
-small_step old now from draw (Repeated id) step new is = small step _ is.0 (one_again from (noted_reply old.endpoint.seen now from id))
-small_step old now from draw (Empty kind id) step new is = small step _ is.0 (omega arith)
-small_step old now from draw (Ended id key) step new is =
-    small step _ is.told (omega (arith, one_back (named old now from id) is.exchange (failure (code 5 2) (next_own old draw) is.exchange)))
-small_step old now from draw (Refused message why) step new is = refused_small why old now from draw message step new is
-small_step old now from draw (Forwarded message to) step new is = forwards_small (key_for old message to) old now from draw message to step new is
-small_step old now from draw (Counted message key) step new is =
+pub small_step : (old : State) (came : Arrival (List ℕ)) (case : Case) (step : Step) (new : State) → Answers old came case step new → IsSmall step
+small_step old came Ignored step new is = small step _ is.0 (omega arith)
+small_step old came (Reset id) step new is = small step _ is.0 (omega arith)
+small_step old came (Repeated id) step new is = small step _ is.0 (one_again came.from (noted_reply old.endpoint.seen came.at came.from id))
+small_step old came (Empty kind id) step new is = small step _ is.0 (omega arith)
+small_step old came (Ended id key) step new is =
+    small step _ is.told (omega (arith, one_back (named old (read_as came id)) is.exchange (rejection old came.draw is.exchange)))
+small_step old came (Refused message why) step new is = refused_small why old (read_as came message) step new is
+small_step old came (Forwarded message to) step new is = forwards_small (key_for old message to) old (read_as came message) to step new is
+small_step old came (Counted message key) step new is =
+    let it : Arrival Message = read_as came message in
+    let answer = answer_for old it is.exchange in
     small step _ is.told
-    (two (sent_to from (acknowledgement message))
-    (back_sends (counted old now from message is.exchange) is.exchange (answer_to (next_own old draw) is.exchange message))
-    (one_sent_to from (acknowledgement message))
-    (one_back (counted old now from message is.exchange) is.exchange (answer_to (next_own old draw) is.exchange message)))
-small_step old now from draw (Rejected message) step new is = small step _ is.0 (omega arith)
-small_step old now from draw (Dropped message) step new is = small step _ is.0 (omega arith)
+    (two (sent_to came.from (acknowledgement message)) (back_sends (counted old it is.exchange) is.exchange answer)
+    (one_sent_to came.from (acknowledgement message)) (one_back (counted old it is.exchange) is.exchange answer))
+small_step old came (Rejected message) step new is = small step _ is.0 (omega arith)
+small_step old came (Dropped message) step new is = small step _ is.0 (omega arith)

@@ -5,6 +5,7 @@ use Rattle.std.proofs.lemmas.Bool.{eq-eqb, le-leb}
 use Rattle.std.proofs.lemmas.List.Elements.{All-head}
 use Rattle.std.proofs.lemmas.Option.{same_Some}
 use Rattle.std.proofs.lemmas.Slice.Eq.{bytes_eq-Decides}
+use Rattle.osc_model.specs.Arrival.{Arrival}
 use Rattle.osc_model.specs.Draw.{token_drawn}
 use Rattle.osc_model.specs.Step.{sends}
 use Rattle.osc_model.specs.declared.node.Draw.{Draw}
@@ -15,6 +16,7 @@ use Rattle.osc_model.specs.declared.step.Step.{Step}
 use Rattle.osc_coap.specs.Length.{datagram_limit}
 use Rattle.osc_coap.specs.Message.{HasSpelling, Message, spelling}
 use Rattle.osc_coap.specs.declared.kind.Kind.TheVariants.{Confirmable, Acknowledgement}
+use Rattle.osc_options.specs.Numbers.{uri_port}
 use Rattle.osc_options.specs.Recognised.{recognised}
 use Rattle.osc_options.specs.Requests.{value}
 use Rattle.osc_message.specs.Confirmables.{acknowledged, has_open, takes, with_open}
@@ -30,10 +32,11 @@ use Rattle.osc_proxy.specs.Forwarding.{answer, forwarded, forwarded_token}
 use Rattle.osc_proxy.specs.Hearing.{Hears}
 use Rattle.osc_proxy.specs.Own.{goes_now, sends_own, with_own}
 use Rattle.osc_proxy.specs.ProxyUri.{HostAndPort}
+use Rattle.osc_proxy.specs.Passage.{Passage}
 use Rattle.osc_proxy.specs.Route.{Names, port_in}
 use Rattle.osc_proxy.specs.State.{State}
-use Rattle.osc_proxy.specs.Table.{Answers, Counts, FitsBy, ForwardsBy, IsForwarded, answer_to, back_kept, back_sends, counted, exchange_of, forwarded_by, key_for, next_own, taken_up}
-use Rattle.osc_proxy.specs.ThereAndBack.{CanSendTo, IsAnswerTo, IsAtRest, IsBroughtBack, IsCarried, IsLawfulProxy, IsPassedOn, TakesUp, answer_by, answer_id, heard_with}
+use Rattle.osc_proxy.specs.Table.{Answers, Counts, FitsBy, ForwardsBy, IsForwarded, answer_for, back_kept, back_sends, counted, exchange_of, forwarded_by, kept_on, key_for, next_own, taken_up}
+use Rattle.osc_proxy.specs.ThereAndBack.{CanSendTo, IsAnswerTo, IsAtRest, IsBroughtBack, IsCarried, IsLawfulProxy, IsPassedOn, TakesUp, acknowledged_at, answer_by, answer_id, answered_at, datagram_of, heard_with}
 use Rattle.osc_proxy.specs.declared.case.Case.TheVariants.{Empty, Forwarded, Counted}
 use Rattle.osc_proxy.specs.declared.exchanges.Exchange.{Exchange}
 use Rattle.osc_proxy.proofs.Its.{peer_same}
@@ -60,58 +63,63 @@ token_short key draw = eight (drop 8 draw.0)
     eight : (bytes : List ℕ) → length (key ∷ drop 1 (take 8 bytes)) ≤ 8
     eight bytes = omega (arith, length-drop 1 (take 8 bytes), length-take 8 bytes)
 
-module _ (laws : PassingLaws) (proxy passed : State) (now : Moment) (draw : Draw) (from to : Peer) (message : Message) (key : ℕ) (step : Step)
-    (takes_up : TakesUp proxy now from to message key) where
+module _ (laws : PassingLaws) (proxy passed : State) (passage : Passage) (step : Step) (takes_up : TakesUp proxy passage) where
+  abbrev came : Arrival Message
+  came = passage.came
+
+  abbrev message : Message
+  message = passage.came.what
+
   abbrev there : Message
-  there = forwarded_by proxy draw key message
+  there = forwarded_by proxy passage
 
   there_short : length (spelling there) ≤ datagram_limit
   there_short =
-      let small = token_short key draw in
-      let token : length (forwarded_token key draw) ≤ length message.token = omega (arith, small, takes_up.token) in
-      omega (arith, laws.no_longer (next_own proxy draw) (forwarded_token key draw) message takes_up.carried.lawful token, takes_up.carried.short)
+      let small = token_short passage.key came.draw in
+      let token : length (forwarded_token passage.key came.draw) ≤ length message.token = omega (arith, small, takes_up.token) in
+      omega (arith, laws.no_longer (next_own proxy came.draw) (forwarded_token passage.key came.draw) message takes_up.carried.lawful token, takes_up.carried.short)
 
-  key_is : key_for proxy message to ≡ Some key
+  key_is : key_for proxy message passage.to ≡ Some passage.key
   key_is = rw takes_up.kind (rw takes_up.there.room takes_up.free)
 
   case_is : (named : Option HostAndPort) → Names message.options named
-      → case_of proxy.targets proxy.exchanges from named (heard_as.Message message) ≡ Forwarded message to
+      → case_of proxy.targets proxy.exchanges came.from named (heard_as.Message message) ≡ Forwarded message passage.to
   case_is named names =
-      let port = port_in (value 7 (recognised 0 message.options)) in
+      let port = port_in (value uri_port (recognised 0 message.options)) in
       let same : named ≡ Some (takes_up.host, port) =
       named_by_options message.options named takes_up.host takes_up.no_uri takes_up.scheme takes_up.host_is names in
-      ap (λ n. message_case proxy.targets proxy.exchanges from n message) same
-      ∙ request_case proxy.targets proxy.exchanges from to message takes_up.host port takes_up.request takes_up.safe takes_up.no_uri takes_up.scheme takes_up.target
+      ap (λ n. message_case proxy.targets proxy.exchanges came.from n message) same
+      ∙ request_case proxy.targets proxy.exchanges came.from passage.to message takes_up.host port takes_up.request takes_up.safe takes_up.no_uri takes_up.scheme takes_up.target
 
-  goes_is : goes_now (is_confirmable message.kind) to (taken_up proxy now from message) ≡ true
+  goes_is : goes_now (is_confirmable message.kind) passage.to (taken_up proxy came) ≡ true
   goes_is = rw takes_up.kind (rw takes_up.there.idle refl)
 
   acknowledges : acknowledgement message ≡ Some (empty_acknowledgement message.id)
   acknowledges = rw takes_up.kind refl
 
   out_is : (goes : Bool) → goes ≡ true
-      → sends (sent_to from (acknowledgement message) ++ sends_own goes to (spelling there))
-      ≡ sends (datagram from (empty_acknowledgement message.id) ∷ datagram to there ∷ [])
+      → sends (sent_to came.from (acknowledgement message) ++ sends_own goes passage.to (spelling there))
+      ≡ sends (datagram came.from (empty_acknowledgement message.id) ∷ datagram passage.to there ∷ [])
   out_is goes is =
-      ap (λ g. sends (sent_to from (acknowledgement message) ++ sends_own g to (spelling there))) is
-      ∙ ap (λ m. sends (sent_to from m ++ sends_own true to (spelling there))) acknowledges
+      ap (λ g. sends (sent_to came.from (acknowledgement message) ++ sends_own g passage.to (spelling there))) is
+      ∙ ap (λ m. sends (sent_to came.from m ++ sends_own true passage.to (spelling there))) acknowledges
 
-  made_id : (with_own (is_confirmable message.kind) (taken_up proxy now from message) now draw to (spelling there)).next_id ≡ Some (answer_id proxy draw)
+  made_id : (kept_on proxy passage).next_id ≡ Some (answer_id proxy came.draw)
   made_id = rw takes_up.kind refl
 
-  made_sending : (with_own (is_confirmable message.kind) (taken_up proxy now from message) now draw to (spelling there)).sending
-      ≡ with_open now to (next_own proxy draw) (timeout_of draw) (spelling there) proxy.endpoint.sending
+  made_sending : (kept_on proxy passage).sending
+      ≡ with_open came.at passage.to (next_own proxy came.draw) (timeout_of came.draw) (spelling there) proxy.endpoint.sending
   made_sending = rw takes_up.kind refl
 
-  made_seen : (with_own (is_confirmable message.kind) (taken_up proxy now from message) now draw to (spelling there)).seen ≡ heard_with proxy now from message
+  made_seen : (kept_on proxy passage).seen ≡ heard_with proxy came
   made_seen = rw takes_up.kind refl
 
-  passed_so : IsForwarded key proxy now from draw message to step passed → IsPassedOn proxy now draw from to message key step passed
+  passed_so : IsForwarded proxy passage step passed → IsPassedOn proxy passage step passed
   passed_so is =
       record {
         acknowledgement = acknowledgement_carried laws message.id takes_up.carried.lawful.id;
         forwarded = record { lawful = is.lawful; short = there_short };
-        told = is.told ∙ out_is (goes_now (is_confirmable message.kind) to (taken_up proxy now from message)) goes_is;
+        told = is.told ∙ out_is (goes_now (is_confirmable message.kind) passage.to (taken_up proxy came)) goes_is;
         targets = is.targets;
         exchange = is.opened;
         more = is.more;
@@ -120,22 +128,22 @@ module _ (laws : PassingLaws) (proxy passed : State) (now : Moment) (draw : Draw
         sending = ap (λ (e : EndpointState). e.sending) is.endpoint ∙ made_sending;
       }
 
-  forwards : ForwardsBy (key_for proxy message to) proxy now from draw message to step passed → IsForwarded key proxy now from draw message to step passed
+  forwards : ForwardsBy (key_for proxy message passage.to) proxy came passage.to step passed → IsForwarded proxy passage step passed
   forwards is =
-      subst (λ fits. FitsBy fits key proxy now from draw message to step passed) (le-leb (length (spelling there)) datagram_limit there_short)
-      (subst (λ found. ForwardsBy found proxy now from draw message to step passed) key_is is)
+      subst (λ fits. FitsBy fits proxy passage step passed) (le-leb (length (spelling there)) datagram_limit there_short)
+      (subst (λ found. ForwardsBy found proxy came passage.to step passed) key_is is)
 
-  pub is_passed_on : Hears proxy now draw from (spelling message) step passed → IsPassedOn proxy now draw from to message key step passed
+  pub is_passed_on : Hears proxy (datagram_of passage) step passed → IsPassedOn proxy passage step passed
   is_passed_on hears =
       let received : hears.received ≡ received_as.Message message =
       message_received laws.one_reception message hears.received takes_up.carried hears.receives in
-      let as_it : heard proxy.endpoint.seen now from hears.received ≡ heard_as.Message message =
-      ap (heard proxy.endpoint.seen now from) received
-      ∙ request_heard proxy.endpoint.seen now from message takes_up.kind takes_up.request takes_up.unheard in
+      let as_it : heard proxy.endpoint.seen came.at came.from hears.received ≡ heard_as.Message message =
+      ap (heard proxy.endpoint.seen came.at came.from) received
+      ∙ request_heard proxy.endpoint.seen came.at came.from message takes_up.kind takes_up.request takes_up.unheard in
       let names : Names message.options hears.named = subst (λ h. NamesIn h hears.named) as_it hears.names in
-      let case : case_of proxy.targets proxy.exchanges from hears.named (heard proxy.endpoint.seen now from hears.received) ≡ Forwarded message to =
-      ap (case_of proxy.targets proxy.exchanges from hears.named) as_it ∙ case_is hears.named names in
-      passed_so (forwards (subst (λ c. Answers proxy now from draw c step passed) case hears.answers))
+      let case : case_of proxy.targets proxy.exchanges came.from hears.named (heard proxy.endpoint.seen came.at came.from hears.received) ≡ Forwarded message passage.to =
+      ap (case_of proxy.targets proxy.exchanges came.from hears.named) as_it ∙ case_is hears.named names in
+      passed_so (forwards (subst (λ c. Answers proxy (datagram_of passage) c step passed) case hears.answers))
 
 -- ---- back
 
@@ -155,147 +163,161 @@ one_fits : (step : Step) (to : Peer) (message : Message) → step ≡ sends (dat
 one_fits step to message told fits =
     All-head (λ (sent : Datagram). FitsDatagram sent.bytes) (datagram to message) [] (subst (λ (s : Step). AreSendable s.out) told fits)
 
-module _ (laws : PassingLaws) (proxy passed brought : State) (now later : Moment) (draw later_draw : Draw) (from to : Peer) (message response : Message) (key : ℕ)
-    (first step : Step) (lawful : IsLawfulProxy proxy) (takes_up : TakesUp proxy now from to message key) (back : CanSendTo proxy from)
-    (is : IsPassedOn proxy now draw from to message key first passed)
-    (answers_it : IsAnswerTo (forwarded_by proxy draw key message) response) where
+module _ (laws : PassingLaws) (proxy passed brought : State) (passage : Passage) (later : Moment) (later_draw : Draw) (response : Message)
+    (first step : Step) (lawful : IsLawfulProxy proxy) (takes_up : TakesUp proxy passage) (back : CanSendTo proxy passage.came.from)
+    (is : IsPassedOn proxy passage first passed) (answers_it : IsAnswerTo (forwarded_by proxy passage) response) where
+  abbrev client : Peer
+  client = passage.came.from
+
+  -- the message ID of the forwarded message
+  abbrev there_id : ℕ
+  there_id = next_own proxy passage.came.draw
+
   abbrev its : Exchange
-  its = exchange_of key (next_own proxy draw) now from draw message to
+  its = exchange_of there_id passage
 
   abbrev goes_back : Message
-  goes_back = answer_by proxy draw message response
+  goes_back = answer_by proxy passage response
+
+  abbrev back_id : ℕ
+  back_id = answer_id proxy passage.came.draw
+
+  -- the response as it came
+  abbrev it : Arrival Message
+  it = record { at = later; from = passage.to; draw = later_draw; what = response }
 
   its_confirmable : its.confirmable ≡ true
   its_confirmable = ap is_confirmable takes_up.kind
 
-  answers_its : answers to response its ≡ true
+  answers_its : answers passage.to response its ≡ true
   answers_its =
       let token : bytes_eq its.token response.token ≡ true = (bytes_eq-Decides its.token response.token).1 (sym answers_it.token) in
       let id : nat_eq its.id response.id ≡ true = eq-eqb its.id response.id (sym answers_it.id) in
-      rw (peer_same to to refl, token, answers_it.kind, id) refl
+      rw (peer_same passage.to passage.to refl, token, answers_it.kind, id) refl
 
   tokens : HasOwnTokens passed.exchanges
-  tokens = tokens_stay proxy.exchanges passed.exchanges key its (drop 1 (token_drawn draw)) lawful.own_tokens is.exchange refl
+  tokens = tokens_stay proxy.exchanges passed.exchanges passage.key its (drop 1 (token_drawn passage.came.draw)) lawful.own_tokens is.exchange refl
 
-  found : first_key (answers to response) passed.exchanges ≡ Some key
-  found = found_by_own passed.exchanges to response key its tokens is.exchange.changed answers_its
+  found : first_key (answers passage.to response) passed.exchanges ≡ Some passage.key
+  found = found_by_own passed.exchanges passage.to response passage.key its tokens is.exchange.changed answers_its
 
   case_back : (named : Option HostAndPort)
-      → case_of passed.targets passed.exchanges to named (heard_as.Message response) ≡ Counted response key
-  case_back named = response_case passed.targets passed.exchanges to named response key answers_it.code found
+      → case_of passed.targets passed.exchanges passage.to named (heard_as.Message response) ≡ Counted response passage.key
+  case_back named = response_case passed.targets passed.exchanges passage.to named response passage.key answers_it.code found
 
-  own_next : next_own passed later_draw ≡ answer_id proxy draw
+  own_next : next_own passed later_draw ≡ back_id
   own_next = ap (own_id later_draw) is.next_id
 
-  answer_is : answer_to (next_own passed later_draw) its response ≡ goes_back
-  answer_is = rw (answers_it.safe, takes_up.kind) (ap (λ id. answer Confirmable id message.token response) own_next)
+  answer_is : answer_for passed it its ≡ goes_back
+  answer_is = rw (answers_it.safe, takes_up.kind) (ap (λ id. answer Confirmable id passage.came.what.token response) own_next)
 
   abbrev settled_so : EndpointState
-  settled_so = counted passed later to response its
+  settled_so = counted passed it its
 
   -- what is open once the response has acknowledged the forwarded message
   settled_sending : settled_so.sending ≡ proxy.endpoint.sending
   settled_sending =
-      let once : settled_so.sending ≡ acknowledged to (next_own proxy draw) (acknowledged to response.id passed.endpoint.sending) = rw answers_it.kind refl in
+      let once : settled_so.sending ≡ acknowledged passage.to there_id (acknowledged passage.to response.id passed.endpoint.sending) = rw answers_it.kind refl in
       once
-      ∙ ap (λ id. acknowledged to (next_own proxy draw) (acknowledged to id passed.endpoint.sending)) answers_it.id
-      ∙ ap (λ all. acknowledged to (next_own proxy draw) (acknowledged to (next_own proxy draw) all)) is.sending
-      ∙ acknowledged_twice now to (next_own proxy draw) (timeout_of draw) (spelling (forwarded_by proxy draw key message)) proxy.endpoint.sending takes_up.there.idle
+      ∙ ap (λ id. acknowledged passage.to there_id (acknowledged passage.to id passed.endpoint.sending)) answers_it.id
+      ∙ ap (λ all. acknowledged passage.to there_id (acknowledged passage.to there_id all)) is.sending
+      ∙ acknowledged_twice passage.came.at passage.to there_id (timeout_of passage.came.draw) (spelling (forwarded_by proxy passage)) proxy.endpoint.sending takes_up.there.idle
 
-  has_way : takes from settled_so.sending ≡ true
-  has_way = ap (takes from) settled_sending ∙ back.room
+  has_way : takes client settled_so.sending ≡ true
+  has_way = ap (takes client) settled_sending ∙ back.room
 
-  none_there : has_open from settled_so.sending ≡ false
-  none_there = ap (has_open from) settled_sending ∙ back.idle
+  none_there : has_open client settled_so.sending ≡ false
+  none_there = ap (has_open client) settled_sending ∙ back.idle
 
   no_acknowledgement : acknowledgement response ≡ None
   no_acknowledgement = rw answers_it.kind refl
 
-  told_back : sends (sent_to to (acknowledgement response) ++ back_sends settled_so its (answer_to (next_own passed later_draw) its response))
-      ≡ sends (datagram from goes_back ∷ [])
+  told_back : sends (sent_to passage.to (acknowledgement response) ++ back_sends settled_so its (answer_for passed it its))
+      ≡ sends (datagram client goes_back ∷ [])
   told_back =
-      ap (λ m. sends (sent_to to m ++ back_sends settled_so its (answer_to (next_own passed later_draw) its response))) no_acknowledgement
+      ap (λ m. sends (sent_to passage.to m ++ back_sends settled_so its (answer_for passed it its))) no_acknowledgement
       ∙ ap (λ m. sends (back_sends settled_so its m)) answer_is
       ∙ ap sends (sent_back settled_so its goes_back its_confirmable has_way none_there)
 
   abbrev kept : EndpointState
-  kept = with_own true settled_so later later_draw from (spelling goes_back)
+  kept = with_own true settled_so later later_draw client (spelling goes_back)
 
-  kept_is : back_kept settled_so later later_draw its (answer_to (next_own passed later_draw) its response) ≡ kept
+  kept_is : back_kept settled_so later later_draw its (answer_for passed it its) ≡ kept
   kept_is =
       ap (back_kept settled_so later later_draw its) answer_is
       ∙ kept_back settled_so later later_draw its goes_back its_confirmable has_way
 
-  kept_seen : kept.seen ≡ heard_with proxy now from message
+  kept_seen : kept.seen ≡ heard_with proxy passage.came
   kept_seen =
       let same : kept.seen ≡ passed.endpoint.seen = rw answers_it.kind refl in
       same ∙ is.seen
 
-  kept_id : own_id later_draw settled_so.next_id ≡ answer_id proxy draw
+  kept_id : own_id later_draw settled_so.next_id ≡ back_id
   kept_id = own_next
 
-  kept_sending : acknowledged from (answer_id proxy draw) kept.sending ≡ proxy.endpoint.sending
+  kept_sending : acknowledged client back_id kept.sending ≡ proxy.endpoint.sending
   kept_sending =
-      ap (λ id. acknowledged from (answer_id proxy draw) (with_open later from id (timeout_of later_draw) (spelling goes_back) settled_so.sending)) kept_id
-      ∙ ap (λ all. acknowledged from (answer_id proxy draw) (with_open later from (answer_id proxy draw) (timeout_of later_draw) (spelling goes_back) all)) settled_sending
-      ∙ acknowledged_again later from (answer_id proxy draw) (timeout_of later_draw) (spelling goes_back) proxy.endpoint.sending back.idle
+      ap (λ id. acknowledged client back_id (with_open later client id (timeout_of later_draw) (spelling goes_back) settled_so.sending)) kept_id
+      ∙ ap (λ all. acknowledged client back_id (with_open later client back_id (timeout_of later_draw) (spelling goes_back) all)) settled_sending
+      ∙ acknowledged_again later client back_id (timeout_of later_draw) (spelling goes_back) proxy.endpoint.sending back.idle
 
-  brought_so : Counts key passed later to later_draw response step brought → AreSendable step.out
-      → IsBroughtBack proxy now draw from message key response step brought
+  brought_so : Counts passage.key passed it step brought → AreSendable step.out → IsBroughtBack proxy passage response step brought
   brought_so counts fits =
       let exchange : counts.exchange ≡ its = same_Some counts.exchange its (sym counts.closes.was ∙ is.exchange.changed) in
-      let told : step ≡ sends (datagram from goes_back ∷ []) =
+      let told : step ≡ sends (datagram client goes_back ∷ []) =
       counts.told
-      ∙ ap (λ (e : Exchange). sends (sent_to to (acknowledgement response) ++ back_sends (counted passed later to response e) e (answer_to (next_own passed later_draw) e response))) exchange
+      ∙ ap (λ (e : Exchange). sends (sent_to passage.to (acknowledgement response) ++ back_sends (counted passed it e) e (answer_for passed it e))) exchange
       ∙ told_back in
       let endpoint : brought.endpoint ≡ kept =
       counts.endpoint
-      ∙ ap (λ (e : Exchange). back_kept (counted passed later to response e) later later_draw e (answer_to (next_own passed later_draw) e response)) exchange
+      ∙ ap (λ (e : Exchange). back_kept (counted passed it e) later later_draw e (answer_for passed it e)) exchange
       ∙ kept_is in
       let spelled : HasSpelling goes_back =
-      subst HasSpelling (ap (λ (e : Exchange). answer_to (next_own passed later_draw) e response) exchange ∙ answer_is) counts.lawful in
+      subst HasSpelling (ap (λ (e : Exchange). answer_for passed it e) exchange ∙ answer_is) counts.lawful in
       let fewer : count brought.exchanges ≡ count proxy.exchanges = omega (arith, counts.closes.fewer, is.more) in
       record {
-        answer = record { lawful = spelled; short = one_fits step from goes_back told fits };
+        answer = record { lawful = spelled; short = one_fits step client goes_back told fits };
         told = told;
         targets = counts.targets ∙ is.targets;
         closed = counts.closes.closed.changed;
-        free = free_again proxy.exchanges brought.exchanges key takes_up.free fewer counts.closes.next;
-        lawful = record { own_tokens = tokens_left passed.exchanges brought.exchanges key tokens counts.closes.closed };
+        free = free_again proxy.exchanges brought.exchanges passage.key takes_up.free fewer counts.closes.next;
+        lawful = record { own_tokens = tokens_left passed.exchanges brought.exchanges passage.key tokens counts.closes.closed };
         next_id = ap (λ (e : EndpointState). e.next_id) endpoint ∙ ap (λ id. Some ((id + 1) % 65536)) kept_id;
         seen = ap (λ (e : EndpointState). e.seen) endpoint ∙ kept_seen;
-        sending = ap (λ (e : EndpointState). acknowledged from (answer_id proxy draw) e.sending) endpoint ∙ kept_sending;
-        acknowledgement = acknowledgement_carried laws (answer_id proxy draw) spelled.id;
+        sending = ap (λ (e : EndpointState). acknowledged client back_id e.sending) endpoint ∙ kept_sending;
+        acknowledgement = acknowledgement_carried laws back_id spelled.id;
       }
 
-  pub is_brought_back : Hears passed later later_draw to (spelling response) step brought → IsBroughtBack proxy now draw from message key response step brought
+  pub is_brought_back : Hears passed (answered_at passage later later_draw response) step brought → IsBroughtBack proxy passage response step brought
   is_brought_back hears =
       let received : hears.received ≡ received_as.Message response =
       message_received laws.one_reception response hears.received answers_it.carried hears.receives in
-      let as_it : heard passed.endpoint.seen later to hears.received ≡ heard_as.Message response =
-      ap (heard passed.endpoint.seen later to) received ∙ response_heard passed.endpoint.seen later to response answers_it.kind answers_it.code in
-      let case : case_of passed.targets passed.exchanges to hears.named (heard passed.endpoint.seen later to hears.received) ≡ Counted response key =
-      ap (case_of passed.targets passed.exchanges to hears.named) as_it ∙ case_back hears.named in
-      brought_so (subst (λ c. Answers passed later to later_draw c step brought) case hears.answers) hears.fits
+      let as_it : heard passed.endpoint.seen later passage.to hears.received ≡ heard_as.Message response =
+      ap (heard passed.endpoint.seen later passage.to) received ∙ response_heard passed.endpoint.seen later passage.to response answers_it.kind answers_it.code in
+      let case : case_of passed.targets passed.exchanges passage.to hears.named (heard passed.endpoint.seen later passage.to hears.received) ≡ Counted response passage.key =
+      ap (case_of passed.targets passed.exchanges passage.to hears.named) as_it ∙ case_back hears.named in
+      brought_so (subst (λ c. Answers passed (answered_at passage later later_draw response) c step brought) case hears.answers) hears.fits
 
 -- ---- at rest
 
-pub is_at_rest : OneReception → (proxy brought rested : State) (now last : Moment) (draw last_draw : Draw) (from : Peer) (message response : Message) (key : ℕ) (second step : Step)
-    → IsBroughtBack proxy now draw from message key response second brought
-    → Hears brought last last_draw from (spelling (empty_acknowledgement (answer_id proxy draw))) step rested
-    → IsAtRest proxy now draw from message key step rested
-is_at_rest one proxy brought rested now last draw last_draw from message response key second step is hears =
-    let id = answer_id proxy draw in
+pub is_at_rest : OneReception → (proxy brought rested : State) (passage : Passage) (response : Message) (last : Moment) (draw : Draw) (second step : Step)
+    → IsBroughtBack proxy passage response second brought
+    → Hears brought (acknowledged_at proxy passage last draw) step rested
+    → IsAtRest proxy passage step rested
+is_at_rest one proxy brought rested passage response last draw second step is hears =
+    let from = passage.came.from in
+    let came = acknowledged_at proxy passage last draw in
+    let id = answer_id proxy passage.came.draw in
     let received : hears.received ≡ received_as.Message (empty_acknowledgement id) =
     message_received one (empty_acknowledgement id) hears.received is.acknowledgement hears.receives in
     let case : case_of brought.targets brought.exchanges from hears.named (heard brought.endpoint.seen last from hears.received) ≡ Empty Acknowledgement id =
     ap (λ r. case_of brought.targets brought.exchanges from hears.named (heard brought.endpoint.seen last from r)) received in
-    let so : Answers brought last from last_draw (Empty Acknowledgement id) step rested =
-    subst (λ c. Answers brought last from last_draw c step rested) case hears.answers in
+    let so : Answers brought came (Empty Acknowledgement id) step rested =
+    subst (λ c. Answers brought came c step rested) case hears.answers in
     record {
       told = so.0;
       targets = ap (λ (s : State). s.targets) so.1 ∙ is.targets;
-      closed = ap (λ (s : State). get s.exchanges key) so.1 ∙ is.closed;
+      closed = ap (λ (s : State). get s.exchanges passage.key) so.1 ∙ is.closed;
       free = ap (λ (s : State). free_key s.exchanges) so.1 ∙ is.free;
       lawful = record { own_tokens = subst (λ (s : State). HasOwnTokens s.exchanges) (sym so.1) is.lawful.own_tokens };
       next_id = ap (λ (s : State). s.endpoint.next_id) so.1 ∙ is.next_id;

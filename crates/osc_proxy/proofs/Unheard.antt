@@ -7,6 +7,7 @@ use Rattle.std.proofs.lemmas.List.Elements.{All-append, All-cons, All-drop, All-
 use Rattle.osc_coap.specs.Message.{Message}
 use Rattle.osc_dedup.specs.Table.{Entry, alive, is_alive, is_of, looked, staying}
 use Rattle.osc_message.specs.Sending.{empty_acknowledgement}
+use Rattle.osc_model.specs.Arrival.{Arrival}
 use Rattle.osc_model.specs.declared.node.Moment.{Moment}
 use Rattle.osc_model.specs.declared.node.Peer.{Peer}
 use Rattle.osc_coap.specs.Message.{spelling}
@@ -60,9 +61,12 @@ nothing_there (Some entry) e = absurd (cc)
 nothing_noted : (found : Option Entry) → found ≡ None → option_map (λ (entry : Entry). entry.noted) found ≡ None
 nothing_noted found e = rw e refl
 
-pub still_unheard : (proxy : State) (now at : Moment) (from peer : Peer) (message : Message) (id : ℕ) → id ≢ message.id
-    → looked at peer id proxy.endpoint.seen ≡ None → looked at peer id (heard_with proxy now from message) ≡ None
-still_unheard proxy now at from peer message id other unheard =
+pub still_unheard : (proxy : State) (came : Arrival Message) (at : Moment) (peer : Peer) (id : ℕ) → id ≢ came.what.id
+    → looked at peer id proxy.endpoint.seen ≡ None → looked at peer id (heard_with proxy came) ≡ None
+still_unheard proxy came at peer id other unheard =
+    let now = came.at in
+    let from = came.from in
+    let message = came.what in
     let fails : Entry → Type 0 = λ entry. (is_alive at entry && is_of peer id entry) ≡ false in
     let seen = proxy.endpoint.seen in
     let note : Entry = record {

@@ -12,7 +12,7 @@ use Rattle.osc_coap.specs.Message.{NumberAndValue}
 use Rattle.osc_options.specs.Recognised.{recognised}
 use Rattle.osc_options.specs.Requests.{value}
 use Rattle.osc_proxy.specs.Route.{Names, NamesBy, by_scheme}
-use Rattle.osc_proxy.specs.Reading.{is_end, port_of, port_at, port_behind, with_port, authority, host_and_port}
+use Rattle.osc_proxy.specs.Inner.Reading.{is_end, port_of, port_at, port_behind, with_port, authority, host_and_port}
 
 -- ---- the digits of a port
 

@@ -5,15 +5,17 @@ use Rattle.osc_model.specs.Draw.{token_drawn}
 use Rattle.osc_model.specs.declared.node.Draw.{Draw}
 use Rattle.osc_coap.specs.Message.{NumberAndValue, Message}
 use Rattle.osc_coap.specs.declared.kind.Kind.{Kind}
+use Rattle.osc_options.specs.Numbers.{proxy_scheme, proxy_uri, uri_host, uri_path, uri_port, uri_query}
 
--- The options that are for the proxy are taken out: Uri-Port (7), Proxy-Uri (35), Proxy-Scheme (39), and beside a Proxy-Uri, which
--- names the whole URI, Uri-Host (3), Uri-Path (11) and Uri-Query (15) too.
+-- The options that are for the proxy are taken out: Uri-Port, Proxy-Uri, Proxy-Scheme, and beside a Proxy-Uri, which names the whole
+-- URI, Uri-Host, Uri-Path and Uri-Query too.
 abbrev pub is_taken_out : Bool → ℕ → Bool
 is_taken_out by_uri number =
-    (number == 7) || ((number == 35) || ((number == 39) || (by_uri && ((number == 3) || ((number == 11) || (number == 15))))))
+    (number == uri_port) || ((number == proxy_uri) || ((number == proxy_scheme)
+    || (by_uri && ((number == uri_host) || ((number == uri_path) || (number == uri_query))))))
 
 abbrev pub has_proxy_uri : List NumberAndValue → Bool
-has_proxy_uri options = list_any (λ option. option.0 == 35) options
+has_proxy_uri options = list_any (λ option. option.0 == proxy_uri) options
 
 -- all others stay, in their order
 abbrev pub forwarded_options : List NumberAndValue → List NumberAndValue

@@ -2,6 +2,7 @@
 use Rattle.std.specs.Prelude.{◌≡◌, ℕ, Bool, ◌||◌, bytes_eq, if◌then◌else◌, List, Option, Some, None, is_some, option_map, codes}
 use Rattle.osc_model.specs.declared.node.Peer.{Peer}
 use Rattle.osc_coap.specs.Message.{NumberAndValue}
+use Rattle.osc_options.specs.Numbers.{proxy_scheme, proxy_uri, uri_host, uri_port}
 use Rattle.osc_options.specs.Recognised.{has_unrecognised_unsafe, recognised}
 use Rattle.osc_options.specs.Requests.{uint, value}
 use Rattle.osc_proxy.specs.ProxyUri.{HostAndPort, Reads}
@@ -24,16 +25,16 @@ by_scheme scheme host port = if bytes_eq scheme (codes "coap") then option_map (
 -- Proxy-Uri decides alone where it is there
 abbrev pub NamesBy : Option (List ℕ) → Option (List ℕ) → List NumberAndValue → Option HostAndPort → Type 0
 NamesBy (Some uri) scheme options named = Reads uri named
-NamesBy None (Some scheme) options named = named ≡ by_scheme scheme (value 3 options) (value 7 options)
+NamesBy None (Some scheme) options named = named ≡ by_scheme scheme (value uri_host options) (value uri_port options)
 NamesBy None None options named = named ≡ None
 
--- Proxy-Uri is option 35, Proxy-Scheme is option 39
+-- the same of what is recognised of a message's options
 abbrev pub Names : List NumberAndValue → Option HostAndPort → Type 0
-Names options named = NamesBy (value 35 (recognised 0 options)) (value 39 (recognised 0 options)) (recognised 0 options) named
+Names options named = NamesBy (value proxy_uri (recognised 0 options)) (value proxy_scheme (recognised 0 options)) (recognised 0 options) named
 
 -- whether a request is for a proxy
 abbrev pub is_for_proxy : List NumberAndValue → Bool
-is_for_proxy options = is_some (value 35 (recognised 0 options)) || is_some (value 39 (recognised 0 options))
+is_for_proxy options = is_some (value proxy_uri (recognised 0 options)) || is_some (value proxy_scheme (recognised 0 options))
 
 -- ---- where it goes
 

@@ -1,5 +1,6 @@
 -- What a proxy sends in each case, and what it keeps after it (RFC 7252 sections 5.7.1 and 5.7.2).
 use Rattle.std.specs.Prelude.{◌≡◌, ℕ, ◌+◌, nat_le, Bool, true, false, if◌then◌else◌, List, [], ◌∷◌, ◌++◌, length, Option, Some, None, option_map}
+use Rattle.osc_model.specs.Arrival.{Arrival, read_as}
 use Rattle.osc_model.specs.Code.{code}
 use Rattle.osc_model.specs.Step.{refuses, sends}
 use Rattle.osc_model.specs.declared.code.Code.{Code}
@@ -20,6 +21,7 @@ use Rattle.osc_message.specs.declared.heard.Heard.TheVariants as heard
 use Rattle.osc_proxy.specs.Exchanges.{Changes, Table, count, free_key, get}
 use Rattle.osc_proxy.specs.Forwarding.{answer, forwarded, forwarded_token}
 use Rattle.osc_proxy.specs.Own.{goes_now, has_room, kind_of, sends_own, with_own}
+use Rattle.osc_proxy.specs.Passage.{Passage}
 use Rattle.osc_proxy.specs.State.{State}
 use Rattle.osc_options.specs.Recognised.{has_unrecognised_unsafe}
 use Rattle.osc_proxy.specs.declared.case.Case.{Case}
@@ -31,16 +33,16 @@ use Rattle.osc_proxy.specs.declared.exchanges.Exchange.{Exchange}
 -- ---- a request isn't forwarded
 
 -- the answer that says why: in the acknowledgement, or in a non-confirmable message of the proxy's own
-abbrev pub refusal : State → Draw → Message → Code → Message
-refusal old draw message code = reply_start draw old.endpoint.next_id message code.0
+abbrev pub refusal : State → Arrival Message → Code → Message
+refusal old came code = reply_start came.draw old.endpoint.next_id came.what code.0
 
-pub record IsRefused (why : Code) (old : State) (now : Moment) (from : Peer) (draw : Draw) (message : Message) (step : Step) (new : State) : Type 0 where
-  pub lawful : HasSpelling (refusal old draw message why)
-  pub told : step ≡ refuses (record { code = why; reason = None }) (datagram from (refusal old draw message why) ∷ [])
+pub record IsRefused (why : Code) (old : State) (came : Arrival Message) (step : Step) (new : State) : Type 0 where
+  pub lawful : HasSpelling (refusal old came why)
+  pub told : step ≡ refuses (record { code = why; reason = None }) (datagram came.from (refusal old came why) ∷ [])
   pub kept : new
       ≡ record old {
-        endpoint = settled (replied draw message old.endpoint) now from (heard.Message message)
-            (handling.Answered (Some (spelling (refusal old draw message why))));
+        endpoint = settled (replied came.draw came.what old.endpoint) came.at came.from (heard.Message came.what)
+            (handling.Answered (Some (spelling (refusal old came why))));
       }
 
 -- ---- a request is forwarded
@@ -53,49 +55,60 @@ key_for old message to = if has_room (is_confirmable message.kind) to old.endpoi
 abbrev pub next_own : State → Draw → ℕ
 next_own old draw = own_id draw old.endpoint.next_id
 
-abbrev pub forwarded_by : State → Draw → ℕ → Message → Message
-forwarded_by old draw key message = forwarded (next_own old draw) (forwarded_token key draw) message
+abbrev pub forwarded_by : State → Passage → Message
+forwarded_by old passage = forwarded (next_own old passage.came.draw) (forwarded_token passage.key passage.came.draw) passage.came.what
 
 -- the message layer once the request was heard: a confirmable one is acknowledged at once (section 5.2.2)
-abbrev pub taken_up : State → Moment → Peer → Message → EndpointState
-taken_up old now from message =
-    settled old.endpoint now from (heard.Message message) (handling.Answered (option_map spelling (acknowledgement message)))
+abbrev pub taken_up : State → Arrival Message → EndpointState
+taken_up old came =
+    settled old.endpoint came.at came.from (heard.Message came.what) (handling.Answered (option_map spelling (acknowledgement came.what)))
 
--- the exchange of this key, whose forwarded message has this ID
-abbrev pub exchange_of : ℕ → ℕ → Moment → Peer → Draw → Message → Peer → Exchange
-exchange_of key id now from draw message to = record {
-  client = from;
-  client_token = message.token;
-  confirmable = is_confirmable message.kind;
-  target = to;
+-- the exchange of such a request, whose forwarded message has this ID
+abbrev pub exchange_of : ℕ → Passage → Exchange
+exchange_of id passage = record {
+  client = passage.came.from;
+  client_token = passage.came.what.token;
+  confirmable = is_confirmable passage.came.what.kind;
+  target = passage.to;
   id = id;
-  token = forwarded_token key draw;
-  opened = now;
+  token = forwarded_token passage.key passage.came.draw;
+  opened = passage.came.at;
   room = tt;
 }
 
+-- what goes out of it now
+abbrev pub sent_on : State → Passage → List Datagram
+sent_on old passage =
+    sends_own (goes_now (is_confirmable passage.came.what.kind) passage.to (taken_up old passage.came)) passage.to (spelling (forwarded_by old passage))
+
+-- the message layer once it was made
+abbrev pub kept_on : State → Passage → EndpointState
+kept_on old passage =
+    with_own (is_confirmable passage.came.what.kind) (taken_up old passage.came) passage.came.at passage.came.draw passage.to
+    (spelling (forwarded_by old passage))
+
 -- It goes out, or waits for its turn, and an exchange is open.
-pub record IsForwarded (key : ℕ) (old : State) (now : Moment) (from : Peer) (draw : Draw) (message : Message) (to : Peer) (step : Step) (new : State) : Type 0 where
-  pub lawful : HasSpelling (forwarded_by old draw key message)
-  pub told : step
-      ≡ sends (sent_to from (acknowledgement message)
-      ++ sends_own (goes_now (is_confirmable message.kind) to (taken_up old now from message)) to (spelling (forwarded_by old draw key message)))
+pub record IsForwarded (old : State) (passage : Passage) (step : Step) (new : State) : Type 0 where
+  pub lawful : HasSpelling (forwarded_by old passage)
+  pub told : step ≡ sends (sent_to passage.came.from (acknowledgement passage.came.what) ++ sent_on old passage)
   pub targets : new.targets ≡ old.targets
-  pub endpoint : new.endpoint
-      ≡ with_own (is_confirmable message.kind) (taken_up old now from message) now draw to (spelling (forwarded_by old draw key message))
-  pub was_free : get old.exchanges key ≡ None
-  pub opened : Changes old.exchanges new.exchanges key (Some (exchange_of key (next_own old draw) now from draw message to))
+  pub endpoint : new.endpoint ≡ kept_on old passage
+  pub was_free : get old.exchanges passage.key ≡ None
+  pub opened : Changes old.exchanges new.exchanges passage.key (Some (exchange_of (next_own old passage.came.draw) passage))
   pub more : count new.exchanges ≡ count old.exchanges + 1
 
-abbrev pub FitsBy : Bool → ℕ → State → Moment → Peer → Draw → Message → Peer → Step → State → Type 0
-FitsBy false key old now from draw message to step new = IsRefused (code 4 13) old now from draw message step new
-FitsBy true key old now from draw message to step new = IsForwarded key old now from draw message to step new
+-- 4.13 where the forwarded message is longer than a datagram may be
+abbrev pub FitsBy : Bool → State → Passage → Step → State → Type 0
+FitsBy false old passage step new = IsRefused (code 4 13) old passage.came step new
+FitsBy true old passage step new = IsForwarded old passage step new
 
--- 5.03 (Service Unavailable) without a key or room, and 4.13 where the forwarded message is longer than a datagram may be
-abbrev pub ForwardsBy : Option ℕ → State → Moment → Peer → Draw → Message → Peer → Step → State → Type 0
-ForwardsBy None old now from draw message to step new = IsRefused (code 5 3) old now from draw message step new
-ForwardsBy (Some key) old now from draw message to step new =
-    FitsBy (nat_le (length (spelling (forwarded_by old draw key message))) datagram_limit) key old now from draw message to step new
+abbrev pub PassesOn : State → Passage → Step → State → Type 0
+PassesOn old passage step new = FitsBy (nat_le (length (spelling (forwarded_by old passage))) datagram_limit) old passage step new
+
+-- 5.03 (Service Unavailable) without a key or room
+abbrev pub ForwardsBy : Option ℕ → State → Arrival Message → Peer → Step → State → Type 0
+ForwardsBy None old came to step new = IsRefused (code 5 3) old came step new
+ForwardsBy (Some key) old came to step new = PassesOn old (record { came = came; to = to; key = key }) step new
 
 -- ---- an answer goes back
 
@@ -132,48 +145,54 @@ back_kept endpoint now draw exchange message =
 
 -- the message layer once a response was heard that counts: it acknowledges the forwarded message, and is acknowledged itself where
 -- it is confirmable (sections 4.2 and 5.2.2)
-abbrev pub counted : State → Moment → Peer → Message → Exchange → EndpointState
-counted old now from message exchange =
-    settled old.endpoint now from (heard.Message message) (handling.Counted exchange.id (option_map spelling (acknowledgement message)))
+abbrev pub counted : State → Arrival Message → Exchange → EndpointState
+counted old came exchange =
+    settled old.endpoint came.at came.from (heard.Message came.what) (handling.Counted exchange.id (option_map spelling (acknowledgement came.what)))
 
-pub record Counts (key : ℕ) (old : State) (now : Moment) (from : Peer) (draw : Draw) (message : Message) (step : Step) (new : State) : Type 0 where
+-- the answer to it that goes back
+abbrev pub answer_for : State → Arrival Message → Exchange → Message
+answer_for old came exchange = answer_to (next_own old came.draw) exchange came.what
+
+pub record Counts (key : ℕ) (old : State) (came : Arrival Message) (step : Step) (new : State) : Type 0 where
   pub exchange : Exchange
   pub closes : Closes key exchange old.exchanges new.exchanges
-  pub lawful : HasSpelling (answer_to (next_own old draw) exchange message)
+  pub lawful : HasSpelling (answer_for old came exchange)
   pub told : step
-      ≡ sends (sent_to from (acknowledgement message)
-      ++ back_sends (counted old now from message exchange) exchange (answer_to (next_own old draw) exchange message))
+      ≡ sends (sent_to came.from (acknowledgement came.what) ++ back_sends (counted old came exchange) exchange (answer_for old came exchange))
   pub targets : new.targets ≡ old.targets
-  pub endpoint : new.endpoint
-      ≡ back_kept (counted old now from message exchange) now draw exchange (answer_to (next_own old draw) exchange message)
+  pub endpoint : new.endpoint ≡ back_kept (counted old came exchange) came.at came.draw exchange (answer_for old came exchange)
 
--- the message layer once an empty message was heard: what it names is acknowledged
-abbrev pub named : State → Moment → Peer → ℕ → EndpointState
-named old now from id = settled old.endpoint now from (heard.Empty ResetKind id) handling.Dropped
+-- the message layer once an empty message was heard, which names this message ID: that is acknowledged
+abbrev pub named : State → Arrival ℕ → EndpointState
+named old came = settled old.endpoint came.at came.from (heard.Empty ResetKind came.what) handling.Dropped
 
--- the forwarded message was rejected by a Reset: 5.02 (Bad Gateway)
-pub record Ends (key id : ℕ) (old : State) (now : Moment) (from : Peer) (draw : Draw) (step : Step) (new : State) : Type 0 where
+-- the answer of an exchange whose forwarded message was rejected: 5.02 (Bad Gateway)
+abbrev pub rejection : State → Draw → Exchange → Message
+rejection old draw exchange = failure (code 5 2) (next_own old draw) exchange
+
+-- A Reset came, which names the forwarded message of the exchange of this key.
+pub record Ends (key : ℕ) (old : State) (came : Arrival ℕ) (step : Step) (new : State) : Type 0 where
   pub exchange : Exchange
   pub closes : Closes key exchange old.exchanges new.exchanges
-  pub lawful : HasSpelling (failure (code 5 2) (next_own old draw) exchange)
-  pub told : step ≡ sends (back_sends (named old now from id) exchange (failure (code 5 2) (next_own old draw) exchange))
+  pub lawful : HasSpelling (rejection old came.draw exchange)
+  pub told : step ≡ sends (back_sends (named old came) exchange (rejection old came.draw exchange))
   pub targets : new.targets ≡ old.targets
-  pub endpoint : new.endpoint ≡ back_kept (named old now from id) now draw exchange (failure (code 5 2) (next_own old draw) exchange)
+  pub endpoint : new.endpoint ≡ back_kept (named old came) came.at came.draw exchange (rejection old came.draw exchange)
 
 -- ---- each case
 
-abbrev pub Answers : State → Moment → Peer → Draw → Case → Step → State → Type 0
-Answers old now from draw Ignored step new = (step ≡ sends []) × (new ≡ old)
-Answers old now from draw (Reset id) step new = (step ≡ sends (datagram from (reset id) ∷ [])) × (new ≡ old)
-Answers old now from draw (Repeated id) step new = (step ≡ sends (again from (noted_reply old.endpoint.seen now from id))) × (new ≡ old)
-Answers old now from draw (Empty kind id) step new =
+abbrev pub Answers : State → Arrival (List ℕ) → Case → Step → State → Type 0
+Answers old came Ignored step new = (step ≡ sends []) × (new ≡ old)
+Answers old came (Reset id) step new = (step ≡ sends (datagram came.from (reset id) ∷ [])) × (new ≡ old)
+Answers old came (Repeated id) step new = (step ≡ sends (again came.from (noted_reply old.endpoint.seen came.at came.from id))) × (new ≡ old)
+Answers old came (Empty kind id) step new =
     (step ≡ sends [])
-    × (new ≡ record old { endpoint = settled old.endpoint now from (heard.Empty kind id) handling.Dropped })
-Answers old now from draw (Ended id key) step new = Ends key id old now from draw step new
-Answers old now from draw (Refused message why) step new = IsRefused why old now from draw message step new
-Answers old now from draw (Forwarded message to) step new = ForwardsBy (key_for old message to) old now from draw message to step new
-Answers old now from draw (Counted message key) step new = Counts key old now from draw message step new
-Answers old now from draw (Rejected message) step new = (step ≡ sends (datagram from (reset message.id) ∷ [])) × (new ≡ old)
-Answers old now from draw (Dropped message) step new =
+    × (new ≡ record old { endpoint = settled old.endpoint came.at came.from (heard.Empty kind id) handling.Dropped })
+Answers old came (Ended id key) step new = Ends key old (read_as came id) step new
+Answers old came (Refused message why) step new = IsRefused why old (read_as came message) step new
+Answers old came (Forwarded message to) step new = ForwardsBy (key_for old message to) old (read_as came message) to step new
+Answers old came (Counted message key) step new = Counts key old (read_as came message) step new
+Answers old came (Rejected message) step new = (step ≡ sends (datagram came.from (reset message.id) ∷ [])) × (new ≡ old)
+Answers old came (Dropped message) step new =
     (step ≡ sends [])
-    × (new ≡ record old { endpoint = settled old.endpoint now from (heard.Message message) handling.Dropped })
+    × (new ≡ record old { endpoint = settled old.endpoint came.at came.from (heard.Message message) handling.Dropped })

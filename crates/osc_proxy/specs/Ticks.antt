@@ -37,16 +37,25 @@ timeout endpoint draw exchange = failure (code 5 4) (own_id draw endpoint.next_i
 abbrev pub without_its : EndpointState → Exchange → EndpointState
 without_its endpoint exchange = record endpoint { sending = without exchange endpoint.sending }
 
+-- what is left once an exchange has ended by it: this table of exchanges, and the message layer that sends it back
+abbrev pub timed_out : State → Moment → Draw → Exchange → Table → State
+timed_out old now draw exchange left = record old {
+  exchanges = left;
+  endpoint = back_kept (without_its old.endpoint exchange) now draw exchange (timeout old.endpoint draw exchange);
+}
+
+abbrev pub timeout_sends : State → Draw → Exchange → List Datagram
+timeout_sends old draw exchange = back_sends (without_its old.endpoint exchange) exchange (timeout old.endpoint draw exchange)
+
 -- Each that is over ends by 5.04, which is read again as that very message, the one of the lowest key first.
-pub data AllEnd (now : Moment) (draw : Draw) (given_up : List MessageName) : Table → EndpointState → List Datagram → Table → EndpointState → Type 0 where
-  none_is : (table : Table) (endpoint : EndpointState) → first_key (is_over now given_up) table ≡ None
-      → AllEnd now draw given_up table endpoint [] table endpoint
-  one_is : (table next last : Table) (endpoint last_endpoint : EndpointState) (key : ℕ) (exchange : Exchange) (later : List Datagram)
-      → first_key (is_over now given_up) table ≡ Some key
-      → Closes key exchange table next
-      → HasSpelling (timeout endpoint draw exchange)
-      → AllEnd now draw given_up next (back_kept (without_its endpoint exchange) now draw exchange (timeout endpoint draw exchange)) later last last_endpoint
-      → AllEnd now draw given_up table endpoint (back_sends (without_its endpoint exchange) exchange (timeout endpoint draw exchange) ++ later) last last_endpoint
+pub data AllEnd (now : Moment) (draw : Draw) (given_up : List MessageName) : State → List Datagram → State → Type 0 where
+  none_is : (state : State) → first_key (is_over now given_up) state.exchanges ≡ None → AllEnd now draw given_up state [] state
+  one_is : (old new : State) (left : Table) (key : ℕ) (exchange : Exchange) (later : List Datagram)
+      → first_key (is_over now given_up) old.exchanges ≡ Some key
+      → Closes key exchange old.exchanges left
+      → HasSpelling (timeout old.endpoint draw exchange)
+      → AllEnd now draw given_up (timed_out old now draw exchange left) later new
+      → AllEnd now draw given_up old (timeout_sends old draw exchange ++ later) new
 
 -- ---- a tick
 
@@ -61,8 +70,8 @@ pub record Ticks (old : State) (now : Moment) (draw : Draw) (step : Step) (new :
   pub repeats : List Datagram
   pub repeated : GoesOut (tick_sends now (without_over now old.exchanges old.endpoint.sending)) repeats
   pub answers : List Datagram
-  pub ends : AllEnd now draw (tick_gives_up now (without_over now old.exchanges old.endpoint.sending)) old.exchanges
-      (after_tick now (without_over_in now old)) answers new.exchanges new.endpoint
+  pub ends : AllEnd now draw (tick_gives_up now (without_over now old.exchanges old.endpoint.sending))
+      (record old { endpoint = after_tick now (without_over_in now old) }) answers new
   pub told_answers : List Datagram
   pub answered : GoesOut answers told_answers
   pub told : step ≡ sends (repeats ++ told_answers)

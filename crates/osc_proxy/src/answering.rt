@@ -4,7 +4,7 @@ ghost use Rattle.osc_coap.specs.Length.{datagram_limit};
 ghost use Rattle.osc_coap.specs.Message.{HasSpelling, spelling};
 ghost use Rattle.osc_proxy.specs.Exchanges.{answers};
 ghost use Rattle.osc_proxy.specs.Forwarding.{answer};
-ghost use Rattle.osc_proxy.specs.Going.{IsOwn};
+ghost use Rattle.osc_proxy.specs.Inner.Going.{IsOwn};
 ghost use Rattle.osc_proxy.specs.Own.{kind_of as kind_by};
 ghost use Rattle.osc_proxy.specs.Table.{answer_to, failure as failure_of};
 

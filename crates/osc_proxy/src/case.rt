@@ -4,7 +4,7 @@ ghost use Rattle.osc_coap.specs.Code.{is_request_code as is_request_code_of};
 ghost use Rattle.osc_coap.specs.Length.{datagram_limit};
 ghost use Rattle.osc_coap.specs.Message.{spelling};
 ghost use Rattle.osc_model.specs.declared.node.Peer.{Peer as AnyPeer};
-ghost use Rattle.osc_proxy.specs.Bounds.{AsksFor, HeardFits, IsApart, names_one};
+ghost use Rattle.osc_proxy.specs.Inner.Bounds.{AsksFor, HeardFits, IsApart, names_one};
 ghost use Rattle.osc_proxy.specs.Case as spec;
 ghost use Rattle.osc_proxy.specs.Exchanges.{Table, answers, first_key, is_named};
 ghost use Rattle.osc_proxy.specs.ProxyUri.{HostAndPort};

@@ -6,7 +6,7 @@ ghost use Rattle.osc_coap.specs.Message.{spelling};
 ghost use Rattle.osc_options.specs.Merging.{with_options};
 ghost use Rattle.osc_options.specs.Split.{AreInOrder};
 ghost use Rattle.osc_proxy.specs.Forwarding as spec;
-ghost use Rattle.osc_proxy.specs.Rewriting.{rewritten, stays, staying};
+ghost use Rattle.osc_proxy.specs.Inner.Rewriting.{rewritten, stays, staying};
 
 use osc_coap::laws::{fewer_options, length_of_spelling, one_spelling};
 use osc_coap::{DatagramTooLong, Kind, MessageBuilder, MessageRef, Options};

@@ -1,9 +1,9 @@
 //! Laws of the definitions, for the crates above. These functions do nothing: whoever calls one has its clauses for a proof.
 ghost use Rattle.std.specs.Prelude.{◌≡◌, ◌≢◌, ◌<◌, ◌≤◌, ◌+◌, ℕ, true, false, List, [], length, Option, Some, None, codes};
+ghost use Rattle.osc_model.specs.Arrival.{Arrival};
 ghost use Rattle.osc_model.specs.declared.node.Draw.{Draw as AnyDraw};
 ghost use Rattle.osc_coap.specs.Message.{HasSpelling, Message as AnyMessage, NumberAndValue, spelling};
 ghost use Rattle.osc_dedup.specs.Table.{looked};
-ghost use Rattle.osc_message.specs.Sending.{empty_acknowledgement};
 ghost use Rattle.osc_options.specs.Recognised.{recognised};
 ghost use Rattle.osc_options.specs.Requests.{value as value_in};
 ghost use Rattle.osc_options.specs.Split.{AreInOrder, of_number};
@@ -13,11 +13,13 @@ ghost use Rattle.osc_model.specs.declared.step.Step.{Step as AnyStep};
 ghost use Rattle.osc_proxy.specs.Exchanges.{HasOwnTokens, Table, answers, first_key, get, is_overdue, lifetime};
 ghost use Rattle.osc_proxy.specs.Forwarding.{forwarded, forwarded_options, has_proxy_uri, is_taken_out};
 ghost use Rattle.osc_proxy.specs.Hearing.{Hears};
+ghost use Rattle.osc_options.specs.Numbers.{proxy_scheme, proxy_uri, uri_host, uri_port};
+ghost use Rattle.osc_proxy.specs.Passage.{Passage};
 ghost use Rattle.osc_proxy.specs.ProxyUri.{HostAndPort};
 ghost use Rattle.osc_proxy.specs.Route.{Names, port_in};
 ghost use Rattle.osc_proxy.specs.State.{State};
 ghost use Rattle.osc_proxy.specs.Table.{forwarded_by};
-ghost use Rattle.osc_proxy.specs.ThereAndBack.{CanSendTo, GoesThereAndBack, IsAnswerTo, IsAtRest, IsBroughtBack, IsLawfulProxy, IsPassedOn, TakesUp, answer_id, heard_with};
+ghost use Rattle.osc_proxy.specs.ThereAndBack.{CanSendTo, GoesThereAndBack, IsAnswerTo, IsAtRest, IsBroughtBack, IsLawfulProxy, IsPassedOn, TakesUp, acknowledged_at, answered_at, datagram_of, heard_with};
 ghost use Rattle.osc_proxy.specs.Ticks.{Ticks};
 ghost use Rattle.osc_proxy.specs.declared.exchanges.Exchange.{Exchange as AnyExchange};
 
@@ -63,16 +65,15 @@ pub fn something_is_named()
 
 /// A request without a Proxy-Uri whose Proxy-Scheme is `coap` names the host of its Uri-Host and the port of its Uri-Port.
 pub fn named_by_options()
-    ensures { (options : List NumberAndValue) (named : Option HostAndPort) (host : List ℕ) → value_in 35 (recognised 0 options) ≡ None
-        → value_in 39 (recognised 0 options) ≡ Some (codes "coap") → value_in 3 (recognised 0 options) ≡ Some host → Names options named
-        → named ≡ Some (host, port_in (value_in 7 (recognised 0 options))) }
+    ensures { (options : List NumberAndValue) (named : Option HostAndPort) (host : List ℕ) → value_in proxy_uri (recognised 0 options) ≡ None
+        → value_in proxy_scheme (recognised 0 options) ≡ Some (codes "coap") → value_in uri_host (recognised 0 options) ≡ Some host → Names options named
+        → named ≡ Some (host, port_in (value_in uri_port (recognised 0 options))) }
 {}
 
 /// A confirmable request that nothing hinders is acknowledged to the client, and forwarded to its target, at once.
 pub fn a_request_is_forwarded()
-    ensures { (proxy passed : State) (now : AnyMoment) (draw : AnyDraw) (from to : AnyPeer) (message : AnyMessage) (key : ℕ) (step : AnyStep)
-        → TakesUp proxy now from to message key → Hears proxy now draw from (spelling message) step passed
-        → IsPassedOn proxy now draw from to message key step passed }
+    ensures { (proxy passed : State) (passage : Passage) (step : AnyStep)
+        → TakesUp proxy passage → Hears proxy (datagram_of passage) step passed → IsPassedOn proxy passage step passed }
 {
     one_reception();
     what_nodes_send();
@@ -82,12 +83,11 @@ pub fn a_request_is_forwarded()
 /// Where the answer to what was forwarded comes from the target, it goes back to the client at once, with the client's token, and the
 /// exchange is closed.
 pub fn an_answer_goes_back()
-    ensures { (proxy passed brought : State) (now later : AnyMoment) (draw later_draw : AnyDraw) (from to : AnyPeer) (message response : AnyMessage)
-        (key : ℕ) (first second : AnyStep)
-        → IsLawfulProxy proxy → TakesUp proxy now from to message key → CanSendTo proxy from
-        → IsPassedOn proxy now draw from to message key first passed → IsAnswerTo (forwarded_by proxy draw key message) response
-        → Hears passed later later_draw to (spelling response) second brought
-        → IsBroughtBack proxy now draw from message key response second brought }
+    ensures { (proxy passed brought : State) (passage : Passage) (later : AnyMoment) (draw : AnyDraw) (response : AnyMessage) (first second : AnyStep)
+        → IsLawfulProxy proxy → TakesUp proxy passage → CanSendTo proxy passage.came.from
+        → IsPassedOn proxy passage first passed → IsAnswerTo (forwarded_by proxy passage) response
+        → Hears passed (answered_at passage later draw response) second brought
+        → IsBroughtBack proxy passage response second brought }
 {
     one_reception();
     what_nodes_send();
@@ -96,11 +96,10 @@ pub fn an_answer_goes_back()
 
 /// Where the client acknowledges that answer, nothing goes out, and what is open is what was open before the request came.
 pub fn an_acknowledgement_ends_it()
-    ensures { (proxy brought rested : State) (now last : AnyMoment) (draw last_draw : AnyDraw) (from : AnyPeer) (message response : AnyMessage) (key : ℕ)
-        (second third : AnyStep)
-        → IsBroughtBack proxy now draw from message key response second brought
-        → Hears brought last last_draw from (spelling (empty_acknowledgement (answer_id proxy draw))) third rested
-        → IsAtRest proxy now draw from message key third rested }
+    ensures { (proxy brought rested : State) (passage : Passage) (response : AnyMessage) (last : AnyMoment) (draw : AnyDraw) (second third : AnyStep)
+        → IsBroughtBack proxy passage response second brought
+        → Hears brought (acknowledged_at proxy passage last draw) third rested
+        → IsAtRest proxy passage third rested }
 {
     one_reception();
 }
@@ -109,10 +108,10 @@ pub fn an_acknowledgement_ends_it()
 /// forwarded; where the answer to that comes from the target, it goes back to the client; and where the client acknowledges it, nothing
 /// goes out.
 pub fn a_request_goes_there_and_back()
-    ensures { (proxy passed : State) (now : AnyMoment) (draw : AnyDraw) (from to : AnyPeer) (message : AnyMessage) (key : ℕ) (step : AnyStep)
-        → IsLawfulProxy proxy → TakesUp proxy now from to message key → CanSendTo proxy from
-        → Hears proxy now draw from (spelling message) step passed
-        → GoesThereAndBack proxy now draw from to message key step passed }
+    ensures { (proxy passed : State) (passage : Passage) (step : AnyStep)
+        → IsLawfulProxy proxy → TakesUp proxy passage → CanSendTo proxy passage.came.from
+        → Hears proxy (datagram_of passage) step passed
+        → GoesThereAndBack proxy passage step passed }
 {
     a_request_is_forwarded();
     an_answer_goes_back();
@@ -121,6 +120,6 @@ pub fn a_request_goes_there_and_back()
 
 /// Where the proxy noted a request, a message that wasn't heard before and has another message ID isn't heard either.
 pub fn others_stay_unheard()
-    ensures { (proxy : State) (now at : AnyMoment) (from peer : AnyPeer) (message : AnyMessage) (id : ℕ) → id ≢ message.id
-        → looked at peer id proxy.endpoint.seen ≡ None → looked at peer id (heard_with proxy now from message) ≡ None }
+    ensures { (proxy : State) (came : Arrival AnyMessage) (at : AnyMoment) (peer : AnyPeer) (id : ℕ) → id ≢ came.what.id
+        → looked at peer id proxy.endpoint.seen ≡ None → looked at peer id (heard_with proxy came) ≡ None }
 {}

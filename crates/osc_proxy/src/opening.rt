@@ -10,7 +10,7 @@ use osc_model::Peer;
 
 /// The exchange of this key for the request that came, whose forwarded message has this ID.
 pub(crate) fn opened(key: u8, id: u16, came: &Arrival<'_>, to: Peer, room: FailureRoom) -> Exchange
-    ensures { result ≡ exchange_of key id came.now.at came.now.from came.now.draw.now came.now.message to }
+    ensures { result ≡ exchange_of id (record { came = came.now; to = to; key = key }) }
 {
     Exchange {
         client: came.from,

@@ -1,5 +1,5 @@
 //! The proxy.
-ghost use Rattle.std.specs.Prelude.{◌≡◌, ◌≢◌, ℕ, ◌≤◌, ◌<◌, ◌+◌, ◌↔◌, [], length, true, false, Some, IfOk, OnErr, IfSome, IfNone, IsSome};
+ghost use Rattle.std.specs.Prelude.{◌≡◌, ◌≢◌, ℕ, ◌≤◌, ◌<◌, ◌+◌, ◌↔◌, List, [], length, true, false, Some, IfOk, OnErr, IfSome, IfNone, IsSome};
 ghost use Rattle.osc_coap.specs.Message.{HasSpelling, spelling};
 ghost use Rattle.osc_model.specs.Step.{sends};
 ghost use Rattle.osc_model.specs.declared.node.Moment.{Moment as AnyMoment};
@@ -9,11 +9,11 @@ ghost use Rattle.osc_message.specs.Heard.{noted_reply as noted_reply_of};
 ghost use Rattle.osc_message.specs.Sending.{AreSendable, is_confirmable as is_confirmable_of, again};
 ghost use Rattle.osc_message.specs.declared.handling.Handling.TheVariants as handling;
 ghost use Rattle.osc_message.specs.declared.heard.Heard.TheVariants as heard;
-ghost use Rattle.osc_proxy.specs.Bounds.{AsksFor, CanCount, IsNamed, names_one};
+ghost use Rattle.osc_proxy.specs.Inner.Bounds.{AsksFor, CanCount, IsNamed, names_one};
 ghost use Rattle.osc_proxy.specs.Case.{IsAnswered};
 ghost use Rattle.osc_proxy.specs.Ends.{EachHasItsExchange};
 ghost use Rattle.osc_proxy.specs.Exchanges.{HasOwnTokens, count, get, is_overdue, none_open};
-ghost use Rattle.osc_proxy.specs.Going.{Acknowledges, CanClose, IsOwn};
+ghost use Rattle.osc_proxy.specs.Inner.Going.{Acknowledges, CanClose, IsOwn};
 ghost use Rattle.osc_proxy.specs.Hearing.{Hears, MayBeAnswered};
 ghost use Rattle.osc_proxy.specs.State.{restarted};
 ghost use Rattle.osc_proxy.specs.Table.{Answers, Counts, Ends, ForwardsBy, IsForwarded, IsRefused, forwarded_by, key_for as key_for_of};
@@ -110,14 +110,14 @@ impl Proxy {
         bytes: &[u8],
         draw: &Draw,
     ) -> Result<Step, AllocError>
-        ensures heard { IfOk result (λ step. Hears self.old now draw.now from bytes.now step self.new) }
+        ensures heard { IfOk result (λ step. Hears self.old (record { at = now; from = from; draw = draw.now; what = bytes.now }) step self.new) }
         ensures few { IfOk result (λ step. length step.out ≤ 2) }
         ensures err { OnErr result (self.new ≡ self.old) }
         // Each open message that is a request has an exchange that is open.
         ensures exchanges { EachHasItsExchange self.new.exchanges self.new.endpoint.sending }
         ensures own_tokens { HasOwnTokens self.new.exchanges }
         // What isn't answered takes no memory; nor does a repeat, where nothing was answered before.
-        ensures needs_memory { OnErr result (MayBeAnswered self.old now from bytes.now) }
+        ensures needs_memory { OnErr result (MayBeAnswered self.old (record { at = now; from = from; draw = draw.now; what = bytes.now })) }
     {
         let heard = self.endpoint.on_datagram(now, from, bytes);
         let case = case_of(&self.targets, &self.exchanges, from, heard);
@@ -137,7 +137,7 @@ impl Proxy {
         case: Case<'_>,
     ) -> Result<Step, AllocError>
         requires { AsksFor self.old.exchanges from case }
-        ensures answered { IfOk result (λ step. Answers self.old now from draw.now case.entry step self.new) }
+        ensures answered { IfOk result (λ step. (bytes : List ℕ) → Answers self.old (record { at = now; from = from; draw = draw.now; what = bytes }) case.entry step self.new) }
         ensures fits { IfOk result (λ step. AreSendable step.out) }
         ensures err { OnErr result (self.new ≡ self.old) }
         ensures needs_memory { OnErr result (IsAnswered self.old.endpoint now from case.entry) }
@@ -183,8 +183,8 @@ impl Proxy {
     /// Answers a request that isn't forwarded by this code, and notes it for a repeat.
     fn refuse(&mut self, alloc: Global, came: Arrival<'_>, why: Code) -> Result<Step, AllocError>
         requires why { 0 < why.0 }
-        requires kind { names_one came.message.kind ≡ false }
-        ensures refused { IfOk result (λ step. IsRefused why self.old came.entry.at came.entry.from came.entry.draw.now came.entry.message step self.new) }
+        requires kind { names_one came.what.kind ≡ false }
+        ensures refused { IfOk result (λ step. IsRefused why self.old came.entry step self.new) }
         ensures fits { IfOk result (λ step. AreSendable step.out) }
         ensures err { OnErr result (self.new ≡ self.old) }
     {
@@ -225,9 +225,9 @@ impl Proxy {
 
     /// Forwards a request to this peer, or refuses it.
     fn forward(&mut self, alloc: Global, came: Arrival<'_>, to: Peer) -> Result<Step, AllocError>
-        requires code { 0 < came.message.code }
-        requires kind { names_one came.message.kind ≡ false }
-        ensures forwarded { IfOk result (λ step. ForwardsBy (key_for_of self.old came.entry.message to) self.old came.entry.at came.entry.from came.entry.draw.now came.entry.message to step self.new) }
+        requires code { 0 < came.what.code }
+        requires kind { names_one came.what.kind ≡ false }
+        ensures forwarded { IfOk result (λ step. ForwardsBy (key_for_of self.old came.entry.what to) self.old came.entry to step self.new) }
         ensures fits { IfOk result (λ step. AreSendable step.out) }
         ensures err { OnErr result (self.new ≡ self.old) }
     {
@@ -250,10 +250,10 @@ impl Proxy {
         key: u8,
         forwarded: &MessageBuilder,
     ) -> Result<Step, AllocError>
-        requires key { key_for_of self.old came.message to ≡ Some key }
-        requires kind { names_one came.message.kind ≡ false }
-        requires forwarded { forwarded.now ≡ forwarded_by self.old came.draw.now key came.message }
-        ensures forwarded { IfOk result (λ step. IsForwarded key self.old came.entry.at came.entry.from came.entry.draw.now came.entry.message to step self.new) }
+        requires key { key_for_of self.old came.what to ≡ Some key }
+        requires kind { names_one came.what.kind ≡ false }
+        requires forwarded { forwarded.now ≡ forwarded_by self.old (record { came = came; to = to; key = key }) }
+        ensures forwarded { IfOk result (λ step. IsForwarded self.old (record { came = came.entry; to = to; key = key }) step self.new) }
         ensures fits { IfOk result (λ step. AreSendable step.out) }
         ensures err { OnErr result (self.new ≡ self.old) }
     {
@@ -272,12 +272,12 @@ impl Proxy {
         acknowledged: Acknowledged,
         room: FailureRoom,
     ) -> Step
-        requires key { key_for_of self.old came.message own.to ≡ Some key }
-        requires kind { names_one came.message.kind ≡ false }
-        requires own { IsOwn own.to (is_confirmable_of came.message.kind) (spelling (forwarded_by self.old came.draw.now key came.message)) own }
-        requires acknowledged { Acknowledges came.from came.message acknowledged }
-        requires lawful { HasSpelling (forwarded_by self.old came.draw.now key came.message) }
-        ensures forwarded { IsForwarded key self.old came.entry.at came.entry.from came.entry.draw.now came.entry.message own.to result self.new }
+        requires key { key_for_of self.old came.what own.to ≡ Some key }
+        requires kind { names_one came.what.kind ≡ false }
+        requires own { IsOwn own.to (is_confirmable_of came.what.kind) (spelling (forwarded_by self.old (record { came = came; to = own.to; key = key }))) own }
+        requires acknowledged { Acknowledges came.from came.what acknowledged }
+        requires lawful { HasSpelling (forwarded_by self.old (record { came = came; to = own.to; key = key })) }
+        ensures forwarded { IsForwarded self.old (record { came = came.entry; to = own.to; key = key }) result self.new }
         ensures fits { AreSendable result.out }
     {
         what_nodes_send();
@@ -303,8 +303,8 @@ impl Proxy {
 
     /// Sends a response that counts back to the client, and closes its exchange.
     fn count(&mut self, alloc: Global, came: Arrival<'_>, key: usize) -> Result<Step, AllocError>
-        requires { CanCount self.old.exchanges came.from came.message key }
-        ensures counted { IfOk result (λ step. Counts key self.old came.entry.at came.entry.from came.entry.draw.now came.entry.message step self.new) }
+        requires { CanCount self.old.exchanges came.from came.what key }
+        ensures counted { IfOk result (λ step. Counts key self.old came.entry step self.new) }
         ensures fits { IfOk result (λ step. AreSendable step.out) }
         ensures err { OnErr result (self.new ≡ self.old) }
     {
@@ -326,9 +326,9 @@ impl Proxy {
         own: Own,
         acknowledged: Acknowledged,
     ) -> Step
-        requires exchange { CanClose self.old came.from came.draw.now came.message key named own }
-        requires acknowledged { Acknowledges came.from came.message acknowledged }
-        ensures counted { Counts key self.old came.entry.at came.entry.from came.entry.draw.now came.entry.message result self.new }
+        requires exchange { CanClose self.old came key named own }
+        requires acknowledged { Acknowledges came.from came.what acknowledged }
+        ensures counted { Counts key self.old came.entry result self.new }
         ensures fits { AreSendable result.out }
     {
         what_nodes_send();
@@ -360,7 +360,7 @@ impl Proxy {
         key: usize,
     ) -> Result<Step, AllocError>
         requires { IsNamed self.old.exchanges rejected.peer rejected.id key }
-        ensures ended { IfOk result (λ step. Ends key rejected.id self.old now rejected.peer draw.now step self.new) }
+        ensures ended { IfOk result (λ step. Ends key self.old (record { at = now; from = rejected.peer; draw = draw.now; what = rejected.id }) step self.new) }
         ensures fits { IfOk result (λ step. AreSendable step.out) }
         ensures err { OnErr result (self.new ≡ self.old) }
     {

@@ -2,7 +2,7 @@
 ghost use Rattle.std.specs.Prelude.{◌≡◌, ◌≤◌, ◌<◌, true, length, option_map};
 ghost use Rattle.std.specs.List.{AllByRecursion, prefix_len};
 ghost use Rattle.osc_proxy.specs.ProxyUri.{Reads, is_digit as is_digit_of, is_host_byte as is_host_byte_of};
-ghost use Rattle.osc_proxy.specs.Reading as spec;
+ghost use Rattle.osc_proxy.specs.Inner.Reading as spec;
 
 /// The port of a URI that names none (RFC 7252 section 6.1).
 pub const DEFAULT_PORT: u16 = 5683;
@@ -93,7 +93,7 @@ fn port_of(digits: &[u8]) -> Option<u16>
 }
 
 /// The port at the front of the bytes, where nothing but a '/' stands behind it.
-#[tactic(auto, unfolding(crate::specs::Reading::port_at))]
+#[tactic(auto, unfolding(crate::specs::Inner::Reading::port_at))]
 fn port_at(bytes: &[u8]) -> Option<u16>
     ensures { result ≡ spec.port_at bytes.now }
 {
@@ -115,7 +115,7 @@ fn port_behind(rest: &[u8]) -> Option<u16>
 }
 
 /// The host and the port that stand behind the scheme.
-#[tactic(auto, unfolding(crate::specs::Reading::authority))]
+#[tactic(auto, unfolding(crate::specs::Inner::Reading::authority))]
 fn authority(bytes: &[u8]) -> Option<Origin<'_>>
     ensures { option_map (λ origin. (origin.host.now, origin.port)) result ≡ spec.authority bytes.now }
 {
@@ -128,7 +128,7 @@ fn authority(bytes: &[u8]) -> Option<Origin<'_>>
 }
 
 /// The host and the port, read from left to right.
-#[tactic(auto, unfolding(crate::specs::Reading::host_and_port))]
+#[tactic(auto, unfolding(crate::specs::Inner::Reading::host_and_port))]
 fn host_and_port(uri: &[u8]) -> Option<Origin<'_>>
     ensures { option_map (λ origin. (origin.host.now, origin.port)) result ≡ spec.host_and_port uri.now }
 {

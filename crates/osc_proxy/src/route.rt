@@ -1,6 +1,7 @@
 //! Where a request goes (RFC 7252 sections 5.7.2 and 5.10.2).
 ghost use Rattle.std.specs.Prelude.{◌≡◌, ◌≤◌, ◌||◌, true, false, List, length, Option, is_some, option_map, IfSome, IfNone};
 ghost use Rattle.osc_coap.specs.Message.{NumberAndValue};
+ghost use Rattle.osc_options.specs.Numbers.{uri_host, uri_port};
 ghost use Rattle.osc_options.specs.Requests.{value as value_in};
 ghost use Rattle.osc_proxy.specs.ProxyUri.{HostAndPort};
 ghost use Rattle.osc_proxy.specs.Route as spec;
@@ -63,8 +64,8 @@ fn named_to_proxy<'a>(named: &Named<'a>) -> Option<Option<Origin<'a>>>
     requires { IfSome named.now.uri_port (λ v. length v.now ≤ 2) }
     ensures some { IfSome result (λ origin. ((is_some named.now.proxy_uri || is_some named.now.proxy_scheme) ≡ true)
         × ((options : List NumberAndValue)
-        → value_in 3 options ≡ option_map (λ v. v.now) named.now.uri_host
-        → value_in 7 options ≡ option_map (λ v. v.now) named.now.uri_port
+        → value_in uri_host options ≡ option_map (λ v. v.now) named.now.uri_host
+        → value_in uri_port options ≡ option_map (λ v. v.now) named.now.uri_port
         → spec.NamesBy (option_map (λ v. v.now) named.now.proxy_uri) (option_map (λ v. v.now) named.now.proxy_scheme) options
         (option_map (λ origin. (origin.host.now, origin.port)) origin))) }
     ensures none { IfNone result ((is_some named.now.proxy_uri || is_some named.now.proxy_scheme) ≡ false) }

@@ -4,7 +4,7 @@ ghost use Rattle.std.specs.Option.{option_to_list};
 ghost use Rattle.osc_coap.specs.Message.{HasSpelling, spelling};
 ghost use Rattle.osc_message.specs.Sending.{FitsDatagram};
 ghost use Rattle.osc_proxy.specs.Own.{goes_now, has_room, sends_own, with_own};
-ghost use Rattle.osc_proxy.specs.Going.{Acknowledges, IsOwn, back_kept_by, back_sends_by};
+ghost use Rattle.osc_proxy.specs.Inner.Going.{Acknowledges, IsOwn, back_kept_by, back_sends_by};
 
 use crate::Endpoint;
 use osc_coap::{MessageBuilder, MessageRef};

@@ -4,7 +4,7 @@ ghost use Rattle.std.specs.Option.{option_to_list};
 ghost use Rattle.osc_model.specs.declared.step.Datagram.{Datagram as AnyDatagram};
 ghost use Rattle.osc_coap.specs.Message.{HasSpelling, spelling};
 ghost use Rattle.osc_message.specs.Sending.{AreSendable, FitsDatagram};
-ghost use Rattle.osc_proxy.specs.Bounds.{IsOpen};
+ghost use Rattle.osc_proxy.specs.Inner.Bounds.{IsOpen};
 ghost use Rattle.osc_proxy.specs.Exchanges.{count};
 ghost use Rattle.osc_proxy.specs.Table.{Closes, back_kept, back_sends};
 ghost use Rattle.osc_proxy.specs.Ticks.{AllEnd, Ticks, timeout, without_its};
@@ -67,7 +67,8 @@ fn all_end(
 )
     requires { room ≡ true → vec_len out.old + count exchanges.old ≤ vec_capacity out.old }
     ensures { (answers : List AnyDatagram) × (out.new.items ≡ out.old.items ++ (if room then answers else []))
-        × AllEnd now draw.now given_up.now exchanges.old endpoint.old answers exchanges.new endpoint.new × AreSendable answers }
+        × ((targets : List AnyTarget) → AllEnd now draw.now given_up.now (record { targets = targets; exchanges = exchanges.old; endpoint = endpoint.old }) answers
+        (record { targets = targets; exchanges = exchanges.new; endpoint = endpoint.new })) × AreSendable answers }
 {
     for _ in 0..exchanges.count() {
         let Some(key) = exchanges.find_over(now, given_up) else {

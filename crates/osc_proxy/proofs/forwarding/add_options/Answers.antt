@@ -4,7 +4,7 @@ use Rattle.osc_coap.specs.Message.{NumberAndValue, Message, spelling}
 use Rattle.osc_coap.specs.Building.{last_number, with_option}
 use Rattle.osc_options.specs.Merging.{with_options}
 use Rattle.osc_options.specs.Split.{AreInOrder}
-use Rattle.osc_proxy.specs.Rewriting.{staying}
+use Rattle.osc_proxy.specs.Inner.Rewriting.{staying}
 use Rattle.osc_proxy.proofs.AddLaws.{refused, last_number-push, with_options-more, options_front}
 use Rattle.osc_proxy.proofs.OptionLaws.{one_stays}
 use Rattle.osc_proxy.proofs.forwarding.add_options.Goals as goal

@@ -4,7 +4,7 @@ use Rattle.osc_coap.specs.declared.kind.Kind.{Kind}
 use Rattle.osc_coap.specs.Length.{datagram_limit}
 use Rattle.osc_coap.specs.Message.{Message, spelling}
 use Rattle.osc_proxy.specs.Forwarding.{forwarded}
-use Rattle.osc_proxy.specs.Rewriting.{rewritten}
+use Rattle.osc_proxy.specs.Inner.Rewriting.{rewritten}
 use Rattle.osc_proxy.specs.declared.forwarding.Rewriting.TheVariants.{ForTarget}
 use Rattle.osc_proxy.proofs.forwarding.forwarded_message.Goals as goal
 

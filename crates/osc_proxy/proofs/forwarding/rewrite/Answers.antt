@@ -1,5 +1,5 @@
 use Rattle.std.proofs.Common.{rules}
-use Rattle.osc_proxy.specs.Rewriting.{stays}
+use Rattle.osc_proxy.specs.Inner.Rewriting.{stays}
 use Rattle.osc_proxy.proofs.OptionLaws.{AreInOrder-options}
 use Rattle.osc_proxy.proofs.forwarding.rewrite.Goals as goal
 

@@ -9,5 +9,4 @@ returns c =
       short = λ id. (c.what_nodes_send.ensures.short id).1;
       no_longer = c.forwarding_adds_nothing.ensures;
     } in
-    λ proxy passed now draw from to message key step takes_up hears.
-    is_passed_on laws proxy passed now draw from to message key step takes_up hears
+    λ proxy passed passage step takes_up hears. is_passed_on laws proxy passed passage step takes_up hears

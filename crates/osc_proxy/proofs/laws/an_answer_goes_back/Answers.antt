@@ -9,5 +9,5 @@ returns c =
       short = λ id. (c.what_nodes_send.ensures.short id).1;
       no_longer = c.forwarding_adds_nothing.ensures;
     } in
-    λ proxy passed brought now later draw later_draw from to message response key first second lawful takes_up back is answers_it hears.
-    is_brought_back laws proxy passed brought now later draw later_draw from to message response key first second lawful takes_up back is answers_it hears
+    λ proxy passed brought passage later draw response first second lawful takes_up back is answers_it hears.
+    is_brought_back laws proxy passed brought passage later draw response first second lawful takes_up back is answers_it hears

@@ -5,6 +5,7 @@ use Rattle.osc_coap.specs.Message.{spelling}
 use Rattle.osc_model.specs.declared.step.Datagram.{Datagram}
 use Rattle.osc_message.specs.Endpoint.{EndpointState}
 use Rattle.osc_proxy.specs.Exchanges.{first_key}
+use Rattle.osc_proxy.specs.State.{State}
 use Rattle.osc_proxy.specs.Table.{back_sends}
 use Rattle.osc_proxy.specs.Ticks.{AllEnd, is_over, timeout, without_its}
 use Rattle.osc_proxy.specs.Ticks.AllEnd.{none_is, one_is}
@@ -18,9 +19,11 @@ returns-in_default c =
     let none : first_key (is_over c.args.now c.args.given_up.now) here.exchanges ≡ None = sym c.find_over.ensures ∙ c.in_default.is in (
       here.invariant.so_far,
       here.invariant.sent,
-      subst (λ out. AllEnd c.args.now c.args.draw.now c.args.given_up.now c.args.exchanges.now c.args.endpoint.now out here.exchanges here.endpoint)
-          (append-nil here.invariant.so_far)
-          (here.invariant.ends [] here.exchanges here.endpoint (none_is here.exchanges here.endpoint none)),
+      λ targets.
+          let last : State = record { targets = targets; exchanges = here.exchanges; endpoint = here.endpoint } in
+          let first : State = record { targets = targets; exchanges = c.args.exchanges.now; endpoint = c.args.endpoint.now } in
+          subst (λ out. AllEnd c.args.now c.args.draw.now c.args.given_up.now first out last) (append-nil here.invariant.so_far)
+          (here.invariant.ends targets [] last (none_is last none)),
       here.invariant.fits,
     )
 
@@ -57,11 +60,14 @@ loop-preserved c =
           ∙ one_more room c.args.out.now.items kept.so_far (option_to_list c.end-sent.result) out sent;
       fits = sendable_both kept.so_far out kept.fits
           (sendable_back exchange.confirmable left exchange.client (spelling (timeout here.endpoint draw exchange)) short);
-      ends = λ later last endpoint more.
-          subst (λ xs. AllEnd now draw names c.args.exchanges.now c.args.endpoint.now xs last endpoint) (sym (append_assoc kept.so_far out later))
-          (kept.ends (out ++ later) last endpoint
-          (one_is here.exchanges c.end-sent.new.exchanges last here.endpoint endpoint c.in-Some.key exchange later (sym c.find_over.ensures ∙ c.in-Some.is) closes c.end-sent.ensures.ended.5
-          (subst (λ (s : EndpointState). AllEnd now draw names c.end-sent.new.exchanges s later last endpoint) after more)));
+      ends = λ targets later last more.
+          let first : State = record { targets = targets; exchanges = c.args.exchanges.now; endpoint = c.args.endpoint.now } in
+          let was : State = record { targets = targets; exchanges = here.exchanges; endpoint = here.endpoint } in
+          let table = c.end-sent.new.exchanges in
+          subst (λ xs. AllEnd now draw names first xs last) (sym (append_assoc kept.so_far out later))
+          (kept.ends targets (out ++ later) last
+          (one_is was last table c.in-Some.key exchange later (sym c.find_over.ensures ∙ c.in-Some.is) closes c.end-sent.ensures.ended.5
+          (subst (λ (s : EndpointState). AllEnd now draw names (record { targets = targets; exchanges = table; endpoint = s }) later last) after more)));
       places = λ has. omega (arith, kept.places has, c.put.ensures.len, c.put.ensures.capacity, c.end-sent.ensures.count);
       count = omega (arith, kept.count, c.end-sent.ensures.count);
     }
@@ -72,8 +78,10 @@ returns c =
     let none = none_is_there (is_over c.args.now c.args.given_up.now) here.exchanges (omega (arith, here.invariant.count, c.loop-test.false, c.count-end.ensures.value)) in (
       here.invariant.so_far,
       here.invariant.sent,
-      subst (λ out. AllEnd c.args.now c.args.draw.now c.args.given_up.now c.args.exchanges.now c.args.endpoint.now out here.exchanges here.endpoint)
-          (append-nil here.invariant.so_far)
-          (here.invariant.ends [] here.exchanges here.endpoint (none_is here.exchanges here.endpoint none)),
+      λ targets.
+          let last : State = record { targets = targets; exchanges = here.exchanges; endpoint = here.endpoint } in
+          let first : State = record { targets = targets; exchanges = c.args.exchanges.now; endpoint = c.args.endpoint.now } in
+          subst (λ out. AllEnd c.args.now c.args.draw.now c.args.given_up.now first out last) (append-nil here.invariant.so_far)
+          (here.invariant.ends targets [] last (none_is last none)),
       here.invariant.fits,
     )

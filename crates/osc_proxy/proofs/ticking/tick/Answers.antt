@@ -30,6 +30,7 @@ returns c =
     let table = c.args.exchanges.now in
     let endpoint = c.args.endpoint.now in
     let old : State = record { targets = targets; exchanges = table; endpoint = endpoint } in
+    let new : State = record { targets = targets; exchanges = c.all_end.new.exchanges; endpoint = c.all_end.new.endpoint } in
     let left = without_over now table endpoint.sending in
     let did = c.on_tick-out.ensures in
     let done = c.all_end.ensures in
@@ -46,8 +47,8 @@ returns c =
       repeats = repeats;
       repeated = subst (λ (e : EndpointState). GoesOut (tick_sends now e.sending) repeats) c.withdraw_over.ensures did.sent;
       answers = done.0;
-      ends = subst (λ (e : EndpointState). AllEnd now draw (tick_gives_up now left) table e done.0 c.all_end.new.exchanges c.all_end.new.endpoint) ticked
-          (subst (λ (names : List MessageName). AllEnd now draw names table c.on_tick-out.new.self done.0 c.all_end.new.exchanges c.all_end.new.endpoint) given_up done.2);
+      ends = subst (λ (e : EndpointState). AllEnd now draw (tick_gives_up now left) (record { targets = targets; exchanges = table; endpoint = e }) done.0 new) ticked
+          (subst (λ (names : List MessageName). AllEnd now draw names (record { targets = targets; exchanges = table; endpoint = c.on_tick-out.new.self }) done.0 new) given_up (done.2 targets));
       told_answers = told_answers;
       answered = told_or_lost room done.0;
       told = told;

@@ -1,8 +1,9 @@
-use Rattle.std.proofs.Common.{◌≡◌, ◌+◌, [], ◌++◌, true, false, nat_eq, ◌&&◌, refl, ap, sym, ◌∙◌, subst, Some, None}
+use Rattle.std.proofs.Common.{◌≡◌, ℕ, ◌+◌, [], ◌++◌, true, false, nat_eq, ◌&&◌, refl, ap, sym, ◌∙◌, subst, Some, None}
 use Rattle.std.specs.Option.{option_to_list}
 use Rattle.std.specs.Prelude.{OnSome}
 use Rattle.std.proofs.lemmas.Bool.{and_parts, eqb-true}
 use Rattle.osc_coap.specs.Message.{HasSpelling, Message, spelling}
+use Rattle.osc_model.specs.Arrival.{Arrival}
 use Rattle.osc_model.specs.Code.{code}
 use Rattle.osc_model.specs.Step.{sends}
 use Rattle.osc_message.specs.Confirmables.{is_named as names_message, same_peer}
@@ -10,9 +11,9 @@ use Rattle.osc_message.specs.Endpoint.{EndpointState, own_id}
 use Rattle.osc_message.specs.Outbox.{OutboxState}
 use Rattle.osc_proxy.specs.Ends.{EachHasItsExchange, is_request}
 use Rattle.osc_proxy.specs.Exchanges.{Changes, count, get}
-use Rattle.osc_proxy.specs.Going.{IsOwn, back_kept_by}
+use Rattle.osc_proxy.specs.Inner.Going.{IsOwn, back_kept_by}
 use Rattle.osc_proxy.specs.State.{State}
-use Rattle.osc_proxy.specs.Table.{back_kept, back_sends, failure, named, next_own}
+use Rattle.osc_proxy.specs.Table.{back_kept, back_sends, failure, named, next_own, rejection}
 use Rattle.osc_proxy.proofs.Codes.{no_request}
 use Rattle.osc_proxy.proofs.Goes.{back_kept_is, back_sends_is}
 use Rattle.osc_proxy.proofs.Its.{each_at, each_back, each_closed, its_named}
@@ -31,8 +32,9 @@ returns-clause-ended c =
     let own = c.failing-own.result in
     let view = c.self.view_is in
     let there : get inside.exchanges key ≡ Some exchange = cc in
-    let heard_by : c.settle_empty.new.self ≡ named old now from id = c.settle_empty.ensures ∙ ap (λ (s : State). named s now from id) view in
-    let answer = failure (code 5 2) (next_own old draw) exchange in
+    let it : Arrival ℕ = record { at = now; from = from; draw = draw; what = id } in
+    let heard_by : c.settle_empty.new.self ≡ named old it = c.settle_empty.ensures ∙ ap (λ (s : State). named s it) view in
+    let answer = rejection old draw exchange in
     let own_is : c.own_id.result ≡ next_own old draw = c.own_id.ensures ∙ ap (λ (e : EndpointState). own_id draw e.next_id) heard_by in
     let message : failure (code 5 2) c.own_id.result exchange ≡ answer = ap (λ i. failure (code 5 2) i exchange) own_is in
     let is : IsOwn exchange.client exchange.confirmable (spelling answer) own =

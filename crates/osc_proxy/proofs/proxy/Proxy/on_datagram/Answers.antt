@@ -1,6 +1,7 @@
-use Rattle.std.proofs.Common.{◌≡◌, ◌∙◌, ap, subst, Result, Ok, Err, OnErr}
+use Rattle.std.proofs.Common.{◌≡◌, ◌∙◌, ℕ, List, ap, subst, Result, Ok, Err, OnErr}
 use Rattle.std.specs.Prelude.{IfOk}
 use Rattle.std.proofs.lemmas.Result.{IfOk-weaker}
+use Rattle.osc_model.specs.Arrival.{Arrival}
 use Rattle.osc_message.specs.Heard.{heard}
 use Rattle.osc_message.specs.declared.heard.Heard.{Heard}
 use Rattle.osc_proxy.specs.Case.{IsAnswered, NamesIn, case_of}
@@ -12,8 +13,9 @@ use Rattle.osc_proxy.proofs.proxy.Proxy.on_datagram.Goals as goal
 
 pub returns-clause-few : goal.returns-clause-few
 returns-clause-few c =
+    let it : Arrival (List ℕ) = record { at = c.args.now; from = c.args.from; draw = c.args.draw.now; what = c.args.bytes.now } in
     IfOk-weaker c.answer-step.result _ _
-    (λ step answers. (small_step c.args.self.now c.args.now c.args.from c.args.draw.now c.case_of-case.result step c.answer-step.new.self answers).few)
+    (λ step answers. (small_step c.args.self.now it c.case_of-case.result step c.answer-step.new.self (answers it.what)).few)
     c.answer-step.ensures.answered
 
 weaker : {T E : Type 0} (r : Result T E) (P Q : Type 0) → (P → Q) → OnErr r P → OnErr r Q
@@ -30,7 +32,7 @@ returns-clause-heard c =
     let old = c.args.self.now in
     let now = c.args.now in
     let from = c.args.from in
-    let draw = c.args.draw.now in
+    let it : Arrival (List ℕ) = record { at = now; from = from; draw = c.args.draw.now; what = c.args.bytes.now } in
     let came = c.on_datagram-heard.ensures in
     let named = c.case_of-case.ensures.case.0 in
     let view = ap (λ (s : State). heard s.endpoint.seen now from came.0) c.self.view_is in
@@ -44,9 +46,9 @@ returns-clause-heard c =
       receives = came.1;
       named = named;
       names = subst (λ (h : Heard). NamesIn h named) (came.2 ∙ view) c.case_of-case.ensures.case.1;
-      answers = subst (λ (x : Case). Answers old now from draw x step c.answer-step.new.self) case told.0;
-      refused = (small_step old now from draw c.case_of-case.result step c.answer-step.new.self told.0).refused;
-      silent = (small_step old now from draw c.case_of-case.result step c.answer-step.new.self told.0).nothing;
+      answers = subst (λ (x : Case). Answers old it x step c.answer-step.new.self) case (told.0 it.what);
+      refused = (small_step old it c.case_of-case.result step c.answer-step.new.self (told.0 it.what)).refused;
+      silent = (small_step old it c.case_of-case.result step c.answer-step.new.self (told.0 it.what)).nothing;
       fits = told.1;
     })
     (both c.answer-step.result _ _ c.answer-step.ensures.answered c.answer-step.ensures.fits)

@@ -1,5 +1,6 @@
--- Messages that a proxy makes, by their bytes: the way from the code to the definitions. No public contract rests on this.
+-- Messages that a proxy makes, by their bytes: the way from the code to the definitions.
 use Rattle.std.specs.Prelude.{◌≡◌, ℕ, ◌<◌, Bool, true, false, List, [], if◌then◌else◌, Some, option_map}
+use Rattle.osc_model.specs.Arrival.{Arrival}
 use Rattle.osc_model.specs.declared.node.Draw.{Draw}
 use Rattle.osc_model.specs.declared.node.Moment.{Moment}
 use Rattle.osc_model.specs.declared.node.Peer.{Peer}
@@ -12,7 +13,7 @@ use Rattle.osc_message.specs.Sending.{FitsDatagram, IsSendableReply, acknowledge
 use Rattle.osc_proxy.specs.Exchanges.{get}
 use Rattle.osc_proxy.specs.Own.{goes_now, has_room, sends_own, with_own}
 use Rattle.osc_proxy.specs.State.{State}
-use Rattle.osc_proxy.specs.Table.{answer_to, next_own}
+use Rattle.osc_proxy.specs.Table.{answer_for}
 use Rattle.osc_proxy.specs.declared.exchanges.Exchange.{Exchange}
 use Rattle.osc_proxy.specs.declared.sending.Acknowledged.{Acknowledged}
 use Rattle.osc_proxy.specs.declared.sending.Own.{Own}
@@ -33,16 +34,16 @@ pub record IsOwn (to : Peer) (confirmable : Bool) (bytes : List ℕ) (own : Own)
   pub short : FitsDatagram bytes
   pub kept_short : FitsDatagram own.kept
 
--- the exchange of this key can be closed by this response of this peer: its forwarded message has this ID, and this is the answer that
+-- the exchange of this key can be closed by this response: its forwarded message has this ID, and this is the answer that
 -- goes back, which is no request
-pub record CanClose (old : State) (from : Peer) (draw : Draw) (message : Message) (key id : ℕ) (own : Own) : Type 0 where
+pub record CanClose (old : State) (came : Arrival Message) (key id : ℕ) (own : Own) : Type 0 where
   pub exchange : Exchange
   pub is : get old.exchanges key ≡ Some exchange
   pub named : id ≡ exchange.id
-  pub target : same_peer exchange.target from ≡ true
-  pub response : is_request_code (answer_to (next_own old draw) exchange message).code ≡ false
-  pub answer : IsOwn exchange.client exchange.confirmable (spelling (answer_to (next_own old draw) exchange message)) own
-  pub lawful : HasSpelling (answer_to (next_own old draw) exchange message)
+  pub target : same_peer exchange.target came.from ≡ true
+  pub response : is_request_code (answer_for old came exchange).code ≡ false
+  pub answer : IsOwn exchange.client exchange.confirmable (spelling (answer_for old came exchange)) own
+  pub lawful : HasSpelling (answer_for old came exchange)
 
 abbrev pub back_sends_by : Bool → EndpointState → Peer → List ℕ → List Datagram
 back_sends_by confirmable endpoint to bytes =

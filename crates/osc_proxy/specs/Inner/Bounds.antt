@@ -1,4 +1,4 @@
--- What a case tells of what it names, for the step that answers it; no public contract rests on it.
+-- What a case tells of what it names, for the step that answers it.
 use Rattle.std.specs.Prelude.{◌≡◌, ◌<◌, ◌≤◌, ℕ, Bool, true, false, length, Some}
 use Rattle.osc_model.specs.declared.node.Peer.{Peer}
 use Rattle.osc_coap.specs.Code.{is_request_code}

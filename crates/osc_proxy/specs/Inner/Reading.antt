@@ -1,4 +1,4 @@
--- A Proxy-Uri read from left to right: the way from the code to its form. No public contract rests on this.
+-- A Proxy-Uri read from left to right: the way from the code to its form.
 use Rattle.std.specs.Prelude.{ℕ, Bool, true, false, ◌||◌, ◌==◌, nat_le, nat_lt, bytes_eq, if◌then◌else◌, List, [], ◌∷◌, length, take, drop, Option, Some, None, codes}
 use Rattle.std.specs.List.{prefix_len}
 use Rattle.osc_proxy.specs.ProxyUri.{HostAndPort, is_host_byte, is_digit, decimal}

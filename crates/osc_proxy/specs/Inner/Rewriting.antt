@@ -1,4 +1,4 @@
--- Messages written anew option by option: the way from the code to the definitions. No public contract rests on this.
+-- Messages written anew option by option: the way from the code to the definitions.
 use Rattle.std.specs.Prelude.{ℕ, Bool, true, not, List, filter}
 use Rattle.osc_coap.specs.Message.{NumberAndValue, Message}
 use Rattle.osc_coap.specs.declared.kind.Kind.{Kind}
