@@ -9,7 +9,7 @@ use Rattle.osc_protect.specs.Protection.{SealedResponse, IsResponse}
 use Rattle.osc_authz.specs.Begun.{ClientContextState}
 use Rattle.osc_run.specs.ClientKinds.{response_note}
 use Rattle.osc_client.specs.Answering.{AskComes, IsSealedFor, answered, no_response, not_genuine}
-use Rattle.osc_client.specs.Opened.{ComesOf, a_reply, no_reply, nothing}
+use Rattle.osc_client.specs.Inner.Opened.{ComesOf, a_reply, no_reply, nothing}
 use Rattle.osc_client.specs.declared.answering.Outcome.{Outcome}
 use Rattle.osc_client.specs.declared.answering.Outcome.TheVariants.{Stays, Answers}
 use Rattle.osc_client.specs.declared.waiting.OpenAsk.{OpenAsk}

@@ -18,7 +18,7 @@ use Rattle.osc_run.specs.States.{ClientState, Nothing, Exchange as OpenExchange,
 use Rattle.osc_run.specs.Texts.{IsReplyIn}
 use Rattle.osc_client.specs.Answering.{AskComes, Comes, ExchangeComes, code_of, context_after, ended_by, notes_of, waits_after}
 use Rattle.osc_client.specs.Answering as comes
-use Rattle.osc_client.specs.Bounds.{IsOfGrant, NeedsContext}
+use Rattle.osc_client.specs.Inner.Bounds.{IsOfGrant, NeedsContext}
 use Rattle.osc_client.specs.State.{outstanding, outstanding_of}
 use Rattle.osc_client.specs.declared.answering.Outcome.{Outcome}
 use Rattle.osc_client.specs.declared.answering.Outcome.TheVariants.{Stays, Makes, Answers, Ends}

@@ -16,7 +16,7 @@ use Rattle.osc_authz.specs.Client as finishing
 use Rattle.osc_authz.specs.declared.error.FinishError.TheVariants.{Fields, EqualIds}
 use Rattle.osc_authz.specs.declared.granted.ClientDesk.{ClientDesk}
 use Rattle.osc_client.specs.Answering.{context_after, waits_after}
-use Rattle.osc_client.specs.Bounds.{HasContext, KeepsOwn}
+use Rattle.osc_client.specs.Inner.Bounds.{HasContext, KeepsOwn}
 use Rattle.osc_client.specs.Case.{counts, is_ended, is_reset}
 use Rattle.osc_client.specs.declared.answering.Outcome.{Outcome}
 use Rattle.osc_client.specs.declared.answering.Outcome.TheVariants.{Stays, Makes, Answers, Ends}

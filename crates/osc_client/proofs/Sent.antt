@@ -1,12 +1,12 @@
 -- What a client sends for a datagram: one at most, to whom that came from.
 use Rattle.std.proofs.Common.{◌≡◌, sym, ap, ℕ, Bool, true, false, List, [], ◌∷◌, Option, Some, None, refl, subst}
 use Rattle.osc_model.specs.declared.bytes.Bytes.{Bytes}
-use Rattle.osc_model.specs.declared.node.Moment.{Moment}
+use Rattle.osc_model.specs.Arrival.{Arrival}
 use Rattle.osc_model.specs.declared.node.Peer.{Peer}
 use Rattle.osc_model.specs.declared.step.Datagram.{Datagram}
 use Rattle.osc_model.specs.declared.step.Step.{Step}
 use Rattle.osc_coap.specs.Message.{Message}
-use Rattle.osc_coap.specs.declared.kind.Kind.{Kind}
+use Rattle.osc_message.specs.Endpoint.{EndpointState}
 use Rattle.osc_message.specs.Heard.{noted_reply}
 use Rattle.osc_message.specs.Sending.{acknowledgement, reset, again, datagram, sent_to}
 use Rattle.osc_protect.specs.Ciphers.{Sealings}
@@ -27,22 +27,25 @@ sent_one : (from : Peer) (message : Option Message) → SendsOne from (sent_to f
 sent_one from None = tt
 sent_one from (Some message) = refl
 
-settled_one : (ends : Bool) (old : State) (now : Moment) (from : Peer) (kind : Kind) (id : ℕ) (step : Step) (new : State)
-    → Settles ends old now from kind id step new → SendsOne from step.out
-settled_one false old now from kind id step new settled = sent_by from step [] (ap (λ (s : Step). s.out) settled.0) tt
-settled_one true old now from kind id step new settled = sent_by from step [] (ap (λ (s : Step). s.out) settled.0) tt
+settled_one : (ends : Bool) (old : State) (endpoint : EndpointState) (from : Peer) (step : Step) (new : State) → Settles ends old endpoint step new
+    → SendsOne from step.out
+settled_one false old endpoint from step new settled = sent_by from step [] (ap (λ (s : Step). s.out) settled.0) tt
+settled_one true old endpoint from step new settled = sent_by from step [] (ap (λ (s : Step). s.out) settled.0) tt
 
-pub one_is_sent : (is_sealing : Sealings) (old : State) (now : Moment) (from : Peer) (case : Case) (step : Step) (new : State)
-    → Answers is_sealing old now from case step new → SendsOne from step.out
-one_is_sent is_sealing old now from Ignored step new answers = sent_by from step [] (ap (λ (s : Step). s.out) answers.0) tt
-one_is_sent is_sealing old now from (Reset id) step new answers = sent_by from step (datagram from (reset id) ∷ []) (ap (λ (s : Step). s.out) answers.0) refl
-one_is_sent is_sealing old now from (Repeated id) step new answers =
-    sent_by from step (again from (noted_reply old.endpoint.seen now from id)) (ap (λ (s : Step). s.out) answers.0) (again_one from (noted_reply old.endpoint.seen now from id))
-one_is_sent is_sealing old now from (Empty kind id) step new answers = settled_one (is_ended old.next_hop from kind id old.waiting) old now from kind id step new answers
-one_is_sent is_sealing old now from (Refused message) step new answers =
-    sent_by from step (datagram from (refusal message) ∷ []) (ap (λ (s : Step). s.out) answers.0) refl
-one_is_sent is_sealing old now from (Rejected message) step new answers =
-    sent_by from step (datagram from (reset message.id) ∷ []) (ap (λ (s : Step). s.out) answers.0) refl
-one_is_sent is_sealing old now from (Dropped message) step new answers = sent_by from step [] (ap (λ (s : Step). s.out) answers.0) tt
-one_is_sent is_sealing old now from (Counted message) step new answers =
-    sent_by from step (sent_to from (acknowledgement message)) (ap (λ (s : Step). s.out) answers.told) (sent_one from (acknowledgement message))
+pub one_is_sent : (is_sealing : Sealings) (old : State) (came : Arrival (List ℕ)) (case : Case) (step : Step) (new : State)
+    → Answers is_sealing old came case step new → SendsOne came.from step.out
+one_is_sent is_sealing old came Ignored step new answers = sent_by came.from step [] (ap (λ (s : Step). s.out) answers.0) tt
+one_is_sent is_sealing old came (Reset id) step new answers =
+    sent_by came.from step (datagram came.from (reset id) ∷ []) (ap (λ (s : Step). s.out) answers.0) refl
+one_is_sent is_sealing old came (Repeated id) step new answers =
+    let noted = noted_reply old.endpoint.seen came.at came.from id in
+    sent_by came.from step (again came.from noted) (ap (λ (s : Step). s.out) answers.0) (again_one came.from noted)
+one_is_sent is_sealing old came (Empty kind id) step new answers =
+    settled_one (is_ended old.next_hop came.from kind id old.waiting) old _ came.from step new answers
+one_is_sent is_sealing old came (Refused message) step new answers =
+    sent_by came.from step (datagram came.from (refusal message) ∷ []) (ap (λ (s : Step). s.out) answers.0) refl
+one_is_sent is_sealing old came (Rejected message) step new answers =
+    sent_by came.from step (datagram came.from (reset message.id) ∷ []) (ap (λ (s : Step). s.out) answers.0) refl
+one_is_sent is_sealing old came (Dropped message) step new answers = sent_by came.from step [] (ap (λ (s : Step). s.out) answers.0) tt
+one_is_sent is_sealing old came (Counted message) step new answers =
+    sent_by came.from step (sent_to came.from (acknowledgement message)) (ap (λ (s : Step). s.out) answers.told) (sent_one came.from (acknowledgement message))

@@ -5,7 +5,7 @@ use Rattle.osc_authz.specs.Begun.{ClientContextState}
 use Rattle.osc_authz.specs.declared.granted.ClientDesk.{ClientDesk}
 use Rattle.osc_run.specs.ClientKinds.{IsSkipped}
 use Rattle.osc_run.specs.States.{Outstanding}
-use Rattle.osc_client.specs.Bounds.{HasContext, NeedsContext}
+use Rattle.osc_client.specs.Inner.Bounds.{HasContext, NeedsContext}
 use Rattle.osc_client.specs.State.{State, core, outstanding, outstanding_of, raised_to, skipped_to}
 use Rattle.osc_client.specs.declared.waiting.Awaited.TheVariants.{Exchange, Ask}
 use Rattle.osc_client.specs.declared.waiting.Awaited.{Awaited}

@@ -1,25 +1,24 @@
 -- Which kind of step each is.
 use Rattle.std.proofs.Common.{◌≡◌, ◌≤◌, ap, ℕ, Bool, true, false, List, Some, None, Option, Ok, refl, subst}
+use Rattle.osc_model.specs.Arrival.{Arrival}
 use Rattle.osc_model.specs.Step.{sends}
 use Rattle.osc_model.specs.StepNotes.{quiet}
 use Rattle.osc_model.specs.declared.code.Code.{Code}
-use Rattle.osc_model.specs.declared.node.Moment.{Moment}
-use Rattle.osc_model.specs.declared.node.Peer.{Peer}
+use Rattle.osc_model.specs.declared.node.Draw.{Draw}
 use Rattle.osc_model.specs.declared.step.ClientResult.TheVariants as result
 use Rattle.osc_model.specs.declared.step.ClientResult.TheVariants.{Refused}
 use Rattle.osc_model.specs.declared.step.Datagram.{Datagram}
 use Rattle.osc_model.specs.declared.step.Step.{Step}
-use Rattle.osc_coap.specs.Message.{Message}
-use Rattle.osc_coap.specs.declared.kind.Kind.{Kind}
+use Rattle.osc_message.specs.Endpoint.{EndpointState}
 use Rattle.osc_authz.specs.Begun.{Begun, ClientContextState}
 use Rattle.osc_authz.specs.Client.{Finishes}
 use Rattle.osc_run.specs.ClientKinds.{ClientStep, ClientIdle, Ended, IsMade, Lied}
 use Rattle.osc_run.specs.States.{ClientState, Nothing, Exchange as OpenExchange}
-use Rattle.osc_client.specs.Bounds.{HasContext}
+use Rattle.osc_client.specs.Inner.Bounds.{HasContext}
 use Rattle.osc_client.specs.Case.{is_ended, is_reset}
 use Rattle.osc_context.specs.Nonce.{greatest_number}
 use Rattle.osc_protect.specs.Ciphers.{Sealings, Tags}
-use Rattle.osc_client.specs.Lying.{LiesUnder, lies}
+use Rattle.osc_client.specs.Lying.{Lie, Lies, lies}
 use Rattle.osc_client.specs.State.{State, core, outstanding}
 use Rattle.osc_client.specs.Table.{Answers, Settles}
 use Rattle.osc_client.specs.declared.case.Case.{Case}
@@ -37,10 +36,10 @@ quietly : (old new : State) (step : Step) (out : List Datagram) → step ≡ sen
 quietly old new step out told same = ClientIdle (record { opened = None; refusal = None; noted = ap (λ (s : Step). s.notes) told; is = same })
 
 -- what a Reset ends
-settles : (ends : Bool) (old : State) (now : Moment) (from : Peer) (kind : Kind) (id : ℕ) (step : Step) (new : State)
-    → (ends ≡ true → outstanding old.context old.waiting ≡ Nothing → ⊥) → Settles ends old now from kind id step new → ClientStep false (core old) step.notes (core new)
-settles false old now from kind id step new something settled = quietly old new step _ settled.0 (ap core settled.1)
-settles true old now from kind id step new something settled =
+settles : (ends : Bool) (old : State) (endpoint : EndpointState) (step : Step) (new : State)
+    → (ends ≡ true → outstanding old.context old.waiting ≡ Nothing → ⊥) → Settles ends old endpoint step new → ClientStep false (core old) step.notes (core new)
+settles false old endpoint step new something settled = quietly old new step _ settled.0 (ap core settled.1)
+settles true old endpoint step new something settled =
     Ended refl (record {
       result = result.Unverified (record { 0 = 0 });
       ending = tt;
@@ -50,25 +49,26 @@ settles true old now from kind id step new something settled =
     })
 
 -- a step of the table
-pub kind_of : (is_sealing : Sealings) (old : State) (now : Moment) (from : Peer) (case : Case) (step : Step) (new : State)
+pub kind_of : (is_sealing : Sealings) (old : State) (came : Arrival (List ℕ)) (case : Case) (step : Step) (new : State)
     → HasContext old.context old.waiting
     → ((begun : Begun) (came : Code) (payload : List ℕ) (made : ClientContextState) (before : ClientState) → before.outstanding ≡ OpenExchange begun
     → Finishes before.desk begun came payload (Ok made)
     → IsMade before (record quiet { result = Some result.Made }) (record before { context = Some made; outstanding = Nothing }))
-    → Answers is_sealing old now from case step new → ClientStep false (core old) step.notes (core new)
-kind_of is_sealing old now from Ignored step new has makes answers = quietly old new step _ answers.0 (ap core answers.1)
-kind_of is_sealing old now from (Reset id) step new has makes answers = quietly old new step _ answers.0 (ap core answers.1)
-kind_of is_sealing old now from (Repeated id) step new has makes answers = quietly old new step _ answers.0 (ap core answers.1)
-kind_of is_sealing old now from (Empty kind id) step new has makes answers =
-    settles (is_ended old.next_hop from kind id old.waiting) old now from kind id step new (open_one old.waiting has) answers
+    → Answers is_sealing old came case step new → ClientStep false (core old) step.notes (core new)
+kind_of is_sealing old came Ignored step new has makes answers = quietly old new step _ answers.0 (ap core answers.1)
+kind_of is_sealing old came (Reset id) step new has makes answers = quietly old new step _ answers.0 (ap core answers.1)
+kind_of is_sealing old came (Repeated id) step new has makes answers = quietly old new step _ answers.0 (ap core answers.1)
+kind_of is_sealing old came (Empty kind id) step new has makes answers =
+    settles (is_ended old.next_hop came.from kind id old.waiting) old _ step new (open_one old.waiting has) answers
   where
-    open_one : (waiting : Option Waiting) → HasContext old.context waiting → is_ended old.next_hop from kind id waiting ≡ true → outstanding old.context waiting ≡ Nothing → ⊥
+    open_one : (waiting : Option Waiting) → HasContext old.context waiting → is_ended old.next_hop came.from kind id waiting ≡ true
+        → outstanding old.context waiting ≡ Nothing → ⊥
     open_one None has ends e = let wrong : false ≡ true = and_right (is_reset kind) false ends in cc
     open_one (Some waiting) has ends e = something old.context waiting.what has.0 e
-kind_of is_sealing old now from (RefusedCase message) step new has makes answers = quietly old new step _ answers.0 (ap core answers.1)
-kind_of is_sealing old now from (Rejected message) step new has makes answers = quietly old new step _ answers.0 (ap core answers.1)
-kind_of is_sealing old now from (Dropped message) step new has makes answers = quietly old new step _ answers.0 (ap core answers.1)
-kind_of is_sealing old now from (Counted message) step new has makes answers =
+kind_of is_sealing old came (RefusedCase message) step new has makes answers = quietly old new step _ answers.0 (ap core answers.1)
+kind_of is_sealing old came (Rejected message) step new has makes answers = quietly old new step _ answers.0 (ap core answers.1)
+kind_of is_sealing old came (Dropped message) step new has makes answers = quietly old new step _ answers.0 (ap core answers.1)
+kind_of is_sealing old came (Counted message) step new has makes answers =
     let held : HasContext old.context (Some answers.waiting) = subst (HasContext old.context) answers.waits has in
     let kind = kind_after is_sealing old.desk message old.context answers.waiting answers.outcome answers.comes held.0 makes in
     let before : core old ≡ record { desk = old.desk; context = old.context; outstanding = outstanding old.context (Some answers.waiting) } =
@@ -76,8 +76,17 @@ kind_of is_sealing old now from (Counted message) step new has makes answers =
     rw (before, answers.told, answers.kept) kind
 
 -- a lie, under the context that the client has
-pub lied : (is_sealing : Sealings) (tag : Tags) (old : State) (to : Peer) (context : ClientContextState) (number : ℕ) (text : List ℕ) (outside : Message) (step : Step)
-    → old.context ≡ Some context → number ≤ greatest_number → LiesUnder is_sealing tag to context number text outside step → ClientStep true (core old) step.notes (core old)
-lied is_sealing tag old to context number text outside step held lawful (LiesUnder.too_long long told) = rw told (refusals true (core old) 14)
-lied is_sealing tag old to context number text outside step held lawful (lies protected fits sealed spelled told) =
-    Lied refl (record { context = context; number = number; lawful = lawful; plaintext = text; noted = ap (λ (s : Step). s.notes) told; held = held; is = refl })
+pub lied : (is_sealing : Sealings) (tag : Tags) (old : State) (lie : Lie) (draw : Draw) (step : Step) → lie.number ≤ greatest_number
+    → Lies is_sealing tag old lie draw step → ClientStep true (core old) step.notes (core old)
+lied is_sealing tag old lie draw step lawful (Lies.no_context none told) = rw told (refusals true (core old) 22)
+lied is_sealing tag old lie draw step lawful (Lies.too_long context held long told) = rw told (refusals true (core old) 14)
+lied is_sealing tag old lie draw step lawful (lies context protected held fits sealed spelled told) =
+    Lied refl (record {
+      context = context;
+      number = lie.number;
+      lawful = lawful;
+      plaintext = lie.text;
+      noted = ap (λ (s : Step). s.notes) told;
+      held = held;
+      is = refl;
+    })

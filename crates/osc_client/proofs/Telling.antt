@@ -19,7 +19,6 @@ use Rattle.osc_model.specs.declared.step.Datagram.{Datagram}
 use Rattle.osc_model.specs.declared.step.Note.{Note}
 use Rattle.osc_model.specs.declared.step.Step.{Step}
 use Rattle.osc_coap.specs.Message.{Message, Spells}
-use Rattle.osc_coap.specs.declared.kind.Kind.{Kind}
 use Rattle.osc_options.specs.Split.{has_oscore}
 use Rattle.osc_protect.specs.Ciphers.{Sealings, Tags}
 use Rattle.osc_protect.specs.Protection.{IsRequestOf, plain_bytes}
@@ -27,6 +26,7 @@ use Rattle.osc_authz.specs.Begun.{Begun, ClientContextState}
 use Rattle.osc_authz.specs.declared.error.FinishError.{FinishError}
 use Rattle.osc_authz.specs.declared.error.FinishError.TheVariants.{Fields, EqualIds, Memory}
 use Rattle.osc_message.specs.Confirmables.{Open}
+use Rattle.osc_message.specs.Endpoint.{EndpointState}
 use Rattle.osc_message.specs.Heard.{heard, noted_reply}
 use Rattle.osc_message.specs.Received.{Receives}
 use Rattle.osc_message.specs.Sending.{GoesOut, empty_acknowledgement, is_confirmable, reset, again, datagram, sent_to}
@@ -40,7 +40,7 @@ use Rattle.osc_run.specs.Texts.{IsReplyIn}
 use Rattle.osc_client.specs.Answering.{AskComes, Comes, ExchangeComes, code_of, ended_by, notes_of}
 use Rattle.osc_client.specs.Answering as comes
 use Rattle.osc_client.specs.Case.{case_of, is_ended}
-use Rattle.osc_client.specs.Lying.{Lies, LiesBy, LiesUnder, lies, outside_of}
+use Rattle.osc_client.specs.Lying.{Lie, Lies, lies, outside_of}
 use Rattle.osc_client.specs.Lying as lying
 use Rattle.osc_client.specs.Sending.{Asks, asks, hindered, plain_of, refusing}
 use Rattle.osc_client.specs.State.{State}
@@ -126,9 +126,9 @@ module _ (old : State) (now : Moment) where
   again_silent from id None e = silent [] none_plain
   again_silent from id (Some bytes) e = silent ((record { to = from; bytes = bytes }) ∷ []) (one_plain (record { to = from; bytes = bytes }) (noted_before id e))
 
-  settled_silent : (from : Peer) (ends : Bool) (kind : Kind) (id : ℕ) (step : Step) (new : State) → Settles ends old now from kind id step new → SealsNothing old now step
-  settled_silent from false kind id step new it = as_silent step _ it.0 (silent [] none_plain)
-  settled_silent from true kind id step new it = as_silent step _ it.0 (silent_end [] (result.Unverified (record { 0 = 0 })) tt none_plain)
+  settled_silent : (ends : Bool) (endpoint : EndpointState) (step : Step) (new : State) → Settles ends old endpoint step new → SealsNothing old now step
+  settled_silent false endpoint step new it = as_silent step _ it.0 (silent [] none_plain)
+  settled_silent true endpoint step new it = as_silent step _ it.0 (silent_end [] (result.Unverified (record { 0 = 0 })) tt none_plain)
 
   acknowledged_out : (from : Peer) (id : ℕ) (confirms : Bool) → All (λ it. NeedsNoSeal old now it) (sent_to from (if confirms then Some (empty_acknowledgement id) else None))
   acknowledged_out from id true = one_plain (datagram from (empty_acknowledgement id)) (unprotected (empty_acknowledgement id) refl refl)
@@ -166,23 +166,17 @@ module _ (is_sealing : Sealings) (old : State) (now : Moment) where
         answers = λ reply e. absurd (cc);
       }
 
-  pub ask_told : (tag : Tags) (request : Request) (draw : Draw) (step : Step) (new : State) → Asks is_sealing tag old now request draw step new → AreTold is_sealing old now None step
+  pub ask_told : (tag : Tags) (request : Request) (draw : Draw) (step : Step) (new : State)
+      → Asks is_sealing tag old (record { at = now; draw = draw; request = request }) step new → AreTold is_sealing old now None step
   ask_told tag request draw step new (hindered number why refused) = told_refusal step number refused.told
   ask_told tag request draw step new (asks context protected free sealed spelled told kept) =
       as_sent None step _ told (told_seal old.next_hop (plain_bytes (plain_of old draw request)) context.name context.next (plain_of old draw request) protected sealed)
 
-  under_told : (tag : Tags) (to : Peer) (context : ClientContextState) (number : ℕ) (text : List ℕ) (outside : Message) (step : Step)
-      → LiesUnder is_sealing tag to context number text outside step → AreTold is_sealing old now None step
-  under_told tag to context number text outside step (lying.LiesUnder.too_long long told) = told_refusal step 14 told
-  under_told tag to context number text outside step (lies protected fits sealed spelled told) = as_sent None step _ told (told_seal to text context.name number outside protected sealed)
-
-  by_told : (tag : Tags) (to : Peer) (context : Option ClientContextState) (number : ℕ) (text : List ℕ) (outside : Message) (step : Step)
-      → LiesBy is_sealing tag to context number text outside step → AreTold is_sealing old now None step
-  by_told tag to None number text outside step told = told_refusal step 22 told
-  by_told tag to (Some context) number text outside step it = under_told tag to context number text outside step it
-
-  pub lie_told : (tag : Tags) (number : ℕ) (text : List ℕ) (draw : Draw) (step : Step) → Lies is_sealing tag old number text draw step → AreTold is_sealing old now None step
-  lie_told tag number text draw step it = by_told tag old.next_hop old.context number text (outside_of old.origin draw) step it
+  pub lie_told : (tag : Tags) (lie : Lie) (draw : Draw) (step : Step) → Lies is_sealing tag old lie draw step → AreTold is_sealing old now None step
+  lie_told tag lie draw step (lying.Lies.no_context none told) = told_refusal step 22 told
+  lie_told tag lie draw step (lying.Lies.too_long context held long told) = told_refusal step 14 told
+  lie_told tag lie draw step (lies context protected held fits sealed spelled told) =
+      as_sent None step _ told (told_seal old.next_hop lie.text context.name lie.number (outside_of old.origin draw) protected sealed)
 
   -- ---- a datagram
 
@@ -242,8 +236,9 @@ module _ (is_sealing : Sealings) (old : State) (now : Moment) where
     comes_tells (Some context) (Ask ask) message o spelled it = ask_tells context ask message o spelled it
     comes_tells None (Ask ask) message o spelled it = absurd it
 
-    counts_told : (message : Message) (step : Step) (new : State) → Spells came message → Counts is_sealing old now from message step new → AreTold is_sealing old now (Some came) step
-    counts_told message step new spelled it =
+    counts_told : (draw : Draw) (message : Message) (step : Step) (new : State) → Spells came message
+        → Counts is_sealing old (record { at = now; from = from; draw = draw; what = message }) step new → AreTold is_sealing old now (Some came) step
+    counts_told draw message step new spelled it =
         let tells = comes_tells old.context it.waiting.what message it.outcome spelled it.comes in
         let out = acknowledged_out old now from message.id (is_confirmable message.kind) in
         as_sent (Some came) step _ it.told (record {
@@ -256,20 +251,21 @@ module _ (is_sealing : Sealings) (old : State) (now : Moment) where
     quietly : (step it : Step) → step ≡ it → SealsNothing old now it → AreTold is_sealing old now (Some came) step
     quietly step it e told = told_of (Some came) step (as_silent old now step it e told)
 
-    table_told : (it : Case) (step : Step) (new : State) → ((message : Message) → it ≡ case.Counted message → Spells came message)
-        → Answers is_sealing old now from it step new → AreTold is_sealing old now (Some came) step
-    table_told case.Ignored step new spelled a = quietly step _ a.0 (silent old now [] (none_plain old now))
-    table_told (case.Reset id) step new spelled a = quietly step _ a.0 (silent_message old now from (reset id) refl)
-    table_told (case.Repeated id) step new spelled a = quietly step _ a.0 (again_silent old now from id (noted_reply old.endpoint.seen now from id) refl)
-    table_told (case.Empty kind id) step new spelled a =
-        told_of (Some came) step (settled_silent old now from (is_ended old.next_hop from kind id old.waiting) kind id step new a)
-    table_told (case.Refused message) step new spelled a = quietly step _ a.0 (silent_message old now from (refusal message) refl)
-    table_told (case.Rejected message) step new spelled a = quietly step _ a.0 (silent_message old now from (reset message.id) refl)
-    table_told (case.Dropped message) step new spelled a = quietly step _ a.0 (silent old now [] (none_plain old now))
-    table_told (case.Counted message) step new spelled a = counts_told message step new (spelled message refl) a
+    table_told : (draw : Draw) (it : Case) (step : Step) (new : State) → ((message : Message) → it ≡ case.Counted message → Spells came message)
+        → Answers is_sealing old (record { at = now; from = from; draw = draw; what = came }) it step new → AreTold is_sealing old now (Some came) step
+    table_told draw case.Ignored step new spelled a = quietly step _ a.0 (silent old now [] (none_plain old now))
+    table_told draw (case.Reset id) step new spelled a = quietly step _ a.0 (silent_message old now from (reset id) refl)
+    table_told draw (case.Repeated id) step new spelled a = quietly step _ a.0 (again_silent old now from id (noted_reply old.endpoint.seen now from id) refl)
+    table_told draw (case.Empty kind id) step new spelled a =
+        told_of (Some came) step (settled_silent old now (is_ended old.next_hop from kind id old.waiting) _ step new a)
+    table_told draw (case.Refused message) step new spelled a = quietly step _ a.0 (silent_message old now from (refusal message) refl)
+    table_told draw (case.Rejected message) step new spelled a = quietly step _ a.0 (silent_message old now from (reset message.id) refl)
+    table_told draw (case.Dropped message) step new spelled a = quietly step _ a.0 (silent old now [] (none_plain old now))
+    table_told draw (case.Counted message) step new spelled a = counts_told draw message step new (spelled message refl) a
 
-    pub datagram_told : (it : Received) (step : Step) (new : State) → Receives came it
-        → Answers is_sealing old now from (case_of old.next_hop from old.waiting (heard old.endpoint.seen now from it)) step new → AreTold is_sealing old now (Some came) step
-    datagram_told it step new receives answers =
-        table_told (case_of old.next_hop from old.waiting (heard old.endpoint.seen now from it)) step new
+    pub datagram_told : (draw : Draw) (it : Received) (step : Step) (new : State) → Receives came it
+        → Answers is_sealing old (record { at = now; from = from; draw = draw; what = came })
+        (case_of old.next_hop from old.waiting (heard old.endpoint.seen now from it)) step new → AreTold is_sealing old now (Some came) step
+    datagram_told draw it step new receives answers =
+        table_told draw (case_of old.next_hop from old.waiting (heard old.endpoint.seen now from it)) step new
         (λ message e. (subst (Receives came) (counted_came old.next_hop from old.waiting old.endpoint.seen now it message e) receives).1) answers

@@ -16,7 +16,7 @@ use Rattle.osc_model.specs.declared.step.Datagram.{Datagram}
 use Rattle.osc_model.specs.declared.step.Step.{Step}
 use Rattle.osc_client.specs.Sending.{Ticks, TicksBy, is_over}
 use Rattle.osc_client.specs.State.{State}
-use Rattle.osc_client.specs.Bounds.{KeepsOwn}
+use Rattle.osc_client.specs.Inner.Bounds.{KeepsOwn}
 use Rattle.osc_client.specs.declared.waiting.Waiting.{Waiting}
 
 -- the names of the messages stay

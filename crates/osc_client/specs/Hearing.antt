@@ -1,10 +1,9 @@
 -- The steps of a client: a datagram comes to it, the time for what is due, or its holder begins something. Each says what the table
 -- makes of it, what the notes tell of the datagrams, and that what is sent can be.
 use Rattle.std.specs.Prelude.{ℕ, List, Some, None}
+use Rattle.osc_model.specs.Arrival.{Arrival}
 use Rattle.osc_model.specs.declared.node.Draw.{Draw}
 use Rattle.osc_model.specs.declared.node.Moment.{Moment}
-use Rattle.osc_model.specs.declared.node.Peer.{Peer}
-use Rattle.osc_model.specs.declared.request.Request.{Request}
 use Rattle.osc_model.specs.declared.step.Step.{Step}
 use Rattle.osc_message.specs.Heard.{heard}
 use Rattle.osc_message.specs.Received.{Receives}
@@ -12,8 +11,8 @@ use Rattle.osc_message.specs.Sending.{AreSendable}
 use Rattle.osc_message.specs.declared.received.Received.{Received}
 use Rattle.osc_protect.specs.Ciphers.{Sealings, Tags}
 use Rattle.osc_client.specs.Case.{case_of}
-use Rattle.osc_client.specs.Lying.{Lies}
-use Rattle.osc_client.specs.Sending.{Asks, Exchanges}
+use Rattle.osc_client.specs.Lying.{Lie, Lies}
+use Rattle.osc_client.specs.Sending.{Asked, Asks, Exchanges}
 use Rattle.osc_client.specs.Sending as sending
 use Rattle.osc_client.specs.State.{State}
 use Rattle.osc_client.specs.Table.{Answers}
@@ -33,22 +32,22 @@ pub record Begins (old : State) (now : Moment) (draw : Draw) (step : Step) (new 
 
 -- `is_sealing algorithm` is the relation of the algorithm's cipher
 module _ (is_sealing : Sealings) where
-  -- these bytes come from this address
-  pub record Hears (old : State) (now : Moment) (from : Peer) (bytes : List ℕ) (step : Step) (new : State) : Type 0 where
+  -- these bytes come; no random bytes are used
+  pub record Hears (old : State) (came : Arrival (List ℕ)) (step : Step) (new : State) : Type 0 where
     pub received : Received
-    pub receives : Receives bytes received
-    pub answers : Answers is_sealing old now from (case_of old.next_hop from old.waiting (heard old.endpoint.seen now from received)) step new
-    pub told : AreTold is_sealing old now (Some bytes) step
+    pub receives : Receives came.what received
+    pub answers : Answers is_sealing old came (case_of old.next_hop came.from old.waiting (heard old.endpoint.seen came.at came.from received)) step new
+    pub told : AreTold is_sealing old came.at (Some came.what) step
     pub fits : AreSendable step.out
 
   -- a request is asked, or refused, where the cipher's tag is so long
-  pub record Requests (tag : Tags) (old : State) (now : Moment) (request : Request) (draw : Draw) (step : Step) (new : State) : Type 0 where
-    pub asks : Asks is_sealing tag old now request draw step new
-    pub told : AreTold is_sealing old now None step
+  pub record Requests (tag : Tags) (old : State) (asked : Asked) (step : Step) (new : State) : Type 0 where
+    pub asks : Asks is_sealing tag old asked step new
+    pub told : AreTold is_sealing old asked.at None step
     pub fits : AreSendable step.out
 
   -- a lie is told, or refused; the client stays as it is
-  pub record TellsLie (tag : Tags) (old : State) (number : ℕ) (text : List ℕ) (draw : Draw) (step : Step) : Type 0 where
-    pub lies : Lies is_sealing tag old number text draw step
+  pub record TellsLie (tag : Tags) (old : State) (lie : Lie) (draw : Draw) (step : Step) : Type 0 where
+    pub lies : Lies is_sealing tag old lie draw step
     pub told : (now : Moment) → AreTold is_sealing old now None step
     pub fits : AreSendable step.out

@@ -9,5 +9,4 @@ pub mod Table
 pub mod Hearing
 pub mod Steps
 pub mod Lawful
-pub mod Bounds
-pub mod Opened
+pub mod Inner

@@ -2,8 +2,8 @@
 use Rattle.std.specs.Prelude.{◌≡◌, ℕ, ◌+◌, ◌<◌, ◌≤◌, List, [], ◌∷◌, length, Option, Some, None}
 use Rattle.osc_model.specs.Draw.{message_id_drawn, token_drawn}
 use Rattle.osc_model.specs.StepNotes.{quiet}
+use Rattle.osc_model.specs.declared.context.ContextName.{ContextName}
 use Rattle.osc_model.specs.declared.node.Draw.{Draw}
-use Rattle.osc_model.specs.declared.node.Peer.{Peer}
 use Rattle.osc_model.specs.declared.step.Step.{Step}
 use Rattle.osc_coap.specs.Building.{bare}
 use Rattle.osc_coap.specs.Message.{Message, Spells, spelling}
@@ -22,27 +22,30 @@ use Rattle.osc_client.specs.Way.{HostAndPort, through}
 abbrev pub outside_of : Option HostAndPort → Draw → Message
 outside_of origin draw = through origin (bare Confirmable 2 (message_id_drawn draw) (token_drawn draw))
 
+-- the text that is sealed, and the number at which it is
+pub record Lie : Type 0 where
+  pub number : ℕ
+  pub text : List ℕ
+
 -- `is_sealing algorithm` is the relation of the algorithm's cipher, and `tag algorithm` how long its tag is
 module _ (is_sealing : Sealings) (tag : Tags) where
-  -- 14 where it would be longer than a datagram may be, and else a protected request with this text and this number goes out, as bytes that
-  -- are read again as it
-  pub data LiesUnder (to : Peer) (context : ClientContextState) (number : ℕ) (text : List ℕ) (outside : Message) (step : Step) : Type 0 where
-    too_long : longest_message < length_of_request (length text + tag (algorithm_of context.name)) context.name number outside → step ≡ refusing 14
-        → LiesUnder to context number text outside step
-    lies : (protected : Message) → length_of_request (length text + tag (algorithm_of context.name)) context.name number outside ≤ longest_message
-        → IsRequestOf is_sealing text context.name number outside protected
+  -- how long the protected request is
+  abbrev pub lie_length : ContextName → Lie → Message → ℕ
+  lie_length name lie outside = length_of_request (length lie.text + tag (algorithm_of name)) name lie.number outside
+
+  -- 22 without a context, and 14 where it would be longer than a datagram may be; else a protected request with this text and this number
+  -- goes out, sealed under the context that the client has, as bytes that are read again as it
+  pub data Lies (client : State) (lie : Lie) (draw : Draw) (step : Step) : Type 0 where
+    no_context : client.context ≡ None → step ≡ refusing 22 → Lies client lie draw step
+    too_long : (context : ClientContextState) → client.context ≡ Some context
+        → longest_message < lie_length context.name lie (outside_of client.origin draw) → step ≡ refusing 14 → Lies client lie draw step
+    lies : (context : ClientContextState) (protected : Message) → client.context ≡ Some context
+        → lie_length context.name lie (outside_of client.origin draw) ≤ longest_message
+        → IsRequestOf is_sealing lie.text context.name lie.number (outside_of client.origin draw) protected
         → Spells (spelling protected) protected
         → step
         ≡ record {
-          out = datagram to protected ∷ [];
-          notes = record quiet { seals = Some (request_note context.name number text) };
+          out = datagram client.next_hop protected ∷ [];
+          notes = record quiet { seals = Some (request_note context.name lie.number lie.text) };
         }
-        → LiesUnder to context number text outside step
-
-  -- 22 without a context, and else it is sealed under the one that the client has
-  abbrev pub LiesBy : Peer → Option ClientContextState → ℕ → List ℕ → Message → Step → Type 0
-  LiesBy to None number text outside step = step ≡ refusing 22
-  LiesBy to (Some context) number text outside step = LiesUnder to context number text outside step
-
-  abbrev pub Lies : State → ℕ → List ℕ → Draw → Step → Type 0
-  Lies client number text draw step = LiesBy client.next_hop client.context number text (outside_of client.origin draw) step
+        → Lies client lie draw step

@@ -14,6 +14,7 @@ use Rattle.osc_cbor.specs.Spelling.{spelling as item_spelling}
 use Rattle.osc_coap.specs.Building.{bare, payload_of}
 use Rattle.osc_coap.specs.Message.{Message, Spells, spelling}
 use Rattle.osc_coap.specs.declared.kind.Kind.TheVariants.{Confirmable}
+use Rattle.osc_options.specs.Numbers.{content_format, uri_path}
 use Rattle.osc_options.specs.Requests.{with_request}
 use Rattle.osc_message.specs.Confirmables.{Open, with_open}
 use Rattle.osc_message.specs.Endpoint.{EndpointState, own_id, id_taken, after_tick, fresh}
@@ -71,7 +72,7 @@ begun_by old draw = record { nonce1 = nonce_drawn draw; recipient_id = offered_i
 -- a post with this body: confirmable, to authz-info, as application/ace+cbor
 abbrev pub post_with : ℕ → List ℕ → List ℕ → Message
 post_with id token body =
-    record (bare Confirmable 2 id token) { options = (11, codes "authz-info") ∷ (12, 19 ∷ []) ∷ []; payload = payload_of body }
+    record (bare Confirmable 2 id token) { options = (uri_path, codes "authz-info") ∷ (content_format, 19 ∷ []) ∷ []; payload = payload_of body }
 
 abbrev pub post_of : ClientDesk → Begun → ℕ → List ℕ → Message
 post_of desk begun id token = post_with id token (item_spelling (post_item desk.token begun.nonce1 (begun.recipient_id ∷ [])))
@@ -139,6 +140,12 @@ restarted old = record old { context = None; waiting = None; endpoint = fresh }
 
 -- ---- a protected request (RFC 8613 section 8.1)
 
+-- what a client's holder asks for, when, and the random bytes of the step
+pub record Asked : Type 0 where
+  pub at : Moment
+  pub draw : Draw
+  pub request : Request
+
 -- the request as a message of its own: confirmable
 abbrev pub plain_request : ℕ → List ℕ → Request → Message
 plain_request id token request = with_request (bare Confirmable request.code.0 id token) request
@@ -166,17 +173,17 @@ module _ (is_sealing : Sealings) (tag : Tags) where
     pub fits : request_length tag context.name context.next (plain_of old draw request) ≤ longest_message
 
   -- It is refused; or the next number is taken, and the protected request goes out, as bytes that are read again as it.
-  pub data Asks (old : State) (now : Moment) (request : Request) (draw : Draw) (step : Step) (new : State) : Type 0 where
-    hindered : (number : ℕ) → IsHindered old request draw number → IsRefused number old step new → Asks old now request draw step new
-    asks : (context : ClientContextState) (protected : Message) → IsFree old request draw context
-        → IsProtectedRequest is_sealing context.name context.next (plain_of old draw request) protected
+  pub data Asks (old : State) (asked : Asked) (step : Step) (new : State) : Type 0 where
+    hindered : (number : ℕ) → IsHindered old asked.request asked.draw number → IsRefused number old step new → Asks old asked step new
+    asks : (context : ClientContextState) (protected : Message) → IsFree old asked.request asked.draw context
+        → IsProtectedRequest is_sealing context.name context.next (plain_of old asked.draw asked.request) protected
         → Spells (spelling protected) protected
         → step
         ≡ record {
           out = datagram old.next_hop protected ∷ [];
-          notes = record quiet { seals = Some (request_note context.name context.next (plain_bytes (plain_of old draw request))) };
+          notes = record quiet { seals = Some (request_note context.name context.next (plain_bytes (plain_of old asked.draw asked.request))) };
         }
         → new
-        ≡ opened (record old { context = Some (record context { next = context.next + 1 }) }) now draw protected
-        (Ask (record { number = context.next; plaintext = plain_bytes (plain_of old draw request) }))
-        → Asks old now request draw step new
+        ≡ opened (record old { context = Some (record context { next = context.next + 1 }) }) asked.at asked.draw protected
+        (Ask (record { number = context.next; plaintext = plain_bytes (plain_of old asked.draw asked.request) }))
+        → Asks old asked step new

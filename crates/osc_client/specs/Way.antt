@@ -1,6 +1,7 @@
 -- The way to the server: through a forward proxy, where it goes through one (RFC 7252 section 5.7.2).
 use Rattle.std.specs.Prelude.{ℕ, ◌≤◌, ◌<◌, ◌==◌, if◌then◌else◌, List, [], ◌∷◌, ◌++◌, length, Option, Some, None, codes}
 use Rattle.osc_coap.specs.Message.{NumberAndValue, Message}
+use Rattle.osc_options.specs.Numbers.{proxy_scheme, uri_host, uri_port}
 use Rattle.osc_options.specs.Replies.{uint_bytes}
 use Rattle.osc_options.specs.Split.{merge}
 
@@ -18,14 +19,14 @@ pub record IsLawfulOrigin (origin : HostAndPort) : Type 0 where
   pub host : IsHost origin.host
   pub port : origin.port < 65536
 
--- Uri-Port, option 7, where the port isn't that of the scheme (sections 5.10.1 and 6.1)
+-- Uri-Port, where the port isn't that of the scheme (sections 5.10.1 and 6.1)
 abbrev pub port_options : ℕ → List NumberAndValue
-port_options port = if port == 5683 then [] else (7, uint_bytes port) ∷ []
+port_options port = if port == 5683 then [] else (uri_port, uint_bytes port) ∷ []
 
--- By these a proxy finds the server: Uri-Host (3), Uri-Port (7) and Proxy-Scheme (39) (sections 5.10.1 and 5.10.2).
+-- By these a proxy finds the server: Uri-Host, Uri-Port and Proxy-Scheme (sections 5.10.1 and 5.10.2).
 abbrev pub proxy_options : Option HostAndPort → List NumberAndValue
 proxy_options None = []
-proxy_options (Some origin) = (3, origin.host) ∷ port_options origin.port ++ (39, codes "coap") ∷ []
+proxy_options (Some origin) = (uri_host, origin.host) ∷ port_options origin.port ++ (proxy_scheme, codes "coap") ∷ []
 
 -- The message with these among its options, in the order of their numbers. They are of class U: they stay outside its protection
 -- (RFC 8613 section 4.1.3).

@@ -4,7 +4,7 @@ ghost use Rattle.osc_coap.specs.Length.{datagram_limit};
 ghost use Rattle.osc_coap.specs.Message.{spelling};
 ghost use Rattle.osc_context.specs.Nonce.{greatest_number};
 ghost use Rattle.osc_protect.specs.Protection.{HasShortContext, IsProtectedRequest, longest_message, plain_bytes, request_length};
-ghost use Rattle.osc_client.specs.Bounds.{room_for};
+ghost use Rattle.osc_client.specs.Inner.Bounds.{room_for};
 ghost use Rattle.osc_client.specs.Sending.{plain_request};
 ghost use Rattle.osc_client.specs.Way.{through as through_of};
 ghost use Rattle.osc_run.specs.ClientKinds.{request_note};

@@ -1,6 +1,6 @@
 //! Which case a datagram is to a client.
 ghost use Rattle.std.specs.Prelude.{◌≡◌, Option};
-ghost use Rattle.osc_client.specs.Bounds.{AsksFor};
+ghost use Rattle.osc_client.specs.Inner.Bounds.{AsksFor};
 ghost use Rattle.osc_client.specs.Case as spec;
 ghost use Rattle.osc_client.specs.declared.waiting.Waiting.{Waiting as AnyWaiting};
 ghost use Rattle.osc_model.specs.declared.node.Peer.{Peer as AnyPeer};

@@ -1,7 +1,8 @@
 //! The client.
-ghost use Rattle.std.specs.Prelude.{◌≡◌, ◌≤◌, ◌<◌, ◌↔◌, [], ◌∷◌, length, false, true, None, IfOk, IfErr, IfNone, IfSome, IsErr, IsSome, IsTrue, IsFalse, OnOk, OnErr, Some, is_some, option_map};
+ghost use Rattle.std.specs.Prelude.{◌≡◌, ℕ, ◌≤◌, ◌<◌, ◌↔◌, List, [], ◌∷◌, length, false, true, None, IfOk, IfErr, IfNone, IfSome, IsErr, IsSome, IsTrue, IsFalse, OnOk, OnErr, Some, is_some, option_map};
 ghost use Rattle.osc_coap.specs.Message.{Spells, spelling};
 ghost use Rattle.osc_model.specs.StepNotes.{quiet};
+ghost use Rattle.osc_model.specs.declared.node.Draw.{Draw as AnyDraw};
 ghost use Rattle.osc_model.specs.declared.node.Moment.{Moment as AnyMoment};
 ghost use Rattle.osc_model.specs.declared.step.ClientResult.TheVariants as result_of;
 ghost use Rattle.osc_context.specs.Nonce.{greatest_number};
@@ -22,7 +23,7 @@ ghost use Rattle.osc_message.specs.Ticks.{acts};
 ghost use Rattle.osc_run.specs.ClientKinds.{ClientStep, IsSkipped};
 ghost use Rattle.osc_client.specs.State.{core, skipped_to};
 ghost use Rattle.osc_client.specs.Sending.{IsFree, IsHindered, PostFits, PostIsTooLong, acts_at, is_over_by, opened, plain_of, restarted};
-ghost use Rattle.osc_client.specs.Bounds.{AsksFor, IsLawful, NeedsContext, room_for};
+ghost use Rattle.osc_client.specs.Inner.Bounds.{AsksFor, IsLawful, NeedsContext, room_for};
 ghost use Rattle.osc_client.specs.Lawful.{IsLawfulClient};
 ghost use Rattle.osc_client.specs.Way.{IsLawfulOrigin};
 
@@ -76,7 +77,7 @@ impl Drop for Client {
 
 impl Model for Client {
     ghost use Rattle.osc_client.specs.State.{State};
-    ghost use Rattle.osc_client.specs.Bounds.{HasContext, IsOfGrant, KeepsOwn};
+    ghost use Rattle.osc_client.specs.Inner.Bounds.{HasContext, IsOfGrant, KeepsOwn};
 
     ghost Value = { State };
 
@@ -235,7 +236,7 @@ impl Client {
         draw: &Draw,
     ) -> Result<Step, AllocError>
         requires { 0 < request.now.code.0 }
-        ensures asked { IfOk result (λ step. Requests A.is_sealing A.TAG self.old now request.now draw.now step self.new) }
+        ensures asked { IfOk result (λ step. Requests A.is_sealing A.TAG self.old (record { at = now; draw = draw.now; request = request.now }) step self.new) }
         ensures kind { IfOk result (λ step. ClientStep false (core self.old) step.notes (core self.new)) }
         ensures err { OnErr result (self.new ≡ self.old) }
         // What hinders a request is told without memory.
@@ -270,7 +271,7 @@ impl Client {
         draw: &Draw,
     ) -> Result<Step, AllocError>
         requires { number ≤ greatest_number }
-        ensures lied { IfOk result (λ step. TellsLie A.is_sealing A.TAG self.now number text.now draw.now step) }
+        ensures lied { IfOk result (λ step. TellsLie A.is_sealing A.TAG self.now (record { number = number; text = text.now }) draw.now step) }
         ensures kind { IfOk result (λ step. ClientStep true (core self.now) step.notes (core self.now)) }
         ensures needs_memory { IsErr result → IsSome self.now.context }
     {
@@ -356,7 +357,7 @@ impl Client {
         from: Peer,
         bytes: &[u8],
     ) -> Result<Step, AllocError>
-        ensures heard { IfOk result (λ step. Hears A.is_sealing self.old now from bytes.now step self.new) }
+        ensures heard { IfOk result (λ step. (draw : AnyDraw) → Hears A.is_sealing self.old (record { at = now; from = from; draw = draw; what = bytes.now }) step self.new) }
         ensures sent { IfOk result (λ step. SendsOne from step.out) }
         ensures kind { IfOk result (λ step. ClientStep false (core self.old) step.notes (core self.new)) }
         ensures err { OnErr result (self.new ≡ self.old) }
@@ -379,7 +380,7 @@ impl Client {
         case: Case<'_>,
     ) -> Result<Step, AllocError>
         requires { AsksFor self.old.next_hop from self.old.waiting case }
-        ensures answered { IfOk result (λ step. Answers A.is_sealing self.old now from case.entry step self.new) }
+        ensures answered { IfOk result (λ step. (draw : AnyDraw) (bytes : List ℕ) → Answers A.is_sealing self.old (record { at = now; from = from; draw = draw; what = bytes }) case.entry step self.new) }
         ensures err { OnErr result (self.new ≡ self.old) }
         ensures fits { IfOk result (λ step. AreSendable step.out) }
         ensures needs_memory { OnErr result (TakesMemory self.old now from case.entry) }
@@ -398,7 +399,7 @@ impl Client {
 
     /// Settles what an empty acknowledgement or Reset names; a Reset ends it.
     fn settle_empty(&mut self, alloc: Global, now: Moment, from: Peer, kind: Kind, id: u16) -> Step
-        ensures settled { Settles (is_ended_of self.old.next_hop from kind id self.old.waiting) self.old now from kind id result self.new }
+        ensures settled { Settles (is_ended_of self.old.next_hop from kind id self.old.waiting) self.old (settled self.old.endpoint now from (heard.Empty kind id) handling.Dropped) result self.new }
         ensures silent { result.out ≡ [] }
     {
         let is_ended = is_ended(self.next_hop, from, kind, id, &self.waiting);
@@ -454,7 +455,7 @@ impl Client {
         message: MessageRef<'_>,
     ) -> Result<Step, AllocError>
         requires { counts_of self.old.next_hop from message self.old.waiting ≡ true }
-        ensures answered { IfOk result (λ step. Counts A.is_sealing self.old now from message.entry step self.new) }
+        ensures answered { IfOk result (λ step. (draw : AnyDraw) → Counts A.is_sealing self.old (record { at = now; from = from; draw = draw; what = message.entry }) step self.new) }
         ensures fits { IfOk result (λ step. AreSendable step.out) }
         ensures err { OnErr result (self.new ≡ self.old) }
         ensures needs_memory { OnErr result (CountsInMemory self.old.waiting message.entry) }

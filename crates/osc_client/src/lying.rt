@@ -1,9 +1,11 @@
 //! What a client's holder may seal beside its requests.
-ghost use Rattle.std.specs.Prelude.{◌≡◌, ◌≤◌, IfOk};
+ghost use Rattle.std.specs.Prelude.{◌≡◌, ◌≤◌, IfOk, Some};
+ghost use Rattle.osc_model.specs.declared.node.Draw.{Draw as AnyDraw};
 ghost use Rattle.osc_context.specs.Nonce.{greatest_number};
 ghost use Rattle.osc_protect.specs.Protection.{HasShortContext};
 ghost use Rattle.osc_message.specs.Sending.{AreSendable};
-ghost use Rattle.osc_client.specs.Lying.{LiesUnder, outside_of};
+ghost use Rattle.osc_client.specs.Lying.{Lies, outside_of};
+ghost use Rattle.osc_client.specs.State.{State};
 
 use crate::proxied::outer_message;
 use crate::refusing::{TOO_LONG, refused};
@@ -40,7 +42,8 @@ pub(crate) fn lie_under<A: Ciphers>(
 ) -> Result<Step, AllocError>
     requires number { number ≤ greatest_number }
     requires short { HasShortContext context.now.name }
-    ensures lied { IfOk result (λ step. LiesUnder A.is_sealing A.TAG to context.now number text.now outside.now step) }
+    ensures lied { IfOk result (λ step. (client : State) (draw : AnyDraw) → client.context ≡ Some context.now → client.next_hop ≡ to
+        → outside.now ≡ outside_of client.origin draw → Lies A.is_sealing A.TAG client (record { number = number; text = text.now }) draw step) }
     ensures fits { IfOk result (λ step. AreSendable step.out) }
 {
     // For the proof alone: the call tells how long the ID is.

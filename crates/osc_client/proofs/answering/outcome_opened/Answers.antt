@@ -1,5 +1,5 @@
 use Rattle.std.proofs.Common.{refl}
-use Rattle.osc_client.specs.Opened.{a_reply, no_reply}
+use Rattle.osc_client.specs.Inner.Opened.{a_reply, no_reply}
 use Rattle.osc_client.proofs.answering.outcome_opened.Goals as goal
 
 pub returns-in-Some-2-clause-comes : goal.returns-in-Some-2-clause-comes

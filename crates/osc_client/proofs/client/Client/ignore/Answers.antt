@@ -1,5 +1,5 @@
 use Rattle.std.proofs.Common.{ap, sym, subst}
-use Rattle.osc_client.specs.Bounds.{KeepsOwn}
+use Rattle.osc_client.specs.Inner.Bounds.{KeepsOwn}
 use Rattle.osc_client.proofs.Own.{own_acknowledged}
 use Rattle.osc_client.proofs.client.Client.ignore.Goals as goal
 

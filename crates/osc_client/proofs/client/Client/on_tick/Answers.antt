@@ -6,7 +6,7 @@ use Rattle.osc_model.specs.StepNotes.{quiet}
 use Rattle.osc_model.specs.declared.step.ClientResult.TheVariants.{TimedOut}
 use Rattle.osc_model.specs.declared.step.Step.{Step}
 use Rattle.osc_client.specs.Told.{SealsNothing}
-use Rattle.osc_client.specs.Bounds.{KeepsOwn}
+use Rattle.osc_client.specs.Inner.Bounds.{KeepsOwn}
 use Rattle.osc_client.proofs.Telling.{ticks_silently, times_out_silently}
 use Rattle.osc_client.specs.Sending.{is_over}
 use Rattle.osc_client.proofs.Ticking.{own_after_tick, timed_out, went_on}

@@ -1,4 +1,4 @@
--- What a client keeps true of its parts; no public contract rests on it.
+-- What a client keeps true of its parts.
 use Rattle.std.specs.Prelude.{◌≡◌, ◌≢◌, ◌≤◌, true, ℕ, List, [], length, Option, Some, None, IfSome}
 use Rattle.std.specs.List.{AllByRecursion}
 use Rattle.osc_model.specs.declared.node.Peer.{Peer}
