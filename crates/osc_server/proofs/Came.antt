@@ -15,8 +15,10 @@ use Rattle.osc_message.specs.declared.heard.Heard.{Heard}
 use Rattle.osc_message.specs.declared.heard.Heard.TheVariants as heard_as
 use Rattle.osc_message.specs.declared.received.Received.{Received}
 use Rattle.osc_message.specs.declared.received.Received.TheVariants as received
+use Rattle.osc_options.specs.Numbers.{proxy_uri, proxy_scheme}
 use Rattle.osc_options.specs.Recognised.{unrecognised_critical}
 use Rattle.osc_options.specs.Requests.{request_of}
+use Rattle.osc_options.specs.Split.{has_oscore}
 use Rattle.osc_server.specs.Case.{case_of, has_option, is_authz_info, is_open_get, message_case, request_case, unprotected_case}
 use Rattle.osc_server.specs.declared.case.Case.{Case}
 use Rattle.osc_server.specs.declared.case.Case.TheVariants.{Ignored, Reset, BadOption, ProxyAsked, Protected, Posted, NotPosted, OpenGet, Unauthorised}
@@ -42,8 +44,8 @@ module _ (bytes : List ℕ) where
   request_spelled scope message spelled =
       one_of (is_some (unrecognised_critical 0 message.options)) _ _
       (one_of (is_confirmable message.kind) (BadOption message) Ignored tt tt)
-      (one_of (has_option 35 message.options || has_option 39 message.options) (ProxyAsked message) _ tt
-      (one_of (has_option 9 message.options) (Protected message) _ spelled (unprotected_spelled scope message (request_of message) spelled)))
+      (one_of (has_option proxy_uri message.options || has_option proxy_scheme message.options) (ProxyAsked message) _ tt
+      (one_of (has_oscore message.options) (Protected message) _ spelled (unprotected_spelled scope message (request_of message) spelled)))
 
   message_spelled : (scope : Scope) (message : Message) → Spells bytes message → SpelledBy bytes (message_case scope message)
   message_spelled scope message spelled =

@@ -1,10 +1,9 @@
 -- Unprotected requests whose options are all understood are answered.
-use Rattle.std.proofs.Common.{◌==◌, Bool, true, false, if◌then◌else◌, List}
+use Rattle.std.proofs.Common.{◌==◌, ℕ, Bool, true, false, if◌then◌else◌, List}
 use Rattle.osc_coap.specs.Message.{Message}
 use Rattle.osc_dedup.specs.Table.{Entry}
+use Rattle.osc_model.specs.Arrival.{Arrival}
 use Rattle.osc_model.specs.Scope.{Scope}
-use Rattle.osc_model.specs.declared.node.Moment.{Moment}
-use Rattle.osc_model.specs.declared.node.Peer.{Peer}
 use Rattle.osc_model.specs.declared.request.Request.{Request}
 use Rattle.osc_server.specs.Case.{IsAnswered, IsAnsweredAnew, is_authz_info, is_open_get, unprotected_case}
 use Rattle.osc_server.specs.declared.case.Case.{Case}
@@ -21,15 +20,15 @@ unprotected_answered open_scope message request =
     (one_of (is_open_get open_scope request) (OpenGet message request) (Unauthorised message) tt tt)
 
 -- what is answered by a message of its own is answered
-pub answered_anew : (seen : List Entry) (now : Moment) (from : Peer) (case : Case) → IsAnsweredAnew case → IsAnswered seen now from case
-answered_anew seen now from Ignored anew = anew
-answered_anew seen now from (Reset id) anew = tt
-answered_anew seen now from (Repeated id) anew = absurd anew
-answered_anew seen now from (Empty kind id) anew = anew
-answered_anew seen now from (BadOption message) anew = tt
-answered_anew seen now from (ProxyAsked message) anew = tt
-answered_anew seen now from (Protected message) anew = tt
-answered_anew seen now from (Posted message) anew = tt
-answered_anew seen now from (NotPosted message) anew = tt
-answered_anew seen now from (OpenGet message request) anew = tt
-answered_anew seen now from (Unauthorised message) anew = tt
+pub answered_anew : (seen : List Entry) (came : Arrival (List ℕ)) (case : Case) → IsAnsweredAnew case → IsAnswered seen came case
+answered_anew seen came Ignored anew = anew
+answered_anew seen came (Reset id) anew = tt
+answered_anew seen came (Repeated id) anew = absurd anew
+answered_anew seen came (Empty kind id) anew = anew
+answered_anew seen came (BadOption message) anew = tt
+answered_anew seen came (ProxyAsked message) anew = tt
+answered_anew seen came (Protected message) anew = tt
+answered_anew seen came (Posted message) anew = tt
+answered_anew seen came (NotPosted message) anew = tt
+answered_anew seen came (OpenGet message request) anew = tt
+answered_anew seen came (Unauthorised message) anew = tt

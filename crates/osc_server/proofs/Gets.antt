@@ -13,7 +13,7 @@ use Rattle.osc_model.specs.declared.code.Method.{Method}
 use Rattle.osc_model.specs.declared.code.Method.TheVariants.{Get}
 use Rattle.osc_model.specs.declared.request.Request.{Request}
 use Rattle.osc_model.specs.declared.resource.Resource.{Resource}
-use Rattle.osc_server.specs.Parts.{IsReplyOf}
+use Rattle.osc_server.specs.Inner.Parts.{IsReplyOf}
 
 pub bare_reply : (most : ℕ) (c : Code) → 0 < c.0 → IsReplyOf most (bare c)
 bare_reply most c positive = record { code = positive; etag = λ tag e. cc; payload = omega arith }

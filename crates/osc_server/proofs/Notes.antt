@@ -10,6 +10,7 @@ use Rattle.osc_coap.specs.declared.kind.Kind.TheVariants.{Confirmable, NonConfir
 use Rattle.osc_coap.specs.Message.{Message}
 use Rattle.osc_dedup.specs.declared.table.Noted.{Noted}
 use Rattle.osc_dedup.specs.Table.{most_entries, Entry, is_alive, is_of, staying, with_note, alive}
+use Rattle.osc_model.specs.Arrival.{Arrival}
 use Rattle.osc_model.specs.declared.bytes.Bytes.{Bytes}
 use Rattle.osc_model.specs.declared.node.Draw.{Draw}
 use Rattle.osc_model.specs.declared.node.Moment.{Moment}
@@ -22,7 +23,7 @@ use Rattle.osc_message.specs.Endpoint.{EndpointState, id_taken, noted, settled, 
 use Rattle.osc_message.specs.Ticks.{acts, tick_sends}
 use Rattle.osc_message.specs.Heard.{noted_reply}
 use Rattle.osc_message.specs.Sending.{AreSendable, FitsDatagram, GoesOut, again, is_confirmable, replied}
-use Rattle.osc_server.specs.Parts.{IsMessage, IsQuiet, KeepsMessages, SendsTo, noted_by}
+use Rattle.osc_server.specs.Inner.Parts.{IsMessage, IsQuiet, KeepsMessages, SendsTo, noted_by}
 
 abbrev IsKept : Entry → Type 0
 IsKept entry = ForSome entry.noted.reply IsMessage
@@ -72,9 +73,9 @@ replied_quiet draw request state quiet = by (is_confirmable request.kind)
     by false = record { messages = quiet.messages; nothing_open = quiet.nothing_open }
 
 -- an answer to a new request
-pub noted_quiet : (state : EndpointState) (now : Moment) (peer : Peer) (draw : Draw) (request : Message) (reply : Bytes) → IsMessage reply → IsQuiet state → IsQuiet (noted_by state now peer draw request reply)
-noted_quiet state now peer draw request reply message quiet =
-    settled_quiet (replied draw request state) now peer request reply message (replied_quiet draw request state quiet)
+pub noted_quiet : (state : EndpointState) (came : Arrival Message) (reply : Bytes) → IsMessage reply → IsQuiet state → IsQuiet (noted_by state came reply)
+noted_quiet state came reply message quiet =
+    settled_quiet (replied came.draw came.what state) came.at came.from came.what reply message (replied_quiet came.draw came.what state quiet)
 
 -- an empty message
 pub empty_quiet : (state : EndpointState) (now : Moment) (peer : Peer) (kind : Kind) (id : ℕ) → IsQuiet state → IsQuiet (settled state now peer (heard.Empty kind id) Dropped)

@@ -1,8 +1,8 @@
 -- A protected request is refused for one reason, or opened, and opened to one text.
 use Rattle.std.proofs.Common.{◌≡◌, ℕ, List, None, Some, subst, sym, ap, refl, ◌∙◌}
 use Rattle.std.proofs.lemmas.Option.{same_Some}
+use Rattle.osc_model.specs.Arrival.{Arrival}
 use Rattle.osc_model.specs.declared.algorithm.Algorithm.{Algorithm}
-use Rattle.osc_model.specs.declared.node.Moment.{Moment}
 use Rattle.osc_coap.specs.Message.{Message}
 use Rattle.osc_context.specs.Algorithm.{algorithm_of}
 use Rattle.osc_authz.specs.Desk.{DeskState}
@@ -18,17 +18,17 @@ use Rattle.osc_server.specs.declared.refusal.Refusal.TheVariants.{Malformed, NoC
 module _ (is_sealing : Sealings)
     (one_text : (algorithm : Algorithm) → SealsOneText (is_sealing algorithm))
     (one_request : (m : Message) (a b : SealedRequest) → IsRequest m a → IsRequest m b → a ≡ b)
-    (desk : DeskState) (now : Moment) (message : Message) where
+    (desk : DeskState) (came : Arrival Message) where
   -- the request, and the context that it means
-  one_meant : (r s : SealedRequest) (h k : Held) → IsMeant desk now message r h → IsMeant desk now message s k → (r ≡ s) × (h ≡ k)
+  one_meant : (r s : SealedRequest) (h k : Held) → IsMeant desk came r h → IsMeant desk came s k → (r ≡ s) × (h ≡ k)
   one_meant r s h k m n =
-      let same : r ≡ s = one_request message r s m.is_request n.is_request in
-      (same, same_Some h k (sym m.is_meant ∙ ap (λ (q : SealedRequest). meant now q.kid q.kid_context desk.table) same ∙ n.is_meant))
+      let same : r ≡ s = one_request came.what r s m.is_request n.is_request in
+      (same, same_Some h k (sym m.is_meant ∙ ap (λ (q : SealedRequest). meant came.at q.kid q.kid_context desk.table) same ∙ n.is_meant))
 
-  not_meant : (r s : SealedRequest) (k : Held) → IsRequest message r → meant now r.kid r.kid_context desk.table ≡ None → IsMeant desk now message s k → ⊥
+  not_meant : (r s : SealedRequest) (k : Held) → IsRequest came.what r → meant came.at r.kid r.kid_context desk.table ≡ None → IsMeant desk came s k → ⊥
   not_meant r s k is none n =
-      let same : r ≡ s = one_request message r s is n.is_request in
-      let no : None ≡ Some k = sym none ∙ ap (λ (q : SealedRequest). meant now q.kid q.kid_context desk.table) same ∙ n.is_meant in
+      let same : r ≡ s = one_request came.what r s is n.is_request in
+      let no : None ≡ Some k = sym none ∙ ap (λ (q : SealedRequest). meant came.at q.kid q.kid_context desk.table) same ∙ n.is_meant in
       absurd (cc)
 
   same_fresh : (r s : SealedRequest) (h k : Held) → (r ≡ s) × (h ≡ k) → IsFresh h.window r.number → IsFresh k.window s.number
@@ -40,10 +40,10 @@ module _ (is_sealing : Sealings)
       subst (λ (c : Held). IsSealed is_sealing c s text) same.1 (subst (λ (q : SealedRequest). IsSealed is_sealing h q text) same.0 sealed)
 
   -- a reason, and a later one
-  earlier : (r s : SealedRequest) (h k : Held) → IsMeant desk now message r h → (IsFresh h.window r.number → ⊥) → IsMeant desk now message s k → IsFresh k.window s.number → ⊥
+  earlier : (r s : SealedRequest) (h k : Held) → IsMeant desk came r h → (IsFresh h.window r.number → ⊥) → IsMeant desk came s k → IsFresh k.window s.number → ⊥
   earlier r s h k m stale n fresh = let same = one_meant s r k h n m in stale (same_fresh s r k h same fresh)
 
-  pub refused_once : (a b : Refusal) → IsRefused is_sealing desk now message a → IsRefused is_sealing desk now message b → a ≡ b
+  pub refused_once : (a b : Refusal) → IsRefused is_sealing desk came a → IsRefused is_sealing desk came b → a ≡ b
   refused_once Malformed Malformed x y = refl
   refused_once Malformed NoContext x y = absurd (x y.0 y.1)
   refused_once Malformed Replayed x y = absurd (x y.0 y.2.is_request)
@@ -62,7 +62,7 @@ module _ (is_sealing : Sealings)
   refused_once NotGenuine NotGenuine x y = refl
 
   pub opened_or_refused : (request : SealedRequest) (held : Held) (text : List ℕ) (refusal : Refusal)
-      → IsOpened is_sealing desk now message request held text → IsRefused is_sealing desk now message refusal → ⊥
+      → IsOpened is_sealing desk came request held text → IsRefused is_sealing desk came refusal → ⊥
   opened_or_refused request held text Malformed is x = x request is.meant.is_request
   opened_or_refused request held text NoContext is x = not_meant x.0 request held x.1 x.2 is.meant
   opened_or_refused request held text Replayed is x = earlier x.0 request x.1 held x.2 x.3 is.meant is.fresh
@@ -71,7 +71,7 @@ module _ (is_sealing : Sealings)
       x.4 text (same_sealed request x.0 held x.1 text same is.opens)
 
   pub opened_once : (request other : SealedRequest) (held holder : Held) (text said : List ℕ)
-      → IsOpened is_sealing desk now message request held text → IsOpened is_sealing desk now message other holder said
+      → IsOpened is_sealing desk came request held text → IsOpened is_sealing desk came other holder said
       → (request ≡ other) × (held ≡ holder) × (text ≡ said)
   opened_once request other held holder text said a b =
       let same = one_meant request other held holder a.meant b.meant in

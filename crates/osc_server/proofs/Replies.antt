@@ -5,6 +5,7 @@ use Rattle.std.proofs.lemmas.List.{length-replicate}
 use Rattle.std.specs.List.{AllByRecursion}
 use Rattle.std.specs.Option.{ForSome}
 use Rattle.std.specs.FinMap as map
+use Rattle.osc_model.specs.Arrival.{Arrival}
 use Rattle.osc_model.specs.Code.{code, method_of}
 use Rattle.osc_model.specs.Tree.{Tree, IsWithinLimits, payload_length}
 use Rattle.osc_model.specs.Scope.{Scope}
@@ -12,7 +13,6 @@ use Rattle.osc_model.specs.Checks.{checks, first_failing, refusal, written}
 use Rattle.osc_model.specs.Apply.{Outcome, read, write, perform, refused_or, apply_at, apply}
 use Rattle.osc_model.specs.declared.code.Code.{Code}
 use Rattle.osc_model.specs.declared.code.Method.TheVariants.{Get, Post, Put, Delete}
-use Rattle.osc_model.specs.declared.node.Draw.{Draw}
 use Rattle.osc_model.specs.declared.reply.Reply.{Reply}
 use Rattle.osc_model.specs.declared.request.Request.{Request}
 use Rattle.osc_model.specs.declared.resource.Resource.{Resource}
@@ -33,7 +33,7 @@ use Rattle.osc_authz.specs.declared.error.PostError.{PostError}
 use Rattle.osc_authz.specs.declared.error.PostError.TheVariants.{Fields, Token, Full}
 use Rattle.osc_token.specs.declared.error.TokenError.TheVariants as token
 use Rattle.osc_authz.specs.declared.post.PostAnswer.{PostAnswer}
-use Rattle.osc_server.specs.Parts.{IsReplyOf, FitsAResource, read_length, request_reply_length}
+use Rattle.osc_server.specs.Inner.Parts.{IsReplyOf, FitsAResource, read_length, request_reply_length}
 use Rattle.osc_server.specs.Table.{post_reply, reply_to}
 use Rattle.osc_server.proofs.Gets.{bare_reply, content_reply}
 
@@ -167,8 +167,8 @@ one_option : (outer : List NumberAndValue) → outer ≡ [] → options_length 0
 unfolding value_spelling
 one_option outer e = rw e refl
 
-pub sealed_short : (endpoint : EndpointState) (draw : Draw) (message : Message) (reply : Reply) (sealed : List ℕ) → length message.token ≤ 8 → spelled_length (response_with None (reply_to endpoint draw message reply) sealed) ≤ 14 + length sealed
-sealed_short endpoint draw message reply sealed token =
+pub sealed_short : (endpoint : EndpointState) (came : Arrival Message) (reply : Reply) (sealed : List ℕ) → length came.what.token ≤ 8 → spelled_length (response_with None (reply_to endpoint came reply) sealed) ≤ 14 + length sealed
+sealed_short endpoint came reply sealed token =
     omega (arith, token, one_option (outer_options (reply_options reply)) (nothing_outside reply.etag reply.format), payload_short sealed)
 
 -- ---- a message with the answer to a post
@@ -177,8 +177,8 @@ post_options : (answer : Result PostAnswer PostError) → options_length 0 (repl
 post_options (Ok answer) = omega arith
 post_options (Err error) = omega arith
 
-pub post_message_short : (endpoint : EndpointState) (draw : Draw) (message : Message) (answer : Result PostAnswer PostError) → length message.token ≤ 8 → length (post_reply answer).payload ≤ 16 → spelled_length (reply_to endpoint draw message (post_reply answer)) ≤ 31
-post_message_short endpoint draw message answer token short =
+pub post_message_short : (endpoint : EndpointState) (came : Arrival Message) (answer : Result PostAnswer PostError) → length came.what.token ≤ 8 → length (post_reply answer).payload ≤ 16 → spelled_length (reply_to endpoint came (post_reply answer)) ≤ 31
+post_message_short endpoint came answer token short =
     omega (arith, token, post_options answer, payload_short (post_reply answer).payload, short)
 
 -- ---- a protected reply
@@ -187,12 +187,12 @@ pub text_short : ((p : Plaintext) → length (plaintext_spelling p) ≡ plaintex
 unfolding reply_text
 text_short law most reply short = rw (law (reply_plaintext reply)) (plain_short most reply short)
 
-pub reply_fits : ((m : Message) → length (spelling m) ≡ spelled_length m) → (endpoint : EndpointState) (draw : Draw) (message : Message) (reply : Reply) (tag : ℕ) → length message.token ≤ 8 → tag ≤ 16 → length (plain_bytes (reply_to endpoint draw message reply)) ≤ 526 → response_length tag None (reply_to endpoint draw message reply) ≤ longest_message
-reply_fits law endpoint draw message reply tag token few text =
-    let size = length (plain_bytes (reply_to endpoint draw message reply)) + tag in
-    rw (law (response_with None (reply_to endpoint draw message reply) (replicate size 0)))
-    (omega (arith, few, text, sealed_short endpoint draw message reply (replicate size 0) token, length-replicate {A = ℕ} size 0))
+pub reply_fits : ((m : Message) → length (spelling m) ≡ spelled_length m) → (endpoint : EndpointState) (came : Arrival Message) (reply : Reply) (tag : ℕ) → length came.what.token ≤ 8 → tag ≤ 16 → length (plain_bytes (reply_to endpoint came reply)) ≤ 526 → response_length tag None (reply_to endpoint came reply) ≤ longest_message
+reply_fits law endpoint came reply tag token few text =
+    let size = length (plain_bytes (reply_to endpoint came reply)) + tag in
+    rw (law (response_with None (reply_to endpoint came reply) (replicate size 0)))
+    (omega (arith, few, text, sealed_short endpoint came reply (replicate size 0) token, length-replicate {A = ℕ} size 0))
 
-pub sealed_reply_short : ((m : Message) → length (spelling m) ≡ spelled_length m) → (endpoint : EndpointState) (draw : Draw) (message : Message) (reply : Reply) (sealed : List ℕ) (answer : Message) → length message.token ≤ 8 → answer ≡ response_with None (reply_to endpoint draw message reply) sealed → length (spelling answer) ≤ 14 + length sealed
-sealed_reply_short law endpoint draw message reply sealed answer token whole =
-    rw (whole, law (response_with None (reply_to endpoint draw message reply) sealed)) (sealed_short endpoint draw message reply sealed token)
+pub sealed_reply_short : ((m : Message) → length (spelling m) ≡ spelled_length m) → (endpoint : EndpointState) (came : Arrival Message) (reply : Reply) (sealed : List ℕ) (answer : Message) → length came.what.token ≤ 8 → answer ≡ response_with None (reply_to endpoint came reply) sealed → length (spelling answer) ≤ 14 + length sealed
+sealed_reply_short law endpoint came reply sealed answer token whole =
+    rw (whole, law (response_with None (reply_to endpoint came reply) sealed)) (sealed_short endpoint came reply sealed token)

@@ -1,10 +1,8 @@
 -- A protected request that is served.
 use Rattle.std.proofs.Common.{◌≡◌, ℕ, List, [], ◌∷◌, sym, subst, ap, ◌∙◌}
 use Rattle.osc_model.specs.Apply.{apply_read}
+use Rattle.osc_model.specs.Arrival.{Arrival}
 use Rattle.osc_model.specs.Tree.{Tree}
-use Rattle.osc_model.specs.declared.node.Draw.{Draw}
-use Rattle.osc_model.specs.declared.node.Moment.{Moment}
-use Rattle.osc_model.specs.declared.node.Peer.{Peer}
 use Rattle.osc_model.specs.declared.bytes.Bytes.{Bytes}
 use Rattle.osc_model.specs.declared.step.Datagram.{Datagram}
 use Rattle.osc_model.specs.declared.step.Note.{Note}
@@ -18,24 +16,25 @@ use Rattle.osc_protect.specs.Protection.{SealedRequest}
 use Rattle.osc_run.specs.ServerKinds.{opening_note, Replies as AppliesTo}
 use Rattle.osc_run.specs.Texts.{read_request}
 use Rattle.osc_message.specs.Sending.{datagram}
-use Rattle.osc_message.specs.Endpoint.{EndpointState}
-use Rattle.osc_server.specs.Parts.{IsReplied, IsServedAs, noted_by}
+use Rattle.osc_server.specs.Inner.Parts.{IsReplied, IsServedAs, Standing, noted_by}
 use Rattle.osc_server.specs.State.{State}
 use Rattle.osc_server.specs.Table.{IsOpened, Serves}
 use Rattle.osc_server.specs.declared.serving.Served.{Served}
 
-pub serves : (is_sealing : Sealings)
-    (old : State) (now : Moment) (from : Peer) (draw : Draw) (message : Message) (request : SealedRequest) (served : Served) (tree : Tree) (step : Step) (new : State)
-    → IsServedAs is_sealing old.tree old.desk old.endpoint now from draw message request served tree
+-- what serves of this server
+abbrev pub standing : State → Standing
+standing old = record { tree = old.tree; desk = old.desk; endpoint = old.endpoint }
+
+pub serves : (is_sealing : Sealings) (old : State) (came : Arrival Message) (request : SealedRequest) (served : Served) (tree : Tree) (step : Step) (new : State)
+    → IsServedAs is_sealing (standing old) came request served tree
     → step ≡ record { out = served.out; notes = served.notes }
-    → new ≡ record {
+    → new ≡ record old {
       tree = tree;
       desk = record old.desk { table = accepted request.kid request.number old.desk.table };
-      open_scope = old.open_scope;
-      endpoint = noted_by old.endpoint now from draw message served.reply;
+      endpoint = noted_by old.endpoint came served.reply;
     }
-    → Serves is_sealing old now from draw message step new
-serves is_sealing old now from draw message request served tree step new is sent kept =
+    → Serves is_sealing old came step new
+serves is_sealing old came request served tree step new is sent kept =
     let same : tree ≡ new.tree = sym (ap (λ s. s.tree) kept) in
     record {
       request = request;
@@ -50,32 +49,29 @@ serves is_sealing old now from draw message request served tree step new is sent
       sent = record {
         spelled = is.replied.sends.spelled;
         sent = sent ∙ ap (λ (out : List Datagram). record { out = out; notes = served.notes }) is.replied.sends.sent
-            ∙ ap (λ notes. record { out = datagram from is.replied.answer ∷ []; notes = notes }) is.replied.noted;
-        kept = kept ∙ ap (λ t. record {
+            ∙ ap (λ notes. record { out = datagram came.from is.replied.answer ∷ []; notes = notes }) is.replied.noted;
+        kept = kept ∙ ap (λ t. record old {
           tree = t;
           desk = record old.desk { table = accepted request.kid request.number old.desk.table };
-          open_scope = old.open_scope;
-          endpoint = noted_by old.endpoint now from draw message served.reply;
-        }) same ∙ ap (λ (reply : Bytes). record {
+          endpoint = noted_by old.endpoint came served.reply;
+        }) same ∙ ap (λ (reply : Bytes). record old {
           tree = new.tree;
           desk = record old.desk { table = accepted request.kid request.number old.desk.table };
-          open_scope = old.open_scope;
-          endpoint = noted_by old.endpoint now from draw message reply;
+          endpoint = noted_by old.endpoint came reply;
         }) is.replied.sends.kept;
       };
     }
 
 -- what becomes of it under the context as it is once it took the number
-pub served_as : (is_sealing : Sealings)
-    (old : Tree) (desk : DeskState) (endpoint : EndpointState) (now : Moment) (from : Peer) (draw : Draw) (message : Message) (request : SealedRequest)
+pub served_as : (is_sealing : Sealings) (old : Standing) (came : Arrival Message) (request : SealedRequest)
     (held context : Held) (taken number : ℕ) (text : List ℕ) (served : Served) (new : Tree)
-    → IsOpened is_sealing desk now message request held text → context ≡ taking taken held → number ≡ request.number
-    → IsReplied is_sealing old endpoint now from draw message context number text served new
-    → IsServedAs is_sealing old desk endpoint now from draw message request served new
-served_as is_sealing old desk endpoint now from draw message request held context taken number text served new opened is same replied =
-    let it : IsReplied is_sealing old endpoint now from draw message (taking taken held) request.number text served new =
-    subst (λ (c : Held). IsReplied is_sealing old endpoint now from draw message c request.number text served new) is
-    (subst (λ (n : ℕ). IsReplied is_sealing old endpoint now from draw message context n text served new) same replied)
+    → IsOpened is_sealing old.desk came request held text → context ≡ taking taken held → number ≡ request.number
+    → IsReplied is_sealing old came (record { held = context; number = number; text = text }) served new
+    → IsServedAs is_sealing old came request served new
+served_as is_sealing old came request held context taken number text served new opened is same replied =
+    let it : IsReplied is_sealing old came (record { held = taking taken held; number = request.number; text = text }) served new =
+    subst (λ (c : Held). IsReplied is_sealing old came (record { held = c; number = request.number; text = text }) served new) is
+    (subst (λ (n : ℕ). IsReplied is_sealing old came (record { held = context; number = n; text = text }) served new) same replied)
     in
     record {
       held = held;
@@ -93,9 +89,9 @@ served_as is_sealing old desk endpoint now from draw message request held contex
     }
 
 -- what is noted of the opening, with the memory beside it
-pub opened_note : (is_sealing : Sealings) (desk : DeskState) (now : Moment) (message : Message) (request : SealedRequest) (note taken : Note)
+pub opened_note : (is_sealing : Sealings) (desk : DeskState) (came : Arrival Message) (request : SealedRequest) (note taken : Note)
     → taken ≡ note
-    → (held : Held) × IsOpened is_sealing desk now message request held note.plaintext × (note ≡ opening_note held.name request.number note.plaintext)
-    → (held : Held) × IsOpened is_sealing desk now message request held taken.plaintext × (taken ≡ opening_note held.name request.number taken.plaintext)
-opened_note is_sealing desk now message request note taken same opened =
-    subst (λ (n : Note). (held : Held) × IsOpened is_sealing desk now message request held n.plaintext × (n ≡ opening_note held.name request.number n.plaintext)) (sym same) opened
+    → (held : Held) × IsOpened is_sealing desk came request held note.plaintext × (note ≡ opening_note held.name request.number note.plaintext)
+    → (held : Held) × IsOpened is_sealing desk came request held taken.plaintext × (taken ≡ opening_note held.name request.number taken.plaintext)
+opened_note is_sealing desk came request note taken same opened =
+    subst (λ (n : Note). (held : Held) × IsOpened is_sealing desk came request held n.plaintext × (n ≡ opening_note held.name request.number n.plaintext)) (sym same) opened

@@ -2,12 +2,12 @@
 use Rattle.std.proofs.Common.{◌≡◌, ℕ, ◌≤◌, List, length, Option, Some, None, Result, Ok, Err, refl, sym, subst, ap}
 use Rattle.std.specs.Prelude.{unwrap_or, []}
 use Rattle.osc_model.specs.Apply.{apply_read}
+use Rattle.osc_model.specs.Arrival.{Arrival, read_as}
 use Rattle.osc_model.specs.StepNotes.{StepNotes, quiet}
 use Rattle.osc_model.specs.Tree.{Tree}
 use Rattle.osc_model.specs.declared.algorithm.Algorithm.TheVariants.{EightByteTag}
 use Rattle.osc_model.specs.declared.node.Draw.{Draw}
 use Rattle.osc_model.specs.declared.node.Moment.{Moment}
-use Rattle.osc_model.specs.declared.node.Peer.{Peer}
 use Rattle.osc_model.specs.declared.reply.Reply.{Reply}
 use Rattle.osc_model.specs.declared.step.RefusedRequest.{RefusedRequest}
 use Rattle.osc_model.specs.declared.step.Step.{Step}
@@ -81,44 +81,45 @@ quietly old now step new noted tree desk = refusing old now None step new noted 
 pub restarts : (old new : State) (now : Moment) → new ≡ record old { desk = record old.desk { table = [] }; endpoint = fresh } → ServerStep (core old) now quiet (core new)
 restarts old new now e = ServerRestarted (record { noted = refl; is = ap core e })
 
-sends_idly : (old : State) (now : Moment) (from : Peer) (draw : Draw) (request answer : Message) (why : Option RefusedRequest) (step : Step) (new : State) → Sends old now from draw request answer (record quiet { refused = why }) old.tree old.desk step new → ServerStep (core old) now step.notes (core new)
-sends_idly old now from draw request answer why step new it =
-    refusing old now why step new (ap (λ s. s.notes) it.sent) (ap (λ s. s.tree) it.kept) (ap (λ s. s.desk) it.kept)
+sends_idly : (old : State) (came : Arrival Message) (answer : Message) (why : Option RefusedRequest) (step : Step) (new : State) → Sends old came answer (record quiet { refused = why }) step new → ServerStep (core old) came.at step.notes (core new)
+sends_idly old came answer why step new it =
+    refusing old came.at why step new (ap (λ s. s.notes) it.sent) (ap (λ s. s.tree) it.kept) (ap (λ s. s.desk) it.kept)
 
 -- ---- the kinds
 
-module _ (is_sealing : Sealings) (laws : Laws is_sealing) (old : State) (now : Moment) (from : Peer) (draw : Draw) (step : Step) (new : State) (drawn : length draw.0 ≡ 32) (before : IsTable old.desk.table) (after : IsTable new.desk.table) where
-  post_kind : (message : Message) (post : Post) (answer : Result PostAnswer PostError) → post.answer ≡ answer → Posts (is_sealing EightByteTag) old.desk now (unwrap_or message.payload []) draw post new.desk
-      → ServerStep (core old) now (record quiet { opens = post.opened; drawn = nonce_of_post answer; refused = refusal_of_post answer }) (record { contexts = of_tokens new.desk.table; tree = old.tree })
-  post_kind message post (Ok answer) e posts = Posted (laws.agrees old.desk new.desk now _ draw post answer old.tree drawn posts e after)
-  post_kind message post (Err error) e posts = ServerIdle (laws.refuses old.desk new.desk now _ draw post error (refusal_of_post (Err error)) old.tree posts e)
+module _ (is_sealing : Sealings) (laws : Laws is_sealing) (old : State) (step : Step) (new : State) (before : IsTable old.desk.table) (after : IsTable new.desk.table) where
+  post_kind : (came : Arrival Message) (post : Post) (answer : Result PostAnswer PostError) → length came.draw.0 ≡ 32 → post.answer ≡ answer
+      → Posts (is_sealing EightByteTag) old.desk came.at (unwrap_or came.what.payload []) came.draw post new.desk
+      → ServerStep (core old) came.at (record quiet { opens = post.opened; drawn = nonce_of_post answer; refused = refusal_of_post answer }) (record { contexts = of_tokens new.desk.table; tree = old.tree })
+  post_kind came post (Ok answer) drawn e posts = Posted (laws.agrees old.desk new.desk came.at _ came.draw post answer old.tree drawn posts e after)
+  post_kind came post (Err error) drawn e posts = ServerIdle (laws.refuses old.desk new.desk came.at _ came.draw post error (refusal_of_post (Err error)) old.tree posts e)
 
-  posted_kind : (message : Message) → AnswersPost is_sealing old now from draw message step new → ServerStep (core old) now step.notes (core new)
-  posted_kind message it =
-      subst (λ notes. ServerStep (core old) now notes (core new)) (sym (ap (λ s. s.notes) it.sent.sent))
-      (subst (λ t. ServerStep (core old) now (notes_of_post it.post) (record { contexts = of_tokens new.desk.table; tree = t })) (sym (ap (λ s. s.tree) it.sent.kept))
-      (post_kind message it.post it.post.answer refl it.posts))
+  posted_kind : (came : Arrival Message) → length came.draw.0 ≡ 32 → AnswersPost is_sealing old came step new → ServerStep (core old) came.at step.notes (core new)
+  posted_kind came drawn it =
+      subst (λ notes. ServerStep (core old) came.at notes (core new)) (sym (ap (λ s. s.notes) it.sent.sent))
+      (subst (λ t. ServerStep (core old) came.at (notes_of_post it.post) (record { contexts = of_tokens new.desk.table; tree = t })) (sym (ap (λ s. s.tree) it.sent.kept))
+      (post_kind came it.post it.post.answer drawn refl it.posts))
 
-  served_kind : (message : Message) → Serves is_sealing old now from draw message step new → ServerStep (core old) now step.notes (core new)
-  served_kind message it =
-      subst (λ notes. ServerStep (core old) now notes (core new)) (sym (ap (λ s. s.notes) it.sent.sent))
-      (subst (λ d. ServerStep (core old) now (notes_of_request now it.held it.request.number it.text it.reply) (record { contexts = of_tokens d.table; tree = new.tree })) (sym (ap (λ s. s.desk) it.sent.kept))
-      (Served (laws.opens now it.request.kid it.request.kid_context old.desk.table it.held it.request.number it.text it.reply old.tree new.tree
+  served_kind : (came : Arrival Message) → Serves is_sealing old came step new → ServerStep (core old) came.at step.notes (core new)
+  served_kind came it =
+      subst (λ notes. ServerStep (core old) came.at notes (core new)) (sym (ap (λ s. s.notes) it.sent.sent))
+      (subst (λ d. ServerStep (core old) came.at (notes_of_request came.at it.held it.request.number it.text it.reply) (record { contexts = of_tokens d.table; tree = new.tree })) (sym (ap (λ s. s.desk) it.sent.kept))
+      (Served (laws.opens came.at it.request.kid it.request.kid_context old.desk.table it.held it.request.number it.text it.reply old.tree new.tree
       before it.opened.meant.is_meant it.opened.meant.is_request.spelled.lawful.number it.opened.fresh it.within it.applied)))
 
-  protected_kind : (message : Message) → AnswersProtected is_sealing old now from draw message step new → ServerStep (core old) now step.notes (core new)
-  protected_kind message (refused refusal why sends) = sends_idly old now from draw message _ _ step new sends
-  protected_kind message (served it) = served_kind message it
+  protected_kind : (came : Arrival Message) → AnswersProtected is_sealing old came step new → ServerStep (core old) came.at step.notes (core new)
+  protected_kind came (refused refusal why sends) = sends_idly old came _ _ step new sends
+  protected_kind came (served it) = served_kind came it
 
-  pub kind_of : (it : Case) → Answers is_sealing old now from draw it step new → ServerStep (core old) now step.notes (core new)
-  kind_of case.Ignored (e, same) = quietly old now step new (ap (λ s. s.notes) e) (ap (λ s. s.tree) same) (ap (λ s. s.desk) same)
-  kind_of (case.Reset id) (e, same) = quietly old now step new (ap (λ s. s.notes) e) (ap (λ s. s.tree) same) (ap (λ s. s.desk) same)
-  kind_of (case.Repeated id) (e, same) = quietly old now step new (ap (λ s. s.notes) e) (ap (λ s. s.tree) same) (ap (λ s. s.desk) same)
-  kind_of (case.Empty kind id) (e, same) = quietly old now step new (ap (λ s. s.notes) e) (ap (λ s. s.tree) same) (ap (λ s. s.desk) same)
-  kind_of (case.BadOption message) it = sends_idly old now from draw message _ _ step new it
-  kind_of (case.ProxyAsked message) it = sends_idly old now from draw message _ _ step new it
-  kind_of (case.Protected message) it = protected_kind message it
-  kind_of (case.Posted message) it = posted_kind message it
-  kind_of (case.NotPosted message) it = sends_idly old now from draw message _ _ step new it
-  kind_of (case.OpenGet message request) it = sends_idly old now from draw message _ _ step new it.replies
-  kind_of (case.Unauthorised message) it = sends_idly old now from draw message _ _ step new it
+  pub kind_of : (came : Arrival (List ℕ)) (it : Case) → length came.draw.0 ≡ 32 → Answers is_sealing old came it step new → ServerStep (core old) came.at step.notes (core new)
+  kind_of came case.Ignored drawn (e, same) = quietly old came.at step new (ap (λ s. s.notes) e) (ap (λ s. s.tree) same) (ap (λ s. s.desk) same)
+  kind_of came (case.Reset id) drawn (e, same) = quietly old came.at step new (ap (λ s. s.notes) e) (ap (λ s. s.tree) same) (ap (λ s. s.desk) same)
+  kind_of came (case.Repeated id) drawn (e, same) = quietly old came.at step new (ap (λ s. s.notes) e) (ap (λ s. s.tree) same) (ap (λ s. s.desk) same)
+  kind_of came (case.Empty kind id) drawn (e, same) = quietly old came.at step new (ap (λ s. s.notes) e) (ap (λ s. s.tree) same) (ap (λ s. s.desk) same)
+  kind_of came (case.BadOption message) drawn it = sends_idly old (read_as came message) _ _ step new it
+  kind_of came (case.ProxyAsked message) drawn it = sends_idly old (read_as came message) _ _ step new it
+  kind_of came (case.Protected message) drawn it = protected_kind (read_as came message) it
+  kind_of came (case.Posted message) drawn it = posted_kind (read_as came message) drawn it
+  kind_of came (case.NotPosted message) drawn it = sends_idly old (read_as came message) _ _ step new it
+  kind_of came (case.OpenGet message request) drawn it = sends_idly old (read_as came message) _ _ step new it.replies
+  kind_of came (case.Unauthorised message) drawn it = sends_idly old (read_as came message) _ _ step new it

@@ -4,15 +4,13 @@ use Rattle.std.specs.Prelude.{unwrap_or}
 use Rattle.std.specs.List.{All}
 use Rattle.std.proofs.lemmas.List.Elements.{All-nil, All-push}
 use Rattle.std.proofs.lemmas.Option.{same_Some}
+use Rattle.osc_model.specs.Arrival.{Arrival, read_as}
 use Rattle.osc_model.specs.Code.{code}
 use Rattle.osc_model.specs.Reply.{bare}
 use Rattle.osc_model.specs.StepNotes.{StepNotes, quiet}
 use Rattle.osc_model.specs.declared.algorithm.Algorithm.TheVariants.{EightByteTag}
 use Rattle.osc_model.specs.declared.bytes.Bytes.{Bytes}
 use Rattle.osc_model.specs.declared.context.Side.TheVariants.{Server}
-use Rattle.osc_model.specs.declared.node.Draw.{Draw}
-use Rattle.osc_model.specs.declared.node.Moment.{Moment}
-use Rattle.osc_model.specs.declared.node.Peer.{Peer}
 use Rattle.osc_model.specs.declared.reply.Reply.{Reply}
 use Rattle.osc_model.specs.declared.step.Datagram.{Datagram}
 use Rattle.osc_model.specs.declared.step.Note.{Note}
@@ -55,43 +53,43 @@ no_oscore_aged (Some seconds) = refl
 
 module _ (is_sealing : Sealings)
     (law : (message : Message) (reply : Reply) → plain_bytes (with_reply message reply) ≡ reply_text reply)
-    (old : State) (now : Moment) (from : Peer) (draw : Draw) (bytes : List ℕ) where
-  one_told : (sent : Datagram) (notes : StepNotes) → IsToldOf is_sealing old now from notes sent → All (λ it. IsToldOf is_sealing old now from notes it) (sent ∷ [])
-  one_told sent notes told = All-push (λ it. IsToldOf is_sealing old now from notes it) [] sent (All-nil (λ it. IsToldOf is_sealing old now from notes it)) told
+    (old : State) (came : Arrival (List ℕ)) where
+  one_told : (sent : Datagram) (notes : StepNotes) → IsToldOf is_sealing old came notes sent → All (λ it. IsToldOf is_sealing old came notes it) (sent ∷ [])
+  one_told sent notes told = All-push (λ it. IsToldOf is_sealing old came notes it) [] sent (All-nil (λ it. IsToldOf is_sealing old came notes it)) told
 
   -- what is noted as opened came
   abbrev OpensCame : StepNotes → Type 0
-  OpensCame notes = (note : Note) → notes.opens ≡ Some note → IsOpenedOf is_sealing old note bytes
+  OpensCame notes = (note : Note) → notes.opens ≡ Some note → IsOpenedOf is_sealing old note came.what
 
   opens_nothing : OpensCame quiet
   opens_nothing = λ note e. absurd (cc)
 
-  told_nothing : AreTold is_sealing old now from bytes (record { out = []; notes = quiet })
-  told_nothing = record { out = All-nil (λ it. IsToldOf is_sealing old now from quiet it); seals = λ note e. absurd (cc); opens = λ note e. absurd (cc) }
+  told_nothing : AreTold is_sealing old came (record { out = []; notes = quiet })
+  told_nothing = record { out = All-nil (λ it. IsToldOf is_sealing old came quiet it); seals = λ note e. absurd (cc); opens = λ note e. absurd (cc) }
 
   -- an unprotected message, in a step that seals nothing
-  told_plain : (notes : StepNotes) (answer : Message) → notes.seals ≡ None → OpensCame notes → has_oscore answer.options ≡ false → AreTold is_sealing old now from bytes (record { out = datagram from answer ∷ []; notes = notes })
+  told_plain : (notes : StepNotes) (answer : Message) → notes.seals ≡ None → OpensCame notes → has_oscore answer.options ≡ false → AreTold is_sealing old came (record { out = datagram came.from answer ∷ []; notes = notes })
   told_plain notes answer none opens plain = record {
-    out = one_told (datagram from answer) notes (unprotected answer refl plain);
+    out = one_told (datagram came.from answer) notes (unprotected answer refl plain);
     seals = λ note e. absurd (cc (none, e));
     opens = opens;
   }
 
-  told_again : (id : ℕ) (reply : Option Bytes) → noted_reply old.endpoint.seen now from id ≡ reply → AreTold is_sealing old now from bytes (record { out = again from reply; notes = quiet })
+  told_again : (id : ℕ) (reply : Option Bytes) → noted_reply old.endpoint.seen came.at came.from id ≡ reply → AreTold is_sealing old came (record { out = again came.from reply; notes = quiet })
   told_again id None e = told_nothing
   told_again id (Some again) e = record {
-    out = one_told (record { to = from; bytes = again }) quiet (sent_before id e);
+    out = one_told (record { to = came.from; bytes = again }) quiet (sent_before id e);
     seals = λ note e. absurd (cc);
     opens = opens_nothing;
   }
 
-  as_sent : (step it : Step) → step ≡ it → AreTold is_sealing old now from bytes it → AreTold is_sealing old now from bytes step
-  as_sent step it e told = subst (AreTold is_sealing old now from bytes) (sym e) told
+  as_sent : (step it : Step) → step ≡ it → AreTold is_sealing old came it → AreTold is_sealing old came step
+  as_sent step it e told = subst (AreTold is_sealing old came) (sym e) told
 
-  served_told : (message : Message) (step : Step) (new : State) → Spells bytes message → Serves is_sealing old now from draw message step new → AreTold is_sealing old now from bytes step
+  served_told : (message : Message) (step : Step) (new : State) → Spells came.what message → Serves is_sealing old (read_as came message) step new → AreTold is_sealing old came step
   served_told message step new spelled it =
-      let came = opening_note it.held.name it.request.number it.text in
-      let opening : IsOpenOf is_sealing came bytes = record {
+      let own = opening_note it.held.name it.request.number it.text in
+      let opening : IsOpenOf is_sealing own came.what = record {
         message = message;
         spelled = spelled;
         sealed = it.request.sealed;
@@ -100,8 +98,8 @@ module _ (is_sealing : Sealings)
       } in
       let note = reply_note it.held.name it.request.number it.reply in
       let sealing = subst (λ text. is_sealing (algorithm_of it.held.name) (key_of it.held.name Server) (request_nonce it.held.name it.request.number) (aad_of it.held.name it.request.number) text it.protected.sealed)
-      (law (reply_start draw old.endpoint.next_id message it.reply.code.0) it.reply) it.protected.is_sealed in
-      let seal : IsSealOf is_sealing note (datagram from it.answer) = record {
+      (law (reply_start came.draw old.endpoint.next_id message it.reply.code.0) it.reply) it.protected.is_sealed in
+      let seal : IsSealOf is_sealing note (datagram came.from it.answer) = record {
         message = it.answer;
         bytes = refl;
         sealed = it.protected.sealed;
@@ -109,22 +107,22 @@ module _ (is_sealing : Sealings)
         is_sealed = sealing;
       } in
       as_sent step _ it.sent.sent (record {
-        out = one_told (datagram from it.answer) _ (sealed_now note refl seal);
-        seals = λ other e. (datagram from it.answer, refl, subst (λ n. IsSealOf is_sealing n (datagram from it.answer)) (same_Some note other e) seal);
-        opens = λ other e. request_came (subst (λ n. IsOpenOf is_sealing n bytes) (same_Some came other e) opening);
+        out = one_told (datagram came.from it.answer) _ (sealed_now note refl seal);
+        seals = λ other e. (datagram came.from it.answer, refl, subst (λ n. IsSealOf is_sealing n (datagram came.from it.answer)) (same_Some note other e) seal);
+        opens = λ other e. request_came (subst (λ n. IsOpenOf is_sealing n came.what) (same_Some own other e) opening);
       })
 
-  protected_told : (message : Message) (step : Step) (new : State) → Spells bytes message → AnswersProtected is_sealing old now from draw message step new → AreTold is_sealing old now from bytes step
+  protected_told : (message : Message) (step : Step) (new : State) → Spells came.what message → AnswersProtected is_sealing old (read_as came message) step new → AreTold is_sealing old came step
   protected_told message step new spelled (refused refusal why sends) = as_sent step _ sends.sent (told_plain (refused_for (refusal_code refusal) (Some (refusal_number refusal))) _ refl opens_nothing (no_oscore_aged (refusal_age refusal)))
   protected_told message step new spelled (served it) = served_told message step new spelled it
 
-  replied_told : (request : Message) (reply : Reply) (notes : StepNotes) (step : Step) → notes.seals ≡ None → OpensCame notes → step ≡ record { out = datagram from (reply_to old.endpoint draw request reply) ∷ []; notes = notes } → AreTold is_sealing old now from bytes step
+  replied_told : (request : Message) (reply : Reply) (notes : StepNotes) (step : Step) → notes.seals ≡ None → OpensCame notes → step ≡ record { out = datagram came.from (reply_to old.endpoint (read_as came request) reply) ∷ []; notes = notes } → AreTold is_sealing old came step
   replied_told request reply notes step none opens e =
-      as_sent step _ e (told_plain notes (reply_to old.endpoint draw request reply) none opens (no_oscore reply.etag reply.format))
+      as_sent step _ e (told_plain notes (reply_to old.endpoint (read_as came request) reply) none opens (no_oscore reply.etag reply.format))
 
   -- a token that was opened came in the post
-  posted_opens : (message : Message) (post : Post) (after : DeskState) → Spells bytes message
-      → Posts (is_sealing EightByteTag) old.desk now (unwrap_or message.payload []) draw post after → OpensCame (notes_of_post post)
+  posted_opens : (message : Message) (post : Post) (after : DeskState) → Spells came.what message
+      → Posts (is_sealing EightByteTag) old.desk came.at (unwrap_or message.payload []) came.draw post after → OpensCame (notes_of_post post)
   posted_opens message post after spelled (no_post none is same) = λ note e. let nothing : post.opened ≡ None = ap (λ (p : Post). p.opened) is in absurd (cc)
   posted_opens message post after spelled (not_genuine token nonce1 client_id is_post none is same) = λ note e.
       let nothing : post.opened ≡ None = ap (λ (p : Post). p.opened) is in absurd (cc)
@@ -132,10 +130,10 @@ module _ (is_sealing : Sealings)
       let some : post.opened ≡ Some (token_note old.desk.key protected iv text) = ap (λ (p : Post). p.opened) is in
       token_came message nonce1 client_id protected iv text spelled opens (same_Some note (token_note old.desk.key protected iv text) (sym e ∙ some))
 
-  pub told : (it : Case) (step : Step) (new : State) → SpelledBy bytes it → Answers is_sealing old now from draw it step new → AreTold is_sealing old now from bytes step
+  pub told : (it : Case) (step : Step) (new : State) → SpelledBy came.what it → Answers is_sealing old came it step new → AreTold is_sealing old came step
   told case.Ignored step new spelled (e, same) = as_sent step _ e told_nothing
   told (case.Reset id) step new spelled (e, same) = as_sent step _ e (told_plain quiet (reset id) refl opens_nothing refl)
-  told (case.Repeated id) step new spelled (e, same) = as_sent step _ e (told_again id (noted_reply old.endpoint.seen now from id) refl)
+  told (case.Repeated id) step new spelled (e, same) = as_sent step _ e (told_again id (noted_reply old.endpoint.seen came.at came.from id) refl)
   told (case.Empty kind id) step new spelled (e, same) = as_sent step _ e told_nothing
   told (case.BadOption message) step new spelled it = replied_told message (bare (code 4 2)) (refused_for (code 4 2) None) step refl opens_nothing it.sent
   told (case.ProxyAsked message) step new spelled it = replied_told message (bare (code 5 5)) (refused_for (code 5 5) None) step refl opens_nothing it.sent

@@ -1,14 +1,15 @@
 -- Which case a datagram is to a server: the first test that holds, read from the top.
 use Rattle.std.specs.Prelude.{ℕ, Bool, true, false, ◌==◌, ◌&&◌, ◌||◌, if◌then◌else◌, List, bytes_eq, Option, Some, None, IsSome, is_some, codes}
 use Rattle.std.specs.List.{list_any}
+use Rattle.osc_model.specs.Arrival.{Arrival}
 use Rattle.osc_model.specs.Scope.{Scope}
-use Rattle.osc_model.specs.declared.node.Moment.{Moment}
-use Rattle.osc_model.specs.declared.node.Peer.{Peer}
 use Rattle.osc_model.specs.declared.request.Request.{Request}
 use Rattle.osc_coap.specs.Code.{is_request_code}
 use Rattle.osc_coap.specs.Message.{NumberAndValue, Message as CoapMessage}
+use Rattle.osc_options.specs.Numbers.{proxy_uri, proxy_scheme}
 use Rattle.osc_options.specs.Requests.{request_of}
 use Rattle.osc_options.specs.Recognised.{unrecognised_critical}
+use Rattle.osc_options.specs.Split.{has_oscore}
 use Rattle.osc_scope.specs.Verdict.{verdict_of}
 use Rattle.osc_scope.specs.declared.verdict.Verdict.{Verdict}
 use Rattle.osc_scope.specs.declared.verdict.Verdict.TheVariants.{Granted}
@@ -54,8 +55,8 @@ unprotected_case open_scope message request =
 abbrev pub request_case : Scope → CoapMessage → Case
 request_case open_scope message =
     if is_some (unrecognised_critical 0 message.options) then refused_option message
-    else if has_option 35 message.options || has_option 39 message.options then ProxyAsked message
-    else if has_option 9 message.options then Protected message
+    else if has_option proxy_uri message.options || has_option proxy_scheme message.options then ProxyAsked message
+    else if has_oscore message.options then Protected message
     else unprotected_case open_scope message (request_of message)
 
 -- A server sends no request, so it waits for no response: a confirmable one is rejected (RFC 7252 sections 4.2 and 5.3.2).
@@ -79,6 +80,6 @@ IsAnsweredAnew (Empty kind id) = ⊥
 IsAnsweredAnew case = Unit {0}
 
 -- whether anything is sent: of a repeat, where the message was answered before
-abbrev pub IsAnswered : List Entry → Moment → Peer → Case → Type 0
-IsAnswered seen now from (Repeated id) = IsSome (noted_reply seen now from id)
-IsAnswered seen now from case = IsAnsweredAnew case
+abbrev pub IsAnswered : List Entry → Arrival (List ℕ) → Case → Type 0
+IsAnswered seen came (Repeated id) = IsSome (noted_reply seen came.at came.from id)
+IsAnswered seen came case = IsAnsweredAnew case

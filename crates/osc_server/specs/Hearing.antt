@@ -1,9 +1,8 @@
 -- The steps of a server: a datagram comes to it, or the time for what is due.
 use Rattle.std.specs.Prelude.{◌≡◌, ℕ, List, []}
+use Rattle.osc_model.specs.Arrival.{Arrival}
 use Rattle.osc_model.specs.Step.{sends}
-use Rattle.osc_model.specs.declared.node.Draw.{Draw}
 use Rattle.osc_model.specs.declared.node.Moment.{Moment}
-use Rattle.osc_model.specs.declared.node.Peer.{Peer}
 use Rattle.osc_model.specs.declared.step.Step.{Step}
 use Rattle.osc_message.specs.Endpoint.{after_tick}
 use Rattle.osc_message.specs.Heard.{heard}
@@ -23,11 +22,11 @@ pub record Ticks (old : State) (now : Moment) (step : Step) (new : State) : Type
 
 -- `is_sealing algorithm` is the relation of the algorithm's cipher
 module _ (is_sealing : Sealings) where
-  -- these bytes come from this address: what they are received as, what the table makes of that, what the notes tell of the
-  -- datagrams, and that what is sent can be
-  pub record Hears (old : State) (now : Moment) (draw : Draw) (from : Peer) (bytes : List ℕ) (step : Step) (new : State) : Type 0 where
+  -- this datagram comes: what its bytes are received as, what the table makes of that, what the notes tell of the datagrams, and
+  -- that what is sent can be
+  pub record Hears (old : State) (came : Arrival (List ℕ)) (step : Step) (new : State) : Type 0 where
     pub received : Received
-    pub receives : Receives bytes received
-    pub answers : Answers is_sealing old now from draw (case_of old.open_scope (heard old.endpoint.seen now from received)) step new
-    pub told : AreTold is_sealing old now from bytes step
+    pub receives : Receives came.what received
+    pub answers : Answers is_sealing old came (case_of old.open_scope (heard old.endpoint.seen came.at came.from received)) step new
+    pub told : AreTold is_sealing old came step
     pub fits : AreSendable step.out

@@ -4,4 +4,4 @@ pub mod Table
 pub mod Hearing
 pub mod Steps
 pub mod Told
-pub mod Parts
+pub mod Inner

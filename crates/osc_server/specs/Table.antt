@@ -1,17 +1,15 @@
 -- What a server sends in each case, and what it keeps after it.
 use Rattle.std.specs.Prelude.{◌≡◌, ℕ, List, [], ◌∷◌, Option, Some, None, Result, Ok, Err, codes, unwrap_or}
 use Rattle.osc_model.specs.Apply.{apply, apply_read, MayReply}
+use Rattle.osc_model.specs.Arrival.{Arrival, read_as}
 use Rattle.osc_model.specs.Code.{code}
 use Rattle.osc_model.specs.Reply.{bare}
 use Rattle.osc_model.specs.Step.{sends}
 use Rattle.osc_model.specs.StepNotes.{StepNotes, quiet}
-use Rattle.osc_model.specs.Tree.{Tree}
 use Rattle.osc_model.specs.declared.algorithm.Algorithm.TheVariants.{EightByteTag}
 use Rattle.osc_model.specs.declared.code.Code.{Code}
 use Rattle.osc_model.specs.declared.context.Side.TheVariants.{Client}
-use Rattle.osc_model.specs.declared.node.Draw.{Draw}
 use Rattle.osc_model.specs.declared.node.Moment.{Moment}
-use Rattle.osc_model.specs.declared.node.Peer.{Peer}
 use Rattle.osc_model.specs.declared.reply.Reply.{Reply}
 use Rattle.osc_model.specs.declared.request.Request.{Request}
 use Rattle.osc_model.specs.declared.step.RefusedRequest.{RefusedRequest}
@@ -52,26 +50,25 @@ use Rattle.osc_server.specs.declared.refusal.Refusal.TheVariants.{Malformed, NoC
 
 -- the message layer once a request is answered: the answer is noted for a repeat; where it is a message of the server's own, that
 -- message's ID is taken
-abbrev pub answered : EndpointState → Moment → Peer → Draw → Message → Message → EndpointState
-answered endpoint now from draw request answer =
-    settled (replied draw request endpoint) now from (heard.Message request) (Answered (Some (spelling answer)))
+abbrev pub answered : EndpointState → Arrival Message → Message → EndpointState
+answered endpoint came answer =
+    settled (replied came.draw came.what endpoint) came.at came.from (heard.Message came.what) (Answered (Some (spelling answer)))
 
--- a new request is answered once, by this message: it goes out, as bytes that are read again as it, this much is noted of the step,
--- and resources and desk are these
-pub record Sends (old : State) (now : Moment) (from : Peer) (draw : Draw) (request answer : Message) (notes : StepNotes) (tree : Tree) (desk : DeskState) (step : Step) (new : State) : Type 0 where
-  pub sent : step ≡ record { out = datagram from answer ∷ []; notes = notes }
+-- A new request is answered once, by this message: it goes out, as bytes that are read again as it, and this much is noted of the
+-- step. `before` has the resources and the desk as the request left them.
+pub record Sends (before : State) (came : Arrival Message) (answer : Message) (notes : StepNotes) (step : Step) (new : State) : Type 0 where
+  pub sent : step ≡ record { out = datagram came.from answer ∷ []; notes = notes }
   pub spelled : Spells (spelling answer) answer
-  pub kept : new ≡ record { tree = tree; desk = desk; open_scope = old.open_scope; endpoint = answered old.endpoint now from draw request answer }
+  pub kept : new ≡ record before { endpoint = answered before.endpoint came answer }
 
 -- the message that carries the reply: the acknowledgement of a confirmable request (RFC 7252 section 5.2.1), and a message of
 -- the server's own for another (section 5.2.3)
-abbrev pub reply_to : EndpointState → Draw → Message → Reply → Message
-reply_to endpoint draw request reply = with_reply (reply_start draw endpoint.next_id request reply.code.0) reply
+abbrev pub reply_to : EndpointState → Arrival Message → Reply → Message
+reply_to endpoint came reply = with_reply (reply_start came.draw endpoint.next_id came.what reply.code.0) reply
 
 -- a reply without protection, and nothing else
-abbrev pub AnswersWith : State → Moment → Peer → Draw → Message → Reply → Step → State → Type 0
-AnswersWith old now from draw request reply step new =
-    Sends old now from draw request (reply_to old.endpoint draw request reply) quiet old.tree old.desk step new
+abbrev pub AnswersWith : State → Arrival Message → Reply → Step → State → Type 0
+AnswersWith old came reply step new = Sends old came (reply_to old.endpoint came reply) quiet step new
 
 -- what is noted of a request that isn't served: the code that it is answered, and the number of the reason, where the code alone doesn't
 -- tell it
@@ -79,15 +76,14 @@ abbrev pub refused_for : Code → Option ℕ → StepNotes
 refused_for why reason = record quiet { refused = Some (record { code = why; reason = reason }) }
 
 -- a request that isn't served is answered by this code alone
-abbrev pub Refuses : State → Moment → Peer → Draw → Message → Code → Step → State → Type 0
-Refuses old now from draw request why step new =
-    Sends old now from draw request (reply_to old.endpoint draw request (bare why)) (refused_for why None) old.tree old.desk step new
+abbrev pub Refuses : State → Arrival Message → Code → Step → State → Type 0
+Refuses old came why step new = Sends old came (reply_to old.endpoint came (bare why)) (refused_for why None) step new
 
 -- a GET on an open path is answered as the machine answers it under the open scope, or for want of memory with 5.00
-pub record AnswersGet (old : State) (now : Moment) (from : Peer) (draw : Draw) (message : Message) (request : Request) (step : Step) (new : State) : Type 0 where
+pub record AnswersGet (old : State) (came : Arrival Message) (request : Request) (step : Step) (new : State) : Type 0 where
   pub reply : Reply
   pub may : MayReply (apply old.tree old.open_scope request) reply
-  pub replies : AnswersWith old now from draw message reply step new
+  pub replies : AnswersWith old came reply step new
 
 -- ---- posts to authz-info
 
@@ -143,14 +139,15 @@ refusal_text NoContext = codes "Security context not found"
 refusal_text Replayed = codes "Replay detected"
 refusal_text NotGenuine = codes "Decryption failed"
 
-abbrev pub refusal_to : EndpointState → Draw → Message → Refusal → Message
-refusal_to endpoint draw request refusal =
-    with_error (reply_start draw endpoint.next_id request (refusal_code refusal).0) (refusal_code refusal).0 (refusal_age refusal) (refusal_text refusal)
+abbrev pub refusal_to : EndpointState → Arrival Message → Refusal → Message
+refusal_to endpoint came refusal =
+    let why = refusal_code refusal in
+    with_error (reply_start came.draw endpoint.next_id came.what why.0) why.0 (refusal_age refusal) (refusal_text refusal)
 
--- the request says this, and there is a live context that it means
-pub record IsMeant (desk : DeskState) (now : Moment) (message : Message) (request : SealedRequest) (held : Held) : Type 0 where
-  pub is_request : IsRequest message request
-  pub is_meant : meant now request.kid request.kid_context desk.table ≡ Some held
+-- the message says this, and there is a live context that it means
+pub record IsMeant (desk : DeskState) (came : Arrival Message) (request : SealedRequest) (held : Held) : Type 0 where
+  pub is_request : IsRequest came.what request
+  pub is_meant : meant came.at request.kid request.kid_context desk.table ≡ Some held
 
 -- what is noted of a request that is served
 abbrev pub notes_of_request : Moment → Held → ℕ → List ℕ → Reply → StepNotes
@@ -168,64 +165,62 @@ module _ (is_sealing : Sealings) where
       is_sealing (algorithm_of held.name) (key_of held.name Client) (request_nonce held.name request.number) (aad_of held.name request.number) text request.sealed
 
   -- why a protected request isn't served: the first of these that stands (RFC 8613 section 8.2)
-  abbrev pub IsRefused : DeskState → Moment → Message → Refusal → Type 0
-  IsRefused desk now message Malformed = (request : SealedRequest) → ¬ IsRequest message request
-  IsRefused desk now message NoContext =
-      (request : SealedRequest) × IsRequest message request × (meant now request.kid request.kid_context desk.table ≡ None)
-  IsRefused desk now message Replayed =
-      (request : SealedRequest) × (held : Held) × IsMeant desk now message request held × (¬ IsFresh held.window request.number)
-  IsRefused desk now message NotGenuine =
-      (request : SealedRequest) × (held : Held) × IsMeant desk now message request held × IsFresh held.window request.number
+  abbrev pub IsRefused : DeskState → Arrival Message → Refusal → Type 0
+  IsRefused desk came Malformed = (request : SealedRequest) → ¬ IsRequest came.what request
+  IsRefused desk came NoContext =
+      (request : SealedRequest) × IsRequest came.what request × (meant came.at request.kid request.kid_context desk.table ≡ None)
+  IsRefused desk came Replayed = (request : SealedRequest) × (held : Held) × IsMeant desk came request held × (¬ IsFresh held.window request.number)
+  IsRefused desk came NotGenuine =
+      (request : SealedRequest) × (held : Held) × IsMeant desk came request held × IsFresh held.window request.number
       × ((text : List ℕ) → ¬ IsSealed held request text)
 
   -- the request opens to this text, under a context that it means, at a fresh number
-  pub record IsOpened (desk : DeskState) (now : Moment) (message : Message) (request : SealedRequest) (held : Held) (text : List ℕ) : Type 0 where
-    pub meant : IsMeant desk now message request held
+  pub record IsOpened (desk : DeskState) (came : Arrival Message) (request : SealedRequest) (held : Held) (text : List ℕ) : Type 0 where
+    pub meant : IsMeant desk came request held
     pub fresh : IsFresh held.window request.number
     pub opens : IsSealed held request text
 
   -- A request that opens is applied to the resources under its context's scope, and answered under its own nonce (section 8.3).
   -- The context's window takes its number, and the context is confirmed.
-  pub record Serves (old : State) (now : Moment) (from : Peer) (draw : Draw) (message : Message) (step : Step) (new : State) : Type 0 where
+  pub record Serves (old : State) (came : Arrival Message) (step : Step) (new : State) : Type 0 where
     pub request : SealedRequest
     pub held : Held
     pub text : List ℕ
-    pub opened : IsOpened old.desk now message request held text
+    pub opened : IsOpened old.desk came request held text
     pub reply : Reply
     pub within : IsWithinRanges reply
     pub applied : AppliesTo old.tree (apply_read old.tree held.scope (read_request text)) reply new.tree
     pub answer : Message
-    pub protected : IsProtectedResponse is_sealing held.name request.number None (reply_to old.endpoint draw message reply) answer
-    pub sent : Sends old now from draw message answer (notes_of_request now held request.number text reply) new.tree
-        (record old.desk { table = accepted request.kid request.number old.desk.table }) step new
+    pub protected : IsProtectedResponse is_sealing held.name request.number None (reply_to old.endpoint came reply) answer
+    pub sent : Sends (record old { tree = new.tree; desk = record old.desk { table = accepted request.kid request.number old.desk.table } })
+        came answer (notes_of_request came.at held request.number text reply) step new
 
-  pub data AnswersProtected (old : State) (now : Moment) (from : Peer) (draw : Draw) (message : Message) (step : Step) (new : State) : Type 0 where
-    refused : (refusal : Refusal) → IsRefused old.desk now message refusal
-        → Sends old now from draw message (refusal_to old.endpoint draw message refusal)
-        (refused_for (refusal_code refusal) (Some (refusal_number refusal))) old.tree old.desk step new
-        → AnswersProtected old now from draw message step new
-    served : Serves old now from draw message step new → AnswersProtected old now from draw message step new
+  pub data AnswersProtected (old : State) (came : Arrival Message) (step : Step) (new : State) : Type 0 where
+    refused : (refusal : Refusal) → IsRefused old.desk came refusal
+        → Sends old came (refusal_to old.endpoint came refusal) (refused_for (refusal_code refusal) (Some (refusal_number refusal))) step new
+        → AnswersProtected old came step new
+    served : Serves old came step new → AnswersProtected old came step new
 
   -- a post is judged by the desk, whose answer goes out; tokens are sealed under the algorithm whose tag has 8 bytes
-  pub record AnswersPost (old : State) (now : Moment) (from : Peer) (draw : Draw) (message : Message) (step : Step) (new : State) : Type 0 where
+  pub record AnswersPost (old : State) (came : Arrival Message) (step : Step) (new : State) : Type 0 where
     pub post : Post
-    pub posts : Posts (is_sealing EightByteTag) old.desk now (unwrap_or message.payload []) draw post new.desk
-    pub sent : Sends old now from draw message (reply_to old.endpoint draw message (post_reply post.answer)) (notes_of_post post) old.tree new.desk step new
+    pub posts : Posts (is_sealing EightByteTag) old.desk came.at (unwrap_or came.what.payload []) came.draw post new.desk
+    pub sent : Sends (record old { desk = new.desk }) came (reply_to old.endpoint came (post_reply post.answer)) (notes_of_post post) step new
 
   -- ---- the table
 
   -- 4.02 Bad Option, 5.05 Proxying Not Supported, 4.05 Method Not Allowed and 4.01 Unauthorized go without payload. Of the tree
   -- nothing goes out unprotected but what answers a GET on an open path.
-  abbrev pub Answers : State → Moment → Peer → Draw → Case → Step → State → Type 0
-  Answers old now from draw Ignored step new = (step ≡ sends []) × (new ≡ old)
-  Answers old now from draw (Reset id) step new = (step ≡ sends (datagram from (reset id) ∷ [])) × (new ≡ old)
-  Answers old now from draw (Repeated id) step new = (step ≡ sends (again from (noted_reply old.endpoint.seen now from id))) × (new ≡ old)
-  Answers old now from draw (Empty kind id) step new =
-      (step ≡ sends []) × (new ≡ record old { endpoint = settled old.endpoint now from (heard.Empty kind id) Dropped })
-  Answers old now from draw (BadOption message) step new = Refuses old now from draw message (code 4 2) step new
-  Answers old now from draw (ProxyAsked message) step new = Refuses old now from draw message (code 5 5) step new
-  Answers old now from draw (Protected message) step new = AnswersProtected old now from draw message step new
-  Answers old now from draw (Posted message) step new = AnswersPost old now from draw message step new
-  Answers old now from draw (NotPosted message) step new = Refuses old now from draw message (code 4 5) step new
-  Answers old now from draw (OpenGet message request) step new = AnswersGet old now from draw message request step new
-  Answers old now from draw (Unauthorised message) step new = Refuses old now from draw message (code 4 1) step new
+  abbrev pub Answers : State → Arrival (List ℕ) → Case → Step → State → Type 0
+  Answers old came Ignored step new = (step ≡ sends []) × (new ≡ old)
+  Answers old came (Reset id) step new = (step ≡ sends (datagram came.from (reset id) ∷ [])) × (new ≡ old)
+  Answers old came (Repeated id) step new = (step ≡ sends (again came.from (noted_reply old.endpoint.seen came.at came.from id))) × (new ≡ old)
+  Answers old came (Empty kind id) step new =
+      (step ≡ sends []) × (new ≡ record old { endpoint = settled old.endpoint came.at came.from (heard.Empty kind id) Dropped })
+  Answers old came (BadOption message) step new = Refuses old (read_as came message) (code 4 2) step new
+  Answers old came (ProxyAsked message) step new = Refuses old (read_as came message) (code 5 5) step new
+  Answers old came (Protected message) step new = AnswersProtected old (read_as came message) step new
+  Answers old came (Posted message) step new = AnswersPost old (read_as came message) step new
+  Answers old came (NotPosted message) step new = Refuses old (read_as came message) (code 4 5) step new
+  Answers old came (OpenGet message request) step new = AnswersGet old (read_as came message) request step new
+  Answers old came (Unauthorised message) step new = Refuses old (read_as came message) (code 4 1) step new

@@ -1,10 +1,9 @@
 -- What the notes of a step tell of the datagrams that go out and of the one that came in.
 use Rattle.std.specs.Prelude.{◌≡◌, ℕ, false, List, [], ◌∷◌, Some, unwrap_or}
 use Rattle.std.specs.List.{All}
+use Rattle.osc_model.specs.Arrival.{Arrival}
 use Rattle.osc_model.specs.StepNotes.{StepNotes}
 use Rattle.osc_model.specs.declared.algorithm.Algorithm.TheVariants.{EightByteTag}
-use Rattle.osc_model.specs.declared.node.Moment.{Moment}
-use Rattle.osc_model.specs.declared.node.Peer.{Peer}
 use Rattle.osc_model.specs.declared.step.Datagram.{Datagram}
 use Rattle.osc_model.specs.declared.step.Note.{Note}
 use Rattle.osc_model.specs.declared.step.Step.{Step}
@@ -21,10 +20,10 @@ use Rattle.osc_server.specs.State.{State}
 module _ (is_sealing : Sealings) where
   -- A datagram's message has no OSCORE option; or it was sealed in this step, as noted; or it answered a message before, which
   -- is repeated.
-  pub data IsToldOf (old : State) (now : Moment) (from : Peer) (notes : StepNotes) (sent : Datagram) : Type 0 where
-    unprotected : (message : Message) → sent.bytes ≡ spelling message → has_oscore message.options ≡ false → IsToldOf old now from notes sent
-    sealed_now : (note : Note) → notes.seals ≡ Some note → IsSealOf is_sealing note sent → IsToldOf old now from notes sent
-    sent_before : (id : ℕ) → noted_reply old.endpoint.seen now from id ≡ Some sent.bytes → IsToldOf old now from notes sent
+  pub data IsToldOf (old : State) (came : Arrival (List ℕ)) (notes : StepNotes) (sent : Datagram) : Type 0 where
+    unprotected : (message : Message) → sent.bytes ≡ spelling message → has_oscore message.options ≡ false → IsToldOf old came notes sent
+    sealed_now : (note : Note) → notes.seals ≡ Some note → IsSealOf is_sealing note sent → IsToldOf old came notes sent
+    sent_before : (id : ℕ) → noted_reply old.endpoint.seen came.at came.from id ≡ Some sent.bytes → IsToldOf old came notes sent
 
   -- what the note says was opened is in the message that these bytes are: it is a protected request, or the token of a post
   pub data IsOpenedOf (old : State) (note : Note) (bytes : List ℕ) : Type 0 where
@@ -34,7 +33,7 @@ module _ (is_sealing : Sealings) where
         → note ≡ token_note old.desk.key protected iv text → IsOpenedOf old note bytes
 
   -- Each datagram is told of so; what is noted as sealed is the one that is sent; and what is noted as opened is the one that came.
-  pub record AreTold (old : State) (now : Moment) (from : Peer) (bytes : List ℕ) (step : Step) : Type 0 where
-    pub out : All (λ sent. IsToldOf old now from step.notes sent) step.out
+  pub record AreTold (old : State) (came : Arrival (List ℕ)) (step : Step) : Type 0 where
+    pub out : All (λ sent. IsToldOf old came step.notes sent) step.out
     pub seals : (note : Note) → step.notes.seals ≡ Some note → (sent : Datagram) × (step.out ≡ sent ∷ []) × IsSealOf is_sealing note sent
-    pub opens : (note : Note) → step.notes.opens ≡ Some note → IsOpenedOf old note bytes
+    pub opens : (note : Note) → step.notes.opens ≡ Some note → IsOpenedOf old note came.what

@@ -1,7 +1,7 @@
 //! The messages that answer.
 ghost use Rattle.std.specs.Prelude.{◌≡◌, ◌≤◌, length};
 ghost use Rattle.osc_coap.specs.Message.{spelling};
-ghost use Rattle.osc_server.specs.Parts.{FitsAResource, IsSentAs};
+ghost use Rattle.osc_server.specs.Inner.Parts.{FitsAResource, IsSentAs};
 ghost use Rattle.osc_server.specs.Table.{reply_to as reply_to_of, refusal_to as refusal_to_of};
 
 use crate::Endpoint;
@@ -16,7 +16,7 @@ use osc_options::{error_message, reply_message};
 /// of the server's own for another (section 5.2.3).
 pub fn reply_to(endpoint: &Endpoint, came: &Arrival<'_>, reply: &Reply) -> MessageBuilder
     requires { FitsAResource reply.now }
-    ensures { result ≡ reply_to_of endpoint.now came.now.draw.now came.now.message reply.now }
+    ensures { result ≡ reply_to_of endpoint.now came.now reply.now }
 {
     length_of_spelling();
     let request = &came.message;
@@ -35,7 +35,7 @@ pub fn sent_as(room: ReplyRoom, peer: Peer, message: &MessageBuilder) -> (Datagr
 
 /// The message that says why a protected request isn't served.
 pub fn refusal_to(endpoint: &Endpoint, came: &Arrival<'_>, refusal: Refusal) -> MessageBuilder
-    ensures { result ≡ refusal_to_of endpoint.now came.now.draw.now came.now.message refusal }
+    ensures { result ≡ refusal_to_of endpoint.now came.now refusal }
 {
     length_of_spelling();
     let request = &came.message;

@@ -1,7 +1,7 @@
 //! Which case a datagram is.
 ghost use Rattle.std.specs.Prelude.{◌≡◌, option_map, if◌then◌else◌, IfOk, OnErr, IsTrue};
 ghost use Rattle.osc_server.specs.Case as spec;
-ghost use Rattle.osc_server.specs.Parts.{AsksGet};
+ghost use Rattle.osc_server.specs.Inner.Parts.{AsksGet};
 
 use osc_coap::{Kind, MessageRef, is_request_code};
 use osc_message::{Heard, is_confirmable};

@@ -5,9 +5,9 @@ ghost use Rattle.osc_authz.specs.Desk.{DeskState};
 ghost use Rattle.osc_authz.specs.Held.{Held};
 ghost use Rattle.osc_coap.specs.Message.{Message};
 ghost use Rattle.osc_model.specs.Apply.{apply_read};
+ghost use Rattle.osc_model.specs.Arrival.{Arrival};
 ghost use Rattle.osc_model.specs.Scope.{Scope};
 ghost use Rattle.osc_model.specs.Tree.{Tree, IsWithinLimits};
-ghost use Rattle.osc_model.specs.declared.node.Moment.{Moment as AnyMoment};
 ghost use Rattle.osc_model.specs.declared.reply.Reply.{Reply as AnyReply};
 ghost use Rattle.osc_protect.specs.Protection.{SealedRequest};
 ghost use Rattle.osc_run.specs.ServerKinds.{Replies as AppliesTo};
@@ -31,12 +31,12 @@ pub fn lengths_of_replies()
 
 /// A protected request is refused for one reason, or it opens: as one request, under one context, and to one text.
 pub fn one_refusal<A: Ciphers>()
-    ensures refused { (desk : DeskState) (now : AnyMoment) (message : Message) (a b : AnyRefusal)
-        → IsRefused A.is_sealing desk now message a → IsRefused A.is_sealing desk now message b → a ≡ b }
-    ensures opened { (desk : DeskState) (now : AnyMoment) (message : Message) (request : SealedRequest) (held : Held) (text : List ℕ) (refusal : AnyRefusal)
-        → IsOpened A.is_sealing desk now message request held text → ¬ IsRefused A.is_sealing desk now message refusal }
-    ensures once { (desk : DeskState) (now : AnyMoment) (message : Message) (request other : SealedRequest) (held holder : Held) (text said : List ℕ)
-        → IsOpened A.is_sealing desk now message request held text → IsOpened A.is_sealing desk now message other holder said
+    ensures refused { (desk : DeskState) (came : Arrival Message) (a b : AnyRefusal)
+        → IsRefused A.is_sealing desk came a → IsRefused A.is_sealing desk came b → a ≡ b }
+    ensures opened { (desk : DeskState) (came : Arrival Message) (request : SealedRequest) (held : Held) (text : List ℕ) (refusal : AnyRefusal)
+        → IsOpened A.is_sealing desk came request held text → ¬ IsRefused A.is_sealing desk came refusal }
+    ensures once { (desk : DeskState) (came : Arrival Message) (request other : SealedRequest) (held holder : Held) (text said : List ℕ)
+        → IsOpened A.is_sealing desk came request held text → IsOpened A.is_sealing desk came other holder said
         → (request ≡ other) × (held ≡ holder) × (text ≡ said) }
 {
     one_request();

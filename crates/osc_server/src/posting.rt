@@ -48,7 +48,7 @@ pub fn post_answer(
     answer: Result<PostAnswer, PostError>,
 ) -> MessageBuilder
     requires { payload ≡ 16 }
-    ensures answer { result ≡ reply_to_of endpoint.now came.now.draw.now came.now.message (post_reply_of answer) }
+    ensures answer { result ≡ reply_to_of endpoint.now came.now (post_reply_of answer) }
     ensures short { length (spelling result) ≤ 31 }
 {
     length_of_spelling();

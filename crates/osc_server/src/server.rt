@@ -1,5 +1,5 @@
 //! The server.
-ghost use Rattle.std.specs.Prelude.{◌≡◌, ◌≤◌, ◌<◌, [], ◌∷◌, length, false, IsErr, IsOk, IsSome, IfOk, None, OnErr, Some};
+ghost use Rattle.std.specs.Prelude.{◌≡◌, ◌≤◌, ◌<◌, ℕ, List, [], ◌∷◌, length, false, IsErr, IsOk, IsSome, IfOk, None, OnErr, Some};
 ghost use Rattle.std.specs.List.{All};
 ghost use Rattle.osc_authz.specs.Table.{IsTable};
 ghost use Rattle.osc_coap.specs.Message.{Message, Spells, spelling};
@@ -16,7 +16,7 @@ ghost use Rattle.osc_message.specs.Sending.{FitsDatagram, again, datagram};
 ghost use Rattle.osc_server.specs.Case.{IsAnswered, case_of as case_in};
 ghost use Rattle.osc_message.specs.Ticks.{acts};
 ghost use Rattle.osc_server.specs.Hearing.{Hears, Ticks};
-ghost use Rattle.osc_server.specs.Parts.{AsksGet, FitsAResource, IsMessage, SendsTo, noted_by};
+ghost use Rattle.osc_server.specs.Inner.Parts.{AsksGet, FitsAResource, IsMessage, SendsTo, noted_by};
 ghost use Rattle.osc_server.specs.State.{core};
 ghost use Rattle.osc_server.specs.Table.{Answers, AnswersGet, AnswersPost, AnswersProtected, AnswersWith, Refuses, Sends, answered, refusal_code, refusal_number, refusal_to as refusal_to_of, refused_for as refused_for_of};
 
@@ -61,7 +61,7 @@ impl Drop for Server {
 
 impl Model for Server {
     ghost use Rattle.osc_server.specs.State.{State};
-    ghost use Rattle.osc_server.specs.Parts.{IsQuiet};
+    ghost use Rattle.osc_server.specs.Inner.Parts.{IsQuiet};
     ghost use Rattle.std.specs.Coded.{codes};
     ghost use Rattle.osc_model.specs.Scope.{coded_scope};
     ghost use Rattle.osc_model.specs.Tree.{coded_tree};
@@ -126,7 +126,7 @@ impl Server {
         bytes: &[u8],
         draw: &Draw,
     ) -> Result<Step, AllocError>
-        ensures heard { IfOk result (λ step. Hears A.is_sealing self.old now draw.now from bytes.now step self.new) }
+        ensures heard { IfOk result (λ step. Hears A.is_sealing self.old (record { at = now; from = from; draw = draw.now; what = bytes.now }) step self.new) }
         ensures one { IfOk result (λ step. length step.out ≤ 1) }
         ensures messages { IfOk result (λ step. All (λ d. (m : Message) × Spells d.bytes m) step.out) }
         ensures addressed { IfOk result (λ step. All (λ d. d.to ≡ from) step.out) }
@@ -136,7 +136,8 @@ impl Server {
 
         // What isn't answered takes no memory.
         ensures needs_memory { OnErr result ((received : AnyReceived) × Receives bytes.now received
-            × IsAnswered self.old.endpoint.seen now from (case_in self.old.open_scope (heard_as self.old.endpoint.seen now from received))) }
+            × IsAnswered self.old.endpoint.seen (record { at = now; from = from; draw = draw.now; what = bytes.now })
+            (case_in self.old.open_scope (heard_as self.old.endpoint.seen now from received))) }
     {
         what_is_heard();
         kinds::posts_that_agree::<TokenCipher<A>>();
@@ -162,11 +163,13 @@ impl Server {
         case: Case<'_>,
     ) -> Result<Step, AllocError>
         requires { AsksGet case }
-        ensures answered { IfOk result (λ step. Answers A.is_sealing self.old now from draw.now case.entry step self.new) }
+        ensures answered { (bytes : List ℕ)
+            → IfOk result (λ step. Answers A.is_sealing self.old (record { at = now; from = from; draw = draw.now; what = bytes }) case.entry step self.new) }
         ensures sent { IfOk result (λ step. SendsTo from step.out) }
         ensures same { self.new.open_scope ≡ self.old.open_scope }
         ensures err { OnErr result (self.new ≡ self.old) }
-        ensures needs_memory { OnErr result (IsAnswered self.old.endpoint.seen now from case.entry) }
+        ensures needs_memory { (bytes : List ℕ)
+            → OnErr result (IsAnswered self.old.endpoint.seen (record { at = now; from = from; draw = draw.now; what = bytes }) case.entry) }
     {
         let came = |message| Arrival {
             at: now,
@@ -205,7 +208,7 @@ impl Server {
         request: &Request,
     ) -> Result<Step, AllocError>
         requires { request.now.code.0 ≡ 1 }
-        ensures answered { IfOk result (λ step. AnswersGet self.old came.entry.at came.entry.from came.entry.draw.now came.entry.message request.now step self.new) }
+        ensures answered { IfOk result (λ step. AnswersGet self.old came.entry request.now step self.new) }
         ensures sent { IfOk result (λ step. SendsTo came.entry.from step.out) }
         ensures same { self.new.open_scope ≡ self.old.open_scope }
         ensures err { OnErr result (self.new ≡ self.old) }
@@ -237,7 +240,7 @@ impl Server {
     #[inline(never)]
     fn refuse(&mut self, alloc: Global, came: Arrival<'_>, code: Code) -> Result<Step, AllocError>
         requires { 0 < code.0 }
-        ensures refused { IfOk result (λ step. Refuses self.old came.entry.at came.entry.from came.entry.draw.now came.entry.message code step self.new) }
+        ensures refused { IfOk result (λ step. Refuses self.old came.entry code step self.new) }
         ensures sent { IfOk result (λ step. SendsTo came.entry.from step.out) }
         ensures err { OnErr result (self.new ≡ self.old) }
     {
@@ -248,7 +251,7 @@ impl Server {
     /// Answers the request with an unprotected reply.
     fn reply(&mut self, alloc: Global, came: Arrival<'_>, reply: &Reply) -> Result<Step, AllocError>
         requires { FitsAResource reply.now }
-        ensures replied { IfOk result (λ step. AnswersWith self.old came.entry.at came.entry.from came.entry.draw.now came.entry.message reply.now step self.new) }
+        ensures replied { IfOk result (λ step. AnswersWith self.old came.entry reply.now step self.new) }
         ensures sent { IfOk result (λ step. SendsTo came.entry.from step.out) }
         ensures err { OnErr result (self.new ≡ self.old) }
     {
@@ -264,8 +267,7 @@ impl Server {
         answer: &MessageBuilder,
         notes: StepNotes,
     ) -> Result<Step, AllocError>
-        ensures sends { IfOk result (λ step.
-            Sends self.old came.entry.at came.entry.from came.entry.draw.now came.entry.message answer.now notes self.old.tree self.old.desk step self.new) }
+        ensures sends { IfOk result (λ step. Sends self.old came.entry answer.now notes step self.new) }
         ensures sent { IfOk result (λ step. SendsTo came.entry.from step.out) }
         ensures err { OnErr result (self.new ≡ self.old) }
     {
@@ -283,7 +285,7 @@ impl Server {
     ) -> Step
         requires { length (spelling answer.now) ≤ room }
         ensures step { result ≡ record { out = datagram came.entry.from answer.now ∷ []; notes = notes } }
-        ensures kept { self.new ≡ record self.old { endpoint = answered self.old.endpoint came.entry.at came.entry.from came.entry.draw.now came.entry.message answer.now } }
+        ensures kept { self.new ≡ record self.old { endpoint = answered self.old.endpoint came.entry answer.now } }
         ensures spelled { Spells (spelling answer.now) answer.now }
         ensures sent { SendsTo came.entry.from result.out }
     {
@@ -296,7 +298,7 @@ impl Server {
     fn note(&mut self, came: Arrival<'_>, reply: Bytes)
         requires message { IsMessage reply }
         requires fits { FitsDatagram reply }
-        ensures { self.new ≡ record self.old { endpoint = noted_by self.old.endpoint came.entry.at came.entry.from came.entry.draw.now came.entry.message reply } }
+        ensures { self.new ≡ record self.old { endpoint = noted_by self.old.endpoint came.entry reply } }
     {
         let Arrival {
             at,
@@ -316,7 +318,7 @@ impl Server {
     /// Judges a post to authz-info, and answers it. All memory is taken before the desk changes.
     #[inline(never)]
     fn posted<A: Ciphers>(&mut self, alloc: Global, came: Arrival<'_>) -> Result<Step, AllocError>
-        ensures answered { IfOk result (λ step. AnswersPost A.is_sealing self.old came.entry.at came.entry.from came.entry.draw.now came.entry.message step self.new) }
+        ensures answered { IfOk result (λ step. AnswersPost A.is_sealing self.old came.entry step self.new) }
         ensures sent { IfOk result (λ step. SendsTo came.entry.from step.out) }
         ensures same { self.new.open_scope ≡ self.old.open_scope }
         ensures err { OnErr result (self.new ≡ self.old) }
@@ -338,7 +340,7 @@ impl Server {
         alloc: Global,
         came: Arrival<'_>,
     ) -> Result<Step, AllocError>
-        ensures answered { IfOk result (λ step. AnswersProtected A.is_sealing self.old came.entry.at came.entry.from came.entry.draw.now came.entry.message step self.new) }
+        ensures answered { IfOk result (λ step. AnswersProtected A.is_sealing self.old came.entry step self.new) }
         ensures sent { IfOk result (λ step. SendsTo came.entry.from step.out) }
         ensures same { self.new.open_scope ≡ self.old.open_scope }
         ensures err { OnErr result (self.new ≡ self.old) }
@@ -371,9 +373,8 @@ impl Server {
         came: Arrival<'_>,
         refusal: Refusal,
     ) -> Result<Step, AllocError>
-        ensures sends { IfOk result (λ step. Sends self.old came.entry.at came.entry.from came.entry.draw.now came.entry.message
-            (refusal_to_of self.old.endpoint came.entry.draw.now came.entry.message refusal)
-            (refused_for_of (refusal_code refusal) (Some (refusal_number refusal))) self.old.tree self.old.desk step self.new) }
+        ensures sends { IfOk result (λ step. Sends self.old came.entry (refusal_to_of self.old.endpoint came.entry refusal)
+            (refused_for_of (refusal_code refusal) (Some (refusal_number refusal))) step self.new) }
         ensures sent { IfOk result (λ step. SendsTo came.entry.from step.out) }
         ensures err { OnErr result (self.new ≡ self.old) }
     {

@@ -13,7 +13,7 @@ ghost use Rattle.osc_protect.specs.Protection.{IsFor, IsRequest, IsProtectedResp
 ghost use Rattle.osc_run.specs.ServerKinds.{opening_note, reply_note, Replies as AppliesTo};
 ghost use Rattle.osc_run.specs.Texts.{read_request, IsWithinRanges};
 ghost use Rattle.osc_model.specs.Tree.{Tree as AnyTree};
-ghost use Rattle.osc_server.specs.Parts.{FitsAResource, IsReplyOf, IsSentAs, IsServedAs, IsTakenFor, reply_length, read_length as read_length_of};
+ghost use Rattle.osc_server.specs.Inner.Parts.{FitsAResource, IsReplyOf, IsSentAs, IsServedAs, IsTakenFor, reply_length, read_length as read_length_of};
 ghost use Rattle.osc_server.specs.Table.{IsMeant, IsOpened, IsRefused, IsSealed, notes_of_request, reply_to as reply_to_of};
 ghost use Rattle.osc_window.specs.Window.{IsFresh};
 
@@ -69,12 +69,13 @@ fn meant_context<'a>(
     desk: &'a ServerDesk,
     request: &ProtectedRequest<'_>,
 ) -> Option<&'a ServerContext>
-    requires { IsRequest request.now.came.now.message request.now.says }
-    ensures some { IfSome result (λ context. IsMeant desk.now request.now.came.now.at request.now.came.now.message request.now.says context.now) }
+    requires { IsRequest request.now.came.now.what request.now.says }
+    ensures some { IfSome result (λ context. IsMeant desk.now request.now.came.now request.now.says context.now) }
     ensures none { IfNone result (meant request.now.came.now.at request.now.says.kid request.now.says.kid_context desk.now.table ≡ None) }
 {
+    let came = request.came;
     let says = &request.says;
-    desk.find(request.came.at, says.kid(), says.kid_context())
+    desk.find(came.at, says.kid(), says.kid_context())
 }
 
 /// The same, where the request's number is fresh.
@@ -82,10 +83,10 @@ fn fresh_context<'a, A: Ciphers>(
     desk: &'a ServerDesk,
     request: &ProtectedRequest<'_>,
 ) -> Result<&'a ServerContext, Refusal>
-    requires { IsRequest request.now.came.now.message request.now.says }
-    ensures meant { IfOk result (λ context. IsMeant desk.now request.now.came.now.at request.now.came.now.message request.now.says context.now) }
+    requires { IsRequest request.now.came.now.what request.now.says }
+    ensures meant { IfOk result (λ context. IsMeant desk.now request.now.came.now request.now.says context.now) }
     ensures fresh { IfOk result (λ context. IsFresh context.now.window request.now.says.number) }
-    ensures refused { IfErr result (λ refusal. IsRefused A.is_sealing desk.now request.now.came.now.at request.now.came.now.message refusal) }
+    ensures refused { IfErr result (λ refusal. IsRefused A.is_sealing desk.now request.now.came.now refusal) }
 {
     let Some(context) = meant_context(desk, request) else {
         return Err(Refusal::NoContext);
@@ -169,7 +170,7 @@ fn protected<A: Ciphers>(
     requires short { FitsAResource reply.now }
     requires room { 14 + length reply.now.payload ≤ room.most }
     ensures protected { IsProtectedResponse A.is_sealing context.now.name number.number None
-        (reply_to_of endpoint.now came.now.draw.now came.now.message reply.now) result.message }
+        (reply_to_of endpoint.now came.now reply.now) result.message }
     ensures noted { result.note ≡ reply_note context.now.name number.number reply.now }
     ensures short { length (spelling result.message) ≤ 28 + length reply.now.payload + A.TAG (algorithm_of context.now.name) }
 {
@@ -235,7 +236,7 @@ impl Taken {
         requires noted { self.note ≡ opening_note context.now.name number.number self.note.plaintext }
         requires taken { (tree : AnyTree) × IsTakenFor A.TAG tree self × IsReplyOf (reply_length tree self.read) reply }
         ensures protected { (answer : AnyMessage) × IsProtectedResponse A.is_sealing context.now.name number.number None
-            (reply_to_of endpoint.now came.now.draw.now came.now.message reply) answer
+            (reply_to_of endpoint.now came.now reply) answer
             × IsSentAs came.now.from answer result.out result.reply }
         ensures noted { result.notes ≡ notes_of_request came.now.at context.now number.number self.note.plaintext reply }
     {
@@ -281,10 +282,10 @@ fn serve_opened<A: Ciphers>(
     request: &ProtectedRequest<'_>,
     taken: Taken,
 ) -> Served
-    requires opened { (held : Held) × IsOpened A.is_sealing desk.old request.now.came.now.at request.now.came.now.message request.now.says held taken.note.plaintext
+    requires opened { (held : Held) × IsOpened A.is_sealing desk.old request.now.came.now request.now.says held taken.note.plaintext
         × (taken.note ≡ opening_note held.name request.now.says.number taken.note.plaintext) }
     requires taken { IsTakenFor A.TAG tree.old taken }
-    ensures served { IsServedAs A.is_sealing tree.old desk.old endpoint.now request.now.came.now.at request.now.came.now.from request.now.came.now.draw.now request.now.came.now.message request.now.says result tree.new }
+    ensures served { IsServedAs A.is_sealing (record { tree = tree.old; desk = desk.old; endpoint = endpoint.now }) request.now.came.now request.now.says result tree.new }
     ensures accepted { desk.new ≡ record desk.old { table = accepted request.now.says.kid request.now.says.number desk.old.table } }
 {
     let says = &request.says;
@@ -316,11 +317,11 @@ fn opened<A: Ciphers>(
     desk: &ServerDesk,
     request: &ProtectedRequest<'_>,
 ) -> Result<Result<Note, Refusal>, AllocError>
-    requires { IsRequest request.now.came.now.message request.now.says }
+    requires { IsRequest request.now.came.now.what request.now.says }
     ensures opened { IfOk result (λ outcome. IfOk outcome (λ note. (held : Held)
-        × IsOpened A.is_sealing desk.now request.now.came.now.at request.now.came.now.message request.now.says held note.plaintext
+        × IsOpened A.is_sealing desk.now request.now.came.now request.now.says held note.plaintext
         × (note ≡ opening_note held.name request.now.says.number note.plaintext))) }
-    ensures refused { IfOk result (λ outcome. IfErr outcome (λ refusal. IsRefused A.is_sealing desk.now request.now.came.now.at request.now.came.now.message refusal)) }
+    ensures refused { IfOk result (λ outcome. IfErr outcome (λ refusal. IsRefused A.is_sealing desk.now request.now.came.now refusal)) }
 {
     meant_contexts();
     let context = match fresh_context::<A>(desk, request) {
@@ -342,12 +343,12 @@ pub fn serve<A: Ciphers>(
     endpoint: &Endpoint,
     request: &ProtectedRequest<'_>,
 ) -> Result<Result<Served, Refusal>, AllocError>
-    requires { IsRequest request.now.came.now.message request.now.says }
+    requires { IsRequest request.now.came.now.what request.now.says }
     ensures served { IfOk result (λ outcome. IfOk outcome (λ served.
-        IsServedAs A.is_sealing tree.old desk.old endpoint.now request.now.came.now.at request.now.came.now.from request.now.came.now.draw.now request.now.came.now.message request.now.says served tree.new)) }
+        IsServedAs A.is_sealing (record { tree = tree.old; desk = desk.old; endpoint = endpoint.now }) request.now.came.now request.now.says served tree.new)) }
     ensures accepted { IfOk result (λ outcome. OnOk outcome
         (desk.new ≡ record desk.old { table = accepted request.now.says.kid request.now.says.number desk.old.table })) }
-    ensures refused { IfOk result (λ outcome. IfErr outcome (λ refusal. IsRefused A.is_sealing desk.old request.now.came.now.at request.now.came.now.message refusal)) }
+    ensures refused { IfOk result (λ outcome. IfErr outcome (λ refusal. IsRefused A.is_sealing desk.old request.now.came.now refusal)) }
     ensures same { IfOk result (λ outcome. OnErr outcome ((desk.new ≡ desk.old) × (tree.new ≡ tree.old))) }
     ensures err { OnErr result ((desk.new ≡ desk.old) × (tree.new ≡ tree.old)) }
 {

@@ -1,5 +1,7 @@
 use Rattle.std.proofs.Common.{arith, subst, sym, ◌≤◌, length}
-use Rattle.osc_server.specs.Parts.{FitsAResource}
+use Rattle.osc_coap.specs.Message.{Message}
+use Rattle.osc_model.specs.Arrival.{Arrival}
+use Rattle.osc_server.specs.Inner.Parts.{FitsAResource}
 use Rattle.osc_server.specs.Table.{post_reply}
 use Rattle.osc_server.proofs.Replies.{is_short, posted_reply, post_message_short}
 use Rattle.osc_server.proofs.posting.post_answer.Goals as goal
@@ -11,6 +13,7 @@ reply_to-requires c =
 
 pub returns-clause-short : goal.returns-clause-short
 returns-clause-short c =
+    let token = subst (λ (a : Arrival Message). length a.what.token ≤ 8) c.came.view_is c.token-token.ensures.lawful.token in
     let short : length (post_reply c.args.answer).payload ≤ 16 = subst (λ reply. length reply.payload ≤ 16) c.post_reply-reply.ensures.reply c.post_reply-reply.ensures.short in
     rw (c.reply_to.ensures, c.post_reply-reply.ensures.reply, c.length_of_spelling.ensures.exact)
-    (post_message_short c.args.endpoint.now c.args.came.now.draw.now c.args.came.now.message c.args.answer c.token-token.ensures.lawful.token short)
+    (post_message_short c.args.endpoint.now c.args.came.now c.args.answer token short)

@@ -1,5 +1,5 @@
 use Rattle.std.proofs.Common.{subst, sym, ◌∙◌}
-use Rattle.osc_server.specs.Parts.{FitsAResource}
+use Rattle.osc_server.specs.Inner.Parts.{FitsAResource}
 use Rattle.osc_server.proofs.Gets.{get_reads}
 use Rattle.osc_server.proofs.Replies.{read_reply_short}
 use Rattle.osc_server.proofs.server.open_reply.Goals as goal

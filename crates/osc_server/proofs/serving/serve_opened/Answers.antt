@@ -5,7 +5,7 @@ use Rattle.osc_authz.specs.Table.{confirmed_at, taking, with_id}
 use Rattle.osc_context.specs.Derivation.{Accepted}
 use Rattle.osc_server.proofs.Requests.{is_found}
 use Rattle.osc_server.proofs.Served.{served_as}
-use Rattle.osc_server.specs.Parts.{IsReplied}
+use Rattle.osc_server.specs.Inner.Parts.{IsReplied, Standing}
 use Rattle.osc_server.proofs.serving.serve_opened.Goals as goal
 
 pub accept-number-requires-clause-fresh : goal.accept-number-requires-clause-fresh
@@ -31,9 +31,10 @@ returns-clause-served g c =
     let right = rw there at c.accept-number.ensures.right in
     let number : c.accept-number.result.0.number ≡ c.args.request.now.says.number = ap (λ (r : Accepted). r.number) right ∙ c.number.ensures.value in
     let came = c.args.request.now.came.now in
+    let old : Standing = record { tree = c.args.tree.now; desk = c.args.desk.now; endpoint = c.args.endpoint.now } in
     let text = c.args.taken.note.plaintext in
-    let replied : IsReplied g.A.Ciphers.is_sealing c.args.tree.now c.args.endpoint.now came.at came.from came.draw.now came.message
-    c.unwrap-context.result.now c.accept-number.result.0.number text c.answered.result c.applied-reply.new.tree = record {
+    let replied : IsReplied g.A.Ciphers.is_sealing old came
+    (record { held = c.unwrap-context.result.now; number = c.accept-number.result.0.number; text = text }) c.answered.result c.applied-reply.new.tree = record {
       reply = c.applied-reply.result;
       within = c.applied-reply.ensures.within;
       applied = rw (c.scope.ensures, c.requires.taken.read) at c.applied-reply.ensures.applied;
@@ -42,7 +43,7 @@ returns-clause-served g c =
       sends = c.answered.ensures.protected.2;
       noted = c.answered.ensures.noted;
     } in
-    served_as g.A.Ciphers.is_sealing c.args.tree.now c.args.desk.now c.args.endpoint.now came.at came.from came.draw.now came.message c.args.request.now.says
+    served_as g.A.Ciphers.is_sealing old came c.args.request.now.says
     held c.unwrap-context.result.now c.number.result c.accept-number.result.0.number text c.answered.result c.applied-reply.new.tree
     opened.1 context number replied
 

@@ -1,7 +1,7 @@
 use Rattle.std.proofs.Common.{ap, refl, rules, subst, sym, ◌∙◌}
 use Rattle.osc_model.specs.Step.{sends}
 use Rattle.osc_run.specs.ServerKinds.{ServerStep}
-use Rattle.osc_server.specs.Parts.{IsQuiet}
+use Rattle.osc_server.specs.Inner.Parts.{IsQuiet}
 use Rattle.osc_server.specs.State.{State, core}
 use Rattle.osc_server.proofs.Notes.{nothing_goes, quiet_tick}
 use Rattle.osc_server.proofs.StepKinds.{quietly}

@@ -1,9 +1,12 @@
 use Rattle.std.proofs.Common.{◌≡◌, refl, subst, sym}
 use Rattle.std.proofs.lemmas.Result.{IfOk-weaker}
 use Rattle.std.specs.Result.{IfOk}
+use Rattle.osc_model.specs.Arrival.{Arrival}
 use Rattle.osc_model.specs.declared.step.Step.{Step}
+use Rattle.osc_coap.specs.Message.{Message}
+use Rattle.osc_protect.specs.Protection.{IsRequest}
 use Rattle.osc_authz.specs.Table.{accepted}
-use Rattle.osc_server.specs.Parts.{IsServedAs, noted_by}
+use Rattle.osc_server.specs.Inner.Parts.{IsServedAs, noted_by}
 use Rattle.osc_server.specs.Table.{AnswersProtected, IsRefused, refused, served}
 use Rattle.osc_server.specs.declared.refusal.Refusal.TheVariants.{Malformed}
 use Rattle.osc_server.proofs.Served.{serves}
@@ -12,14 +15,18 @@ use Rattle.osc_server.proofs.server.Server.protected.Goals as goal
 pub returns-in_default-clause-answered : goal.returns-in_default-clause-answered
 returns-in_default-clause-answered g c =
     IfOk-weaker c.complain.result _ _
-    (λ step sends. refused Malformed (λ request is. absurd (cc (c.in_default.is, c.read_request.ensures.only request is))) sends)
+    (λ step sends. refused Malformed (λ request is. absurd (cc (
+      c.in_default.is,
+      c.read_request.ensures.only request
+          (subst (λ (came : Arrival Message). IsRequest came.what request) (sym c.came.view_is) is),
+    ))) sends)
     c.complain.ensures.sends
 
 pub returns-in-Ok-Ok-clause-answered : goal.returns-in-Ok-Ok-clause-answered
 returns-in-Ok-Ok-clause-answered g c =
     let it = c.in-Ok-Ok.field-0-0 in
     let step : Step = record { out = it.out; notes = it.notes } in
-    let as_served : IsServedAs g.A.Ciphers.is_sealing c.self.inside.tree c.self.inside.desk c.self.inside.endpoint c.args.came.at c.args.came.from c.args.came.draw.now c.args.came.message c.in-Ok.says it c.serve.new.tree =
+    let as_served : IsServedAs g.A.Ciphers.is_sealing (record { tree = c.self.inside.tree; desk = c.self.inside.desk; endpoint = c.self.inside.endpoint }) c.args.came c.in-Ok.says it c.serve.new.tree =
     rw c.in-Ok-Ok.field-0-is at c.in-Ok-Ok.ensures.served
     in
     let desk : c.serve.new.desk ≡ record c.self.inside.desk { table = accepted c.in-Ok.says.kid c.in-Ok.says.number c.self.inside.desk.table } =
@@ -29,19 +36,19 @@ returns-in-Ok-Ok-clause-answered g c =
       tree = c.serve.new.tree;
       desk = record c.self.inside.desk { table = accepted c.in-Ok.says.kid c.in-Ok.says.number c.self.inside.desk.table };
       open_scope = c.self.inside.open_scope;
-      endpoint = noted_by c.self.inside.endpoint c.args.came.at c.args.came.from c.args.came.draw.now c.args.came.message it.reply;
+      endpoint = noted_by c.self.inside.endpoint c.args.came it.reply;
     } = rw (sym desk) c.note.ensures in
-    subst (λ old. AnswersProtected g.A.Ciphers.is_sealing old c.args.came.at c.args.came.from c.args.came.draw.now c.args.came.message step c.note.new.self) c.self.view_is
+    subst (λ old. AnswersProtected g.A.Ciphers.is_sealing old c.args.came step c.note.new.self) c.self.view_is
     (served
     (serves g.A.Ciphers.is_sealing
     (record { tree = c.self.inside.tree; desk = c.self.inside.desk; open_scope = c.self.inside.open_scope; endpoint = c.self.inside.endpoint })
-    c.args.came.at c.args.came.from c.args.came.draw.now c.args.came.message c.in-Ok.says it c.serve.new.tree step c.note.new.self
+    c.args.came c.in-Ok.says it c.serve.new.tree step c.note.new.self
     as_served refl kept))
 
 pub returns-in-Ok-Err-clause-answered : goal.returns-in-Ok-Err-clause-answered
 returns-in-Ok-Err-clause-answered g c =
     let same : (c.serve.new.desk ≡ c.self.inside.desk) × (c.serve.new.tree ≡ c.self.inside.tree) = rw c.in-Ok-Err.field-0-is at c.in-Ok-Err.ensures.same in
-    let why : IsRefused g.A.Ciphers.is_sealing c.self.inside.desk c.args.came.at c.args.came.message c.in-Ok-Err.refusal = rw c.in-Ok-Err.field-0-is at c.in-Ok-Err.ensures.refused in
+    let why : IsRefused g.A.Ciphers.is_sealing c.self.inside.desk c.args.came c.in-Ok-Err.refusal = rw c.in-Ok-Err.field-0-is at c.in-Ok-Err.ensures.refused in
     let sends = rw (same.0, same.1) at c.complain-in-Ok-Err.ensures.sends in
-    subst (λ old. IfOk c.complain-in-Ok-Err.result (λ step. AnswersProtected g.A.Ciphers.is_sealing old c.args.came.at c.args.came.from c.args.came.draw.now c.args.came.message step c.complain-in-Ok-Err.new.self)) c.self.view_is
+    subst (λ old. IfOk c.complain-in-Ok-Err.result (λ step. AnswersProtected g.A.Ciphers.is_sealing old c.args.came step c.complain-in-Ok-Err.new.self)) c.self.view_is
     (IfOk-weaker c.complain-in-Ok-Err.result _ _ (λ step it. refused c.in-Ok-Err.refusal why it) sends)

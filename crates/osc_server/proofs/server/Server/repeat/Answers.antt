@@ -8,7 +8,7 @@ use Rattle.osc_model.specs.declared.node.Peer.{Peer}
 use Rattle.osc_model.specs.declared.step.Step.{Step}
 use Rattle.std.specs.Prelude.{Option}
 use Rattle.std.specs.Option.{ForSome}
-use Rattle.osc_server.specs.Parts.{IsMessage, SendsTo}
+use Rattle.osc_server.specs.Inner.Parts.{IsMessage, SendsTo}
 use Rattle.osc_server.proofs.Notes.{noted_message, repeat_sends}
 use Rattle.osc_server.proofs.server.Server.repeat.Goals as goal
 

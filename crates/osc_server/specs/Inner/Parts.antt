@@ -1,4 +1,4 @@
--- What private functions owe one another; no public contract rests on it.
+-- What is served of a protected request, how long replies are, and what the message layer keeps.
 use Rattle.std.specs.Prelude.{◌≡◌, ℕ, ◌+◌, ◌<◌, ◌≤◌, ◌==◌, if◌then◌else◌, List, [], ◌∷◌, length, Option, Some, None, Result, Ok, Err, IfErr}
 use Rattle.std.specs.FinMap as map
 use Rattle.std.specs.List.{All}
@@ -6,11 +6,10 @@ use Rattle.std.specs.Option.{ForSome}
 use Rattle.osc_coap.specs.Message.{Message, Spells, spelling}
 use Rattle.osc_dedup.specs.Table.{Entry}
 use Rattle.osc_model.specs.Apply.{apply_read}
+use Rattle.osc_model.specs.Arrival.{Arrival}
 use Rattle.osc_model.specs.Tree.{Tree, payload_length}
 use Rattle.osc_model.specs.declared.bytes.Bytes.{Bytes}
 use Rattle.osc_model.specs.declared.code.Code.{Code}
-use Rattle.osc_model.specs.declared.node.Draw.{Draw}
-use Rattle.osc_model.specs.declared.node.Moment.{Moment}
 use Rattle.osc_model.specs.declared.node.Peer.{Peer}
 use Rattle.osc_model.specs.declared.reply.Reply.{Reply}
 use Rattle.osc_model.specs.declared.request.Request.{Request}
@@ -99,23 +98,35 @@ pub record IsSentAs (peer : Peer) (message : Message) (out : List Datagram) (rep
   pub sendable : SendsTo peer out
 
 -- the message layer once a request is answered by these bytes
-abbrev pub noted_by : EndpointState → Moment → Peer → Draw → Message → Bytes → EndpointState
-noted_by endpoint now from draw request reply = settled (replied draw request endpoint) now from (heard.Message request) (Answered (Some reply))
+abbrev pub noted_by : EndpointState → Arrival Message → Bytes → EndpointState
+noted_by endpoint came reply =
+    settled (replied came.draw came.what endpoint) came.at came.from (heard.Message came.what) (Answered (Some reply))
 
--- What becomes of a request of this number that was opened to this text under a context: the tree, and the protected reply, which
--- goes to the peer.
-pub record IsReplied (is_sealing : Sealings) (old : Tree) (endpoint : EndpointState) (now : Moment) (from : Peer) (draw : Draw) (message : Message) (held : Held) (number : ℕ) (text : List ℕ) (served : Served) (new : Tree) : Type 0 where
+-- the parts of a server that serve a protected request, as they stand before it
+pub record Standing : Type 0 where
+  pub tree : Tree
+  pub desk : DeskState
+  pub endpoint : EndpointState
+
+-- a request that was opened: under this context, with this number, to this text
+pub record Opened : Type 0 where
+  pub held : Held
+  pub number : ℕ
+  pub text : List ℕ
+
+-- what becomes of a request that was opened: the tree, and the protected reply, which goes to the peer
+pub record IsReplied (is_sealing : Sealings) (old : Standing) (came : Arrival Message) (opened : Opened) (served : Served) (new : Tree) : Type 0 where
   pub reply : Reply
   pub within : IsWithinRanges reply
-  pub applied : AppliesTo old (apply_read old held.scope (read_request text)) reply new
+  pub applied : AppliesTo old.tree (apply_read old.tree opened.held.scope (read_request opened.text)) reply new
   pub answer : Message
-  pub protected : IsProtectedResponse is_sealing held.name number None (reply_to endpoint draw message reply) answer
-  pub sends : IsSentAs from answer served.out served.reply
-  pub noted : served.notes ≡ notes_of_request now held number text reply
+  pub protected : IsProtectedResponse is_sealing opened.held.name opened.number None (reply_to old.endpoint came reply) answer
+  pub sends : IsSentAs came.from answer served.out served.reply
+  pub noted : served.notes ≡ notes_of_request came.at opened.held opened.number opened.text reply
 
 -- the same of a request that came protected
-pub record IsServedAs (is_sealing : Sealings) (old : Tree) (desk : DeskState) (endpoint : EndpointState) (now : Moment) (from : Peer) (draw : Draw) (message : Message) (request : SealedRequest) (served : Served) (new : Tree) : Type 0 where
+pub record IsServedAs (is_sealing : Sealings) (old : Standing) (came : Arrival Message) (request : SealedRequest) (served : Served) (new : Tree) : Type 0 where
   pub held : Held
   pub text : List ℕ
-  pub opened : IsOpened is_sealing desk now message request held text
-  pub replied : IsReplied is_sealing old endpoint now from draw message held request.number text served new
+  pub opened : IsOpened is_sealing old.desk came request held text
+  pub replied : IsReplied is_sealing old came (record { held = held; number = request.number; text = text }) served new
