@@ -168,7 +168,7 @@ come_to_themselves spells c entries now has is_scope begun not_over =
     let spelled = claims_spelled c has in
     let is : claims_item c ≡ map (fields fs) = claims_are c.audience c.not_before c.expires c.material c.scope in
     let P : DataItem → Type 0 = λ d. ComesTo (spelling d) c.audience now (Ok (c, scope_of entries)) in
-    subst P (sym is) (ComesTo.granted (fields fs) c.not_before c.expires c.material c.scope entries
+    subst P (sym is) (ComesTo.granted (record { claims = fields fs; not_before = c.not_before; expires = c.expires }) c.material c.scope entries
     (record {
       for_it = record {
         in_time = record {

@@ -6,11 +6,11 @@ use Rattle.osc_model.specs.declared.node.Moment.{Moment}
 use Rattle.osc_model.specs.Algorithm.{algorithm_number}
 use Rattle.osc_model.specs.declared.algorithm.Algorithm.{Algorithm}
 use Rattle.osc_model.specs.declared.algorithm.Algorithm.TheVariants.{EightByteTag, SixteenByteTag}
-use Rattle.osc_cbor.specs.Data.{DataItem, unsigned, byte_string, text_string, map, Pairs, value_under}
+use Rattle.osc_cbor.specs.Data.{DataItem, unsigned, byte_string, text_string, map, value_under}
 use Rattle.osc_cbor.specs.Parts.{value}
 use Rattle.osc_cbor.specs.Spelling.{Spells}
 use Rattle.osc_scope.specs.Entries.{Entry, IsScope, scope_of}
-use Rattle.osc_token.specs.Claims.{IsClaims, HasMaterial, HasScope, ComesTo}
+use Rattle.osc_token.specs.Claims.{Dated, IsClaims, HasMaterial, HasScope, ComesTo}
 use Rattle.osc_token.specs.Token.{claims_item}
 use Rattle.osc_token.specs.declared.claims.Claims.{Claims}
 use Rattle.osc_token.specs.declared.claims.InputMaterial.{InputMaterial}
@@ -69,13 +69,13 @@ module _ (c : Claims) (its_entries : List Entry) (text : List ℕ)
     (one_item : (d e : DataItem) → Spells text d → Spells text e → d ≡ e)
     (one_list : (bytes : List ℕ) (entries others : List Entry) → IsScope bytes entries → IsScope bytes others → entries ≡ others)
     (spelled : Spells text (claims_item c)) (is_scope : IsScope c.scope its_entries) where
-  module _ (audience : List ℕ) (claims : Pairs) (nbf exp : Option ℕ) (m : InputMaterial) (bytes : List ℕ) (entries : List Entry)
-      (reads : IsClaims text claims nbf exp) (addressed : value_under 3 claims ≡ Some (text_string audience))
-      (has : HasMaterial claims m) (scoped : HasScope claims bytes entries) where
-    pairs_are : map claims ≡ map (fields (claims_fields c))
-    pairs_are = one_item (map claims) (claims_item c) reads.whole.spelled spelled ∙ claims_are c.audience c.not_before c.expires c.material c.scope
+  module _ (audience : List ℕ) (said : Dated) (m : InputMaterial) (bytes : List ℕ) (entries : List Entry)
+      (reads : IsClaims text said) (addressed : value_under 3 said.claims ≡ Some (text_string audience))
+      (has : HasMaterial said.claims m) (scoped : HasScope said.claims bytes entries) where
+    pairs_are : map said.claims ≡ map (fields (claims_fields c))
+    pairs_are = one_item (map said.claims) (claims_item c) reads.whole.spelled spelled ∙ claims_are c.audience c.not_before c.expires c.material c.scope
 
-    under : (label : ℕ) → value_under label claims ≡ value_under label (fields (claims_fields c))
+    under : (label : ℕ) → value_under label said.claims ≡ value_under label (fields (claims_fields c))
     under label = ap (value label) pairs_are
 
     confirmed : map has.confirmation ≡ confirmation c.material
@@ -118,15 +118,15 @@ module _ (c : Claims) (its_entries : List Entry) (text : List ℕ)
     scope_bytes = same_bytes _ _ (sym scoped.scope ∙ under 9 ∙ value_at 9 0 (claims_fields c) refl)
 
     read_of : Claims
-    read_of = record { audience = audience; not_before = nbf; expires = exp; material = m; scope = bytes }
+    read_of = record { audience = audience; not_before = said.not_before; expires = said.expires; material = m; scope = bytes }
 
     found : (read_of ≡ c) × (scope_of entries ≡ scope_of its_entries)
     unfolding read_of
     found = (
       same_claims read_of c
           (same_text _ _ (sym addressed ∙ under 3 ∙ value_at 3 0 (claims_fields c) refl))
-          (same_date nbf c.not_before (sym reads.not_before ∙ under 5 ∙ value_at 5 0 (claims_fields c) refl))
-          (same_date exp c.expires (sym reads.expires ∙ under 4 ∙ value_at 4 0 (claims_fields c) refl))
+          (same_date said.not_before c.not_before (sym reads.not_before ∙ under 5 ∙ value_at 5 0 (claims_fields c) refl))
+          (same_date said.expires c.expires (sym reads.expires ∙ under 4 ∙ value_at 4 0 (claims_fields c) refl))
           material
           scope_bytes,
       ap scope_of (one_list c.scope entries its_entries (subst (λ b. IsScope b entries) scope_bytes scoped.is_scope) is_scope),
@@ -136,13 +136,13 @@ module _ (c : Claims) (its_entries : List Entry) (text : List ℕ)
       → (read ≡ c) × (granted ≡ scope_of its_entries)
   unfolding read_of
   comes_to audience now read granted (ComesTo.unreadable none e) = absurd (cc)
-  comes_to audience now read granted (ComesTo.not_yet claims nbf exp reads early e) = absurd (cc)
-  comes_to audience now read granted (ComesTo.expired claims nbf exp reads begun late e) = absurd (cc)
-  comes_to audience now read granted (ComesTo.for_another claims nbf exp in_time other e) = absurd (cc)
-  comes_to audience now read granted (ComesTo.no_material claims nbf exp for_it none e) = absurd (cc)
-  comes_to audience now read granted (ComesTo.no_scope claims nbf exp m bound none e) = absurd (cc)
-  comes_to audience now read granted (ComesTo.granted claims nbf exp m bytes entries bound has e) =
-      let all = found audience claims nbf exp m bytes entries bound.for_it.in_time.readable bound.for_it.addressed bound.bound has in
+  comes_to audience now read granted (ComesTo.not_yet said reads early e) = absurd (cc)
+  comes_to audience now read granted (ComesTo.expired said reads begun late e) = absurd (cc)
+  comes_to audience now read granted (ComesTo.for_another said in_time other e) = absurd (cc)
+  comes_to audience now read granted (ComesTo.no_material said for_it none e) = absurd (cc)
+  comes_to audience now read granted (ComesTo.no_scope said m bound none e) = absurd (cc)
+  comes_to audience now read granted (ComesTo.granted said m bytes entries bound has e) =
+      let all = found audience said m bytes entries bound.for_it.in_time.readable bound.for_it.addressed bound.bound has in
       let same = same_outcome (read, granted) _ e in
       (ap (λ x. x.0) same ∙ all.0, ap (λ x. x.1) same ∙ all.1)
 

@@ -7,7 +7,7 @@ use Rattle.osc_model.specs.declared.node.Moment.{Moment}
 use Rattle.osc_cbor.specs.Data.{DataItem, byte_string, text_string, map, Pairs, value_under}
 use Rattle.osc_cbor.specs.Spelling.{IsWhole}
 use Rattle.osc_scope.specs.Entries.{Entry, IsScope, scope_of}
-use Rattle.osc_token.specs.Claims.{IsClaims, HasMaterial, HasScope, ComesTo}
+use Rattle.osc_token.specs.Claims.{Dated, IsClaims, HasMaterial, HasScope, ComesTo}
 use Rattle.osc_token.specs.Reading.{pairs_in, dates_in}
 use Rattle.osc_token.specs.declared.claims.Claims.{Claims}
 use Rattle.osc_token.specs.declared.claims.InputMaterial.{InputMaterial}
@@ -34,22 +34,19 @@ one_checked T Is error Rest same one a b (inr f) (inr g) = one f.0 a b f.2 (subs
 
 -- ---- what each check finds
 
-abbrev Read : Type 0
-Read = Pairs × Option ℕ × Option ℕ
-
 abbrev Scoped : Type 0
 Scoped = List ℕ × List Entry
 
 one_read : (text : List ℕ) → ((d e : DataItem) → IsWhole text d → IsWhole text e → d ≡ e)
-    → (r s : Read) → IsClaims text r.0 r.1 r.2 → IsClaims text s.0 s.1 s.2 → r ≡ s
+    → (r s : Dated) → IsClaims text r → IsClaims text s → r ≡ s
 one_read text one r s is other =
-    let same : map r.0 ≡ map s.0 = one (map r.0) (map s.0) is.whole other.whole in
-    let found = dates_from r.0 r.1 r.2 is.not_before is.expires in
-    let found_other = dates_from s.0 s.1 s.2 other.not_before other.expires in
+    let same : map r.claims ≡ map s.claims = one (map r.claims) (map s.claims) is.whole other.whole in
+    let found = dates_from r.claims r.not_before r.expires is.not_before is.expires in
+    let found_other = dates_from s.claims s.not_before s.expires other.not_before other.expires in
     let dates = same_Some _ _ (sym found ∙ ap dates_in same ∙ found_other) in
-    let P : Pairs → Read = λ x. (x, r.1, r.2) in
-    let N : Option ℕ → Read = λ x. (s.0, x, r.2) in
-    let E : Option ℕ → Read = λ x. (s.0, s.1, x) in
+    let P : Pairs → Dated = λ x. record { claims = x; not_before = r.not_before; expires = r.expires } in
+    let N : Option ℕ → Dated = λ x. record { claims = s.claims; not_before = x; expires = r.expires } in
+    let E : Option ℕ → Dated = λ x. record { claims = s.claims; not_before = s.not_before; expires = x } in
     ap P (ap pairs_in same) ∙ ap N (ap (λ (x : Dates). x.not_before) dates) ∙ ap E (ap (λ (x : Dates). x.expires) dates)
 
 one_material : (claims : Pairs) (m n : InputMaterial) → HasMaterial claims m → HasMaterial claims n → m ≡ n
@@ -68,40 +65,40 @@ one_scope one claims s t is other =
 -- ---- the checks, one after another
 
 module _ (text audience : List ℕ) (now : Moment) where
-  abbrev Grants : Read → InputMaterial → Scoped → Outcome → Type 0
+  abbrev Grants : Dated → InputMaterial → Scoped → Outcome → Type 0
   Grants r m s result =
-      result ≡ Ok (record { audience = audience; not_before = r.1; expires = r.2; material = m; scope = s.0 }, scope_of s.1)
+      result ≡ Ok (record { audience = audience; not_before = r.not_before; expires = r.expires; material = m; scope = s.0 }, scope_of s.1)
 
-  abbrev OfScope : Read → InputMaterial → Outcome → Type 0
-  OfScope r m = Checked Scoped (λ s. HasScope r.0 s.0 s.1) BadScope (Grants r m)
+  abbrev OfScope : Dated → InputMaterial → Outcome → Type 0
+  OfScope r m = Checked Scoped (λ s. HasScope r.claims s.0 s.1) BadScope (Grants r m)
 
-  abbrev OfMaterial : Read → Outcome → Type 0
-  OfMaterial r = Checked InputMaterial (HasMaterial r.0) BadClaims (OfScope r)
+  abbrev OfMaterial : Dated → Outcome → Type 0
+  OfMaterial r = Checked InputMaterial (HasMaterial r.claims) BadClaims (OfScope r)
 
-  abbrev OfAudience : Read → Outcome → Type 0
-  OfAudience r = Checked (Unit {0}) (λ _. value_under 3 r.0 ≡ Some (text_string audience)) Audience (λ _. OfMaterial r)
+  abbrev OfAudience : Dated → Outcome → Type 0
+  OfAudience r = Checked (Unit {0}) (λ _. value_under 3 r.claims ≡ Some (text_string audience)) Audience (λ _. OfMaterial r)
 
-  abbrev OfEnd : Read → Outcome → Type 0
-  OfEnd r = Checked (Unit {0}) (λ _. IsNotOver r.2 now) Expired (λ _. OfAudience r)
+  abbrev OfEnd : Dated → Outcome → Type 0
+  OfEnd r = Checked (Unit {0}) (λ _. IsNotOver r.expires now) Expired (λ _. OfAudience r)
 
-  abbrev OfBegin : Read → Outcome → Type 0
-  OfBegin r = Checked (Unit {0}) (λ _. HasBegun r.1 now) NotYet (λ _. OfEnd r)
+  abbrev OfBegin : Dated → Outcome → Type 0
+  OfBegin r = Checked (Unit {0}) (λ _. HasBegun r.not_before now) NotYet (λ _. OfEnd r)
 
   abbrev OfText : Outcome → Type 0
-  OfText = Checked Read (λ r. IsClaims text r.0 r.1 r.2) BadClaims OfBegin
+  OfText = Checked Dated (IsClaims text) BadClaims OfBegin
 
   of_text : (result : Outcome) → ComesTo text audience now result → OfText result
-  of_text result (ComesTo.unreadable none e) = inl (λ r. none r.0 r.1 r.2, e)
-  of_text result (ComesTo.not_yet claims nbf exp is early e) = inr ((claims, nbf, exp), is, inl (λ _. early, e))
-  of_text result (ComesTo.expired claims nbf exp is begun late e) =
-      inr ((claims, nbf, exp), is, inr (tt, begun, inl (λ _. late, e)))
-  of_text result (ComesTo.for_another claims nbf exp is other e) =
-      inr ((claims, nbf, exp), is.readable, inr (tt, is.begun, inr (tt, is.not_over, inl (λ _. other, e))))
-  of_text result (ComesTo.no_material claims nbf exp is none e) =
-      inr ((claims, nbf, exp), is.in_time.readable, inr (tt, is.in_time.begun, inr (tt, is.in_time.not_over, inr (tt, is.addressed, inl (none, e)))))
-  of_text result (ComesTo.no_scope claims nbf exp m is none e) =
+  of_text result (ComesTo.unreadable none e) = inl (none, e)
+  of_text result (ComesTo.not_yet said is early e) = inr (said, is, inl (λ _. early, e))
+  of_text result (ComesTo.expired said is begun late e) =
+      inr (said, is, inr (tt, begun, inl (λ _. late, e)))
+  of_text result (ComesTo.for_another said is other e) =
+      inr (said, is.readable, inr (tt, is.begun, inr (tt, is.not_over, inl (λ _. other, e))))
+  of_text result (ComesTo.no_material said is none e) =
+      inr (said, is.in_time.readable, inr (tt, is.in_time.begun, inr (tt, is.in_time.not_over, inr (tt, is.addressed, inl (none, e)))))
+  of_text result (ComesTo.no_scope said m is none e) =
       inr (
-        (claims, nbf, exp),
+        said,
         is.for_it.in_time.readable,
         inr (
           tt,
@@ -113,9 +110,9 @@ module _ (text audience : List ℕ) (now : Moment) where
           ),
         ),
       )
-  of_text result (ComesTo.granted claims nbf exp m bytes entries is has e) =
+  of_text result (ComesTo.granted said m bytes entries is has e) =
       inr (
-        (claims, nbf, exp),
+        said,
         is.for_it.in_time.readable,
         inr (
           tt,
@@ -131,21 +128,21 @@ module _ (text audience : List ℕ) (now : Moment) where
   module _
       (one_item : (d e : DataItem) → IsWhole text d → IsWhole text e → d ≡ e)
       (one_list : (bytes : List ℕ) (entries others : List Entry) → IsScope bytes entries → IsScope bytes others → entries ≡ others) where
-    one_of_scope : (r : Read) (m : InputMaterial) (a b : Outcome) → OfScope r m a → OfScope r m b → a ≡ b
-    one_of_scope r m = one_checked Scoped (λ s. HasScope r.0 s.0 s.1) BadScope (Grants r m) (one_scope one_list r.0) (λ s a b e f. e ∙ sym f)
+    one_of_scope : (r : Dated) (m : InputMaterial) (a b : Outcome) → OfScope r m a → OfScope r m b → a ≡ b
+    one_of_scope r m = one_checked Scoped (λ s. HasScope r.claims s.0 s.1) BadScope (Grants r m) (one_scope one_list r.claims) (λ s a b e f. e ∙ sym f)
 
-    one_of_material : (r : Read) (a b : Outcome) → OfMaterial r a → OfMaterial r b → a ≡ b
-    one_of_material r = one_checked InputMaterial (HasMaterial r.0) BadClaims (OfScope r) (one_material r.0) (one_of_scope r)
+    one_of_material : (r : Dated) (a b : Outcome) → OfMaterial r a → OfMaterial r b → a ≡ b
+    one_of_material r = one_checked InputMaterial (HasMaterial r.claims) BadClaims (OfScope r) (one_material r.claims) (one_of_scope r)
 
-    one_of_audience : (r : Read) (a b : Outcome) → OfAudience r a → OfAudience r b → a ≡ b
+    one_of_audience : (r : Dated) (a b : Outcome) → OfAudience r a → OfAudience r b → a ≡ b
     one_of_audience r = one_checked (Unit {0}) _ Audience (λ _. OfMaterial r) (λ _ _ _ _. refl) (λ _. one_of_material r)
 
-    one_of_end : (r : Read) (a b : Outcome) → OfEnd r a → OfEnd r b → a ≡ b
+    one_of_end : (r : Dated) (a b : Outcome) → OfEnd r a → OfEnd r b → a ≡ b
     one_of_end r = one_checked (Unit {0}) _ Expired (λ _. OfAudience r) (λ _ _ _ _. refl) (λ _. one_of_audience r)
 
-    one_of_begin : (r : Read) (a b : Outcome) → OfBegin r a → OfBegin r b → a ≡ b
+    one_of_begin : (r : Dated) (a b : Outcome) → OfBegin r a → OfBegin r b → a ≡ b
     one_of_begin r = one_checked (Unit {0}) _ NotYet (λ _. OfEnd r) (λ _ _ _ _. refl) (λ _. one_of_end r)
 
     pub one_outcome : (a b : Outcome) → ComesTo text audience now a → ComesTo text audience now b → a ≡ b
     one_outcome a b x y =
-        one_checked Read (λ r. IsClaims text r.0 r.1 r.2) BadClaims OfBegin (one_read text one_item) one_of_begin a b (of_text a x) (of_text b y)
+        one_checked Dated (IsClaims text) BadClaims OfBegin (one_read text one_item) one_of_begin a b (of_text a x) (of_text b y)

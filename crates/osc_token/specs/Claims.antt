@@ -15,11 +15,17 @@ use Rattle.osc_token.specs.declared.claims.InputMaterial.{InputMaterial}
 use Rattle.osc_token.specs.declared.error.TokenError.{TokenError}
 use Rattle.osc_token.specs.declared.error.TokenError.TheVariants.{BadClaims, NotYet, Expired, Audience, BadScope}
 
+-- the pairs of a token's claims, and its dates in whole seconds
+pub record Dated : Type 0 where
+  pub claims : Pairs
+  pub not_before : Option ℕ
+  pub expires : Option ℕ
+
 -- The text is a map, whose dates are numbers where they are there.
-pub record IsClaims (text : List ℕ) (claims : Pairs) (nbf exp : Option ℕ) : Type 0 where
-  pub whole : IsWhole text (map claims)
-  pub not_before : value_under 5 claims ≡ option_map unsigned nbf
-  pub expires : value_under 4 claims ≡ option_map unsigned exp
+pub record IsClaims (text : List ℕ) (said : Dated) : Type 0 where
+  pub whole : IsWhole text (map said.claims)
+  pub not_before : value_under 5 said.claims ≡ option_map unsigned said.not_before
+  pub expires : value_under 4 said.claims ≡ option_map unsigned said.expires
 
 -- a value that may be absent, and is this where it is there
 abbrev pub IsAbsentOr : DataItem → Option DataItem → Type 0
@@ -56,37 +62,37 @@ pub record HasScope (claims : Pairs) (bytes : List ℕ) (entries : List Entry) :
 -- ---- what a token's claims come to: the checks in their order, of which the first that fails answers
 
 -- readable, begun, not over
-pub record AreInTime (text : List ℕ) (now : Moment) (claims : Pairs) (nbf exp : Option ℕ) : Type 0 where
-  pub readable : IsClaims text claims nbf exp
-  pub begun : HasBegun nbf now
-  pub not_over : IsNotOver exp now
+pub record AreInTime (text : List ℕ) (now : Moment) (said : Dated) : Type 0 where
+  pub readable : IsClaims text said
+  pub begun : HasBegun said.not_before now
+  pub not_over : IsNotOver said.expires now
 
 -- and for this audience
-pub record AreFor (text audience : List ℕ) (now : Moment) (claims : Pairs) (nbf exp : Option ℕ) : Type 0 where
-  pub in_time : AreInTime text now claims nbf exp
-  pub addressed : value_under 3 claims ≡ Some (text_string audience)
+pub record AreFor (text audience : List ℕ) (now : Moment) (said : Dated) : Type 0 where
+  pub in_time : AreInTime text now said
+  pub addressed : value_under 3 said.claims ≡ Some (text_string audience)
 
 -- and with input material
-pub record AreBound (text audience : List ℕ) (now : Moment) (claims : Pairs) (nbf exp : Option ℕ) (material : InputMaterial) : Type 0 where
-  pub for_it : AreFor text audience now claims nbf exp
-  pub bound : HasMaterial claims material
+pub record AreBound (text audience : List ℕ) (now : Moment) (said : Dated) (material : InputMaterial) : Type 0 where
+  pub for_it : AreFor text audience now said
+  pub bound : HasMaterial said.claims material
 
 pub data ComesTo (text audience : List ℕ) (now : Moment) (result : Result (Claims × Scope) TokenError) : Type 0 where
-  unreadable : ((claims : Pairs) (nbf exp : Option ℕ) → ¬ IsClaims text claims nbf exp)
+  unreadable : ((said : Dated) → ¬ IsClaims text said)
       → result ≡ Err BadClaims → ComesTo text audience now result
-  not_yet : (claims : Pairs) (nbf exp : Option ℕ) → IsClaims text claims nbf exp → ¬ HasBegun nbf now
+  not_yet : (said : Dated) → IsClaims text said → ¬ HasBegun said.not_before now
       → result ≡ Err NotYet → ComesTo text audience now result
-  expired : (claims : Pairs) (nbf exp : Option ℕ) → IsClaims text claims nbf exp → HasBegun nbf now → ¬ IsNotOver exp now
+  expired : (said : Dated) → IsClaims text said → HasBegun said.not_before now → ¬ IsNotOver said.expires now
       → result ≡ Err Expired → ComesTo text audience now result
-  for_another : (claims : Pairs) (nbf exp : Option ℕ) → AreInTime text now claims nbf exp → value_under 3 claims ≢ Some (text_string audience)
+  for_another : (said : Dated) → AreInTime text now said → value_under 3 said.claims ≢ Some (text_string audience)
       → result ≡ Err Audience → ComesTo text audience now result
-  no_material : (claims : Pairs) (nbf exp : Option ℕ) → AreFor text audience now claims nbf exp
-      → ((material : InputMaterial) → ¬ HasMaterial claims material)
+  no_material : (said : Dated) → AreFor text audience now said
+      → ((material : InputMaterial) → ¬ HasMaterial said.claims material)
       → result ≡ Err BadClaims → ComesTo text audience now result
-  no_scope : (claims : Pairs) (nbf exp : Option ℕ) (material : InputMaterial) → AreBound text audience now claims nbf exp material
-      → ((bytes : List ℕ) (entries : List Entry) → ¬ HasScope claims bytes entries)
+  no_scope : (said : Dated) (material : InputMaterial) → AreBound text audience now said material
+      → ((bytes : List ℕ) (entries : List Entry) → ¬ HasScope said.claims bytes entries)
       → result ≡ Err BadScope → ComesTo text audience now result
-  granted : (claims : Pairs) (nbf exp : Option ℕ) (material : InputMaterial) (bytes : List ℕ) (entries : List Entry)
-      → AreBound text audience now claims nbf exp material → HasScope claims bytes entries
-      → result ≡ Ok (record { audience = audience; not_before = nbf; expires = exp; material = material; scope = bytes }, scope_of entries)
+  granted : (said : Dated) (material : InputMaterial) (bytes : List ℕ) (entries : List Entry)
+      → AreBound text audience now said material → HasScope said.claims bytes entries
+      → result ≡ Ok (record { audience = audience; not_before = said.not_before; expires = said.expires; material = material; scope = bytes }, scope_of entries)
       → ComesTo text audience now result
