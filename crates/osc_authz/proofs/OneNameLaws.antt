@@ -27,6 +27,7 @@ use Rattle.osc_authz.specs.Held.{Held}
 use Rattle.osc_authz.specs.HoldsToken.{HoldsToken}
 use Rattle.osc_authz.specs.Members.{In}
 use Rattle.osc_authz.specs.Post.{Posts}
+use Rattle.osc_authz.specs.Posting.{Posting, offered}
 use Rattle.osc_authz.specs.Table.{alive, contexts, with_pending, IsLawfulContext}
 use Rattle.osc_authz.specs.declared.error.FinishError.{FinishError}
 use Rattle.osc_authz.specs.declared.error.PostError.{PostError}
@@ -50,29 +51,27 @@ no_answer post answer opened e is ok = let refused : post.answer ≡ Err e = ap 
 not_refused : (answer : Result PostAnswer PostError) (made : PostAnswer) (e : PostError) → answer ≡ Err e → answer ≡ Ok made → ⊥
 not_refused answer made e is ok = cc
 
-pub agreed_post : (IsSealing : List ℕ → List ℕ → List ℕ → List ℕ → List ℕ → Type 0) (before after : DeskState) (now : Moment) (body : List ℕ) (draw : Draw) (post : Post) (answer : PostAnswer)
-    → Posts IsSealing before now body draw post after → post.answer ≡ Ok answer → IsAgreed IsSealing before now body draw post answer after
-agreed_post IsSealing before after now body draw post answer (Posts.no_post none is same) ok = absurd (no_answer post answer _ _ is ok)
-agreed_post IsSealing before after now body draw post answer (Posts.not_genuine token nonce1 client_id posts none is same) ok = absurd (no_answer post answer _ _ is ok)
-agreed_post IsSealing before after now body draw post answer (Posts.opened nonce1 client_id protected iv text its o answers is) ok = by answers
+pub agreed_post : (IsSealing : List ℕ → List ℕ → List ℕ → List ℕ → List ℕ → Type 0) (before after : DeskState) (posting : Posting) (post : Post) (answer : PostAnswer)
+    → Posts IsSealing before posting post after → post.answer ≡ Ok answer → IsAgreed IsSealing before posting post answer after
+agreed_post IsSealing before after posting post answer (Posts.no_post none is same) ok = absurd (no_answer post answer _ _ is ok)
+agreed_post IsSealing before after posting post answer (Posts.not_genuine token nonce1 client_id posts none is same) ok = absurd (no_answer post answer _ _ is ok)
+agreed_post IsSealing before after posting post answer (Posts.opened nonce1 client_id token its o answers is) ok = by answers
   where
     answer_is : its ≡ Ok answer
     answer_is = sym (ap (λ (p : Post). p.answer) is) ∙ ok
 
-    by : Answers before now nonce1 client_id text draw its after → IsAgreed IsSealing before now body draw post answer after
+    by : Answers before (offered posting nonce1 client_id) token.text its after → IsAgreed IsSealing before posting post answer after
     by (refused error comes e unchanged) = absurd (not_refused its answer _ e answer_is)
     by (full claims scope comes many e unchanged) = absurd (not_refused its answer _ e answer_is)
     by (agreed claims scope made comes room agrees e) = record {
       nonce1 = nonce1;
       client_id = client_id;
-      protected = protected;
-      iv = iv;
-      text = text;
+      its = token;
       claims = claims;
       scope = scope;
       opened = o;
       granted = comes;
-      agrees = subst (λ m. Agrees before now nonce1 client_id claims scope draw m after) (one_answer_of made answer (sym e ∙ answer_is)) agrees;
+      agrees = subst (λ m. Agrees before (offered posting nonce1 client_id) claims scope m after) (one_answer_of made answer (sym e ∙ answer_is)) agrees;
       noted = ap (λ (p : Post). p.opened) is;
     }
 
@@ -90,8 +89,8 @@ same_salt : (a b n m p q : List ℕ) → a ≡ b → n ≡ m → p ≡ q → mas
 same_salt a b n m p q salt one two = λ i. master_salt (salt i) (one i) (two i)
 
 module _ (IsSealing : List ℕ → List ℕ → List ℕ → List ℕ → List ℕ → Type 0)
-    (agreed_posts : (before after : DeskState) (now : Moment) (body : List ℕ) (draw : Draw) (post : Post) (answer : PostAnswer)
-    → Posts IsSealing before now body draw post after → post.answer ≡ Ok answer → IsAgreed IsSealing before now body draw post answer after)
+    (agreed_posts : (before after : DeskState) (posting : Posting) (post : Post) (answer : PostAnswer)
+    → Posts IsSealing before posting post after → post.answer ≡ Ok answer → IsAgreed IsSealing before posting post answer after)
     (written_post : (token nonce1 client_id : List ℕ) → length token < 2 ^ 64 → 1 ≤ length nonce1 → length nonce1 ≤ 64 → length client_id ≤ 7
     → IsPost (spelling (post_item token nonce1 client_id)) token nonce1 client_id)
     (written_answer : (nonce2 server_id : List ℕ) → 1 ≤ length nonce2 → length nonce2 ≤ 64 → length server_id ≤ 7
@@ -111,20 +110,23 @@ module _ (IsSealing : List ℕ → List ℕ → List ℕ → List ℕ → List �
     (before after : DeskState) (now : Moment) (draw : Draw) (post : Post) (answer : PostAnswer)
     (claims : Claims) (entries : List Entry) (client : ClientDesk) (begun : Begun) (finished : Result ClientContextState FinishError)
     (size : length draw.0 ≡ 32) (nonce_size : length begun.nonce1 ≡ 8) (holds : HoldsToken IsSealing before.key claims entries client)
-    (posts : Posts IsSealing before now (spelling (post_item client.token begun.nonce1 (begun.recipient_id ∷ []))) draw post after)
+    (posts : Posts IsSealing before (record { at = now; body = spelling (post_item client.token begun.nonce1 (begun.recipient_id ∷ [])); draw = draw }) post after)
     (ok : post.answer ≡ Ok answer) where
-  abbrev a : IsAgreed IsSealing before now (spelling (post_item client.token begun.nonce1 (begun.recipient_id ∷ []))) draw post answer after
-  a = agreed_posts before after now (spelling (post_item client.token begun.nonce1 (begun.recipient_id ∷ []))) draw post answer posts ok
+  abbrev posting : Posting
+  posting = record { at = now; body = spelling (post_item client.token begun.nonce1 (begun.recipient_id ∷ [])); draw = draw }
+
+  abbrev a : IsAgreed IsSealing before posting post answer after
+  a = agreed_posts before after posting post answer posts ok
 
   posted : (a.opened.token ≡ client.token) × (a.nonce1 ≡ begun.nonce1) × (a.client_id ≡ begun.recipient_id ∷ [])
   posted =
       one_post _ a.opened.token a.nonce1 a.client_id client.token begun.nonce1 (begun.recipient_id ∷ []) a.opened.is_post
       (written_post client.token begun.nonce1 (begun.recipient_id ∷ []) holds.token_size (omega (arith, nonce_size)) (omega (arith, nonce_size)) (omega arith))
 
-  text_is : a.text ≡ spelling (claims_item claims)
+  text_is : a.its.text ≡ spelling (claims_item claims)
   text_is =
-      (one_token before.key _ a.protected a.iv a.text algorithm_header holds.iv (spelling (claims_item claims))
-      (subst (λ x. IsToken IsSealing before.key x a.protected a.iv a.text) (posted.0 ∙ holds.token) a.opened.is_token)
+      (one_token before.key _ a.its.protected a.its.iv a.its.text algorithm_header holds.iv (spelling (claims_item claims))
+      (subst (λ x. IsToken IsSealing before.key x a.its.protected a.its.iv a.its.text) (posted.0 ∙ holds.token) a.opened.is_token)
       (minted_tokens before.key holds.iv (spelling (claims_item claims)) holds.ciphertext holds.iv_size holds.short holds.sealed)).2
 
   granted : (a.claims ≡ claims) × (a.scope ≡ scope_of entries)

@@ -2,7 +2,6 @@
 use Rattle.std.proofs.Common.{◌≡◌, ℕ, List, Some, Result, Ok, Err, sym, ap, ap₂, subst, ◌∙◌, arith, inl, inr}
 use Rattle.std.proofs.lemmas.Bool.{cases_lt}
 use Rattle.osc_model.specs.Scope.{Scope}
-use Rattle.osc_model.specs.declared.node.Draw.{Draw}
 use Rattle.osc_model.specs.declared.node.Moment.{Moment}
 use Rattle.osc_model.specs.declared.step.Note.{Note}
 use Rattle.osc_token.specs.Claims.{ComesTo}
@@ -13,6 +12,7 @@ use Rattle.osc_authz.specs.Agreement.{new_context, Agrees, Answers, refused, ful
 use Rattle.osc_authz.specs.Desk.{DeskState}
 use Rattle.osc_authz.specs.Exchange.{IsPost}
 use Rattle.osc_authz.specs.Post.{Posts}
+use Rattle.osc_authz.specs.Posting.{Offer, Posting, offered}
 use Rattle.osc_authz.specs.Table.{IsFull, IsLeastFree, alive, with_pending}
 use Rattle.osc_authz.specs.declared.error.PostError.{PostError}
 use Rattle.osc_authz.specs.declared.error.PostError.TheVariants as post_error
@@ -41,42 +41,42 @@ made_of nonce2 byte = record { nonce2 = nonce2; recipient_id = byte }
 granted_is : (one other : Claims × Scope) → ◌≡◌ {A = Result (Claims × Scope) TokenError} (Ok one) (Ok other) → one ≡ other
 granted_is one other e = cc
 
-module _ (before : DeskState) (now : Moment) (nonce1 client_id : List ℕ) (draw : Draw) where
+module _ (before : DeskState) (offer : Offer) where
   agrees_once : (claims : Claims) (scope : Scope) (one other : PostAnswer) (after afters : DeskState)
-      → Agrees before now nonce1 client_id claims scope draw one after → Agrees before now nonce1 client_id claims scope draw other afters
+      → Agrees before offer claims scope one after → Agrees before offer claims scope other afters
       → (one ≡ other) × (after ≡ afters)
   unfolding made_of
   agrees_once claims scope one other after afters p q =
       let id = least_once _ one.recipient_id other.recipient_id p.free q.free in
       let nonce : one.nonce2 ≡ other.nonce2 = p.drawn ∙ sym q.drawn in
       let same : one ≡ other = ap₂ made_of nonce id in
-      (same, p.added ∙ ap (λ m. let d : DeskState = record before { table = with_pending claims.material.id (new_context claims scope nonce1 client_id m) (alive now before.table) } in d) same ∙ sym q.added)
+      (same, p.added ∙ ap (λ m. let d : DeskState = record before { table = with_pending claims.material.id (new_context claims scope offer.nonce1 offer.client_id m) (alive offer.at before.table) } in d) same ∙ sym q.added)
 
   pub answers_once : IsOneResult → (text : List ℕ) (one other : Result PostAnswer PostError) (after afters : DeskState)
-      → Answers before now nonce1 client_id text draw one after → Answers before now nonce1 client_id text draw other afters
+      → Answers before offer text one after → Answers before offer text other afters
       → (one ≡ other) × (after ≡ afters)
   answers_once law text one other after afters (refused e comes is same) (refused f comes2 is2 same2) =
-      let r = law text before.audience now (Err e) (Err f) comes comes2 in
+      let r = law text before.audience offer.at (Err e) (Err f) comes comes2 in
       let g : e ≡ f = cc in (is ∙ ap (λ x. Err (post_error.Token x)) g ∙ sym is2, same ∙ sym same2)
   answers_once law text one other after afters (refused e comes is same) (full claims scope comes2 many is2 same2) =
-      let r = law text before.audience now (Err e) (Ok (claims, scope)) comes comes2 in cc
+      let r = law text before.audience offer.at (Err e) (Ok (claims, scope)) comes comes2 in cc
   answers_once law text one other after afters (refused e comes is same) (agreed claims scope made comes2 room agrees is2) =
-      let r = law text before.audience now (Err e) (Ok (claims, scope)) comes comes2 in cc
+      let r = law text before.audience offer.at (Err e) (Ok (claims, scope)) comes comes2 in cc
   answers_once law text one other after afters (full claims scope comes many is same) (refused e comes2 is2 same2) =
-      let r = law text before.audience now (Err e) (Ok (claims, scope)) comes2 comes in cc
+      let r = law text before.audience offer.at (Err e) (Ok (claims, scope)) comes2 comes in cc
   answers_once law text one other after afters (full claims scope comes many is same) (full claims2 scope2 comes2 many2 is2 same2) =
       (is ∙ sym is2, same ∙ sym same2)
   answers_once law text one other after afters (full claims scope comes many is same) (agreed claims2 scope2 made comes2 room agrees is2) =
-      let r = granted_is (claims, scope) (claims2, scope2) (law text before.audience now (Ok (claims, scope)) (Ok (claims2, scope2)) comes comes2) in
-      absurd (room (subst (λ x. IsFull x.0.material.id (alive now before.table)) r many))
+      let r = granted_is (claims, scope) (claims2, scope2) (law text before.audience offer.at (Ok (claims, scope)) (Ok (claims2, scope2)) comes comes2) in
+      absurd (room (subst (λ x. IsFull x.0.material.id (alive offer.at before.table)) r many))
   answers_once law text one other after afters (agreed claims scope made comes room agrees is) (refused e comes2 is2 same2) =
-      let r = law text before.audience now (Err e) (Ok (claims, scope)) comes2 comes in cc
+      let r = law text before.audience offer.at (Err e) (Ok (claims, scope)) comes2 comes in cc
   answers_once law text one other after afters (agreed claims scope made comes room agrees is) (full claims2 scope2 comes2 many is2 same2) =
-      let r = granted_is (claims2, scope2) (claims, scope) (law text before.audience now (Ok (claims2, scope2)) (Ok (claims, scope)) comes2 comes) in
-      absurd (room (subst (λ x. IsFull x.0.material.id (alive now before.table)) r many))
+      let r = granted_is (claims2, scope2) (claims, scope) (law text before.audience offer.at (Ok (claims2, scope2)) (Ok (claims, scope)) comes2 comes) in
+      absurd (room (subst (λ x. IsFull x.0.material.id (alive offer.at before.table)) r many))
   answers_once law text one other after afters (agreed claims scope made comes room agrees is) (agreed claims2 scope2 made2 comes2 room2 agrees2 is2) =
-      let r = granted_is (claims2, scope2) (claims, scope) (law text before.audience now (Ok (claims2, scope2)) (Ok (claims, scope)) comes2 comes) in
-      let own = subst (λ x. Agrees before now nonce1 client_id x.0 x.1 draw made2 afters) r agrees2 in
+      let r = granted_is (claims2, scope2) (claims, scope) (law text before.audience offer.at (Ok (claims2, scope2)) (Ok (claims, scope)) comes2 comes) in
+      let own = subst (λ x. Agrees before offer x.0 x.1 made2 afters) r agrees2 in
       let once = agrees_once claims scope made made2 after afters agrees own in
       (is ∙ ap Ok once.0 ∙ sym is2, once.1)
 
@@ -91,33 +91,34 @@ IsOneToken IsSealing = (key bytes protected iv text others ivs other : List ℕ)
     → IsToken IsSealing key bytes protected iv text → IsToken IsSealing key bytes others ivs other
     → (protected ≡ others) × (iv ≡ ivs) × (text ≡ other)
 
-module _ (IsSealing : List ℕ → List ℕ → List ℕ → List ℕ → List ℕ → Type 0) (before : DeskState) (now : Moment) (body : List ℕ) (draw : Draw) where
+module _ (IsSealing : List ℕ → List ℕ → List ℕ → List ℕ → List ℕ → Type 0) (before : DeskState) (posting : Posting) where
   abbrev post_of : Note → Result PostAnswer PostError → Post
   post_of note answer = record { opened = Some note; answer = answer }
 
   module _ (one_post : IsOnePost) (one_token : IsOneToken IsSealing) (one_result : IsOneResult) where
-    pub posts_once : (post posts : Post) (after afters : DeskState) → Posts IsSealing before now body draw post after → Posts IsSealing before now body draw posts afters → (post ≡ posts) × (after ≡ afters)
+    pub posts_once : (post posts : Post) (after afters : DeskState) → Posts IsSealing before posting post after → Posts IsSealing before posting posts afters → (post ≡ posts) × (after ≡ afters)
     posts_once post posts after afters (Posts.no_post none is same) (Posts.no_post none2 is2 same2) = (is ∙ sym is2, same ∙ sym same2)
     posts_once post posts after afters (Posts.no_post none is same) (Posts.not_genuine token nonce1 client_id p none2 is2 same2) = absurd (none token nonce1 client_id p)
-    posts_once post posts after afters (Posts.no_post none is same) (Posts.opened nonce1 client_id protected iv text answer o answers is2) = absurd (none o.token nonce1 client_id o.is_post)
+    posts_once post posts after afters (Posts.no_post none is same) (Posts.opened nonce1 client_id its answer o answers is2) = absurd (none o.token nonce1 client_id o.is_post)
     posts_once post posts after afters (Posts.not_genuine token nonce1 client_id p none is same) (Posts.no_post none2 is2 same2) = absurd (none2 token nonce1 client_id p)
     posts_once post posts after afters (Posts.not_genuine token nonce1 client_id p none is same) (Posts.not_genuine token2 nonces ids p2 none2 is2 same2) = (is ∙ sym is2, same ∙ sym same2)
-    posts_once post posts after afters (Posts.not_genuine token nonce1 client_id p none is same) (Posts.opened nonces ids protected iv text answer o answers is2) =
-        let t = one_post body o.token nonces ids token nonce1 client_id o.is_post p in
-        absurd (none protected iv text (subst (λ x. IsToken IsSealing before.key x protected iv text) t.0 o.is_token))
-    posts_once post posts after afters (Posts.opened nonce1 client_id protected iv text answer o answers is) (Posts.no_post none2 is2 same2) = absurd (none2 o.token nonce1 client_id o.is_post)
-    posts_once post posts after afters (Posts.opened nonces ids protected iv text answer o answers is) (Posts.not_genuine token nonce1 client_id p none is2 same2) =
-        let t = one_post body o.token nonces ids token nonce1 client_id o.is_post p in
-        absurd (none protected iv text (subst (λ x. IsToken IsSealing before.key x protected iv text) t.0 o.is_token))
-    posts_once post posts after afters (Posts.opened nonce1 client_id protected iv text answer o answers is) (Posts.opened nonces ids protected2 ivs text2 answer2 o2 answers2 is2) =
-        let t = one_post body o.token nonce1 client_id o2.token nonces ids o.is_post o2.is_post in
-        let own = subst (λ x. IsToken IsSealing before.key x protected iv text) t.0 o.is_token in
-        let u = one_token before.key o2.token protected iv text protected2 ivs text2 own o2.is_token in
-        let found = subst (λ x. Answers before now nonces ids x draw answer after) u.2 (subst (λ x. Answers before now nonces x text draw answer after) t.2
-        (subst (λ x. Answers before now x client_id text draw answer after) t.1 answers)) in
-        let once = answers_once before now nonces ids draw one_result text2 answer answer2 after afters found answers2 in
-        let note : token_note before.key protected iv text ≡ token_note before.key protected2 ivs text2 =
-        subst (λ x. token_note before.key protected iv text ≡ token_note before.key x ivs text2) u.0
-        (subst (λ x. token_note before.key protected iv text ≡ token_note before.key protected x text2) u.1
-        (ap (token_note before.key protected iv) u.2)) in
+    posts_once post posts after afters (Posts.not_genuine token nonce1 client_id p none is same) (Posts.opened nonces ids its answer o answers is2) =
+        let t = one_post posting.body o.token nonces ids token nonce1 client_id o.is_post p in
+        absurd (none its.protected its.iv its.text (subst (λ x. IsToken IsSealing before.key x its.protected its.iv its.text) t.0 o.is_token))
+    posts_once post posts after afters (Posts.opened nonce1 client_id its answer o answers is) (Posts.no_post none2 is2 same2) = absurd (none2 o.token nonce1 client_id o.is_post)
+    posts_once post posts after afters (Posts.opened nonces ids its answer o answers is) (Posts.not_genuine token nonce1 client_id p none is2 same2) =
+        let t = one_post posting.body o.token nonces ids token nonce1 client_id o.is_post p in
+        absurd (none its.protected its.iv its.text (subst (λ x. IsToken IsSealing before.key x its.protected its.iv its.text) t.0 o.is_token))
+    posts_once post posts after afters (Posts.opened nonce1 client_id its answer o answers is) (Posts.opened nonces ids other answer2 o2 answers2 is2) =
+        let t = one_post posting.body o.token nonce1 client_id o2.token nonces ids o.is_post o2.is_post in
+        let own = subst (λ x. IsToken IsSealing before.key x its.protected its.iv its.text) t.0 o.is_token in
+        let u = one_token before.key o2.token its.protected its.iv its.text other.protected other.iv other.text own o2.is_token in
+        let found = subst (λ x. Answers before (offered posting nonces ids) x answer after) u.2
+        (subst (λ x. Answers before (offered posting nonces x) its.text answer after) t.2
+        (subst (λ x. Answers before (offered posting x client_id) its.text answer after) t.1 answers)) in
+        let once = answers_once before (offered posting nonces ids) one_result other.text answer answer2 after afters found answers2 in
+        let note : token_note before.key its.protected its.iv its.text ≡ token_note before.key other.protected other.iv other.text =
+        subst (λ x. token_note before.key its.protected its.iv its.text ≡ token_note before.key x other.iv other.text) u.0
+        (subst (λ x. token_note before.key its.protected its.iv its.text ≡ token_note before.key its.protected x other.text) u.1
+        (ap (token_note before.key its.protected its.iv) u.2)) in
         (is ∙ ap₂ post_of note once.0 ∙ sym is2, once.1)

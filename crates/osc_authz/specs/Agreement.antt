@@ -3,8 +3,6 @@ use Rattle.std.specs.Prelude.{◌≡◌, ℕ, List, [], ◌∷◌, Result, Ok, E
 use Rattle.osc_model.specs.Scope.{Scope}
 use Rattle.osc_model.specs.Draw.{nonce_drawn}
 use Rattle.osc_model.specs.declared.context.ContextName.{ContextName}
-use Rattle.osc_model.specs.declared.node.Draw.{Draw}
-use Rattle.osc_model.specs.declared.node.Moment.{Moment}
 use Rattle.osc_context.specs.MasterSalt.{master_salt}
 use Rattle.osc_token.specs.Claims.{ComesTo}
 use Rattle.osc_token.specs.declared.claims.Claims.{Claims}
@@ -12,6 +10,7 @@ use Rattle.osc_token.specs.declared.claims.InputMaterial.{InputMaterial}
 use Rattle.osc_token.specs.declared.error.TokenError.{TokenError}
 use Rattle.osc_authz.specs.Desk.{DeskState}
 use Rattle.osc_authz.specs.Held.{Held}
+use Rattle.osc_authz.specs.Posting.{Offer}
 use Rattle.osc_authz.specs.Table.{alive, ids, IsFull, without_pending, with_pending, IsLeastFree}
 use Rattle.osc_authz.specs.declared.error.PostError.{PostError}
 use Rattle.osc_authz.specs.declared.error.PostError.TheVariants.{Token, Full}
@@ -40,19 +39,20 @@ new_context claims scope nonce1 client_id answer = record {
 }
 
 -- one more context, with the least free ID and the nonce of the draw
-pub record Agrees (before : DeskState) (now : Moment) (nonce1 client_id : List ℕ) (claims : Claims) (scope : Scope) (draw : Draw) (answer : PostAnswer) (after : DeskState) : Type 0 where
-  pub free : IsLeastFree (client_id ∷ ids (without_pending claims.material.id (alive now before.table))) answer.recipient_id
-  pub drawn : answer.nonce2 ≡ nonce_drawn draw
-  pub added : after ≡ record before { table = with_pending claims.material.id (new_context claims scope nonce1 client_id answer) (alive now before.table) }
+pub record Agrees (before : DeskState) (offer : Offer) (claims : Claims) (scope : Scope) (answer : PostAnswer) (after : DeskState) : Type 0 where
+  pub free : IsLeastFree (offer.client_id ∷ ids (without_pending claims.material.id (alive offer.at before.table))) answer.recipient_id
+  pub drawn : answer.nonce2 ≡ nonce_drawn offer.draw
+  pub added : after
+      ≡ record before { table = with_pending claims.material.id (new_context claims scope offer.nonce1 offer.client_id answer) (alive offer.at before.table) }
 
 -- the cases of a post whose token opened to this text
-pub data Answers (before : DeskState) (now : Moment) (nonce1 client_id text : List ℕ) (draw : Draw) (answer : Result PostAnswer PostError) (after : DeskState) : Type 0 where
-  refused : (error : TokenError) → ComesTo text before.audience now (Err error)
-      → answer ≡ Err (Token error) → after ≡ before → Answers before now nonce1 client_id text draw answer after
-  full : (claims : Claims) (scope : Scope) → ComesTo text before.audience now (Ok (claims, scope))
-      → IsFull claims.material.id (alive now before.table)
-      → answer ≡ Err Full → after ≡ before → Answers before now nonce1 client_id text draw answer after
-  agreed : (claims : Claims) (scope : Scope) (made : PostAnswer) → ComesTo text before.audience now (Ok (claims, scope))
-      → ¬ IsFull claims.material.id (alive now before.table)
-      → Agrees before now nonce1 client_id claims scope draw made after
-      → answer ≡ Ok made → Answers before now nonce1 client_id text draw answer after
+pub data Answers (before : DeskState) (offer : Offer) (text : List ℕ) (answer : Result PostAnswer PostError) (after : DeskState) : Type 0 where
+  refused : (error : TokenError) → ComesTo text before.audience offer.at (Err error)
+      → answer ≡ Err (Token error) → after ≡ before → Answers before offer text answer after
+  full : (claims : Claims) (scope : Scope) → ComesTo text before.audience offer.at (Ok (claims, scope))
+      → IsFull claims.material.id (alive offer.at before.table)
+      → answer ≡ Err Full → after ≡ before → Answers before offer text answer after
+  agreed : (claims : Claims) (scope : Scope) (made : PostAnswer) → ComesTo text before.audience offer.at (Ok (claims, scope))
+      → ¬ IsFull claims.material.id (alive offer.at before.table)
+      → Agrees before offer claims scope made after
+      → answer ≡ Ok made → Answers before offer text answer after

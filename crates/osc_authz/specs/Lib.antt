@@ -4,6 +4,7 @@ pub mod Held
 pub mod Table
 pub mod Marks
 pub mod Desk
+pub mod Posting
 pub mod Post
 pub mod Begun
 pub mod Client

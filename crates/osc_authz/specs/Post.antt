@@ -2,38 +2,37 @@
 use Rattle.std.specs.Prelude.{◌≡◌, ℕ, List, Some, None, Result, Err}
 use Rattle.osc_model.specs.declared.code.Code.{Code}
 use Rattle.osc_model.specs.Code.{code}
-use Rattle.osc_model.specs.declared.node.Draw.{Draw}
-use Rattle.osc_model.specs.declared.node.Moment.{Moment}
 use Rattle.osc_token.specs.Token.{IsToken, token_note}
 use Rattle.osc_token.specs.declared.error.TokenError.{TokenError}
 use Rattle.osc_token.specs.declared.error.TokenError.TheVariants.{NotGenuine}
 use Rattle.osc_authz.specs.Agreement.{Answers}
 use Rattle.osc_authz.specs.Exchange.{IsPost}
 use Rattle.osc_authz.specs.Desk.{DeskState}
+use Rattle.osc_authz.specs.Posting.{OpenedToken, Posting, offered}
 use Rattle.osc_authz.specs.declared.error.PostError.{PostError}
 use Rattle.osc_authz.specs.declared.error.PostError.TheVariants.{Fields, Token, Full}
 use Rattle.osc_authz.specs.declared.post.Post.{Post}
 use Rattle.osc_authz.specs.declared.post.PostAnswer.{PostAnswer}
 
 -- the body is a post, and its token opens
-pub record IsOpened (IsSealing : List ℕ → List ℕ → List ℕ → List ℕ → List ℕ → Type 0) (key body nonce1 client_id protected iv text : List ℕ) : Type 0 where
+pub record IsOpened (IsSealing : List ℕ → List ℕ → List ℕ → List ℕ → List ℕ → Type 0) (key body nonce1 client_id : List ℕ) (its : OpenedToken) : Type 0 where
   pub token : List ℕ
   pub is_post : IsPost body token nonce1 client_id
-  pub is_token : IsToken IsSealing key token protected iv text
+  pub is_token : IsToken IsSealing key token its.protected its.iv its.text
 
-pub data Posts (IsSealing : List ℕ → List ℕ → List ℕ → List ℕ → List ℕ → Type 0) (before : DeskState) (now : Moment) (body : List ℕ) (draw : Draw) (post : Post) (after : DeskState) : Type 0 where
-  no_post : ((token nonce1 client_id : List ℕ) → ¬ IsPost body token nonce1 client_id)
+pub data Posts (IsSealing : List ℕ → List ℕ → List ℕ → List ℕ → List ℕ → Type 0) (before : DeskState) (posting : Posting) (post : Post) (after : DeskState) : Type 0 where
+  no_post : ((token nonce1 client_id : List ℕ) → ¬ IsPost posting.body token nonce1 client_id)
       → post ≡ record { opened = None; answer = Err Fields } → after ≡ before
-      → Posts IsSealing before now body draw post after
-  not_genuine : (token nonce1 client_id : List ℕ) → IsPost body token nonce1 client_id
+      → Posts IsSealing before posting post after
+  not_genuine : (token nonce1 client_id : List ℕ) → IsPost posting.body token nonce1 client_id
       → ((protected iv text : List ℕ) → ¬ IsToken IsSealing before.key token protected iv text)
       → post ≡ record { opened = None; answer = Err (Token NotGenuine) } → after ≡ before
-      → Posts IsSealing before now body draw post after
-  opened : (nonce1 client_id protected iv text : List ℕ) (answer : Result PostAnswer PostError)
-      → IsOpened IsSealing before.key body nonce1 client_id protected iv text
-      → Answers before now nonce1 client_id text draw answer after
-      → post ≡ record { opened = Some (token_note before.key protected iv text); answer = answer }
-      → Posts IsSealing before now body draw post after
+      → Posts IsSealing before posting post after
+  opened : (nonce1 client_id : List ℕ) (its : OpenedToken) (answer : Result PostAnswer PostError)
+      → IsOpened IsSealing before.key posting.body nonce1 client_id its
+      → Answers before (offered posting nonce1 client_id) its.text answer after
+      → post ≡ record { opened = Some (token_note before.key its.protected its.iv its.text); answer = answer }
+      → Posts IsSealing before posting post after
 
 -- the code of the answer to a refused post (RFC 9200 section 5.10.1)
 abbrev pub code_of : PostError → Code

@@ -95,7 +95,7 @@ impl ServerDesk {
         body: &[u8],
         draw: &Draw,
     ) -> Result<Post, AllocError>
-        ensures posted { IfOk result (λ post. Posts A.is_sealing self.old now body.now draw.now post self.new) }
+        ensures posted { IfOk result (λ post. Posts A.is_sealing self.old (record { at = now; body = body.now; draw = draw.now }) post self.new) }
         ensures err { OnErr result (self.new ≡ self.old) }
         ensures memory { IsErr result → (d : DataItem) × IsWhole body.now d }
         ensures table { IsTable self.new.table }
@@ -114,7 +114,7 @@ impl ServerDesk {
         body: &[u8],
         draw: &Draw,
     ) -> Result<Post, AllocError>
-        ensures posted { IfOk result (λ post. Posts A.is_sealing self.old now body.now draw.now post self.new) }
+        ensures posted { IfOk result (λ post. Posts A.is_sealing self.old (record { at = now; body = body.now; draw = draw.now }) post self.new) }
         ensures err { OnErr result (self.new ≡ self.old) }
         ensures memory { IsErr result → (d : DataItem) × IsWhole body.now d }
     {
@@ -133,7 +133,7 @@ impl ServerDesk {
         draw: &Draw,
     ) -> Result<Post, AllocError>
         ensures posted { (body : List ℕ) → IsItem body item.now
-            → IfOk result (λ post. Posts A.is_sealing self.old now body draw.now post self.new) }
+            → IfOk result (λ post. Posts A.is_sealing self.old (record { at = now; body = body; draw = draw.now }) post self.new) }
         ensures err { OnErr result (self.new ≡ self.old) }
         ensures memory { IsErr result → IsSome (fields_of item.now) }
     {
@@ -164,7 +164,7 @@ impl ServerDesk {
     ) -> Result<Result<PostAnswer, PostError>, AllocError>
         requires { length fields.now.client_id.now ≤ 7 }
         ensures answers { IfOk result (λ answer.
-            Answers self.old now fields.now.nonce1.now fields.now.client_id.now text.now draw.now answer self.new) }
+            Answers self.old (record { at = now; draw = draw.now; nonce1 = fields.now.nonce1.now; client_id = fields.now.client_id.now }) text.now answer self.new) }
         ensures err { OnErr result (self.new ≡ self.old) }
     {
         let verdict = judge(alloc, text, &self.audience, now)?;
@@ -182,7 +182,7 @@ impl ServerDesk {
     ) -> Result<Result<PostAnswer, PostError>, AllocError>
         requires { length fields.now.client_id.now ≤ 7 }
         ensures answers { (text : List ℕ) → ComesTo text self.old.audience now verdict
-            → IfOk result (λ answer. Answers self.old now fields.now.nonce1.now fields.now.client_id.now text draw.now answer self.new) }
+            → IfOk result (λ answer. Answers self.old (record { at = now; draw = draw.now; nonce1 = fields.now.nonce1.now; client_id = fields.now.client_id.now }) text answer self.new) }
         ensures memory { IsErr result → (claims : AnyClaims) × (scope : AnyScope) × (verdict ≡ Ok (claims, scope))
             × (¬ IsFull claims.material.id (alive now self.old.table)) }
         ensures err { OnErr result (self.new ≡ self.old) }
@@ -206,7 +206,7 @@ impl ServerDesk {
     ) -> Result<Result<PostAnswer, PostError>, AllocError>
         requires { length fields.now.client_id.now ≤ 7 }
         ensures answers { (text : List ℕ) → ComesTo text self.old.audience now (Ok (claims, scope))
-            → IfOk result (λ answer. Answers self.old now fields.now.nonce1.now fields.now.client_id.now text draw.now answer self.new) }
+            → IfOk result (λ answer. Answers self.old (record { at = now; draw = draw.now; nonce1 = fields.now.nonce1.now; client_id = fields.now.client_id.now }) text answer self.new) }
         ensures memory { IsErr result → ¬ IsFull claims.material.id (alive now self.old.table) }
         ensures err { OnErr result (self.new ≡ self.old) }
     {
@@ -230,7 +230,7 @@ impl ServerDesk {
         requires short { length fields.now.client_id.now ≤ 7 }
         requires room { ¬ IsFull claims.material.id (alive now self.old.table) }
         ensures agreed { IfOk result (λ answer.
-            Agrees self.old now fields.now.nonce1.now fields.now.client_id.now claims scope draw.now answer self.new) }
+            Agrees self.old (record { at = now; draw = draw.now; nonce1 = fields.now.nonce1.now; client_id = fields.now.client_id.now }) claims scope answer self.new) }
         ensures err { OnErr result (self.new ≡ self.old) }
     {
         let token = claims.material.id.as_slice();

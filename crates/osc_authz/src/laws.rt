@@ -21,6 +21,7 @@ ghost use Rattle.osc_authz.specs.Held.{Held};
 ghost use Rattle.osc_authz.specs.HoldsToken.{HoldsToken};
 ghost use Rattle.osc_authz.specs.Members.{In};
 ghost use Rattle.osc_authz.specs.Post.{Posts};
+ghost use Rattle.osc_authz.specs.Posting.{Posting};
 ghost use Rattle.osc_authz.specs.Table.{IsLawfulContext, IsTable, accepted, alive, contexts, is_live, meant, with_pending};
 ghost use Rattle.osc_authz.specs.Welcome.{IsWelcome};
 ghost use Rattle.osc_authz.specs.declared.error.FinishError.{FinishError as AnyFinishError};
@@ -118,9 +119,9 @@ pub fn numbers_taken()
 
 /// A post that is answered 2.01 opened, was granted, and made a context.
 pub fn posts_that_agree<A: Aead>()
-    ensures { (before after : DeskState) (now : AnyMoment) (body : List ℕ) (draw : AnyDraw) (post : AnyPost) (answer : AnyAnswer)
-        → Posts A.is_sealing before now body draw post after → post.answer ≡ Ok answer
-        → IsAgreed A.is_sealing before now body draw post answer after }
+    ensures { (before after : DeskState) (posting : Posting) (post : AnyPost) (answer : AnyAnswer)
+        → Posts A.is_sealing before posting post after → post.answer ≡ Ok answer
+        → IsAgreed A.is_sealing before posting post answer after }
 {}
 
 /// A post with a token that is welcome is answered 2.01, with the nonce of the draw.
@@ -128,7 +129,7 @@ pub fn welcome_posts<A: Aead>()
     ensures { (before after : DeskState) (now : AnyMoment) (draw : AnyDraw) (post : AnyPost) (claims : AnyClaims) (entries : List Entry)
         (client : AnyClient) (nonce1 : List ℕ) (id : ℕ)
         → IsWelcome A.is_sealing before now claims entries client → length nonce1 ≡ 8
-        → Posts A.is_sealing before now (spelling (post_item client.token nonce1 (id ∷ []))) draw post after
+        → Posts A.is_sealing before (record { at = now; body = spelling (post_item client.token nonce1 (id ∷ [])); draw = draw }) post after
         → (answer : AnyAnswer) × (post.answer ≡ Ok answer) × (answer.nonce2 ≡ nonce_drawn draw) }
 {
     what_is_written();
@@ -144,7 +145,8 @@ pub fn one_name<A: Aead>()
     ensures { (before after : DeskState) (now : AnyMoment) (draw : AnyDraw) (post : AnyPost) (answer : AnyAnswer)
         (claims : AnyClaims) (entries : List Entry) (client : AnyClient) (begun : Begun) (finished : Result ClientContextState AnyFinishError)
         → length draw.0 ≡ 32 → length begun.nonce1 ≡ 8 → HoldsToken A.is_sealing before.key claims entries client
-        → Posts A.is_sealing before now (spelling (post_item client.token begun.nonce1 (begun.recipient_id ∷ []))) draw post after
+        → Posts A.is_sealing before
+        (record { at = now; body = spelling (post_item client.token begun.nonce1 (begun.recipient_id ∷ [])); draw = draw }) post after
         → post.answer ≡ Ok answer
         → Finishes client begun (code 2 1) (spelling (answer_item answer.nonce2 (answer.recipient_id ∷ []))) finished
         → (held : Held) × In held (contexts after.table) × (held.scope ≡ scope_of entries)
@@ -163,8 +165,8 @@ pub fn one_name<A: Aead>()
 
 /// A post comes to one outcome at most: one answer, and one table afterwards.
 pub fn one_outcome<A: Aead>()
-    ensures { (before after afters : DeskState) (now : AnyMoment) (body : List ℕ) (draw : AnyDraw) (post posts : AnyPost)
-        → Posts A.is_sealing before now body draw post after → Posts A.is_sealing before now body draw posts afters
+    ensures { (before after afters : DeskState) (posting : Posting) (post posts : AnyPost)
+        → Posts A.is_sealing before posting post after → Posts A.is_sealing before posting posts afters
         → (post ≡ posts) × (after ≡ afters) }
 {
     osc_cbor::laws::one_item();

@@ -4,7 +4,6 @@ use Rattle.osc_model.specs.Apply.{apply_read}
 use Rattle.osc_model.specs.Draw.{nonce_drawn}
 use Rattle.osc_model.specs.StepNotes.{quiet}
 use Rattle.osc_model.specs.Tree.{Tree}
-use Rattle.osc_model.specs.declared.node.Draw.{Draw}
 use Rattle.osc_model.specs.declared.node.Moment.{Moment}
 use Rattle.osc_model.specs.declared.reply.Reply.{Reply}
 use Rattle.osc_model.specs.declared.step.RefusedRequest.{RefusedRequest}
@@ -17,6 +16,7 @@ use Rattle.osc_authz.specs.Desk.{DeskState}
 use Rattle.osc_authz.specs.Held.{Held}
 use Rattle.osc_authz.specs.Members.{In}
 use Rattle.osc_authz.specs.Post.{Posts}
+use Rattle.osc_authz.specs.Posting.{Posting, offered}
 use Rattle.osc_authz.specs.Table.{IsTable, accepted, alive, meant, with_pending}
 use Rattle.osc_authz.specs.declared.error.PostError.{PostError}
 use Rattle.osc_authz.specs.declared.holding.Holding.{Holding}
@@ -32,19 +32,19 @@ abbrev pub AddedLaw : Type 0
 AddedLaw = (now : Moment) (token : List ℕ) (held : Held) (table : List Holding) → IsTable (with_pending token held (alive now table))
     → HasAdded now token held (of_tokens table) (of_tokens (with_pending token held (alive now table)))
 
-pub agreed : AddedLaw → (IsSealing : List ℕ → List ℕ → List ℕ → List ℕ → List ℕ → Type 0) (before after : DeskState) (now : Moment) (body : List ℕ) (draw : Draw) (post : Post) (answer : PostAnswer) (tree : Tree)
-    → length draw.0 ≡ 32 → IsAgreed IsSealing before now body draw post answer after → IsTable after.table
-    → IsPosted (record { contexts = of_tokens before.table; tree = tree }) now (record quiet { opens = post.opened; drawn = Some answer.nonce2 }) (record { contexts = of_tokens after.table; tree = tree })
-agreed law IsSealing before after now body draw post answer tree size a is_table =
+pub agreed : AddedLaw → (IsSealing : List ℕ → List ℕ → List ℕ → List ℕ → List ℕ → Type 0) (before after : DeskState) (posting : Posting) (post : Post) (answer : PostAnswer) (tree : Tree)
+    → length posting.draw.0 ≡ 32 → IsAgreed IsSealing before posting post answer after → IsTable after.table
+    → IsPosted (record { contexts = of_tokens before.table; tree = tree }) posting.at (record quiet { opens = post.opened; drawn = Some answer.nonce2 }) (record { contexts = of_tokens after.table; tree = tree })
+agreed law IsSealing before after posting post answer tree size a is_table =
     let token : List ℕ = a.claims.material.id in
     let added : Held = new_context a.claims a.scope a.nonce1 a.client_id answer in
-    let table : after.table ≡ with_pending token added (alive now before.table) = ap (λ (d : DeskState). d.table) a.agrees.added in
-    let eight : length (nonce_drawn draw) ≡ 8 = omega (arith, size, length-take 8 draw.0) in
+    let table : after.table ≡ with_pending token added (alive posting.at before.table) = ap (λ (d : DeskState). d.table) a.agrees.added in
+    let eight : length (nonce_drawn posting.draw) ≡ 8 = omega (arith, size, length-take 8 posting.draw.0) in
     record {
       key = before.key;
-      protected = a.protected;
-      iv = a.iv;
-      text = a.text;
+      protected = a.its.protected;
+      iv = a.its.iv;
+      text = a.its.text;
       audience = before.audience;
       claims = a.claims;
       scope = a.scope;
@@ -56,7 +56,7 @@ agreed law IsSealing before after now body draw post answer tree size a is_table
       size = ap length a.agrees.drawn ∙ eight;
       apart = λ same. a.agrees.free.free (0, omega arith, sym same);
       noted = λ i. record quiet { opens = a.noted i; drawn = Some answer.nonce2 };
-      contexts = subst (λ (t : List Holding). HasAdded now token added (of_tokens before.table) (of_tokens t)) (sym table) (law now token added before.table (subst IsTable table is_table));
+      contexts = subst (λ (t : List Holding). HasAdded posting.at token added (of_tokens before.table) (of_tokens t)) (sym table) (law posting.at token added before.table (subst IsTable table is_table));
       tree = refl;
     }
 
@@ -65,30 +65,30 @@ agreed law IsSealing before after now body draw post answer tree size a is_table
 not_agreed : (answer : Result PostAnswer PostError) (made : PostAnswer) (error : PostError) → answer ≡ Ok made → answer ≡ Err error → ⊥
 not_agreed answer made error is e = cc
 
-unchanged : (IsSealing : List ℕ → List ℕ → List ℕ → List ℕ → List ℕ → Type 0) (before after : DeskState) (now : Moment) (body : List ℕ) (draw : Draw) (post : Post) (error : PostError)
-    → Posts IsSealing before now body draw post after → post.answer ≡ Err error → after ≡ before
-unchanged IsSealing before after now body draw post error (Posts.no_post none is same) e = same
-unchanged IsSealing before after now body draw post error (Posts.not_genuine token nonce1 client_id posts none is same) e = same
-unchanged IsSealing before after now body draw post error (Posts.opened nonce1 client_id protected iv text its o answers is) e = by answers
+unchanged : (IsSealing : List ℕ → List ℕ → List ℕ → List ℕ → List ℕ → Type 0) (before after : DeskState) (posting : Posting) (post : Post) (error : PostError)
+    → Posts IsSealing before posting post after → post.answer ≡ Err error → after ≡ before
+unchanged IsSealing before after posting post error (Posts.no_post none is same) e = same
+unchanged IsSealing before after posting post error (Posts.not_genuine token nonce1 client_id posts none is same) e = same
+unchanged IsSealing before after posting post error (Posts.opened nonce1 client_id token its o answers is) e = by answers
   where
     its_answer : its ≡ Err error
     its_answer = sym (ap (λ (p : Post). p.answer) is) ∙ e
 
-    by : Answers before now nonce1 client_id text draw its after → after ≡ before
+    by : Answers before (offered posting nonce1 client_id) token.text its after → after ≡ before
     by (Answers.refused refusal comes answer same) = same
     by (Answers.full claims scope comes many answer same) = same
     by (Answers.agreed claims scope made comes room agrees answer) = absurd (not_agreed its made error answer its_answer)
 
-pub refused : (IsSealing : List ℕ → List ℕ → List ℕ → List ℕ → List ℕ → Type 0) (before after : DeskState) (now : Moment) (body : List ℕ) (draw : Draw) (post : Post) (error : PostError) (why : Option RefusedRequest) (tree : Tree)
-    → Posts IsSealing before now body draw post after → post.answer ≡ Err error
-    → IsServerIdle (record { contexts = of_tokens before.table; tree = tree }) now (record quiet { opens = post.opened; refused = why }) (record { contexts = of_tokens after.table; tree = tree })
-refused IsSealing before after now body draw post error why tree posts e =
-    let same : after ≡ before = unchanged IsSealing before after now body draw post error posts e in
+pub refused : (IsSealing : List ℕ → List ℕ → List ℕ → List ℕ → List ℕ → Type 0) (before after : DeskState) (posting : Posting) (post : Post) (error : PostError) (why : Option RefusedRequest) (tree : Tree)
+    → Posts IsSealing before posting post after → post.answer ≡ Err error
+    → IsServerIdle (record { contexts = of_tokens before.table; tree = tree }) posting.at (record quiet { opens = post.opened; refused = why }) (record { contexts = of_tokens after.table; tree = tree })
+refused IsSealing before after posting post error why tree posts e =
+    let same : after ≡ before = unchanged IsSealing before after posting post error posts e in
     record {
       opened = post.opened;
       refused = why;
       noted = refl;
-      contexts = subst (λ (d : DeskState). AreKept now (of_tokens before.table) (of_tokens d.table)) (sym same) (record { only = λ c m. m; live = λ c m live. m });
+      contexts = subst (λ (d : DeskState). AreKept posting.at (of_tokens before.table) (of_tokens d.table)) (sym same) (record { only = λ c m. m; live = λ c m live. m });
       tree = refl;
     }
 

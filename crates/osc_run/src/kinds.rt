@@ -32,6 +32,7 @@ ghost use Rattle.osc_authz.specs.Contexts.{of_tokens};
 ghost use Rattle.osc_authz.specs.Desk.{DeskState};
 ghost use Rattle.osc_authz.specs.Held.{Held};
 ghost use Rattle.osc_authz.specs.Post.{Posts};
+ghost use Rattle.osc_authz.specs.Posting.{Posting};
 ghost use Rattle.osc_authz.specs.Table.{IsTable, accepted, meant};
 ghost use Rattle.osc_authz.specs.declared.error.PostError.{PostError as AnyError};
 ghost use Rattle.osc_authz.specs.declared.holding.Holding.{Holding};
@@ -59,9 +60,9 @@ pub fn minted_texts()
 
 /// A post that is answered 2.01 is the kind of step that adds a context.
 pub fn posts_that_agree<A: Aead>()
-    ensures { (before after : DeskState) (now : AnyMoment) (body : List ℕ) (draw : AnyDraw) (post : AnyPost) (answer : AnyAnswer) (tree : Tree)
-        → length draw.0 ≡ 32 → Posts A.is_sealing before now body draw post after → post.answer ≡ Ok answer → IsTable after.table
-        → IsPosted (record { contexts = of_tokens before.table; tree = tree }) now
+    ensures { (before after : DeskState) (posting : Posting) (post : AnyPost) (answer : AnyAnswer) (tree : Tree)
+        → length posting.draw.0 ≡ 32 → Posts A.is_sealing before posting post after → post.answer ≡ Ok answer → IsTable after.table
+        → IsPosted (record { contexts = of_tokens before.table; tree = tree }) posting.at
         (record quiet { opens = post.opened; drawn = Some answer.nonce2 })
         (record { contexts = of_tokens after.table; tree = tree }) }
 {
@@ -71,9 +72,9 @@ pub fn posts_that_agree<A: Aead>()
 
 /// A post that is refused is an idle step, though its token may have opened, whatever is noted of why.
 pub fn posts_that_are_refused<A: Aead>()
-    ensures { (before after : DeskState) (now : AnyMoment) (body : List ℕ) (draw : AnyDraw) (post : AnyPost) (error : AnyError) (why : Option AnyRefused) (tree : Tree)
-        → Posts A.is_sealing before now body draw post after → post.answer ≡ Err error
-        → IsServerIdle (record { contexts = of_tokens before.table; tree = tree }) now
+    ensures { (before after : DeskState) (posting : Posting) (post : AnyPost) (error : AnyError) (why : Option AnyRefused) (tree : Tree)
+        → Posts A.is_sealing before posting post after → post.answer ≡ Err error
+        → IsServerIdle (record { contexts = of_tokens before.table; tree = tree }) posting.at
         (record quiet { opens = post.opened; refused = why })
         (record { contexts = of_tokens after.table; tree = tree }) }
 {}

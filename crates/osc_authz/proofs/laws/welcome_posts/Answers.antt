@@ -16,6 +16,7 @@ use Rattle.osc_authz.specs.Agreement.{Answers, refused, full, agreed}
 use Rattle.osc_authz.specs.Desk.{DeskState}
 use Rattle.osc_authz.specs.Exchange.{IsPost, post_item}
 use Rattle.osc_authz.specs.Post.{IsOpened, Posts}
+use Rattle.osc_authz.specs.Posting.{OpenedToken, offered}
 use Rattle.osc_authz.specs.Table.{IsFull, alive}
 use Rattle.osc_authz.specs.declared.granted.ClientDesk.{ClientDesk}
 use Rattle.osc_authz.specs.declared.post.Post.{Post}
@@ -67,29 +68,29 @@ module _ (is_sealing : List ℕ → List ℕ → List ℕ → List ℕ → List 
       subst (λ (t : List ℕ). IsToken is_sealing before.key t algorithm_header welcome.holds.iv (spelling (claims_item claims))) (sym welcome.holds.token)
       (tokens before.key welcome.holds.iv (spelling (claims_item claims)) welcome.holds.ciphertext welcome.holds.iv_size welcome.holds.short welcome.holds.sealed)
 
-  comes_to : (nonce1 client_id protected iv text : List ℕ) (outcome : Result (Claims × Scope) TokenError)
-      → IsOpened is_sealing before.key body nonce1 client_id protected iv text → ComesTo text before.audience now outcome → outcome ≡ granted claims (scope_of entries)
-  comes_to nonce1 client_id protected iv text outcome its comes =
+  comes_to : (nonce1 client_id : List ℕ) (token : OpenedToken) (outcome : Result (Claims × Scope) TokenError)
+      → IsOpened is_sealing before.key body nonce1 client_id token → ComesTo token.text before.audience now outcome → outcome ≡ granted claims (scope_of entries)
+  comes_to nonce1 client_id token outcome its comes =
       let token_is : its.token ≡ spelling (object_item (token_object welcome.holds.iv welcome.holds.ciphertext)) =
       (one body its.token nonce1 client_id holder.token posted (id ∷ []) its.is_post is_post).0 ∙ welcome.holds.token in
-      minted before.key welcome.holds.iv welcome.holds.ciphertext protected iv text claims entries now outcome
+      minted before.key welcome.holds.iv welcome.holds.ciphertext token.protected token.iv token.text claims entries now outcome
       welcome.holds.iv_size welcome.holds.short welcome.holds.sealed welcome.lawful welcome.holds.is_scope welcome.begun welcome.not_over
-      (subst (λ (t : List ℕ). IsToken is_sealing before.key t protected iv text) token_is its.is_token)
-      (subst (λ (a : List ℕ). ComesTo text a now outcome) (sym welcome.audience) comes)
+      (subst (λ (t : List ℕ). IsToken is_sealing before.key t token.protected token.iv token.text) token_is its.is_token)
+      (subst (λ (a : List ℕ). ComesTo token.text a now outcome) (sym welcome.audience) comes)
 
-  is_agreed : Posts is_sealing before now body draw post after → (answer : PostAnswer) × (post.answer ≡ Ok answer) × (answer.nonce2 ≡ nonce_drawn draw)
+  is_agreed : Posts is_sealing before (record { at = now; body = body; draw = draw }) post after → (answer : PostAnswer) × (post.answer ≡ Ok answer) × (answer.nonce2 ≡ nonce_drawn draw)
   is_agreed (Posts.no_post none is same) = absurd (none holder.token posted (id ∷ []) is_post)
   is_agreed (Posts.not_genuine token nonce1 client_id its none is same) =
       let token_is : holder.token ≡ token = (one body holder.token posted (id ∷ []) token nonce1 client_id is_post its).0 in
       absurd (none algorithm_header welcome.holds.iv (spelling (claims_item claims))
       (subst (λ (t : List ℕ). IsToken is_sealing before.key t algorithm_header welcome.holds.iv (spelling (claims_item claims))) token_is is_token))
-  is_agreed (Posts.opened nonce1 client_id protected iv text answer its answers is) = by answers
+  is_agreed (Posts.opened nonce1 client_id token answer its answers is) = by answers
     where
-      by : Answers before now nonce1 client_id text draw answer after → (answer : PostAnswer) × (post.answer ≡ Ok answer) × (answer.nonce2 ≡ nonce_drawn draw)
+      by : Answers before (offered (record { at = now; body = body; draw = draw }) nonce1 client_id) token.text answer after → (answer : PostAnswer) × (post.answer ≡ Ok answer) × (answer.nonce2 ≡ nonce_drawn draw)
       by (refused error comes is_err same) =
-          absurd (never error claims (scope_of entries) (comes_to nonce1 client_id protected iv text (refusal error) its comes))
+          absurd (never error claims (scope_of entries) (comes_to nonce1 client_id token (refusal error) its comes))
       by (full others scope comes is_full is_err same) =
-          let same_as : others ≡ claims = same_claims others claims scope (scope_of entries) (comes_to nonce1 client_id protected iv text (granted others scope) its comes) in
+          let same_as : others ≡ claims = same_claims others claims scope (scope_of entries) (comes_to nonce1 client_id token (granted others scope) its comes) in
           absurd (welcome.room (subst (λ (k : Claims). IsFull k.material.id (alive now before.table)) same_as is_full))
       by (agreed others scope made comes not_full agrees answer_is) =
           (made, ap (λ (p : Post). p.answer) is ∙ answer_is, agrees.drawn)

@@ -14,7 +14,7 @@ returns-in_ok-answer-in-Some-2-clause-posted g c = λ body item.
     let fields = c.in-Some.fields in
     let is_post = post_from_fields body c.args.item.now fields.token.now fields.nonce1.now fields.client_id.now item.whole (sym c.in-Some.ensures) in
     let found = rw c.in-Some-2.is at c.in_ok-note.ensures.opened in
-    opened_post g.A.Aead.is_sealing c.args.self.now c.answer.new.self c.args.now body c.args.draw.now
+    opened_post g.A.Aead.is_sealing c.args.self.now c.answer.new.self (record { at = c.args.now; body = body; draw = c.args.draw.now })
     fields.token.now fields.nonce1.now fields.client_id.now c.self.inside.key (ap (λ desk. desk.key) c.self.view_is) is_post
     found.0 found.1 found.2 c.in-Some-2.note c.in_ok-answer-in-Some-2.answer found.3 found.4
     (rw (← c.as_slice.ensures) c.in_ok-answer-in-Some-2.ensures.answers)
@@ -23,6 +23,6 @@ pub returns-in-None-clause-posted : goal.returns-in-None-clause-posted
 returns-in-None-clause-posted g c = λ body item.
     let fields = c.in-Some.fields in
     let is_post = post_from_fields body c.args.item.now fields.token.now fields.nonce1.now fields.client_id.now item.whole (sym c.in-Some.ensures) in
-    unopened_post g.A.Aead.is_sealing c.args.self.now c.args.self.now c.args.now body c.args.draw.now
+    unopened_post g.A.Aead.is_sealing c.args.self.now c.args.self.now (record { at = c.args.now; body = body; draw = c.args.draw.now })
     fields.token.now fields.nonce1.now fields.client_id.now c.self.inside.key (ap (λ desk. desk.key) c.self.view_is) is_post
     c.refused-in-None.result c.in_ok-note.field-0 c.in_ok-note.ensures.only c.in-None.is c.refused-in-None.ensures refl
