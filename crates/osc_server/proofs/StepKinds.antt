@@ -1,12 +1,11 @@
 -- Each step is one of the kinds that a run has.
 use Rattle.std.proofs.Common.{◌≡◌, ℕ, ◌≤◌, List, length, Option, Some, None, Result, Ok, Err, refl, sym, subst, ap}
-use Rattle.std.specs.Prelude.{unwrap_or, []}
+use Rattle.std.specs.Prelude.{[]}
 use Rattle.osc_model.specs.Apply.{apply_read}
 use Rattle.osc_model.specs.Arrival.{Arrival, read_as}
 use Rattle.osc_model.specs.StepNotes.{StepNotes, quiet}
 use Rattle.osc_model.specs.Tree.{Tree}
 use Rattle.osc_model.specs.declared.algorithm.Algorithm.TheVariants.{EightByteTag}
-use Rattle.osc_model.specs.declared.node.Draw.{Draw}
 use Rattle.osc_model.specs.declared.node.Moment.{Moment}
 use Rattle.osc_model.specs.declared.reply.Reply.{Reply}
 use Rattle.osc_model.specs.declared.step.RefusedRequest.{RefusedRequest}
@@ -20,6 +19,7 @@ use Rattle.osc_authz.specs.Contexts.{of_tokens}
 use Rattle.osc_authz.specs.Desk.{DeskState}
 use Rattle.osc_authz.specs.Held.{Held}
 use Rattle.osc_authz.specs.Post.{Posts}
+use Rattle.osc_authz.specs.Posting.{Posting}
 use Rattle.osc_authz.specs.Table.{IsTable, accepted, meant}
 use Rattle.osc_authz.specs.declared.error.PostError.{PostError}
 use Rattle.osc_authz.specs.declared.holding.Holding.{Holding}
@@ -28,21 +28,21 @@ use Rattle.osc_authz.specs.declared.post.PostAnswer.{PostAnswer}
 use Rattle.osc_run.specs.ServerKinds.{opening_note, reply_note, Replies as AppliesTo, IsServerIdle, IsPosted, IsServed, ServerStep, ServerIdle, Posted, Served, ServerRestarted}
 use Rattle.osc_run.specs.Texts.{read_request, IsWithinRanges}
 use Rattle.osc_server.specs.State.{State, core}
-use Rattle.osc_server.specs.Table.{Answers, AnswersPost, AnswersProtected, Sends, Serves, nonce_of_post, notes_of_post, notes_of_request, refusal_of_post, refused, served}
+use Rattle.osc_server.specs.Table.{Answers, AnswersPost, AnswersProtected, Sends, Serves, nonce_of_post, notes_of_post, posting, notes_of_request, refusal_of_post, refused, served}
 use Rattle.osc_server.specs.declared.case.Case.{Case}
 use Rattle.osc_server.specs.declared.case.Case.TheVariants as case
 
 -- ---- what the crates below know of the kinds
 
 pub record Laws (is_sealing : Sealings) : Type 0 where
-  pub agrees : (before after : DeskState) (now : Moment) (body : List ℕ) (draw : Draw) (post : Post) (answer : PostAnswer) (tree : Tree)
-      → length draw.0 ≡ 32 → Posts (is_sealing EightByteTag) before now body draw post after → post.answer ≡ Ok answer → IsTable after.table
-      → IsPosted (record { contexts = of_tokens before.table; tree = tree }) now
+  pub agrees : (before after : DeskState) (posting : Posting) (post : Post) (answer : PostAnswer) (tree : Tree)
+      → length posting.draw.0 ≡ 32 → Posts (is_sealing EightByteTag) before posting post after → post.answer ≡ Ok answer → IsTable after.table
+      → IsPosted (record { contexts = of_tokens before.table; tree = tree }) posting.at
       (record quiet { opens = post.opened; drawn = Some answer.nonce2 })
       (record { contexts = of_tokens after.table; tree = tree })
-  pub refuses : (before after : DeskState) (now : Moment) (body : List ℕ) (draw : Draw) (post : Post) (error : PostError) (why : Option RefusedRequest) (tree : Tree)
-      → Posts (is_sealing EightByteTag) before now body draw post after → post.answer ≡ Err error
-      → IsServerIdle (record { contexts = of_tokens before.table; tree = tree }) now
+  pub refuses : (before after : DeskState) (posting : Posting) (post : Post) (error : PostError) (why : Option RefusedRequest) (tree : Tree)
+      → Posts (is_sealing EightByteTag) before posting post after → post.answer ≡ Err error
+      → IsServerIdle (record { contexts = of_tokens before.table; tree = tree }) posting.at
       (record quiet { opens = post.opened; refused = why })
       (record { contexts = of_tokens after.table; tree = tree })
   pub opens : (now : Moment) (kid : List ℕ) (kid_context : Option (List ℕ)) (table : List Holding) (held : Held) (number : ℕ) (text : List ℕ) (reply : Reply) (tree after : Tree)
@@ -89,10 +89,10 @@ sends_idly old came answer why step new it =
 
 module _ (is_sealing : Sealings) (laws : Laws is_sealing) (old : State) (step : Step) (new : State) (before : IsTable old.desk.table) (after : IsTable new.desk.table) where
   post_kind : (came : Arrival Message) (post : Post) (answer : Result PostAnswer PostError) → length came.draw.0 ≡ 32 → post.answer ≡ answer
-      → Posts (is_sealing EightByteTag) old.desk came.at (unwrap_or came.what.payload []) came.draw post new.desk
+      → Posts (is_sealing EightByteTag) old.desk (posting came) post new.desk
       → ServerStep (core old) came.at (record quiet { opens = post.opened; drawn = nonce_of_post answer; refused = refusal_of_post answer }) (record { contexts = of_tokens new.desk.table; tree = old.tree })
-  post_kind came post (Ok answer) drawn e posts = Posted (laws.agrees old.desk new.desk came.at _ came.draw post answer old.tree drawn posts e after)
-  post_kind came post (Err error) drawn e posts = ServerIdle (laws.refuses old.desk new.desk came.at _ came.draw post error (refusal_of_post (Err error)) old.tree posts e)
+  post_kind came post (Ok answer) drawn e posts = Posted (laws.agrees old.desk new.desk (posting came) post answer old.tree drawn posts e after)
+  post_kind came post (Err error) drawn e posts = ServerIdle (laws.refuses old.desk new.desk (posting came) post error (refusal_of_post (Err error)) old.tree posts e)
 
   posted_kind : (came : Arrival Message) → length came.draw.0 ≡ 32 → AnswersPost is_sealing old came step new → ServerStep (core old) came.at step.notes (core new)
   posted_kind came drawn it =

@@ -1,6 +1,5 @@
 -- The notes of a step tell of its datagrams.
 use Rattle.std.proofs.Common.{◌≡◌, ℕ, false, List, [], ◌∷◌, ◌++◌, Option, Some, None, refl, sym, subst, ap, ◌∙◌}
-use Rattle.std.specs.Prelude.{unwrap_or}
 use Rattle.std.specs.List.{All}
 use Rattle.std.proofs.lemmas.List.Elements.{All-nil, All-push}
 use Rattle.std.proofs.lemmas.Option.{same_Some}
@@ -33,7 +32,7 @@ use Rattle.osc_run.specs.ServerKinds.{opening_note, reply_note}
 use Rattle.osc_token.specs.Token.{token_note}
 use Rattle.osc_run.specs.Texts.{reply_text}
 use Rattle.osc_server.specs.State.{State}
-use Rattle.osc_server.specs.Table.{Answers, AnswersProtected, Serves, notes_of_post, post_reply, refusal_age, refusal_code, refusal_number, refused_for, reply_to, refused, served}
+use Rattle.osc_server.specs.Table.{Answers, AnswersProtected, Serves, notes_of_post, post_reply, posting, refusal_age, refusal_code, refusal_number, refused_for, reply_to, refused, served}
 use Rattle.osc_server.specs.Told.{AreTold, IsOpenedOf, IsToldOf, request_came, sealed_now, sent_before, token_came, unprotected}
 use Rattle.osc_server.specs.declared.case.Case.{Case}
 use Rattle.osc_server.specs.declared.case.Case.TheVariants as case
@@ -122,13 +121,13 @@ module _ (is_sealing : Sealings)
 
   -- a token that was opened came in the post
   posted_opens : (message : Message) (post : Post) (after : DeskState) → Spells came.what message
-      → Posts (is_sealing EightByteTag) old.desk came.at (unwrap_or message.payload []) came.draw post after → OpensCame (notes_of_post post)
+      → Posts (is_sealing EightByteTag) old.desk (posting (read_as came message)) post after → OpensCame (notes_of_post post)
   posted_opens message post after spelled (no_post none is same) = λ note e. let nothing : post.opened ≡ None = ap (λ (p : Post). p.opened) is in absurd (cc)
   posted_opens message post after spelled (not_genuine token nonce1 client_id is_post none is same) = λ note e.
       let nothing : post.opened ≡ None = ap (λ (p : Post). p.opened) is in absurd (cc)
-  posted_opens message post after spelled (opened nonce1 client_id protected iv text answer opens answers is) = λ note e.
-      let some : post.opened ≡ Some (token_note old.desk.key protected iv text) = ap (λ (p : Post). p.opened) is in
-      token_came message nonce1 client_id protected iv text spelled opens (same_Some note (token_note old.desk.key protected iv text) (sym e ∙ some))
+  posted_opens message post after spelled (opened nonce1 client_id its answer opens answers is) = λ note e.
+      let some : post.opened ≡ Some (token_note old.desk.key its.protected its.iv its.text) = ap (λ (p : Post). p.opened) is in
+      token_came message nonce1 client_id its spelled opens (same_Some note (token_note old.desk.key its.protected its.iv its.text) (sym e ∙ some))
 
   pub told : (it : Case) (step : Step) (new : State) → SpelledBy came.what it → Answers is_sealing old came it step new → AreTold is_sealing old came step
   told case.Ignored step new spelled (e, same) = as_sent step _ e told_nothing

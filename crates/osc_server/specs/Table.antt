@@ -34,6 +34,7 @@ use Rattle.osc_authz.specs.Errors.{post_number}
 use Rattle.osc_authz.specs.Exchange.{answer_item}
 use Rattle.osc_authz.specs.Held.{Held}
 use Rattle.osc_authz.specs.Post.{Posts, code_of}
+use Rattle.osc_authz.specs.Posting.{Posting}
 use Rattle.osc_authz.specs.Table.{meant, accepted}
 use Rattle.osc_authz.specs.declared.error.PostError.{PostError}
 use Rattle.osc_authz.specs.declared.post.Post.{Post}
@@ -86,6 +87,10 @@ pub record AnswersGet (old : State) (came : Arrival Message) (request : Request)
   pub replies : AnswersWith old came reply step new
 
 -- ---- posts to authz-info
+
+-- what is posted: the payload of the message, where it has one
+abbrev pub posting : Arrival Message → Posting
+posting came = record { at = came.at; body = unwrap_or came.what.payload []; draw = came.draw }
 
 -- 2.01 with the nonce and the recipient ID of the server as application/ace+cbor (RFC 9203 section 4.2), or the code of the
 -- refusal (RFC 9200 section 5.10.1)
@@ -204,7 +209,7 @@ module _ (is_sealing : Sealings) where
   -- a post is judged by the desk, whose answer goes out; tokens are sealed under the algorithm whose tag has 8 bytes
   pub record AnswersPost (old : State) (came : Arrival Message) (step : Step) (new : State) : Type 0 where
     pub post : Post
-    pub posts : Posts (is_sealing EightByteTag) old.desk came.at (unwrap_or came.what.payload []) came.draw post new.desk
+    pub posts : Posts (is_sealing EightByteTag) old.desk (posting came) post new.desk
     pub sent : Sends (record old { desk = new.desk }) came (reply_to old.endpoint came (post_reply post.answer)) (notes_of_post post) step new
 
   -- ---- the table
