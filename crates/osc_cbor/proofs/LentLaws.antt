@@ -1,16 +1,19 @@
 -- Items in their bytes.
-use Rattle.std.proofs.Common.{◌≡◌, ℕ, suc, ◌+◌, ◌-◌, ◌<◌, ◌≤◌, true, false, List, [], ◌++◌, length, Some, Ok, refl, sym, ap, ap₂, subst, ◌∙◌, append_assoc, arith}
+use Rattle.std.proofs.Common.{◌≡◌, ℕ, zero, suc, ◌+◌, ◌-◌, ◌<◌, ◌≤◌, ◌≢◌, true, false, List, [], ◌∷◌, ◌++◌, length, Some, None, Ok, Err, refl, sym, ap, ap₂, subst, ◌∙◌, append_assoc, arith, eq-eqb}
+use Rattle.std.specs.Str.{IsUtf8}
+use Rattle.std.proofs.lemmas.Bool.{ne_eqb}
 use Rattle.std.proofs.lemmas.List.{append-nil}
-use Rattle.osc_cbor.specs.Data.{DataItem, unsigned, negative, byte_string, text_string, array, map, tag, bool, null, Items, no_items, item, Pairs, no_pairs, pair, item_count, pair_count, nesting, items_nesting, pairs_nesting, most_nesting}
+use Rattle.osc_cbor.specs.Data.{DataItem, unsigned, negative, byte_string, text_string, array, map, tag, bool, null, Items, no_items, item, Pairs, no_pairs, pair, item_count, pair_count, nesting, items_nesting, pairs_nesting, most_nesting, value_under}
 use Rattle.osc_cbor.specs.Lent.{item_of, rest_of, item_in, items_in, pairs_in, Stands, AreItems, ArePairs, Opens}
 use Rattle.osc_cbor.specs.Parts as part
-use Rattle.osc_cbor.specs.Reading.{item_at}
+use Rattle.osc_cbor.specs.Reading.{Found, item_at}
 use Rattle.osc_cbor.specs.Spelling.{Spells, SpellsItems, SpellsPairs, IsWhole}
 use Rattle.osc_cbor.specs.Tokens.{Token, token_at, inside}
 use Rattle.osc_cbor.specs.View.{items_of, pairs_of}
+use Rattle.osc_cbor.specs.declared.error.ReadError.{ReadError}
 use Rattle.osc_cbor.proofs.AgainLaws.{item_again}
 use Rattle.osc_cbor.proofs.Steps.{ok_is}
-use Rattle.osc_cbor.proofs.TokenLaws.{plain_token, follows_token, bytes_token, text_token, simple_token, pending_start, pending_step, pending_done}
+use Rattle.osc_cbor.proofs.TokenLaws.{plain_token, follows_token, bytes_token, text_token, simple_token, kind_front, array_front, pending_start, pending_step, pending_refused, pending_done}
 
 -- ---- one item
 
@@ -21,7 +24,7 @@ pub whole_in : (bytes : List ℕ) (d : DataItem) → IsWhole bytes d → IsWhole
 whole_in bytes d w = subst (IsWhole bytes) (sym (item_in_is bytes d w)) w
 
 -- an item at the beginning of the bytes
-stands_read : (bytes : List ℕ) (s : Stands bytes) → item_at 9 bytes ≡ Ok (s.first, s.rest)
+pub stands_read : (bytes : List ℕ) (s : Stands bytes) → item_at 9 bytes ≡ Ok (s.first, s.rest)
 stands_read bytes s = ap (item_at 9) s.whole ∙ item_again 9 s.first s.front s.rest s.spelled (omega (arith, s.shallow))
 
 front_is : (bytes front : List ℕ) (s : Stands bytes) → front ≡ s.front → IsWhole front s.first
@@ -126,6 +129,101 @@ inner_whole d e n inner is spelled shallow =
 pub tag_is : (d : DataItem) (n : ℕ) (e x : DataItem) → d ≡ tag n e → x ≡ e → Some (n, x) ≡ part.as_tag d
 tag_is d n e x is same = ap (λ (y : DataItem). Some (n, y)) same ∙ sym (ap part.as_tag is)
 
+-- the bytes of a text are UTF-8
+pub text_is : (bytes : List ℕ) (d : DataItem) (major argument : ℕ) (content inner : List ℕ) → Spells bytes d → Opens d major argument content inner → major ≡ 3 → IsUtf8 content
+text_is bytes (text_string x) major argument content inner s o e = subst IsUtf8 (sym o.1) s.0
+text_is bytes (unsigned n) major argument content inner s o e = absurd (omega (arith, o.0))
+text_is bytes (negative n) major argument content inner s o e = absurd (omega (arith, o.0))
+text_is bytes (byte_string x) major argument content inner s o e = absurd (omega (arith, o.0))
+text_is bytes (array ds) major argument content inner s o e = absurd (omega (arith, o.0))
+text_is bytes (map ps) major argument content inner s o e = absurd (omega (arith, o.0))
+text_is bytes (tag n d) major argument content inner s o e = absurd (omega (arith, o.0))
+text_is bytes (bool b) major argument content inner s o e = absurd (omega (arith, o))
+text_is bytes null major argument content inner s o e = absurd (omega (arith, o))
+
+-- ---- an array of two at the beginning of the bytes
+
+-- two items and no other
+pub record Two (d : DataItem) (after rest : List ℕ) : Type 0 where
+  pub one : DataItem
+  pub other : DataItem
+  pub front : List ℕ
+  pub next : List ℕ
+  pub is_one : Spells front one
+  pub is_other : Spells next other
+  pub whole : after ≡ front ++ (next ++ rest)
+  pub are : d ≡ array (item one (item other no_items))
+
+two_items : (ds : Items) (inner after rest : List ℕ) → SpellsItems inner ds → item_count ds ≡ 2 → inner ++ rest ≡ after → Two (array ds) after rest
+two_items no_items inner after rest s count is = absurd (omega (arith, count))
+two_items (item a no_items) inner after rest s count is = absurd (omega (arith, count))
+two_items (item a (item b (item c ds))) inner after rest s count is = absurd (omega (arith, count))
+two_items (item a (item b no_items)) inner after rest (one, others, is_one, (two, none, is_two, end, parts), whole) count is =
+    record {
+      one = a;
+      other = b;
+      front = one;
+      next = two;
+      is_one = is_one;
+      is_other = is_two;
+      whole = sym is ∙ ap (λ (x : List ℕ). x ++ rest) (whole ∙ ap (λ (x : List ℕ). one ++ x) (parts ∙ ap (λ (x : List ℕ). two ++ x) end ∙ append-nil two)) ∙ append_assoc one two rest;
+      are = refl;
+    }
+
+two_of : (front : List ℕ) (d : DataItem) (rest : List ℕ) (t : Token) (after : List ℕ) (s : Spells front d) → token_at (front ++ rest) ≡ Ok (t, after) → t.0 ≡ 4 → t.1 ≡ 2 → Two d after rest
+two_of front (array ds) rest t after s read is_array is_two =
+    let k = array_front front ds rest t after s read in
+    two_items ds s.rest after rest s.is_rest (k.1 ∙ is_two) k.2
+two_of front (unsigned n) rest t after s read is_array is_two = absurd (omega (arith, kind_front front (unsigned n) rest t after s read))
+two_of front (negative n) rest t after s read is_array is_two = absurd (omega (arith, kind_front front (negative n) rest t after s read))
+two_of front (byte_string x) rest t after s read is_array is_two = absurd (omega (arith, kind_front front (byte_string x) rest t after s read))
+two_of front (text_string x) rest t after s read is_array is_two = absurd (omega (arith, kind_front front (text_string x) rest t after s read))
+two_of front (map ps) rest t after s read is_array is_two = absurd (omega (arith, kind_front front (map ps) rest t after s read))
+two_of front (tag n d) rest t after s read is_array is_two = absurd (omega (arith, kind_front front (tag n d) rest t after s read))
+two_of front (bool b) rest t after s read is_array is_two = absurd (omega (arith, kind_front front (bool b) rest t after s read))
+two_of front null rest t after s read is_array is_two = absurd (omega (arith, kind_front front null rest t after s read))
+
+module _ (bytes : List ℕ) (s : Stands bytes) where
+  -- a token stands there
+  pub stands_token : (e : ReadError) → token_at bytes ≡ Err e → ⊥
+  stands_token e refused = pending_refused 1 bytes s.rest e (pending_start bytes s.first s.front s.rest s.spelled s.whole) (omega arith) refused
+
+  module _ (t : Token) (after : List ℕ) (read : token_at bytes ≡ Ok (t, after)) where
+    -- of an array of two it is this one
+    pub two_token : (a b : DataItem) (rest : List ℕ) → item_at 9 bytes ≡ Ok (array (item a (item b no_items)), rest) → (t.0 ≡ 4) × (t.1 ≡ 2)
+    two_token a b rest found =
+        let is : s.first ≡ array (item a (item b no_items)) = ap item_of (sym (stands_read bytes s) ∙ found) in
+        let spelled : Spells s.front (array (item a (item b no_items))) = subst (Spells s.front) is s.spelled in
+        let k = array_front s.front (item a (item b no_items)) s.rest t after spelled (ap token_at (sym s.whole) ∙ read) in
+        (sym k.0, sym k.1)
+
+    -- and behind that one they stand
+    pub two_inside : t.0 ≡ 4 → t.1 ≡ 2 → Two s.first after s.rest
+    two_inside is_array is_two = two_of s.front s.first s.rest t after s.spelled (ap token_at (sym s.whole) ∙ read) is_array is_two
+
+module _ (d : DataItem) (after rest : List ℕ) (x : Two d after rest) (shallow : nesting d ≤ most_nesting) where
+  two_shallow : nesting (array (item x.one (item x.other no_items))) ≤ most_nesting
+  two_shallow = subst (λ (y : DataItem). nesting y ≤ most_nesting) x.are shallow
+
+  pub one_stands : Stands after
+  one_stands = let h = two_shallow in record { first = x.one; front = x.front; rest = x.next ++ rest; spelled = x.is_one; shallow = omega (arith, h); whole = x.whole }
+
+  pub other_stands : (one : DataItem) (next : List ℕ) → item_at 9 after ≡ Ok (one, next) → Stands next
+  unfolding one_stands
+  other_stands one next read =
+      let h = two_shallow in
+      record { first = x.other; front = x.next; rest = rest; spelled = x.is_other; shallow = omega (arith, h); whole = sym (ap rest_of (sym (stands_read after one_stands) ∙ read)) }
+
+  pub two_read : (one : DataItem) (next : List ℕ) (other : DataItem) (end : List ℕ) → item_at 9 after ≡ Ok (one, next) → item_at 9 next ≡ Ok (other, end)
+      → ◌≡◌ {A = Found} (Ok (d, rest)) (Ok (array (item one (item other no_items)), end))
+  unfolding one_stands other_stands
+  two_read one next other end read read_other =
+      let is_one : x.one ≡ one = ap item_of (sym (stands_read after one_stands) ∙ read) in
+      let again = sym (stands_read next (other_stands one next read)) ∙ read_other in
+      let is_other : x.other ≡ other = ap item_of again in
+      let is_end : rest ≡ end = ap rest_of again in
+      ap₂ (λ (y : DataItem) (z : List ℕ). Ok (y, z)) (x.are ∙ ap₂ (λ (y z : DataItem). array (item y (item z no_items))) is_one is_other) is_end
+
 -- ---- items one after the other
 
 -- the first of them
@@ -162,6 +260,18 @@ items_left count bytes d rest a some read =
     let f = first_of count bytes a some in
     let after : f.rest ≡ rest = ap rest_of (sym (first_read count bytes f) ∙ read) in
     record { items = f.others; spelled = subst (λ (x : List ℕ). SpellsItems x f.others) after f.are_others; counted = omega (arith, f.counted); shallow = f.shallow }
+
+-- the first of those that are left
+pub items_first : (count : ℕ) (bytes : List ℕ) → AreItems count bytes → 0 < count → (d : DataItem) (others : List DataItem) → items_in count bytes ≡ d ∷ others → (rest : List ℕ) × (item_at 9 bytes ≡ Ok (d, rest))
+items_first zero bytes a some d others e = absurd (omega arith)
+items_first (suc n) bytes a some d others e =
+    let f = first_of (suc n) bytes a some in
+    let read = first_read (suc n) bytes f in
+    let is : f.first ≡ d = ap item_of (sym read) ∙ same (item_in bytes) d _ others e in
+    (f.rest, read ∙ ap (λ (x : DataItem). Ok (x, f.rest)) is)
+  where
+    same : (x y : DataItem) (xs ys : List DataItem) → x ∷ xs ≡ y ∷ ys → x ≡ y
+    same x y xs ys e = cc
 
 pub items_are : (ds : Items) (bytes : List ℕ) → SpellsItems bytes ds → items_nesting ds ≤ most_nesting → items_of (items_in (item_count ds) bytes) ≡ ds
 items_are no_items bytes s shallow = refl
@@ -237,6 +347,45 @@ pairs_left count bytes k behind_key v rest a some read_key read_value =
     let behind : f.value_bytes ++ f.rest ≡ behind_key = ap rest_of (sym (key_read count bytes f) ∙ read_key) in
     let after : f.rest ≡ rest = ap rest_of (sym (value_read count bytes f) ∙ ap (item_at 9) behind ∙ read_value) in
     record { pairs = f.others; spelled = subst (λ (x : List ℕ). SpellsPairs x f.others) after f.are_others; counted = omega (arith, f.counted); shallow = f.shallow }
+
+-- what is left has under these labels what all have
+abbrev pub HaveSame : ℕ → ℕ → List (DataItem × DataItem) → List (DataItem × DataItem) → Type 0
+HaveSame least most all left = (label : ℕ) → least ≤ label → label ≤ most → value_under label (pairs_of all) ≡ value_under label (pairs_of left)
+
+-- a pair whose key is no number, or another one, is passed
+pub no_number : (k v : DataItem) (ps : Pairs) (label : ℕ) → part.as_unsigned k ≡ None → value_under label (pair k v ps) ≡ value_under label ps
+no_number (unsigned n) v ps label e = absurd (some_or_none n e)
+  where
+    some_or_none : (n : ℕ) → Some n ≡ None → ⊥
+    some_or_none n e = cc
+no_number (negative n) v ps label e = refl
+no_number (byte_string x) v ps label e = refl
+no_number (text_string x) v ps label e = refl
+no_number (array ds) v ps label e = refl
+no_number (map qs) v ps label e = refl
+no_number (tag n d) v ps label e = refl
+no_number (bool b) v ps label e = refl
+no_number null v ps label e = refl
+
+pub is_number : (k : DataItem) (n : ℕ) → part.as_unsigned k ≡ Some n → k ≡ unsigned n
+is_number (unsigned m) n e = ap unsigned (some_is m n e)
+  where
+    some_is : (m n : ℕ) → Some m ≡ Some n → m ≡ n
+    some_is m n e = cc
+is_number (negative m) n e = cc
+is_number (byte_string x) n e = cc
+is_number (text_string x) n e = cc
+is_number (array ds) n e = cc
+is_number (map ps) n e = cc
+is_number (tag m d) n e = cc
+is_number (bool b) n e = cc
+is_number null n e = cc
+
+pub other_number : (k v : DataItem) (ps : Pairs) (label n : ℕ) → part.as_unsigned k ≡ Some n → label ≢ n → value_under label (pair k v ps) ≡ value_under label ps
+other_number k v ps label n e other = ap (λ (x : DataItem). value_under label (pair x v ps)) (is_number k n e) ∙ rw (ne_eqb label n other) refl
+
+pub its_number : (label : ℕ) (v : DataItem) (ps : Pairs) → value_under label (pair (unsigned label) v ps) ≡ Some v
+its_number label v ps = rw (eq-eqb label label refl) refl
 
 pub pairs_are : (ps : Pairs) (bytes : List ℕ) → SpellsPairs bytes ps → pairs_nesting ps ≤ most_nesting → pairs_of (pairs_in (pair_count ps) bytes) ≡ ps
 pairs_are no_pairs bytes s shallow = refl

@@ -1,5 +1,5 @@
 -- Items as rows of tokens.
-use Rattle.std.proofs.Common.{◌≡◌, ◌≢◌, ℕ, suc, ◌+◌, ◌-◌, ◌*◌, ◌/◌, ◌%◌, ◌<◌, ◌≤◌, true, false, ◌==◌, ◌||◌, cond, ltb, nat_eq, List, [], ◌∷◌, ◌++◌, length, take, drop, Ok, Err, refl, sym, ap, ap₂, subst, ◌∙◌, append_assoc, arith, inl, inr}
+use Rattle.std.proofs.Common.{◌≡◌, ◌≢◌, ℕ, suc, ◌+◌, ◌-◌, ◌*◌, ◌/◌, ◌%◌, ◌<◌, ◌≤◌, true, false, ◌==◌, ◌||◌, cond, ltb, nat_eq, min, List, [], ◌∷◌, ◌++◌, length, take, drop, Ok, Err, refl, sym, ap, ap₂, subst, ◌∙◌, append_assoc, arith, inl, inr}
 use Rattle.std.specs.Int.{Width, w8, w16, w32, w64, byte_len, from_be_bytes}
 use Rattle.std.proofs.lemmas.Bool.{ne_eqb, or_left, false≢true, false_from_ne_true}
 use Rattle.std.proofs.lemmas.List.{append-nil, length-append, length-drop}
@@ -427,6 +427,37 @@ pending_step count bytes rest t after p some read =
       whole = sym (ap (λ (x : Token × List ℕ). x.1) is) ∙ sym (append_assoc o.inner others rest);
     }
 
+-- numbers and strings have nothing inside
+inside_none : (major n : ℕ) → major < 4 → inside major n ≡ 0
+unfolding inside
+inside_none major n low = rw (ne_eqb major 4 (omega (arith, low)), ne_eqb major 5 (omega (arith, low)), ne_eqb major 6 (omega (arith, low))) refl
+
+pub leaf_at : (bytes : List ℕ) (first : ℕ) (rest : List ℕ) (n : ℕ) (content after : List ℕ) → bytes ≡ first ∷ rest → first < 128 → token_at (first ∷ rest) ≡ Ok ((first / 32, n, content), after)
+    → (t : Token) × (token_at bytes ≡ Ok (t, after)) × (inside t.0 t.1 ≡ 0)
+leaf_at bytes first rest n content after is low read =
+    ((first / 32, n, content), ap token_at is ∙ read, inside_none (first / 32) n (omega (arith, low)))
+
+-- nothing stands inside it
+pub pending_leaf : (count : ℕ) (bytes rest : List ℕ) (t : Token) (after : List ℕ) → Pending count bytes rest → 0 < count → token_at bytes ≡ Ok (t, after) → inside t.0 t.1 ≡ 0 → Pending (count - 1) after rest
+pending_leaf count bytes rest t after p some read none =
+    let n : count - 1 + inside t.0 t.1 ≡ count - 1 = omega (arith, none) in
+    subst (λ (x : ℕ). Pending x after rest) n (pending_step count bytes rest t after p some read)
+
+-- The numbers are cut at the greatest of 64 bits, and there are never more items than bytes.
+pub pending_many : (count kids next : ℕ) (bytes rest : List ℕ) (t : Token) (after : List ℕ) → Pending count bytes rest → 0 < count → token_at bytes ≡ Ok (t, after) → length after ≤ 18446744073709551615
+    → kids ≡ min (inside t.0 t.1) 18446744073709551615 → next ≡ min (count - 1 + kids) 18446744073709551615 → Pending next after rest
+pending_many count kids next bytes rest t after p some read short is_kids is_next =
+    let step = pending_step count bytes rest t after p some read in
+    let bound = pending_bound (count - 1 + inside t.0 t.1) after rest step in
+    let n : count - 1 + inside t.0 t.1 ≡ next = omega (arith, bound, short, is_kids, is_next) in
+    subst (λ (x : ℕ). Pending x after rest) n step
+
+pub never_more : (count kids next : ℕ) (bytes rest : List ℕ) (t : Token) (after : List ℕ) → Pending count bytes rest → 0 < count → token_at bytes ≡ Ok (t, after)
+    → kids ≡ min (inside t.0 t.1) 18446744073709551615 → next ≡ min (count - 1 + kids) 18446744073709551615 → next ≤ length after
+never_more count kids next bytes rest t after p some read is_kids is_next =
+    let bound = pending_bound (count - 1 + inside t.0 t.1) after rest (pending_step count bytes rest t after p some read) in
+    omega (arith, bound, is_kids, is_next)
+
 pub pending_refused : (count : ℕ) (bytes rest : List ℕ) (e : ReadError) → Pending count bytes rest → 0 < count → token_at bytes ≡ Err e → ⊥
 pending_refused count bytes rest e p some refused =
     let (d, ds, one, others, is_one, are_others, counted, whole) = pending_items p.items count bytes p.front rest p.spelled p.counted p.whole some in
@@ -530,3 +561,30 @@ map_of_kind (array ds) e = absurd (omega arith)
 map_of_kind (tag n d) e = absurd (omega arith)
 map_of_kind (bool b) e = absurd (omega arith)
 map_of_kind null e = absurd (omega arith)
+
+-- ---- the same of an item before others
+
+kind_by : (front : List ℕ) (d : DataItem) (rest : List ℕ) (t : Token) (after : List ℕ) (s : Spells front d) → token_at (front ++ rest) ≡ Ok (t, after) → t.0 ≡ (opened front d s).token.0
+kind_by front d rest t after s read =
+    let o = opened front d s in
+    sym (ap (λ (x : Token × List ℕ). x.0.0) (ok_is (o.token, o.inner ++ rest) (t, after) (sym (o.reads rest) ∙ read)))
+
+pub kind_front : (front : List ℕ) (d : DataItem) (rest : List ℕ) (t : Token) (after : List ℕ) → Spells front d → token_at (front ++ rest) ≡ Ok (t, after) → t.0 ≡ kind d
+unfolding opened leaf
+kind_front front (unsigned n) rest t after s read = kind_by front (unsigned n) rest t after s read
+kind_front front (negative n) rest t after s read = kind_by front (negative n) rest t after s read
+kind_front front (byte_string x) rest t after s read = kind_by front (byte_string x) rest t after s read
+kind_front front (text_string x) rest t after s read = kind_by front (text_string x) rest t after s read
+kind_front front (array ds) rest t after s read = kind_by front (array ds) rest t after s read
+kind_front front (map ps) rest t after s read = kind_by front (map ps) rest t after s read
+kind_front front (tag n d) rest t after s read = kind_by front (tag n d) rest t after s read
+kind_front front (bool true) rest t after s read = kind_by front (bool true) rest t after s read
+kind_front front (bool false) rest t after s read = kind_by front (bool false) rest t after s read
+kind_front front null rest t after s read = kind_by front null rest t after s read
+
+pub array_front : (front : List ℕ) (ds : Items) (rest : List ℕ) (t : Token) (after : List ℕ) (s : Spells front (array ds)) → token_at (front ++ rest) ≡ Ok (t, after)
+    → (4 ≡ t.0) × (item_count ds ≡ t.1) × (s.rest ++ rest ≡ after)
+array_front front ds rest t after s read =
+    let is : ◌≡◌ {A = Token × List ℕ} ((4, item_count ds, []), s.rest ++ rest) (t, after) =
+    ok_is ((4, item_count ds, []), s.rest ++ rest) (t, after) (sym (follows_token 4 (item_count ds) (λ x. SpellsItems x ds) front rest (omega arith) (omega arith) (omega arith) s) ∙ read) in
+    (ap (λ (x : Token × List ℕ). x.0.0) is, ap (λ (x : Token × List ℕ). x.0.1) is, ap (λ (x : Token × List ℕ). x.1) is)

@@ -1,8 +1,8 @@
 //! Items lent as the bytes that spell them. No memory is taken.
 
-ghost use Rattle.std.specs.Prelude.{◌≡◌, MatchOption, Ok, option_copied, option_map};
+ghost use Rattle.std.specs.Prelude.{◌≡◌, ◌≢◌, List, ℕ, MatchOption, IfSome, IfNone, Ok, option_copied, option_map};
 ghost use Rattle.std.specs.Option.{option_or};
-ghost use Rattle.osc_cbor.specs.Data.{DataItem, Pairs, pair, value_under};
+ghost use Rattle.osc_cbor.specs.Data.{DataItem, Pairs, array, item, no_items, pair, unsigned, value_under};
 ghost use Rattle.osc_cbor.specs.Lent.{Stands, Opens};
 ghost use Rattle.osc_cbor.specs.Parts as part;
 ghost use Rattle.osc_cbor.specs.Reading.{item_at};
@@ -69,20 +69,37 @@ pub(crate) fn first_item<'a>(bytes: &'a [u8]) -> (ItemRef<'a>, &'a [u8])
     (item, rest)
 }
 
+/// The two items inside the one at the beginning of the bytes, where that is an array of two, and the bytes after them.
+#[inline(always)]
+pub(crate) fn two_inside<'a>(bytes: &'a [u8]) -> Option<(ItemRef<'a>, ItemRef<'a>, &'a [u8])>
+    requires { Stands bytes.now }
+    ensures two { IfSome result (λ x. item_at 9 bytes.now ≡ Ok (array (item x.0 (item x.1 no_items)), x.2.now)) }
+    ensures none { IfNone result ((a b : DataItem) (rest : List ℕ) → item_at 9 bytes.now ≢ Ok (array (item a (item b no_items)), rest)) }
+{
+    let Ok((token, inner)) = token_of(bytes) else {
+        return None;
+    };
+    if token.0 != Major::Array.number() || token.1 != 2 {
+        return None;
+    }
+    let (first, behind_first) = first_item(inner);
+    let (second, rest) = first_item(behind_first);
+    Some((first, second, rest))
+}
+
 /// What stands under the wanted number in the first pair that has it as its key: `known`, where one of the pairs before had
-/// it, and else the value of this pair, where the wanted number is its label. So one pass over a map's pairs finds all that is
-/// wanted of it.
+/// it, and else the value of this pair, where the wanted number is its label. So one pass over a map's pairs, by
+/// [`PairRefs::next_labelled`], finds all that is wanted of it.
 #[inline(always)]
 pub fn first_value<'a>(
     known: Option<ItemRef<'a>>,
     wanted: u64,
-    label: Option<u64>,
+    label: u64,
     value: &ItemRef<'a>,
 ) -> Option<ItemRef<'a>>
-    ensures { (key : DataItem) (rest : Pairs) → part.as_unsigned key ≡ label
-        → option_or result (value_under wanted rest) ≡ option_or known.entry (value_under wanted (pair key value.now rest)) }
+    ensures { (rest : Pairs) → option_or result (value_under wanted rest) ≡ option_or known.entry (value_under wanted (pair (unsigned label) value.now rest)) }
 {
-    if known.is_some() || label != Some(wanted) {
+    if known.is_some() || label != wanted {
         return known;
     }
     Some(ItemRef { bytes: value.bytes })
@@ -92,12 +109,11 @@ pub fn first_value<'a>(
 fn value_in<'a>(pairs: PairRefs<'a>, label: u64) -> Option<ItemRef<'a>>
     ensures { result ≡ value_under label (pairs_of pairs.entry) }
 {
-    for (key, value) in pairs {
-        if key.as_unsigned() == Some(label) {
-            return Some(value);
-        }
+    let mut pairs = pairs;
+    match pairs.next_labelled(label, label) {
+        Some((_, value)) => Some(value),
+        None => None,
     }
-    None
 }
 
 impl<'a> ItemRef<'a> {
@@ -163,10 +179,8 @@ impl<'a> ItemRef<'a> {
         if token.0 != Major::Text.number() {
             return None;
         }
-        match std::str::from_utf8(token.2) {
-            Ok(text) => Some(text),
-            Err(_) => unreachable!(),
-        }
+        // It was judged when the item was.
+        Some(unsafe { std::str::from_utf8_unchecked(token.2) })
     }
 
     /// The items, if this is an array.

@@ -1,10 +1,12 @@
 //! What stands in arrays and maps, lent item by item. No memory is taken.
 
-ghost use Rattle.std.specs.Prelude.{◌≡◌};
+ghost use Rattle.std.specs.Prelude.{◌≡◌, ◌≢◌, ◌≤◌, ◌<◌, ◌∷◌, List, ℕ, None, IfSome, IfNone, length};
 ghost use Rattle.std.specs.Iterator.{YieldsFirstBy, item_count};
+ghost use Rattle.osc_cbor.specs.Data.{DataItem, unsigned, array, item, no_items, pair, value_under};
 ghost use Rattle.osc_cbor.specs.Lent.{items_in, pairs_in, AreItems, ArePairs};
+ghost use Rattle.osc_cbor.specs.View.{pairs_of};
 
-use crate::lent::{ItemRef, first_item};
+use crate::lent::{ItemRef, first_item, two_inside};
 use std::marker::Model;
 
 /// The items of an array that are left, in order.
@@ -40,6 +42,24 @@ impl<'a> ItemRefs<'a> {
             left: count,
             rest: bytes,
         }
+    }
+
+    /// The two items of the next one, where it is an array of two: so its end needn't be found. Else all stays as it was.
+    #[inline(always)]
+    pub fn next_two(&mut self) -> Option<(ItemRef<'a>, ItemRef<'a>)>
+        ensures two { IfSome result (λ two. self.old ≡ array (item two.0 (item two.1 no_items)) ∷ self.new) }
+        ensures none { IfNone result ((a b : DataItem) (others : List DataItem) → self.old ≢ array (item a (item b no_items)) ∷ others) }
+        ensures unchanged { IfNone result (self.new ≡ self.old) }
+    {
+        if self.left == 0 {
+            return None;
+        }
+        let Some((first, second, rest)) = two_inside(self.rest) else {
+            return None;
+        };
+        self.left -= 1;
+        self.rest = rest;
+        Some((first, second))
     }
 }
 
@@ -95,6 +115,27 @@ impl<'a> PairRefs<'a> {
             left: count,
             rest: bytes,
         }
+    }
+
+    /// The label and the value of the next pair whose key is an unsigned number from `least` to `most`, its label; the pairs before it are passed. So one pass
+    /// over a map's pairs finds what it has under some labels that are near one another, and the others take little time.
+    #[inline(always)]
+    pub fn next_labelled(&mut self, least: u64, most: u64) -> Option<(u64, ItemRef<'a>)>
+        ensures found { IfSome result (λ x. (label : ℕ) → least ≤ label → label ≤ most
+            → value_under label (pairs_of self.old) ≡ value_under label (pair (unsigned x.0) x.1 (pairs_of self.new))) }
+        ensures between { IfSome result (λ x. (least ≤ x.0) × (x.0 ≤ most)) }
+        ensures none { IfNone result ((label : ℕ) → least ≤ label → label ≤ most → value_under label (pairs_of self.old) ≡ None) }
+        ensures fewer { IfSome result (λ x. length self.new < length self.old) }
+    {
+        while let Some((key, value)) = self.next() {
+            if let Some(label) = key.as_unsigned()
+                && least <= label
+                && label <= most
+            {
+                return Some((label, value));
+            }
+        }
+        None
     }
 }
 

@@ -172,7 +172,35 @@ fn pass_content<'a>(
     }
 }
 
-/// Passes the item at the beginning of the bytes, with so many levels left.
+/// Passes the item that begins with this byte. Items inside have so many levels left.
+#[inline(never)]
+#[cycle(pass)]
+#[tactic(auto, unfolding(crate::specs::Reading::item_at))]
+fn pass_behind<'a>(
+    left: u8,
+    first: u8,
+    rest: &'a [u8],
+    spelled: &mut Spelled,
+    keys: &mut Keys,
+) -> Result<&'a [u8], Stop>
+    ensures passed { Passes spelling (λ x. x.now) spelled.old.items spelled.new.items result (item_at (suc left) (first ∷ rest.now)) }
+    ensures grown { Grows spelled.old.items spelled.new.items }
+    ensures keys { keys.new.items ≡ keys.old.items }
+{
+    let Some(major) = major_of(first / 32) else {
+        return pass_simple(first % 32, rest, spelled);
+    };
+    match argument_of(first % 32, rest) {
+        Ok((argument, rest)) => {
+            note_head(major, argument, spelled)?;
+            pass_content(left, major, argument, rest, spelled, keys)
+        }
+        Err(fault) => Err(Stop::Fault(fault)),
+    }
+}
+
+/// Passes the item at the beginning of the bytes, with so many levels left. Numbers are passed in place.
+#[inline(always)]
 #[cycle(pass)]
 #[tactic(auto, unfolding(crate::specs::Reading::item_at))]
 pub(crate) fn pass<'a>(
@@ -194,14 +222,5 @@ pub(crate) fn pass<'a>(
     if let Some(rest) = pass_number(*first, rest, spelled) {
         return Ok(rest);
     }
-    let Some(major) = major_of(*first / 32) else {
-        return pass_simple(*first % 32, rest, spelled);
-    };
-    match argument_of(*first % 32, rest) {
-        Ok((argument, rest)) => {
-            note_head(major, argument, spelled)?;
-            pass_content(left - 1, major, argument, rest, spelled, keys)
-        }
-        Err(fault) => Err(Stop::Fault(fault)),
-    }
+    pass_behind(left - 1, *first, rest, spelled, keys)
 }

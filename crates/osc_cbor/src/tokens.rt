@@ -1,6 +1,6 @@
 //! Items passed over and compared in their bytes, by their heads and strings. No memory is taken.
 
-ghost use Rattle.std.specs.Prelude.{◌≡◌, ◌⊎◌, ◌↔◌, ◌^◌, ◌/◌, ◌%◌, ◌≤◌, ◌<◌, ◌∷◌, ◌++◌, List, ℕ, length, IsTrue, IfSome, Ok};
+ghost use Rattle.std.specs.Prelude.{◌≡◌, ◌⊎◌, ◌↔◌, ◌^◌, ◌/◌, ◌%◌, ◌<◌, ◌-◌, ◌∷◌, ◌++◌, [], List, ℕ, length, min, IsTrue, IfSome, Ok};
 ghost use Rattle.osc_cbor.specs.Data.{DataItem, Pairs, pair_count, map as spelled_map};
 ghost use Rattle.osc_cbor.specs.Reading.{Reads};
 ghost use Rattle.osc_cbor.specs.Same as equality;
@@ -27,20 +27,36 @@ fn behind_head(major: u8, argument: u64, bytes: &[u8]) -> Result<(Token, &[u8]),
     Ok(((major, argument, &[]), bytes))
 }
 
-/// The string whose head is this byte alone, as a head with its string, and the bytes after it.
+/// The string whose head is this byte alone, and the bytes after it.
 #[inline(always)]
 #[tactic(auto, unfolding(crate::specs::Tokens::token_at, crate::specs::Tokens::token_behind, crate::specs::Reading::argument_at, crate::specs::Reading::string_at))]
-fn short_string_of(first: u8, rest: &[u8]) -> Option<(Token, &[u8])>
+fn short_string_of(first: u8, rest: &[u8]) -> Option<(&[u8], &[u8])>
     requires string { (first / 32 ≡ 2) ⊎ (first / 32 ≡ 3) }
     requires short { first % 32 < 24 }
-    ensures { IfSome result (λ x. token_at (first ∷ rest.now) ≡ Ok ((x.0.0, x.0.1, x.0.2.now), x.1.now)) }
+    ensures { IfSome result (λ x. token_at (first ∷ rest.now) ≡ Ok ((first / 32, first % 32, x.0.now), x.1.now)) }
 {
     let size = (first % 32) as usize;
     if rest.len() < size {
         return None;
     }
-    let (content, after) = rest.split_at(size);
-    Some(((first / 32, (first % 32) as u64, content), after))
+    Some(rest.split_at(size))
+}
+
+/// The argument of the head that begins with this byte and is that of a number, and the bytes after it, where it takes one byte or two.
+#[inline(always)]
+#[tactic(auto, unfolding(crate::specs::Tokens::token_at, crate::specs::Tokens::token_behind, crate::specs::Reading::argument_at))]
+fn short_number_of(first: u8, rest: &[u8]) -> Option<(u64, &[u8])>
+    requires { first < 64 }
+    ensures { IfSome result (λ x. token_at (first ∷ rest.now) ≡ Ok ((first / 32, x.0, []), x.1.now)) }
+{
+    if first % 32 < 24 {
+        return Some(((first % 32) as u64, rest));
+    }
+    if first % 32 > 24 {
+        return None;
+    }
+    let (argument, after) = rest.split_first()?;
+    Some((*argument as u64, after))
 }
 
 /// The head that begins with this byte, with its string, and the bytes after them, where the head takes one byte, or two and is that of a number.
@@ -49,18 +65,21 @@ fn short_string_of(first: u8, rest: &[u8]) -> Option<(Token, &[u8])>
 fn short_token_of(first: u8, rest: &[u8]) -> Option<(Token, &[u8])>
     ensures { IfSome result (λ x. token_at (first ∷ rest.now) ≡ Ok ((x.0.0, x.0.1, x.0.2.now), x.1.now)) }
 {
-    if first % 32 < 24 {
-        return match first / 32 {
-            2 | 3 => short_string_of(first, rest),
-            7 => None,
-            major => Some(((major, (first % 32) as u64, &[]), rest)),
-        };
+    if first < 64 {
+        let (argument, after) = short_number_of(first, rest)?;
+        return Some(((first / 32, argument, &[]), after));
     }
-    if first >= 64 || first % 32 > 24 {
+    if first % 32 >= 24 {
         return None;
     }
-    let (argument, after) = rest.split_first()?;
-    Some(((first / 32, *argument as u64, &[]), after))
+    match first / 32 {
+        2 | 3 => {
+            let (content, after) = short_string_of(first, rest)?;
+            Some(((first / 32, (first % 32) as u64, content), after))
+        }
+        7 => None,
+        major => Some(((major, (first % 32) as u64, &[]), rest)),
+    }
 }
 
 /// The head that begins with this byte, with its string, and the bytes after them.
@@ -120,16 +139,15 @@ pub(crate) fn same_spelled(a: &[u8], b: &[u8]) -> bool
     right.is_empty()
 }
 
-/// How many items stand inside one with this head.
+/// How many items stand inside one with this head; the greatest number where they are more than that.
 #[inline(always)]
 #[tactic(auto, unfolding(crate::specs::Tokens::inside))]
-fn inside(major: u8, argument: u64) -> u128
-    ensures count { result ≡ spec.inside major argument }
-    ensures bound { result ≤ 2 ^ 65 }
+fn inside(major: u8, argument: u64) -> u64
+    ensures { result ≡ min (spec.inside major argument) (2 ^ 64 - 1) }
 {
     match major {
-        4 => argument as u128,
-        5 => 2 * argument as u128,
+        4 => argument,
+        5 => argument.saturating_mul(2),
         6 => 1,
         _ => 0,
     }
@@ -142,34 +160,56 @@ fn size_of(bytes: &[u8]) -> u64
     bytes.len() as u64
 }
 
+/// The bytes behind the first head with its string, where no item stands inside it, and the head takes one byte, or two and is that of a number.
+#[inline(always)]
+fn behind_leaf(bytes: &[u8]) -> Option<&[u8]>
+    ensures { IfSome result (λ after. (t : spec.Token) × (token_at bytes.now ≡ Ok (t, after.now)) × (spec.inside t.0 t.1 ≡ 0)) }
+{
+    let (first, rest) = bytes.split_first()?;
+    if *first < 64 {
+        let (_, after) = short_number_of(*first, rest)?;
+        return Some(after);
+    }
+    if *first >= 128 || *first % 32 >= 24 {
+        return None;
+    }
+    let (_, after) = short_string_of(*first, rest)?;
+    Some(after)
+}
+
 /// The bytes behind the item that stands at their beginning.
 #[inline(never)]
 pub(crate) fn behind_item(bytes: &[u8]) -> &[u8]
     ensures { (d : DataItem) (front rest : List ℕ) → Spells front d → bytes.now ≡ front ++ rest → result.now ≡ rest }
 {
-    let mut todo: u128 = 1;
+    let mut todo: u64 = 1;
     let mut rest = bytes;
     while todo > 0 {
-        if todo > size_of(rest) as u128 {
-            return rest;
+        if let Some(after) = behind_leaf(rest) {
+            todo -= 1;
+            rest = after;
+            continue;
         }
         let Ok((token, after)) = token_of(rest) else {
             return rest;
         };
-        todo = todo - 1 + inside(token.0, token.1);
+        todo = (todo - 1).saturating_add(inside(token.0, token.1));
+        if todo > size_of(after) {
+            return rest;
+        }
         rest = after;
     }
     rest
 }
 
-/// The bytes after the item that stands at their beginning, told at once where no other stands inside.
+/// The bytes after the item that stands at their beginning, told at once where its head is short and no other stands inside.
 #[inline(always)]
 pub(crate) fn after_item(bytes: &[u8]) -> &[u8]
     ensures { (d : DataItem) (front rest : List ℕ) → Spells front d → bytes.now ≡ front ++ rest → result.now ≡ rest }
 {
-    match token_of(bytes) {
-        Ok((token, after)) if inside(token.0, token.1) == 0 => after,
-        _ => behind_item(bytes),
+    match behind_leaf(bytes) {
+        Some(after) => after,
+        None => behind_item(bytes),
     }
 }
 

@@ -1,11 +1,11 @@
-use Rattle.std.proofs.Common.{◌≡◌, [], ◌∷◌, ◌++◌, ℕ, List, drop, length, Bor, refl, ap, ap₂, subst, ◌∙◌, arith}
+use Rattle.std.proofs.Common.{◌≡◌, ◌-◌, [], ◌∷◌, ◌++◌, ℕ, suc, List, drop, length, Bor, refl, sym, ap, ap₂, subst, ◌∙◌, arith}
 use Rattle.std.proofs.lemmas.Result.{err_from_is_err_and}
 use Rattle.osc_cbor.specs.Data.{unsigned, negative}
 use Rattle.osc_cbor.specs.Head.{head}
 use Rattle.osc_cbor.specs.Spelling.{spelling}
-use Rattle.osc_cbor.specs.Notes.{AreApart, Repeats, pieces}
+use Rattle.osc_cbor.specs.Notes.{Passes, AreApart, Repeats, pieces}
 use Rattle.osc_cbor.specs.declared.keys.Key.{Key}
-use Rattle.osc_cbor.specs.Reading.{content_at, item_at}
+use Rattle.osc_cbor.specs.Reading.{Found, content_at, item_at}
 use Rattle.osc_cbor.proofs.FoundLaws.{item_takes}
 use Rattle.osc_cbor.proofs.PassLaws.{bytes_behind, text_behind, items_behind, pairs_behind, number_behind, items_start, item_ends, item_passed, items_passed, pairs_start, key_ends, room_ends, key_passed, value_ends, pair_passed, all_passed, they_are_apart, one_repeats}
 use Rattle.osc_cbor.proofs.NumberLaws.{number_passed}
@@ -126,3 +126,10 @@ pass-returns-in-Some-pass_number-clause-passed t c =
 
 pub pass-returns-in-Some-pass_number-clause-grown : goal.pass-returns-in-Some-pass_number-clause-grown
 pass-returns-in-Some-pass_number-clause-grown t c = let (d, _, more) = c.in-Some-pass_number.ensures.passed 0 in (spelling d, more)
+
+pub pass-returns-clause-passed : goal.pass-returns-clause-passed
+pass-returns-clause-passed t c =
+    let n : suc (c.args.left - 1) ≡ c.args.left = omega (arith, c.if-left-eq0.false) in
+    let found : item_at (suc (c.args.left - 1)) (c.in-Some.first.now ∷ c.in-Some.rest.now) ≡ item_at c.args.left c.args.bytes.now = ap₂ (λ (k : ℕ) (x : List ℕ). item_at k x) n (sym c.in-Some.ensures.cases.0) in
+    subst (λ (old : List ℕ). Passes {X = Bor (List ℕ)} spelling (λ x. x.now) old c.pass_behind.new.spelled.items c.pass_behind.result (item_at c.args.left c.args.bytes.now)) c.in_default-pass_number.ensures.none
+    (subst (λ (read : Found). Passes {X = Bor (List ℕ)} spelling (λ x. x.now) c.pass_number.new.spelled.items c.pass_behind.new.spelled.items c.pass_behind.result read) found c.pass_behind.ensures.passed)
