@@ -4,7 +4,7 @@ use Rattle.std.specs.List.{All}
 use Rattle.std.specs.Result.{IfOk}
 use Rattle.std.proofs.lemmas.List.{map-append}
 use Rattle.std.proofs.lemmas.List.Elements.{All-nil, All-cons, All-push, All-head, All-tail}
-use Rattle.osc_cbor.specs.Data.{DataItem, array, Items, no_items, item}
+use Rattle.osc_cbor.specs.Data.{DataItem, array, text_string, unsigned, Items, no_items, item}
 use Rattle.osc_cbor.specs.View.{view, items_of, items_view}
 use Rattle.osc_cbor.specs.declared.item.Item.{Item}
 use Rattle.osc_model.specs.Scope.{Scope as Permissions}
@@ -82,6 +82,18 @@ pub no_entry_after : (pairs : List (List ℕ × ℕ)) (left : List DataItem) (d 
     → (entries : List Entry) → All IsLawful entries → items_of all ≡ entry_items entries → ⊥
 no_entry_after pairs left d all so_far none entries lawful same =
     none_after (map entry_item (map entry_with pairs)) left d none entries lawful (ap items_of (sym so_far.spelled) ∙ same)
+
+-- two items that no entry has
+pub no_entry_of : (text number : DataItem) → ((e : Entry) → IsLawful e → text ≡ text_string e.path → number ≡ unsigned e.mask → ⊥)
+    → (e : Entry) → IsLawful e → array (item text (item number no_items)) ≡ entry_item e → ⊥
+no_entry_of text number none e lawful same =
+    none e lawful (first_is text number (text_string e.path) (unsigned e.mask) same) (second_is text number (text_string e.path) (unsigned e.mask) same)
+  where
+    first_is : (a b x y : DataItem) → array (item a (item b no_items)) ≡ array (item x (item y no_items)) → a ≡ x
+    first_is a b x y e = cc
+
+    second_is : (a b x y : DataItem) → array (item a (item b no_items)) ≡ array (item x (item y no_items)) → b ≡ y
+    second_is a b x y e = cc
 
 -- entries are told by their items
 pub one_entry_list : (entries others : List Entry) → entry_items entries ≡ entry_items others → entries ≡ others

@@ -1,26 +1,13 @@
 -- Reading entries, one after another. No public contract rests on this.
-use Rattle.std.specs.Prelude.{◌≡◌, ◌≢◌, ℕ, ◌+◌, ◌%◌, ◌≤◌, Bool, false, List, [], ◌++◌, map, Option, Some, None, option_and_then, option_map}
+use Rattle.std.specs.Prelude.{◌≡◌, ◌≢◌, ℕ, ◌+◌, ◌%◌, ◌≤◌, Bool, false, List, [], ◌++◌, map, Option, Some, None}
 use Rattle.std.specs.List.{All, sum_by}
 use Rattle.osc_model.specs.Path.{IsPath}
 use Rattle.osc_model.specs.declared.code.Method.{Method}
-use Rattle.osc_cbor.specs.Data.{DataItem, Items, no_items, item}
-use Rattle.osc_cbor.specs.Parts.{as_array, as_text, as_unsigned}
+use Rattle.osc_cbor.specs.Data.{DataItem, Items}
 use Rattle.osc_scope.specs.Entries.{Entry, IsLawful, bit_of, has, entry_item, entry_items}
 use Rattle.osc_scope.specs.Text.{Written, AreApart, name_of, below_word, below_bit, entry_text, entry_of}
 
 -- ---- bytes
-
--- the items of an array of two
-abbrev pub two_of : Items → Option (DataItem × DataItem)
-two_of (item a (item b no_items)) = Some (a, b)
-two_of _ = None
-
--- a text and an unsigned number
-abbrev pub typed : DataItem × DataItem → Option (List ℕ × ℕ)
-typed (a, b) = option_and_then (λ text. option_map (λ mask. (text, mask)) (as_unsigned b)) (as_text a)
-
-abbrev pub pair_of : DataItem → Option (List ℕ × ℕ)
-pair_of d = option_and_then typed (option_and_then two_of (as_array d))
 
 abbrev pub entry_with : List ℕ × ℕ → Entry
 entry_with pair = record { path = pair.0; mask = pair.1 }

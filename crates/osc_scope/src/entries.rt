@@ -2,11 +2,11 @@
 
 ghost use Rattle.std.specs.Prelude.{◌≡◌, ◌⊎◌, List, IfOk, IfSome, IfNone, Ok, Err, option_map};
 ghost use Rattle.std.specs.List.{All};
-ghost use Rattle.osc_cbor.specs.Data.{DataItem, array};
+ghost use Rattle.osc_cbor.specs.Data.{DataItem, array, text_string, unsigned};
 ghost use Rattle.osc_cbor.specs.Spelling.{IsWhole};
 ghost use Rattle.osc_cbor.specs.View.{items_of};
-ghost use Rattle.osc_scope.specs.Entries.{Entry, IsLawful, IsScope, scope_of, entry_item, entry_items};
-ghost use Rattle.osc_scope.specs.Reading.{two_of, pair_of, entry_with, AreEntries};
+ghost use Rattle.osc_scope.specs.Entries.{Entry, IsLawful, IsScope, scope_of, entry_items};
+ghost use Rattle.osc_scope.specs.Reading.{entry_with, AreEntries};
 
 use crate::error::ScopeError;
 use crate::kept::Entries;
@@ -65,46 +65,29 @@ fn entries(alloc: Global, items: ItemRefs<'_>) -> Result<Entries, ScopeError>
         → (entries : List Entry) → All IsLawful entries → ¬ (items_of items.entry ≡ entry_items entries) }
 {
     let mut entries = Entries::new(alloc);
-    for item in items {
-        let Some((text, mask)) = entry(&item) else {
+    let mut left = items;
+    while let Some((text, number)) = left.next_two() {
+        let Some((text, mask)) = entry(&text, &number) else {
             return Err(ScopeError::BadScope);
         };
         entries.push(text, mask)?;
     }
-    Ok(entries)
+    match left.next() {
+        None => Ok(entries),
+        Some(_) => Err(ScopeError::BadScope),
+    }
 }
 
-/// The path's text and the set of methods of the entry that the item is.
-fn entry<'a>(item: &ItemRef<'a>) -> Option<(&'a [u8], u64)>
+/// The path's text and the set of methods of the entry that these two items are.
+fn entry<'a>(text: &ItemRef<'a>, number: &ItemRef<'_>) -> Option<(&'a [u8], u64)>
     ensures lawful { IfSome result (λ found. IsLawful (entry_with (found.0.now, found.1))) }
-    ensures found { IfSome result (λ found. item.now ≡ entry_item (entry_with (found.0.now, found.1))) }
-    ensures none { IfNone result ((entry : Entry) → IsLawful entry → ¬ (item.now ≡ entry_item entry)) }
+    ensures found { IfSome result (λ found. (text.now ≡ text_string found.0.now) × (number.now ≡ unsigned found.1)) }
+    ensures none { IfNone result ((entry : Entry) → IsLawful entry → text.now ≡ text_string entry.path → ¬ (number.now ≡ unsigned entry.mask)) }
 {
-    let (text, mask) = text_and_number(item)?;
+    let path = text.as_text()?.as_bytes();
+    let mask = number.as_unsigned()?;
     if mask % BELOW == 0 || mask > ALL_BITS {
         return None;
     }
-    let path = text.as_bytes();
     Path::is_text(path).then_some((path, mask))
-}
-
-/// The text and the number, where the item is an array of these two.
-fn text_and_number<'a>(item: &ItemRef<'a>) -> Option<(&'a str, u64)>
-    ensures { option_map (λ found. (found.0.now, found.1)) result ≡ pair_of item.now }
-{
-    let (text, number) = two(item.as_array()?)?;
-    Some((text.as_text()?, number.as_unsigned()?))
-}
-
-/// The items, where they are two.
-fn two<'a>(items: ItemRefs<'a>) -> Option<(ItemRef<'a>, ItemRef<'a>)>
-    ensures { result ≡ two_of (items_of items.entry) }
-{
-    let mut items = items;
-    let first = items.next()?;
-    let second = items.next()?;
-    match items.next() {
-        None => Some((first, second)),
-        Some(_) => None,
-    }
 }

@@ -1,6 +1,10 @@
+use Rattle.std.proofs.Common.{length}
 use Rattle.osc_scope.specs.Reading.{AreEntriesBefore}
 use Rattle.osc_scope.proofs.entries.entries.Given as goal
 
 -- the entries of the items so far
-abbrev pub invariant-loop-item : goal.invariant-loop-item
-invariant-loop-item l = AreEntriesBefore l.item-iterator l.fn.items l.entries
+abbrev pub invariant-loop-text : goal.invariant-loop-text
+invariant-loop-text l = AreEntriesBefore l.left l.fn.items l.entries
+
+abbrev pub decreases-loop-text : goal.decreases-loop-text
+decreases-loop-text l = length l.left
