@@ -107,8 +107,8 @@ fn labelled<'a>(header: PairRefs<'a>) -> (Option<ItemRef<'a>>, Option<ItemRef<'a
 {
     let mut kid = None;
     let mut iv = None;
-    for (key, value) in header {
-        let label = key.as_unsigned();
+    let mut pairs = header;
+    while let Some((label, value)) = pairs.next_labelled(KID, IV) {
         kid = first_value(kid, KID, label, &value);
         iv = first_value(iv, IV, label, &value);
     }
