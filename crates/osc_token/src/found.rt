@@ -34,8 +34,8 @@ fn claim_values<'a>(pairs: PairRefs<'a>) -> ClaimValues<'a>
     let mut not_before = None;
     let mut confirmation = None;
     let mut scope = None;
-    for (key, value) in pairs {
-        let label = key.as_unsigned();
+    let mut pairs = pairs;
+    while let Some((label, value)) = pairs.next_labelled(AUDIENCE, SCOPE) {
         audience = first_value(audience, AUDIENCE, label, &value);
         expires = first_value(expires, EXPIRES, label, &value);
         not_before = first_value(not_before, NOT_BEFORE, label, &value);
@@ -130,8 +130,8 @@ fn field_values<'a>(pairs: PairRefs<'a>) -> FieldValues<'a>
     let mut alg = None;
     let mut salt = None;
     let mut id_context = None;
-    for (key, value) in pairs {
-        let label = key.as_unsigned();
+    let mut pairs = pairs;
+    while let Some((label, value)) = pairs.next_labelled(ID, ID_CONTEXT) {
         id = first_value(id, ID, label, &value);
         version = first_value(version, VERSION, label, &value);
         secret = first_value(secret, SECRET, label, &value);
