@@ -85,8 +85,8 @@ fn post_values<'a>(pairs: PairRefs<'a>) -> PostValues<'a>
     let mut token = None;
     let mut nonce1 = None;
     let mut client_id = None;
-    for (key, value) in pairs {
-        let label = key.as_unsigned();
+    let mut pairs = pairs;
+    while let Some((label, value)) = pairs.next_labelled(TOKEN, CLIENT_ID) {
         token = first_value(token, TOKEN, label, &value);
         nonce1 = first_value(nonce1, NONCE1, label, &value);
         client_id = first_value(client_id, CLIENT_ID, label, &value);
@@ -117,8 +117,8 @@ fn answer_values<'a>(pairs: PairRefs<'a>) -> (Option<ItemRef<'a>>, Option<ItemRe
 {
     let mut nonce2 = None;
     let mut server_id = None;
-    for (key, value) in pairs {
-        let label = key.as_unsigned();
+    let mut pairs = pairs;
+    while let Some((label, value)) = pairs.next_labelled(NONCE2, SERVER_ID) {
         nonce2 = first_value(nonce2, NONCE2, label, &value);
         server_id = first_value(server_id, SERVER_ID, label, &value);
     }
