@@ -6,7 +6,7 @@ use Rattle.osc_script.specs.declared.line.Line.{Line}
 use Rattle.osc_script.specs.declared.line.Line.TheVariants.{Alter}
 use Rattle.osc_script.specs.Values.{SpellsNumber}
 use Rattle.osc_script.specs.Words.{SpellChanges, SpellsPairs}
-use Rattle.osc_script.specs.Reading.{◌>>=◌, number_in, hex_in, change_in, changes_in, some_changes}
+use Rattle.osc_script.specs.Inner.Reading.{◌>>=◌, number_in, hex_in, change_in, changes_in, some_changes}
 use Rattle.osc_script.proofs.Found.{step_found, test_held}
 use Rattle.osc_script.proofs.Numbers.{number_found, number_again}
 use Rattle.osc_script.proofs.Payloads.{hex_found, hex_again}

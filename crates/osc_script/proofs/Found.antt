@@ -1,6 +1,6 @@
 -- What was found, or wasn't.
 use Rattle.std.proofs.Common.{◌≡◌, Bool, true, false, cond, Option, Some, None, option_map, refl, inl, inr, ◌⊎◌}
-use Rattle.osc_script.specs.Reading.{◌>>=◌}
+use Rattle.osc_script.specs.Inner.Reading.{◌>>=◌}
 
 -- the value of a step that found one
 pub step_found : {A B : Type 0} (o : Option A) (f : A → Option B) (y : B) → (o >>= f) ≡ Some y → (x : A) × (o ≡ Some x) × (f x ≡ Some y)

@@ -19,7 +19,7 @@ use Rattle.osc_script.specs.Node.{client_name}
 use Rattle.osc_script.specs.Values.{SpellsNumber, SpellsScope}
 use Rattle.osc_script.specs.Words.{SpellsDate, SpellsAlgorithm}
 use Rattle.osc_script.specs.Line.{Say}
-use Rattle.osc_script.specs.Reading.{◌>>=◌, number_in, date_in, one_date, dates_in, algorithm_in, client_in}
+use Rattle.osc_script.specs.Inner.Reading.{◌>>=◌, number_in, date_in, one_date, dates_in, algorithm_in, client_in}
 use Rattle.osc_script.proofs.AlgorithmWords.{algorithm_found, algorithm_last}
 use Rattle.osc_script.proofs.Found.{step_found, test_held}
 use Rattle.osc_script.proofs.Numbers.{number_found, number_again}

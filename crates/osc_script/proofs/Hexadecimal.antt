@@ -4,7 +4,7 @@ use Rattle.std.specs.Result.{result_ok}
 use Rattle.hex.specs.Hex.{decode_of, decode_sized}
 use Rattle.hex.specs.declared.error.FromHexError.{FromHexError}
 use Rattle.hex.proofs.HexLemmas.{decode_of-ok, decode_sized-ok, decode_sized-twice}
-use Rattle.osc_script.specs.Reading.{decoded}
+use Rattle.osc_script.specs.Inner.Reading.{decoded}
 use Rattle.osc_script.specs.Values.{Reads, SpellsHex, SpellsHexWithin}
 
 -- as many bytes as there is room for

@@ -11,7 +11,7 @@ use Rattle.osc_script.specs.declared.line.Line.TheVariants.{Put, Open, Proxy, Vi
 use Rattle.osc_script.specs.Node.{client_name, name_of}
 use Rattle.osc_script.specs.Values.{SpellsNumber}
 use Rattle.osc_script.specs.Line.{Say}
-use Rattle.osc_script.specs.Reading.{◌>>=◌, number_in, request_number_in, format_in, client_in, node_in, worker_in, kept_in, short_bytes_in, nonce_in, changes_in, some_changes, request_in, moment_if, moment_in, put_in, at_in, draw_in, exchange_in, skip_in, ask_in, lie_in, deliver_in, drop_in, alter_in, graft_in, tick_in, restart_in, inject_in, proxy_in, proxy_line_in, via_in, HasPath}
+use Rattle.osc_script.specs.Inner.Reading.{◌>>=◌, number_in, request_number_in, format_in, client_in, node_in, worker_in, kept_in, short_bytes_in, nonce_in, changes_in, some_changes, request_in, moment_if, moment_in, put_in, at_in, draw_in, exchange_in, skip_in, ask_in, lie_in, deliver_in, drop_in, alter_in, graft_in, tick_in, restart_in, inject_in, proxy_in, proxy_line_in, via_in, HasPath}
 use Rattle.osc_script.proofs.Found.{step_found}
 use Rattle.osc_script.proofs.Numbers.{number_found, format_found, request_number_found}
 use Rattle.osc_script.proofs.Payloads.{bytes_found, kept_found, nonce_found, short_found}

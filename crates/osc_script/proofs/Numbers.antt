@@ -12,7 +12,7 @@ use Rattle.std.proofs.lemmas.Slice.Eq.{bytes_eq-Decides}
 use Rattle.osc_script.specs.Line.{last_number}
 use Rattle.osc_script.specs.Values.{Reads, SpellsNumber, SpellsShortNumber}
 use Rattle.osc_script.specs.Words.{SpellsFormat}
-use Rattle.osc_script.specs.Reading.{number_in, short_number_in, request_number_in, format_in}
+use Rattle.osc_script.specs.Inner.Reading.{number_in, short_number_in, request_number_in, format_in}
 use Rattle.osc_script.proofs.Found.{step_found, none_unless}
 
 digits_model : IsNumeralModel (λ ds. all_ascii_digits ds ≡ true) (digits_value 10)

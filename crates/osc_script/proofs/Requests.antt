@@ -4,7 +4,7 @@ use Rattle.std.specs.Option.{ForSome}
 use Rattle.osc_model.specs.Path.{IsPath}
 use Rattle.osc_model.specs.declared.request.Request.{Request}
 use Rattle.osc_script.specs.Line.{plain_request, SpellRequest}
-use Rattle.osc_script.specs.Reading.{◌>>=◌, kept_in, method_in, request_in}
+use Rattle.osc_script.specs.Inner.Reading.{◌>>=◌, kept_in, method_in, request_in}
 use Rattle.osc_script.proofs.Found.{step_found}
 use Rattle.osc_script.proofs.Nodes.{method_found, method_again}
 use Rattle.osc_script.proofs.Payloads.{kept_found, kept_again}

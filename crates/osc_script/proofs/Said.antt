@@ -8,7 +8,7 @@ use Rattle.osc_script.specs.declared.line.Line.TheVariants.{Skipped, Put, Open, 
 use Rattle.osc_script.specs.Values.{Reads}
 use Rattle.osc_script.specs.Words.{words_of}
 use Rattle.osc_script.specs.Line.{IsSkipped, Say, Says}
-use Rattle.osc_script.specs.Reading.{with_none, with_one, with_two, with_three, with_more, with_two_more, put_in, at_in, draw_in, exchange_in, skip_in, ask_in, lie_in, deliver_in, drop_in, alter_in, graft_in, tick_in, restart_in, inject_in, proxy_line_in, via_in, node_line_in, datagram_line_in, client_line_in, timed_line_in, line_in, HasPath, Gives}
+use Rattle.osc_script.specs.Inner.Reading.{with_none, with_one, with_two, with_three, with_more, with_two_more, put_in, at_in, draw_in, exchange_in, skip_in, ask_in, lie_in, deliver_in, drop_in, alter_in, graft_in, tick_in, restart_in, inject_in, proxy_line_in, via_in, node_line_in, datagram_line_in, client_line_in, timed_line_in, line_in, HasPath, Gives}
 use Rattle.osc_script.proofs.Found.{chosen, test_held}
 use Rattle.osc_script.proofs.Numbers.{number_again, format_again, request_number_again}
 use Rattle.osc_script.proofs.Payloads.{bytes_again, kept_again, nonce_again, short_again}

@@ -5,5 +5,4 @@ pub mod Node
 pub mod Line
 pub mod Grants
 pub mod Script
-pub mod Reading
-pub mod Place
+pub mod Inner

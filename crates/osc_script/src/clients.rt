@@ -3,7 +3,7 @@
 ghost use Rattle.std.specs.Prelude.{◌≡◌, IfOk, map, Some, None};
 ghost use Rattle.osc_model.specs.declared.code.Method.{Method as AnyMethod};
 ghost use Rattle.osc_script.specs.Line.{plain_request};
-ghost use Rattle.osc_script.specs.Reading.{with_more, with_one, with_two, with_two_more, ask_in, exchange_in, lie_in, request_in, skip_in, Gives, GivesRequest};
+ghost use Rattle.osc_script.specs.Inner.Reading.{with_more, with_one, with_two, with_two_more, ask_in, exchange_in, lie_in, request_in, skip_in, Gives, GivesRequest};
 
 use crate::line::Line;
 use crate::words::{client, kept_bytes, method, request_number};
@@ -11,7 +11,7 @@ use osc_model::{Bytes, ETags, Method, Path, Request};
 use std::alloc::{AllocError, Global};
 
 // CLIENT
-#[tactic(auto, unfolding(crate::specs::Reading::exchange_in))]
+#[tactic(auto, unfolding(crate::specs::Inner::Reading::exchange_in))]
 pub(crate) fn exchange(args: &[&str]) -> Option<Line>
     ensures { Gives (with_one exchange_in (map (λ arg. arg.now) args.now)) result }
 {
@@ -23,7 +23,7 @@ pub(crate) fn exchange(args: &[&str]) -> Option<Line>
 }
 
 // CLIENT N
-#[tactic(auto, unfolding(crate::specs::Reading::skip_in))]
+#[tactic(auto, unfolding(crate::specs::Inner::Reading::skip_in))]
 pub(crate) fn skip(args: &[&str]) -> Option<Line>
     ensures { Gives (with_two skip_in (map (λ arg. arg.now) args.now)) result }
 {
@@ -36,7 +36,7 @@ pub(crate) fn skip(args: &[&str]) -> Option<Line>
 }
 
 // CLIENT METHOD PATH BYTES
-#[tactic(auto, unfolding(crate::specs::Reading::ask_in))]
+#[tactic(auto, unfolding(crate::specs::Inner::Reading::ask_in))]
 pub(crate) fn ask(alloc: Global, args: &[&str]) -> Result<Option<Line>, AllocError>
     ensures { IfOk result (λ found. Gives (with_more ask_in (map (λ arg. arg.now) args.now)) found) }
 {
@@ -53,7 +53,7 @@ pub(crate) fn ask(alloc: Global, args: &[&str]) -> Result<Option<Line>, AllocErr
 }
 
 // CLIENT NUMBER METHOD PATH BYTES
-#[tactic(auto, unfolding(crate::specs::Reading::lie_in))]
+#[tactic(auto, unfolding(crate::specs::Inner::Reading::lie_in))]
 pub(crate) fn lie(alloc: Global, args: &[&str]) -> Result<Option<Line>, AllocError>
     ensures { IfOk result (λ found. Gives (with_two_more lie_in (map (λ arg. arg.now) args.now)) found) }
 {
@@ -77,7 +77,7 @@ pub(crate) fn lie(alloc: Global, args: &[&str]) -> Result<Option<Line>, AllocErr
 }
 
 // METHOD PATH BYTES
-#[tactic(auto, unfolding(crate::specs::Reading::request_in))]
+#[tactic(auto, unfolding(crate::specs::Inner::Reading::request_in))]
 fn request(alloc: Global, words: &[&str]) -> Result<Option<Request>, AllocError>
     ensures { IfOk result (λ found. GivesRequest (request_in (map (λ word. word.now) words.now)) found) }
 {

@@ -1,14 +1,14 @@
 //! Lines of datagrams.
 
 ghost use Rattle.std.specs.Prelude.{◌≡◌, IfOk, map, option_map};
-ghost use Rattle.osc_script.specs.Reading.{with_more, with_one, with_two, with_three, alter_in, change_in, changes_in, deliver_in, drop_in, graft_in, inject_in, Gives};
+ghost use Rattle.osc_script.specs.Inner.Reading.{with_more, with_one, with_two, with_three, alter_in, change_in, changes_in, deliver_in, drop_in, graft_in, inject_in, Gives};
 
 use crate::line::{Change, Changes, Line};
 use crate::words::{kept_bytes, node, number, pairs};
 use std::alloc::{AllocError, Global};
 
 // K
-#[tactic(auto, unfolding(crate::specs::Reading::deliver_in))]
+#[tactic(auto, unfolding(crate::specs::Inner::Reading::deliver_in))]
 pub(crate) fn deliver(args: &[&str]) -> Option<Line>
     ensures { Gives (with_one deliver_in (map (λ arg. arg.now) args.now)) result }
 {
@@ -20,7 +20,7 @@ pub(crate) fn deliver(args: &[&str]) -> Option<Line>
 }
 
 // K
-#[tactic(auto, unfolding(crate::specs::Reading::drop_in))]
+#[tactic(auto, unfolding(crate::specs::Inner::Reading::drop_in))]
 pub(crate) fn drop_line(args: &[&str]) -> Option<Line>
     ensures { Gives (with_one drop_in (map (λ arg. arg.now) args.now)) result }
 {
@@ -32,7 +32,7 @@ pub(crate) fn drop_line(args: &[&str]) -> Option<Line>
 }
 
 // K OFFSET HEX ..
-#[tactic(auto, unfolding(crate::specs::Reading::alter_in))]
+#[tactic(auto, unfolding(crate::specs::Inner::Reading::alter_in))]
 pub(crate) fn alter(alloc: Global, args: &[&str]) -> Result<Option<Line>, AllocError>
     ensures { IfOk result (λ found. Gives (with_more alter_in (map (λ arg. arg.now) args.now)) found) }
 {
@@ -74,7 +74,7 @@ fn changes(alloc: Global, words: &[&str]) -> Result<Option<Vec<Change>>, AllocEr
 }
 
 // OFFSET HEX
-#[tactic(auto, unfolding(crate::specs::Reading::change_in))]
+#[tactic(auto, unfolding(crate::specs::Inner::Reading::change_in))]
 fn change(alloc: Global, offset: &str, hex: &str) -> Result<Option<Change>, AllocError>
     ensures { IfOk result (λ found. found ≡ change_in offset.now hex.now) }
 {
@@ -94,7 +94,7 @@ fn change(alloc: Global, offset: &str, hex: &str) -> Result<Option<Change>, Allo
 }
 
 // J K
-#[tactic(auto, unfolding(crate::specs::Reading::graft_in))]
+#[tactic(auto, unfolding(crate::specs::Inner::Reading::graft_in))]
 pub(crate) fn graft(args: &[&str]) -> Option<Line>
     ensures { Gives (with_two graft_in (map (λ arg. arg.now) args.now)) result }
 {
@@ -117,7 +117,7 @@ pub(crate) fn inject(alloc: Global, args: &[&str]) -> Result<Option<Line>, Alloc
 }
 
 // The same of the words of each.
-#[tactic(auto, unfolding(crate::specs::Reading::inject_in))]
+#[tactic(auto, unfolding(crate::specs::Inner::Reading::inject_in))]
 fn inject_of(alloc: Global, from: &str, to: &str, payload: &str) -> Result<Option<Line>, AllocError>
     ensures { IfOk result (λ found. Gives (inject_in from.now to.now payload.now) found) }
 {

@@ -3,7 +3,7 @@
 ghost use Rattle.std.specs.Prelude.{◌≡◌, ℕ, [], ◌∷◌, ◌++◌, IfOk, IfSome, map};
 ghost use Rattle.osc_script.specs.Line.{StandsFor};
 ghost use Rattle.osc_script.specs.Script.{IsScript, IsFirstBad, IsFirstBadIn, without_empty_last, StandFor};
-ghost use Rattle.osc_script.specs.Place.{IsPlace};
+ghost use Rattle.osc_script.specs.Inner.Place.{IsPlace};
 ghost use Rattle.osc_script.specs.Values.{Reads};
 ghost use Rattle.osc_script.specs.declared.read.ScriptError.TheVariants.{OutOfMemory};
 

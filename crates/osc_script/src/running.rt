@@ -2,7 +2,7 @@
 
 ghost use Rattle.std.specs.Prelude.{◌≡◌, IfOk, map};
 ghost use Rattle.osc_script.specs.declared.line.Line.TheVariants.{Quiet};
-ghost use Rattle.osc_script.specs.Reading.{with_none, with_one, at_in, draw_in, moment_in, restart_in, tick_in, Gives};
+ghost use Rattle.osc_script.specs.Inner.Reading.{with_none, with_one, at_in, draw_in, moment_in, restart_in, tick_in, Gives};
 
 use crate::line::Line;
 use crate::words::{nonce, number, worker};
@@ -17,7 +17,7 @@ fn moment_of(ms: u64) -> Option<Moment>
 }
 
 // MS
-#[tactic(auto, unfolding(crate::specs::Reading::at_in))]
+#[tactic(auto, unfolding(crate::specs::Inner::Reading::at_in))]
 pub(crate) fn at(args: &[&str]) -> Option<Line>
     ensures { Gives (with_one at_in (map (λ arg. arg.now) args.now)) result }
 {
@@ -29,7 +29,7 @@ pub(crate) fn at(args: &[&str]) -> Option<Line>
 }
 
 // HEX16
-#[tactic(auto, unfolding(crate::specs::Reading::draw_in))]
+#[tactic(auto, unfolding(crate::specs::Inner::Reading::draw_in))]
 pub(crate) fn draw(alloc: Global, args: &[&str]) -> Result<Option<Line>, AllocError>
     ensures { IfOk result (λ found. Gives (with_one draw_in (map (λ arg. arg.now) args.now)) found) }
 {
@@ -43,7 +43,7 @@ pub(crate) fn draw(alloc: Global, args: &[&str]) -> Result<Option<Line>, AllocEr
 }
 
 // NODE
-#[tactic(auto, unfolding(crate::specs::Reading::tick_in))]
+#[tactic(auto, unfolding(crate::specs::Inner::Reading::tick_in))]
 pub(crate) fn tick(args: &[&str]) -> Option<Line>
     ensures { Gives (with_one tick_in (map (λ arg. arg.now) args.now)) result }
 {
@@ -55,7 +55,7 @@ pub(crate) fn tick(args: &[&str]) -> Option<Line>
 }
 
 // NODE
-#[tactic(auto, unfolding(crate::specs::Reading::restart_in))]
+#[tactic(auto, unfolding(crate::specs::Inner::Reading::restart_in))]
 pub(crate) fn restart(args: &[&str]) -> Option<Line>
     ensures { Gives (with_one restart_in (map (λ arg. arg.now) args.now)) result }
 {

@@ -2,7 +2,7 @@
 
 ghost use Rattle.std.specs.Prelude.{◌≡◌, IfOk, map};
 ghost use Rattle.osc_script.specs.Line.{Say};
-ghost use Rattle.osc_script.specs.Reading.{client_line_in, datagram_line_in, line_in, node_line_in, timed_line_in, Gives};
+ghost use Rattle.osc_script.specs.Inner.Reading.{client_line_in, datagram_line_in, line_in, node_line_in, timed_line_in, Gives};
 ghost use Rattle.osc_script.specs.Values.{Reads};
 
 use crate::clients::{ask, exchange, lie, skip};
@@ -26,7 +26,7 @@ pub(crate) fn say(alloc: Global, words: &[&str]) -> Result<Option<Line>, AllocEr
 }
 
 // Those of a line that is no grant.
-#[tactic(auto, unfolding(crate::specs::Reading::line_in))]
+#[tactic(auto, unfolding(crate::specs::Inner::Reading::line_in))]
 fn plain_line(alloc: Global, verb: &str, args: &[&str]) -> Result<Option<Line>, AllocError>
     ensures { IfOk result (λ found. Gives (line_in verb.now (map (λ arg. arg.now) args.now)) found) }
 {
@@ -40,7 +40,7 @@ fn plain_line(alloc: Global, verb: &str, args: &[&str]) -> Result<Option<Line>, 
 }
 
 // Those of a line of time, clients, datagrams or nodes.
-#[tactic(auto, unfolding(crate::specs::Reading::timed_line_in))]
+#[tactic(auto, unfolding(crate::specs::Inner::Reading::timed_line_in))]
 fn timed_line(alloc: Global, verb: &str, args: &[&str]) -> Result<Option<Line>, AllocError>
     ensures { IfOk result (λ found. Gives (timed_line_in verb.now (map (λ arg. arg.now) args.now)) found) }
 {
@@ -52,7 +52,7 @@ fn timed_line(alloc: Global, verb: &str, args: &[&str]) -> Result<Option<Line>, 
 }
 
 // Those of a line of clients, datagrams or nodes.
-#[tactic(auto, unfolding(crate::specs::Reading::client_line_in))]
+#[tactic(auto, unfolding(crate::specs::Inner::Reading::client_line_in))]
 fn client_line(alloc: Global, verb: &str, args: &[&str]) -> Result<Option<Line>, AllocError>
     ensures { IfOk result (λ found. Gives (client_line_in verb.now (map (λ arg. arg.now) args.now)) found) }
 {
@@ -66,7 +66,7 @@ fn client_line(alloc: Global, verb: &str, args: &[&str]) -> Result<Option<Line>,
 }
 
 // Those of a line of datagrams or nodes.
-#[tactic(auto, unfolding(crate::specs::Reading::datagram_line_in))]
+#[tactic(auto, unfolding(crate::specs::Inner::Reading::datagram_line_in))]
 fn datagram_line(alloc: Global, verb: &str, args: &[&str]) -> Result<Option<Line>, AllocError>
     ensures { IfOk result (λ found. Gives (datagram_line_in verb.now (map (λ arg. arg.now) args.now)) found) }
 {
@@ -80,7 +80,7 @@ fn datagram_line(alloc: Global, verb: &str, args: &[&str]) -> Result<Option<Line
 }
 
 // Those of a line of nodes.
-#[tactic(auto, unfolding(crate::specs::Reading::node_line_in))]
+#[tactic(auto, unfolding(crate::specs::Inner::Reading::node_line_in))]
 fn node_line(alloc: Global, verb: &str, args: &[&str]) -> Result<Option<Line>, AllocError>
     ensures { IfOk result (λ found. Gives (node_line_in verb.now (map (λ arg. arg.now) args.now)) found) }
 {

@@ -7,7 +7,7 @@ ghost use Rattle.osc_token.specs.Token.{claims_item};
 ghost use Rattle.osc_script.specs.Grants.{claims_of};
 ghost use Rattle.osc_script.specs.Line.{Say};
 ghost use Rattle.osc_script.specs.declared.line.Line.TheVariants.{Open};
-ghost use Rattle.osc_script.specs.Reading.{with_one, with_two, with_three, proxy_line_in, put_in, via_in, Gives};
+ghost use Rattle.osc_script.specs.Inner.Reading.{with_one, with_two, with_three, proxy_line_in, put_in, via_in, Gives};
 ghost use Rattle.osc_script.specs.Values.{Reads};
 
 use crate::grants::grant_claims;
@@ -25,7 +25,7 @@ const LONGEST_PAYLOAD: u16 = 512;
 const CLAIMS_LIMIT: usize = 65535;
 
 // PATH FORMAT BYTES
-#[tactic(auto, unfolding(crate::specs::Reading::put_in))]
+#[tactic(auto, unfolding(crate::specs::Inner::Reading::put_in))]
 pub(crate) fn put(alloc: Global, args: &[&str]) -> Result<Option<Line>, AllocError>
     ensures { IfOk result (λ found. Gives (with_three put_in (map (λ arg. arg.now) args.now)) found) }
 {
@@ -59,7 +59,7 @@ pub(crate) fn open(alloc: Global, args: &[&str]) -> Result<Option<Line>, AllocEr
 }
 
 // PROXY
-#[tactic(auto, unfolding(crate::specs::Reading::proxy_line_in))]
+#[tactic(auto, unfolding(crate::specs::Inner::Reading::proxy_line_in))]
 pub(crate) fn proxy_line(args: &[&str]) -> Option<Line>
     ensures { Gives (with_one proxy_line_in (map (λ arg. arg.now) args.now)) result }
 {
@@ -71,7 +71,7 @@ pub(crate) fn proxy_line(args: &[&str]) -> Option<Line>
 }
 
 // CLIENT PROXY
-#[tactic(auto, unfolding(crate::specs::Reading::via_in))]
+#[tactic(auto, unfolding(crate::specs::Inner::Reading::via_in))]
 pub(crate) fn via(args: &[&str]) -> Option<Line>
     ensures { Gives (with_two via_in (map (λ arg. arg.now) args.now)) result }
 {

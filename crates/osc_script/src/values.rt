@@ -2,7 +2,7 @@
 
 ghost use Rattle.std.specs.Prelude.{◌≡◌, IfOk, option_map};
 ghost use Rattle.hex.specs.Hex.{decode_of};
-ghost use Rattle.osc_script.specs.Reading.{decoded};
+ghost use Rattle.osc_script.specs.Inner.Reading.{decoded};
 ghost use Rattle.osc_script.specs.Values.{Reads, SpellsHex, SpellsHexWithin, SpellsMethod, SpellsNumber, SpellsScope, SpellsShortNumber};
 
 use crate::words;

@@ -2,7 +2,7 @@
 
 ghost use Rattle.std.specs.Prelude;
 ghost use Rattle.std.specs.Prelude.{◌≡◌, ◌≢◌, length, slice_index, take, IfOk, IfSome, IsNone, ◌∷◌, [], map, option_map};
-ghost use Rattle.osc_script.specs.Reading.{number_in, short_number_in, request_number_in, format_in, client_in, client_with, proxy_in, proxy_with, node_in, one_named, worker_in, method_in, hex_in, nonce_in, repeated_in, part_in, parts_in, bytes_in, kept_in, short_bytes_in, date_in, dates_in, one_date, algorithm_in};
+ghost use Rattle.osc_script.specs.Inner.Reading.{number_in, short_number_in, request_number_in, format_in, client_in, client_with, proxy_in, proxy_with, node_in, one_named, worker_in, method_in, hex_in, nonce_in, repeated_in, part_in, parts_in, bytes_in, kept_in, short_bytes_in, date_in, dates_in, one_date, algorithm_in};
 
 use crate::client_name::ClientName;
 use crate::node::Node;
@@ -21,7 +21,7 @@ const LAST_NUMBER: u64 = 1099511627775;
 const MOST_KEPT: usize = 1153;
 
 /// A number of 64 bits, in decimal digits without a sign.
-#[tactic(auto, unfolding(crate::specs::Reading::number_in))]
+#[tactic(auto, unfolding(crate::specs::Inner::Reading::number_in))]
 pub(crate) fn number(word: &[u8]) -> Option<u64>
     ensures { result ≡ number_in word.now }
 {
@@ -38,7 +38,7 @@ fn unsigned(word: &[u8]) -> Option<u64>
 }
 
 /// The same of 16 bits.
-#[tactic(auto, unfolding(crate::specs::Reading::short_number_in))]
+#[tactic(auto, unfolding(crate::specs::Inner::Reading::short_number_in))]
 pub(crate) fn short_number(word: &[u8]) -> Option<u16>
     ensures { result ≡ short_number_in word.now }
 {
@@ -46,7 +46,7 @@ pub(crate) fn short_number(word: &[u8]) -> Option<u16>
 }
 
 /// The number of a request.
-#[tactic(auto, unfolding(crate::specs::Reading::request_number_in))]
+#[tactic(auto, unfolding(crate::specs::Inner::Reading::request_number_in))]
 pub(crate) fn request_number(word: &[u8]) -> Option<u64>
     ensures { result ≡ request_number_in word.now }
 {
@@ -59,7 +59,7 @@ pub(crate) fn request_number(word: &[u8]) -> Option<u64>
 }
 
 /// A number of 16 bits, or `none`.
-#[tactic(auto, unfolding(crate::specs::Reading::format_in))]
+#[tactic(auto, unfolding(crate::specs::Inner::Reading::format_in))]
 pub(crate) fn format(word: &[u8]) -> Option<Option<u16>>
     ensures { result ≡ format_in word.now }
 {
@@ -70,7 +70,7 @@ pub(crate) fn format(word: &[u8]) -> Option<Option<u16>>
 }
 
 /// A client's name.
-#[tactic(auto, unfolding(crate::specs::Reading::client_in))]
+#[tactic(auto, unfolding(crate::specs::Inner::Reading::client_in))]
 pub(crate) fn client(word: &[u8]) -> Option<ClientName>
     ensures { result ≡ client_in word.now }
 {
@@ -88,7 +88,7 @@ fn client_of(digit: u8) -> Option<ClientName>
 }
 
 /// A proxy's name.
-#[tactic(auto, unfolding(crate::specs::Reading::proxy_in))]
+#[tactic(auto, unfolding(crate::specs::Inner::Reading::proxy_in))]
 pub(crate) fn proxy(word: &[u8]) -> Option<ProxyName>
     ensures { result ≡ proxy_in word.now }
 {
@@ -106,7 +106,7 @@ fn proxy_of(digit: u8) -> Option<ProxyName>
 }
 
 /// A node's name.
-#[tactic(auto, unfolding(crate::specs::Reading::node_in))]
+#[tactic(auto, unfolding(crate::specs::Inner::Reading::node_in))]
 pub(crate) fn node(word: &str) -> Option<Node>
     ensures { result ≡ node_in word.now }
 {
@@ -130,7 +130,7 @@ fn one_named(client: Option<ClientName>, proxy: Option<ProxyName>) -> Option<Nod
 }
 
 /// The name of a node that does something.
-#[tactic(auto, unfolding(crate::specs::Reading::worker_in))]
+#[tactic(auto, unfolding(crate::specs::Inner::Reading::worker_in))]
 pub(crate) fn worker(word: &str) -> Option<Node>
     ensures { result ≡ worker_in word.now }
 {
@@ -143,7 +143,7 @@ pub(crate) fn worker(word: &str) -> Option<Node>
 }
 
 /// The name of a method.
-#[tactic(auto, unfolding(crate::specs::Reading::method_in))]
+#[tactic(auto, unfolding(crate::specs::Inner::Reading::method_in))]
 pub(crate) fn method(word: &str) -> Option<Method>
     ensures { result ≡ method_in word.now }
 {
@@ -157,7 +157,7 @@ pub(crate) fn method(word: &str) -> Option<Method>
 }
 
 /// `[nbf=N] [exp=N]`: from when on, and until when.
-#[tactic(auto, unfolding(crate::specs::Reading::dates_in))]
+#[tactic(auto, unfolding(crate::specs::Inner::Reading::dates_in))]
 pub(crate) fn dates(words: &[&str]) -> Option<(Option<u64>, Option<u64>)>
     ensures { result ≡ dates_in (map (λ word. word.now) words.now) }
 {
@@ -190,7 +190,7 @@ fn one_date(begins: Option<u64>, ends: Option<u64>) -> Option<(Option<u64>, Opti
 }
 
 // The number behind this name.
-#[tactic(auto, unfolding(crate::specs::Reading::date_in))]
+#[tactic(auto, unfolding(crate::specs::Inner::Reading::date_in))]
 fn date(name: &[u8], word: &[u8]) -> Option<u64>
     ensures { result ≡ date_in name.now word.now }
 {
@@ -198,7 +198,7 @@ fn date(name: &[u8], word: &[u8]) -> Option<u64>
 }
 
 /// The words before a last word `alg=30`, and the algorithm: without that word all of them, and that of shorter tags.
-#[tactic(auto, unfolding(crate::specs::Reading::algorithm_in))]
+#[tactic(auto, unfolding(crate::specs::Inner::Reading::algorithm_in))]
 pub(crate) fn algorithm<'a, 'b>(words: &'a [&'b str]) -> (&'a [&'b str], Algorithm)
     ensures { (map (λ word. word.now) result.0.now, result.1) ≡ algorithm_in (map (λ word. word.now) words.now) }
 {
@@ -213,7 +213,7 @@ pub(crate) fn algorithm<'a, 'b>(words: &'a [&'b str]) -> (&'a [&'b str], Algorit
 }
 
 /// The first 1,153 of the bytes of a word: a datagram with so many is too long, whatever comes after them.
-#[tactic(auto, unfolding(crate::specs::Reading::kept_in))]
+#[tactic(auto, unfolding(crate::specs::Inner::Reading::kept_in))]
 pub(crate) fn kept_bytes(alloc: Global, word: &[u8]) -> Result<Option<Bytes>, AllocError>
     ensures { IfOk result (λ found. found ≡ kept_in word.now) }
 {
@@ -235,7 +235,7 @@ pub(crate) fn short_bytes(
 }
 
 // `-` for no bytes, or parts joined by `+`. The whole word is read, and as many of the first bytes are made as are wanted.
-#[tactic(auto, unfolding(crate::specs::Reading::bytes_in))]
+#[tactic(auto, unfolding(crate::specs::Inner::Reading::bytes_in))]
 fn first_bytes(alloc: Global, word: &[u8], most: usize) -> Result<Option<Bytes>, AllocError>
     ensures { IfOk result (λ found. found ≡ option_map (take most) (bytes_in word.now)) }
 {
@@ -264,7 +264,7 @@ fn joined(alloc: Global, parts: &[&[u8]], most: usize) -> Result<Option<Vec<u8>>
 }
 
 // The first bytes of pairs of hexadecimal digits, or of one pair, `*` and a count.
-#[tactic(auto, unfolding(crate::specs::Reading::part_in))]
+#[tactic(auto, unfolding(crate::specs::Inner::Reading::part_in))]
 fn part_of(alloc: Global, part: &[u8], most: usize) -> Result<Option<Vec<u8>>, AllocError>
     ensures { IfOk result (λ found. option_map (λ items. items.items) found ≡ option_map (take most) (part_in part.now)) }
 {
@@ -275,7 +275,7 @@ fn part_of(alloc: Global, part: &[u8], most: usize) -> Result<Option<Vec<u8>>, A
 }
 
 // The byte of a pair of digits, as many times as the other digits say, but not more often than is wanted.
-#[tactic(auto, unfolding(crate::specs::Reading::repeated_in))]
+#[tactic(auto, unfolding(crate::specs::Inner::Reading::repeated_in))]
 fn repeated(
     alloc: Global,
     pair: &[u8],
@@ -311,7 +311,7 @@ fn first_pairs(alloc: Global, part: &[u8], most: usize) -> Result<Option<Vec<u8>
 }
 
 /// Eight bytes, in 16 hexadecimal digits.
-#[tactic(auto, unfolding(crate::specs::Reading::nonce_in))]
+#[tactic(auto, unfolding(crate::specs::Inner::Reading::nonce_in))]
 pub(crate) fn nonce(alloc: Global, word: &[u8]) -> Result<Option<[u8; 8]>, AllocError>
     ensures { IfOk result (λ found. found ≡ nonce_in word.now) }
 {
@@ -325,7 +325,7 @@ pub(crate) fn nonce(alloc: Global, word: &[u8]) -> Result<Option<[u8; 8]>, Alloc
 }
 
 /// Pairs of hexadecimal digits in either case, at least one.
-#[tactic(auto, unfolding(crate::specs::Reading::hex_in))]
+#[tactic(auto, unfolding(crate::specs::Inner::Reading::hex_in))]
 pub(crate) fn pairs(alloc: Global, part: &[u8]) -> Result<Option<Vec<u8>>, AllocError>
     ensures { IfOk result (λ found. option_map (λ items. items.items) found ≡ hex_in part.now) }
 {

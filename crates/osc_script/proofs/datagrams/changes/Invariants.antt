@@ -1,5 +1,5 @@
 use Rattle.std.proofs.Common.{◌≡◌, length, map}
-use Rattle.osc_script.specs.Reading.{changes_in}
+use Rattle.osc_script.specs.Inner.Reading.{changes_in}
 use Rattle.osc_script.proofs.ChangeWords.{with_front}
 use Rattle.osc_script.proofs.datagrams.changes.Given as goal
 

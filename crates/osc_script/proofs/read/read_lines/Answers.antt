@@ -1,5 +1,5 @@
 use Rattle.std.proofs.Common.{◌∙◌, ◌+◌, arith, subst, sym}
-use Rattle.osc_script.specs.Place.{IsPlace}
+use Rattle.osc_script.specs.Inner.Place.{IsPlace}
 use Rattle.osc_script.proofs.Scripts.{bad_at, bad_is, next_at}
 use Rattle.osc_script.proofs.read.read_lines.Goals as goal
 

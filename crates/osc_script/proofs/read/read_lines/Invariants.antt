@@ -1,5 +1,5 @@
 use Rattle.std.proofs.Common.{[], map, take}
-use Rattle.osc_script.specs.Place.{IsPlace}
+use Rattle.osc_script.specs.Inner.Place.{IsPlace}
 use Rattle.osc_script.specs.Script.{StandFor}
 use Rattle.osc_script.proofs.read.read_lines.Given as goal
 

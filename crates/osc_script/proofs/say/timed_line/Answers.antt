@@ -1,6 +1,6 @@
 use Rattle.std.proofs.Common.{sym, subst, map}
 use Rattle.std.proofs.lemmas.Result.{IfOk-weaker}
-use Rattle.osc_script.specs.Reading.{Gives}
+use Rattle.osc_script.specs.Inner.Reading.{Gives}
 use Rattle.osc_script.proofs.Said.{no_timed_verb}
 use Rattle.osc_script.proofs.say.timed_line.Goals as goal
 

@@ -1,6 +1,6 @@
 use Rattle.std.proofs.Common.{ap, sym, ◌∙◌}
 use Rattle.std.proofs.lemmas.Bool.{iff_false}
-use Rattle.osc_script.specs.Reading.{client_in}
+use Rattle.osc_script.specs.Inner.Reading.{client_in}
 use Rattle.osc_script.proofs.GrantWords.{bad_client, bad_dates, bad_scope, too_long, grant_says}
 use Rattle.osc_script.proofs.set_up.grant_of.Goals as goal
 

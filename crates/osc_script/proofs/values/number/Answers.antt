@@ -1,5 +1,5 @@
 use Rattle.std.proofs.Common.{◌∙◌, ap}
-use Rattle.osc_script.specs.Reading.{number_in}
+use Rattle.osc_script.specs.Inner.Reading.{number_in}
 use Rattle.osc_script.proofs.Numbers.{number_reads}
 use Rattle.osc_script.proofs.values.number.Goals as goal
 

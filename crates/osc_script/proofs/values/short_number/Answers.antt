@@ -1,5 +1,5 @@
 use Rattle.std.proofs.Common.{◌∙◌, ap}
-use Rattle.osc_script.specs.Reading.{short_number_in}
+use Rattle.osc_script.specs.Inner.Reading.{short_number_in}
 use Rattle.osc_script.proofs.Numbers.{short_number_reads}
 use Rattle.osc_script.proofs.values.short_number.Goals as goal
 

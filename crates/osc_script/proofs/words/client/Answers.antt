@@ -1,5 +1,5 @@
 use Rattle.std.proofs.Common.{rules, ◌∙◌, ap}
-use Rattle.osc_script.specs.Reading.{client_with}
+use Rattle.osc_script.specs.Inner.Reading.{client_with}
 use Rattle.osc_script.proofs.Nodes.{client_word}
 use Rattle.osc_script.proofs.words.client.Goals as goal
 

@@ -1,5 +1,5 @@
 use Rattle.std.proofs.Common.{◌≡◌, ◌≤◌, length, map, take, drop, option_map}
-use Rattle.osc_script.specs.Reading.{parts_in}
+use Rattle.osc_script.specs.Inner.Reading.{parts_in}
 use Rattle.osc_script.proofs.Payloads.{with_front}
 use Rattle.osc_script.proofs.words.joined.Given as goal
 

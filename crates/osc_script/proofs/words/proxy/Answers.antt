@@ -1,5 +1,5 @@
 use Rattle.std.proofs.Common.{rules, ◌∙◌, ap}
-use Rattle.osc_script.specs.Reading.{proxy_with}
+use Rattle.osc_script.specs.Inner.Reading.{proxy_with}
 use Rattle.osc_script.proofs.Nodes.{proxy_word}
 use Rattle.osc_script.proofs.words.proxy.Goals as goal
 

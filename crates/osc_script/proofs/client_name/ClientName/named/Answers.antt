@@ -1,5 +1,5 @@
 use Rattle.std.proofs.Common.{◌∙◌, ap}
-use Rattle.osc_script.specs.Reading.{client_in}
+use Rattle.osc_script.specs.Inner.Reading.{client_in}
 use Rattle.osc_script.proofs.Nodes.{client_named, client_unnamed}
 use Rattle.osc_script.proofs.client_name.ClientName.named.Goals as goal
 

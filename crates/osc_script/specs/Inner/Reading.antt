@@ -1,4 +1,4 @@
--- Reading a line from left to right. No public contract rests on this file.
+-- Reading a line from left to right.
 use Rattle.std.specs.Prelude.{◌≡◌, ℕ, ◌-◌, ◌^◌, ◌==◌, ◌&&◌, nat_lt, nat_le, Bool, true, false, refl, if◌then◌else◌, List, [], ◌∷◌, ◌++◌, length, take, drop, slice_index, replicate, codes, Option, Some, None, Result, Ok, Err, option_map}
 use Rattle.std.specs.List.{slice_split}
 use Rattle.std.specs.Option.{ForSome}

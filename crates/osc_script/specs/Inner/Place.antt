@@ -1,4 +1,4 @@
--- What is kept of the lines above while a script is read. No public contract rests on this file.
+-- What is kept of the lines above while a script is read.
 use Rattle.std.specs.Prelude.{◌≡◌, false, List, slice_index_or, count_by}
 use Rattle.std.specs.List.{list_any}
 use Rattle.osc_script.specs.Line.{grants, is_event, is_put, makes, moment_after, routes}
