@@ -8,7 +8,7 @@ use Rattle.toml.specs.declared.value.Value.{Value}
 use Rattle.osc_settings.specs.Document.{StandForEach, ListedAt}
 use Rattle.osc_settings.specs.Faults.{IsArrayAt, IsFaultAt, IsFirstFault, IsItemFault, IsKeyFault}
 use Rattle.osc_settings.specs.Keys.{name_of}
-use Rattle.osc_settings.specs.Reading.{AreTargetsRefused, IsItemRefused, IsRefusal, IsRefusedAs, read_at, untyped_at}
+use Rattle.osc_settings.specs.Inner.Reading.{AreTargetsRefused, IsItemRefused, IsRefusal, IsRefusedAs, read_at, untyped_at}
 use Rattle.osc_settings.specs.Settings.{IsTargetTable}
 use Rattle.osc_settings.specs.declared.error.KeyFault.{KeyFault}
 use Rattle.osc_settings.specs.declared.error.SettingsError.{SettingsError}

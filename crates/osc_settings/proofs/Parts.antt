@@ -7,7 +7,7 @@ use Rattle.osc_model.specs.declared.node.Peer.{Peer}
 use Rattle.osc_settings.specs.Document.{IsLeftOut, IsPortAt, MaySpellAt, SpelledAt, StandsFor, other_key}
 use Rattle.osc_settings.specs.Faults.{IsFaultAt, IsFaultOfProxy, IsKeyFault, IsOriginFault, IsProxyFault, IsWrongAt, Lacks}
 use Rattle.osc_settings.specs.Keys.{name_of}
-use Rattle.osc_settings.specs.Reading.{AreTargetsRefused, IsNoDocument}
+use Rattle.osc_settings.specs.Inner.Reading.{AreTargetsRefused, IsNoDocument}
 use Rattle.osc_settings.specs.Settings.{IsOriginPort, IsSalt, proxy_keys}
 use Rattle.osc_settings.specs.Values.{IsAddress, IsHost, SpellsBytes}
 use Rattle.osc_settings.specs.declared.error.KeyFault.{KeyFault}

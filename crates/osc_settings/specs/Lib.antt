@@ -4,4 +4,4 @@ pub mod Keys
 pub mod Document
 pub mod Settings
 pub mod Faults
-pub mod Reading
+pub mod Inner

@@ -10,8 +10,8 @@ ghost use Rattle.osc_settings.specs.Document as spec;
 ghost use Rattle.osc_settings.specs.Document.{IsAlgorithmAt, IsPortAt, SpelledAt};
 ghost use Rattle.osc_settings.specs.Faults.{IsFaultAt, IsKeyFault, IsOther};
 ghost use Rattle.osc_settings.specs.Keys.{name_of};
-ghost use Rattle.osc_settings.specs.Reading as reading;
-ghost use Rattle.osc_settings.specs.Reading.{IsNoDocument, text_at};
+ghost use Rattle.osc_settings.specs.Inner.Reading as reading;
+ghost use Rattle.osc_settings.specs.Inner.Reading.{IsNoDocument, text_at};
 ghost use Rattle.osc_settings.specs.Values.{IsAddressFrom, IsHost, SpellsBytes, SpellsHex};
 
 use crate::error::{KeyFault, SettingsError, ValueError};

@@ -1,6 +1,6 @@
 //! Why there are no settings.
 ghost use Rattle.std.specs.Prelude.{◌≡◌};
-ghost use Rattle.osc_settings.specs.Reading as spec;
+ghost use Rattle.osc_settings.specs.Inner.Reading as spec;
 ghost use Rattle.osc_settings.specs.declared.error.SettingsError.TheVariants as settings_error;
 ghost use Rattle.osc_settings.specs.declared.error.ValueError.TheVariants as value_error;
 

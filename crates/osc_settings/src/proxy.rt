@@ -3,7 +3,7 @@ ghost use Rattle.std.specs.Prelude.{◌≢◌, IfErr, IfOk, MatchResult, codes};
 ghost use Rattle.toml.specs.View.{items_view, table_view, view};
 ghost use Rattle.osc_settings.specs.Document.{StandsFor};
 ghost use Rattle.osc_settings.specs.Faults.{IsFaultOfProxy, IsItemFault, IsKeyFault, IsTargetFault, Lacks};
-ghost use Rattle.osc_settings.specs.Reading.{AllListedAt, AreTargetsRefused, IsItemRefused, IsRefusedAs, StandForAll};
+ghost use Rattle.osc_settings.specs.Inner.Reading.{AllListedAt, AreTargetsRefused, IsItemRefused, IsRefusedAs, StandForAll};
 ghost use Rattle.osc_settings.specs.Settings.{AreProxySettings, IsTarget, IsTargetTable};
 ghost use Rattle.osc_settings.specs.declared.proxy.ProxySettings.{ProxySettings as AnySettings};
 

@@ -3,7 +3,7 @@ ghost use Rattle.std.specs.Prelude.{◌≢◌, IfErr, IfOk, MatchResult, codes};
 ghost use Rattle.toml.specs.View.{items_view, table_view, view};
 ghost use Rattle.osc_settings.specs.Document.{ListedAt, StandForEach, StandsFor};
 ghost use Rattle.osc_settings.specs.Faults.{IsFaultAt, IsKeyFault, IsServerFault, IsTextAt, Lacks};
-ghost use Rattle.osc_settings.specs.Reading.{AllListedAt, IsRefusal, StandForAll};
+ghost use Rattle.osc_settings.specs.Inner.Reading.{AllListedAt, IsRefusal, StandForAll};
 ghost use Rattle.osc_settings.specs.Settings.{AreServerSettings, IsPathText};
 ghost use Rattle.osc_settings.specs.declared.key.SettingsKey.TheVariants as AnyKey;
 ghost use Rattle.osc_settings.specs.declared.server.ServerSettings.{ServerSettings as AnySettings};

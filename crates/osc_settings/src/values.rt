@@ -2,7 +2,7 @@
 ghost use Rattle.std.specs.Prelude.{◌≡◌, ◌↔◌, IfOk, IsTrue, MatchResult};
 ghost use Rattle.std.specs.Net.Grammar.{IsSocketV4Text};
 ghost use Rattle.std.specs.Net.Text.{socket_v4_text};
-ghost use Rattle.osc_settings.specs.Reading.{IsRefusal, SpellsPath};
+ghost use Rattle.osc_settings.specs.Inner.Reading.{IsRefusal, SpellsPath};
 ghost use Rattle.osc_settings.specs.Values.{IsAddressFrom, IsAlgorithm, IsHost, IsPort, SpellsBytes, SpellsHex};
 
 use crate::error::ValueError;

@@ -1,4 +1,4 @@
--- What the reading of settings comes to, part by part. No public contract rests on this file.
+-- What the reading of settings comes to, part by part.
 use Rattle.std.specs.Prelude.{◌≡◌, ℕ, suc, if◌then◌else◌, List, Option, option_and_then, None, is_some, Result, Ok, Err, Vec}
 use Rattle.std.specs.declared.alloc.Global.{Global}
 use Rattle.toml.specs.Data.{Data, Items, Members, get_member, as_str}

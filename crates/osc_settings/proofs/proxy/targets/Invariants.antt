@@ -1,6 +1,6 @@
 use Rattle.std.proofs.Common.{take}
 use Rattle.toml.specs.View.{items_view}
-use Rattle.osc_settings.specs.Reading.{StandForAll}
+use Rattle.osc_settings.specs.Inner.Reading.{StandForAll}
 use Rattle.osc_settings.specs.Settings.{IsTargetTable}
 use Rattle.osc_settings.proofs.proxy.targets.Given as goal
 
