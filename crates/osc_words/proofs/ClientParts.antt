@@ -9,7 +9,7 @@ use Rattle.osc_model.specs.declared.code.Method.TheVariants as method
 use Rattle.osc_script.specs.Values.{SpellsNumber}
 use Rattle.osc_words.specs.ClientWords.{AreClientWords, AreRequest, Says, SpellsMethod}
 use Rattle.osc_words.specs.NamedOptions.{value_of}
-use Rattle.osc_words.specs.Reading.{IsClientRefusal, IsRefusalOf}
+use Rattle.osc_words.specs.Inner.Reading.{IsClientRefusal, IsRefusalOf}
 use Rattle.osc_words.specs.Values.{IsGiven, SpellsTurns}
 use Rattle.osc_words.specs.declared.client_option.ClientOption.{ClientOption}
 use Rattle.osc_words.specs.declared.client_option.ClientOption.TheVariants.{Turns, Method, Path, Payload, Format}

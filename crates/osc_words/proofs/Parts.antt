@@ -14,7 +14,7 @@ use Rattle.osc_words.specs.declared.token_words.OpenClaims.{OpenClaims}
 use Rattle.osc_words.specs.declared.token_words.TokenAsked.{TokenAsked}
 use Rattle.osc_words.specs.declared.words.WordsError.{WordsError}
 use Rattle.osc_words.specs.declared.words.WordsError.TheVariants as words_error
-use Rattle.osc_words.specs.Reading.{IsRefusal, IsRefusalOf}
+use Rattle.osc_words.specs.Inner.Reading.{IsRefusal, IsRefusalOf}
 
 pub claims_said : (rows : List Row) (claims : OpenClaims) → SaysClaims rows Audience claims → SaysClaims rows NotBefore claims
     → SaysClaims rows Expires claims → SaysClaims rows Id claims → SaysClaims rows Salt claims → SaysClaims rows Context claims

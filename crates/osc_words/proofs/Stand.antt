@@ -7,7 +7,7 @@ use Rattle.osc_script.specs.Values.{SpellsHexWithin}
 use Rattle.osc_words.specs.Command.{AreWords, AsksByMethod, HasNotOne}
 use Rattle.osc_words.specs.NamedOptions.{value_of}
 use Rattle.osc_words.specs.Options.{value_of as option_value}
-use Rattle.osc_words.specs.Reading.{IsRefusalIn}
+use Rattle.osc_words.specs.Inner.Reading.{IsRefusalIn}
 use Rattle.osc_words.specs.Sources.{IsNotOne, file_of, given_of}
 use Rattle.osc_words.specs.TokenWords.{AreTokenWords}
 use Rattle.osc_words.specs.Values.{IsGiven}

@@ -7,4 +7,4 @@ pub mod ClientOptions
 pub mod ClientWords
 pub mod NamedOptions
 pub mod Command
-pub mod Reading
+pub mod Inner

@@ -5,7 +5,7 @@ ghost use Rattle.osc_model.specs.Path.{IsPath};
 ghost use Rattle.osc_script.specs.Values.{SpellsHex, SpellsShortNumber};
 ghost use Rattle.osc_words.specs.ClientWords as spec;
 ghost use Rattle.osc_words.specs.NamedOptions.{value_of};
-ghost use Rattle.osc_words.specs.Reading.{IsClientRefusal, IsRefusalOf};
+ghost use Rattle.osc_words.specs.Inner.Reading.{IsClientRefusal, IsRefusalOf};
 ghost use Rattle.osc_words.specs.Values.{IsGiven};
 
 use crate::client_option::ClientOption;

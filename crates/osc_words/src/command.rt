@@ -5,7 +5,7 @@ ghost use Rattle.clap.specs.declared.builder.command.Command.TheViews.{out-Comma
 ghost use Rattle.osc_words.specs.Command as spec;
 ghost use Rattle.osc_words.specs.NamedOptions.{name_of};
 ghost use Rattle.osc_words.specs.Options.{value_rule};
-ghost use Rattle.osc_words.specs.Reading.{IsKnown, IsReadFrom};
+ghost use Rattle.osc_words.specs.Inner.Reading.{IsKnown, IsReadFrom};
 ghost use Rattle.osc_words.specs.declared.hidden_option.HiddenOption.{HiddenOption as AnyHidden};
 ghost use Rattle.osc_words.specs.declared.named_option.NamedOption.{NamedOption as AnyOption};
 ghost use Rattle.osc_words.specs.declared.words.Words.{Words as AnyWords};

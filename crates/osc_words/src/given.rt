@@ -3,7 +3,7 @@ ghost use Rattle.std.specs.Prelude.{◌≡◌, MatchResult, Some, None, option_m
 ghost use Rattle.clap.specs.Words.{found_of, rows_of};
 ghost use Rattle.osc_script.specs.Values.{SpellsNumber};
 ghost use Rattle.osc_words.specs.NamedOptions.{value_of};
-ghost use Rattle.osc_words.specs.Reading.{IsRefusalOf};
+ghost use Rattle.osc_words.specs.Inner.Reading.{IsRefusalOf};
 ghost use Rattle.osc_words.specs.Values.{IsGiven, SpellsClient, SpellsTurns};
 
 use crate::command::text_of;

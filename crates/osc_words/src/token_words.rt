@@ -4,7 +4,7 @@ ghost use Rattle.clap.specs.Words.{found_of, rows_of};
 ghost use Rattle.osc_model.specs.Algorithm.{algorithm_number};
 ghost use Rattle.osc_script.specs.Values.{SpellsHexWithin, SpellsNumber, SpellsScope};
 ghost use Rattle.osc_words.specs.Options.{value_of};
-ghost use Rattle.osc_words.specs.Reading.{IsInOne, IsNotOneOf, IsRefusal, IsRefusalOf};
+ghost use Rattle.osc_words.specs.Inner.Reading.{IsInOne, IsNotOneOf, IsRefusal, IsRefusalOf};
 ghost use Rattle.osc_words.specs.Sources.{IsSource};
 ghost use Rattle.osc_words.specs.Filled.{with_secret};
 ghost use Rattle.osc_words.specs.TokenWords as spec;
