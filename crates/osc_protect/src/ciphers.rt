@@ -28,7 +28,7 @@ impl TagOf16 for Ccm<16> {
 
 /// A cipher for each AEAD algorithm, under keys of 16 bytes and nonces of 13 bytes: each has the clauses and the laws of an `Aead`.
 ///
-/// Met by a pair, `(Ccm<8>, Ccm<16>)`: the first is for the algorithm whose tag has 8 bytes, the second for the one whose tag has 16.
+/// Met by a pair, as `Suite`: the first is for the algorithm whose tag has 8 bytes, the second for the one whose tag has 16.
 pub trait Ciphers {
     ghost use Rattle.osc_model.specs.declared.algorithm.Algorithm.{Algorithm};
 
@@ -106,6 +106,9 @@ pub trait Ciphers {
     // The tags have the sizes that the algorithms say.
     ghost tags: { (TAG EightByteTag ≡ 8) × (TAG SixteenByteTag ≡ 16) };
 }
+
+/// AES-CCM for each algorithm (RFC 9053 section 4.2): with tags of 8 bytes, and with tags of 16.
+pub type Suite = (Ccm<8>, Ccm<16>);
 
 impl<A: TagOf8, B: TagOf16> Ciphers for (A, B) {
     ghost TAG = { chosen_tag A.TAG B.TAG };

@@ -19,7 +19,7 @@ mod sealing;
 mod token_cipher;
 mod value;
 
-pub use ciphers::{Ciphers, TagOf8, TagOf16};
+pub use ciphers::{Ciphers, Suite, TagOf8, TagOf16};
 pub use error::{
     Malformed, MessageTooLong, ReplyTooLong, RequestNotGenuine, ResponseNotGenuine, TextTooLong,
 };
