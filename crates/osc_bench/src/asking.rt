@@ -4,10 +4,10 @@ ghost use Rattle.std.specs.Prelude.{◌<◌, IfOk};
 
 use crate::messages::answer;
 use crate::tokens::right_of;
-use osc_ccm::Ccm;
 use osc_client::Client;
 use osc_fixtures::{POST, SERVER, empty_server, request, sent, straight};
 use osc_model::{Bytes, Draw, Moment, Request, Step};
+use osc_protect::Suite;
 use std::alloc::{AllocError, Global};
 
 /// A client makes a context by an exchange with a server, and then asks so many times: a POST of 64 bytes on `/log`, confirmable and
@@ -72,7 +72,7 @@ fn copied(alloc: Global, step: Step) -> Result<Bytes, AllocError> {
 
 // The client hears the server's datagram.
 fn hear(alloc: Global, client: &mut Client, datagram: &[u8]) -> Result<(), AllocError> {
-    let step = client.on_datagram::<(Ccm<8>, Ccm<16>)>(alloc, Moment::START, SERVER, datagram)?;
+    let step = client.on_datagram::<Suite>(alloc, Moment::START, SERVER, datagram)?;
     drop(step);
     Ok(())
 }
@@ -103,7 +103,7 @@ fn ask_all(
 fn ask_once(alloc: Global, client: &mut Client, request: &Request) -> Result<u64, AllocError>
     requires { 0 < request.now.code.0 }
 {
-    let step = client.ask::<(Ccm<8>, Ccm<16>)>(alloc, Moment::START, request, &DRAW)?;
+    let step = client.ask::<Suite>(alloc, Moment::START, request, &DRAW)?;
     let (length, reset) = sent_by(step);
     hear(alloc, client, &reset)?;
     Ok(length)

@@ -5,10 +5,10 @@ use crate::flood::{mark, origin};
 use crate::messages::server_of;
 use crate::proxy_flood::forward;
 use crate::server_flood::begin;
-use osc_ccm::Ccm;
 use osc_client::Client;
 use osc_fixtures::{SERVER, STRANGER, drawn, place, proxy};
 use osc_model::{Bytes, Moment, Step};
+use osc_protect::Suite;
 use osc_proxy::Proxy;
 use osc_server::Server;
 use std::alloc::{AllocError, Global};
@@ -130,7 +130,7 @@ fn server_hears_one(
     datagram: &[u8],
 ) -> Result<u64, AllocError> {
     mark(alloc)?;
-    let step = server.on_datagram::<(Ccm<8>, Ccm<16>)>(alloc, now, STRANGER, datagram, &drawn(9))?;
+    let step = server.on_datagram::<Suite>(alloc, now, STRANGER, datagram, &drawn(9))?;
     told(alloc, step)
 }
 
@@ -181,7 +181,7 @@ fn wait_for_context(alloc: Global, client: &mut Client) -> Result<(), AllocError
 fn wait_for_reply(alloc: Global, client: &mut Client) -> Result<(), AllocError> {
     make_context(alloc, client)?;
     let request = request_of(alloc)?;
-    let asked = client.ask::<(Ccm<8>, Ccm<16>)>(alloc, Moment::START, &request, &DRAW);
+    let asked = client.ask::<Suite>(alloc, Moment::START, &request, &DRAW);
     drop(request);
     let step = asked?;
     drop(step);
@@ -194,7 +194,7 @@ fn client_hears_one(
     datagram: &[u8],
 ) -> Result<u64, AllocError> {
     mark(alloc)?;
-    let step = client.on_datagram::<(Ccm<8>, Ccm<16>)>(alloc, Moment::START, SERVER, datagram)?;
+    let step = client.on_datagram::<Suite>(alloc, Moment::START, SERVER, datagram)?;
     told(alloc, step)
 }
 

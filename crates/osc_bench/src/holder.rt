@@ -4,10 +4,10 @@ use crate::asking::{DRAW, client_of};
 use crate::flood::mark;
 use crate::hearing::told;
 use crate::messages::server_of;
-use osc_ccm::Ccm;
 use osc_client::Client;
 use osc_fixtures::{SERVER, STRANGER, drawn, sent};
 use osc_model::{Bytes, Moment, Step};
+use osc_protect::Suite;
 use osc_server::Server;
 use std::alloc::{AllocError, Global};
 
@@ -50,12 +50,7 @@ fn serve_holder(
 ) -> Result<u64, AllocError> {
     let post = exchanged(alloc, client)?;
     let answer = heard(alloc, server, &post)?;
-    let step = client.on_datagram::<(Ccm<8>, Ccm<16>)>(
-        alloc,
-        Moment::START,
-        SERVER,
-        answer.as_slice(),
-    )?;
+    let step = client.on_datagram::<Suite>(alloc, Moment::START, SERVER, answer.as_slice())?;
     drop(step);
     drop(answer);
     let request = sealed(alloc, client, text)?;
@@ -75,13 +70,13 @@ fn exchanged(alloc: Global, client: &mut Client) -> Result<Bytes, AllocError> {
 }
 
 fn sealed(alloc: Global, client: &Client, text: &[u8]) -> Result<Bytes, AllocError> {
-    let step = client.lie::<(Ccm<8>, Ccm<16>)>(alloc, 0, text, &drawn(3))?;
+    let step = client.lie::<Suite>(alloc, 0, text, &drawn(3))?;
     copied(alloc, step)
 }
 
 // What the server answers to the post.
 fn heard(alloc: Global, server: &mut Server, post: &Bytes) -> Result<Bytes, AllocError> {
-    let step = server.on_datagram::<(Ccm<8>, Ccm<16>)>(
+    let step = server.on_datagram::<Suite>(
         alloc,
         Moment::START,
         STRANGER,
@@ -110,7 +105,7 @@ fn serve_all(
 
 fn serve_one(alloc: Global, server: &mut Server, request: &Bytes) -> Result<u64, AllocError> {
     mark(alloc)?;
-    let step = server.on_datagram::<(Ccm<8>, Ccm<16>)>(
+    let step = server.on_datagram::<Suite>(
         alloc,
         Moment::START,
         STRANGER,

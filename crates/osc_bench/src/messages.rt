@@ -3,10 +3,10 @@
 ghost use Rattle.std.specs.Prelude.{◌≡◌, ◌≤◌, ◌<◌, length, IsTrue};
 ghost use Rattle.osc_coap.specs.Message.{Message, Spells};
 
-use osc_ccm::Ccm;
 use osc_coap::MessageRef;
 use osc_fixtures::{STRANGER, put, server};
 use osc_model::{Datagram, Draw, Method, Moment, Path, Step};
+use osc_protect::Suite;
 use osc_scope::Scope;
 use osc_server::Server;
 use osc_tree::Tree;
@@ -179,7 +179,7 @@ pub(crate) fn answer(
     drawn: [u8; 32],
     datagram: &[u8],
 ) -> Result<Step, AllocError> {
-    server.on_datagram::<(Ccm<8>, Ccm<16>)>(alloc, now, STRANGER, datagram, &Draw(drawn))
+    server.on_datagram::<Suite>(alloc, now, STRANGER, datagram, &Draw(drawn))
 }
 
 // How many bytes the step sends.

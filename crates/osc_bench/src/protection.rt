@@ -5,13 +5,12 @@ ghost use Rattle.osc_model.specs.declared.context.Side.TheVariants.{Client, Serv
 ghost use Rattle.osc_context.specs.Derivation.{sender_of, recipient_of};
 ghost use Rattle.osc_protect.specs.Protection.{IsFor};
 
-use osc_ccm::Ccm;
 use osc_coap::{DATAGRAM_LIMIT, MessageRef};
 use osc_context::{NUMBER_LIMIT, RecipientContext, SenderContext, derive};
 use osc_fixtures::shared_name;
 use osc_model::{SharedName, Side};
 use osc_protect::{
-    MessageTooLong, ProtectedRequest, Room, SealedRequestRef, open_request, protect_request,
+    MessageTooLong, ProtectedRequest, Room, SealedRequestRef, Suite, open_request, protect_request,
     read_request,
 };
 use std::alloc::{AllocError, Global};
@@ -62,7 +61,7 @@ pub(crate) fn protect_next(
     }
     let room = Room::new(alloc, name, next, DATAGRAM_LIMIT)?;
     let number = sender.take_number().unwrap();
-    match protect_request::<(Ccm<8>, Ccm<16>)>(room, number, request) {
+    match protect_request::<Suite>(room, number, request) {
         Ok(made) => Ok(Some(made)),
         Err(MessageTooLong { room, number }) => {
             drop(room);
@@ -208,7 +207,7 @@ fn open_once(
     requires recipient { recipient.now ≡ recipient_of name.now Server recipient.now.window }
     requires named { IsFor name.now sealed.now }
 {
-    match open_request::<(Ccm<8>, Ccm<16>)>(alloc, name, recipient, sealed)? {
+    match open_request::<Suite>(alloc, name, recipient, sealed)? {
         Ok(note) => Ok(note.plaintext.len()),
         Err(_) => Ok(0),
     }

@@ -5,8 +5,8 @@ use crate::flood::{
 };
 use crate::messages::{answer, server_of};
 use crate::protected::{length_of_reply, requests_under};
-use osc_ccm::Ccm;
 use osc_model::{Bytes, Method, Moment};
+use osc_protect::Suite;
 use osc_server::Server;
 use std::alloc::{AllocError, Global};
 
@@ -139,13 +139,7 @@ fn hear(
         tick(alloc, server, now);
     }
     mark(alloc)?;
-    let step = server.on_datagram::<(Ccm<8>, Ccm<16>)>(
-        alloc,
-        now,
-        origin(from),
-        datagram,
-        &draw_of(place),
-    )?;
+    let step = server.on_datagram::<Suite>(alloc, now, origin(from), datagram, &draw_of(place))?;
     ended(alloc, step)
 }
 

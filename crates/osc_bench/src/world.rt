@@ -1,9 +1,9 @@
 //! A world of four clients, which ask in turn.
 
 use crate::tokens::right_of;
-use osc_ccm::Ccm;
 use osc_fixtures::{GET, KEY, POST, SERVER, claims, drawn, iv_of, place, request, straight};
 use osc_model::{Draw, Moment, Request};
+use osc_protect::Suite;
 use osc_scope::Scope;
 use osc_token::Audience;
 use osc_tree::Tree;
@@ -51,7 +51,7 @@ fn enroll_all(alloc: Global, start: &mut Start) -> Result<(), AllocError> {
 
 fn enroll(alloc: Global, start: &mut Start, client: u8) -> Result<(), AllocError> {
     let holder = holder_of(alloc, client)?;
-    match start.enroll::<(Ccm<8>, Ccm<16>)>(alloc, holder) {
+    match start.enroll::<Suite>(alloc, holder) {
         Ok(()) => Ok(()),
         Err(_) => Err(AllocError),
     }
@@ -125,7 +125,7 @@ fn happens(alloc: Global, world: &mut World, draw: Draw, what: What) -> Result<(
         draw,
         what,
     };
-    let happened = world.step::<(Ccm<8>, Ccm<16>)>(alloc, &event);
+    let happened = world.step::<Suite>(alloc, &event);
     drop(event);
     happened
 }
@@ -133,7 +133,7 @@ fn happens(alloc: Global, world: &mut World, draw: Draw, what: What) -> Result<(
 // What waits is delivered, each time with these random bytes.
 fn quiet(alloc: Global, world: &mut World, draw: Draw) -> Result<(), AllocError> {
     let draws = OneDraw(draw);
-    world.quiet::<(Ccm<8>, Ccm<16>), OneDraw>(alloc, Moment::START, &draws, QUIET_LIMIT)?;
+    world.quiet::<Suite, OneDraw>(alloc, Moment::START, &draws, QUIET_LIMIT)?;
     Ok(())
 }
 

@@ -3,12 +3,13 @@ ghost use Rattle.std.specs.Prelude.{◌<◌, IfOk};
 
 use crate::fault::Fault;
 use crate::place::Place;
-use crate::supply::{Draws, Suite};
+use crate::supply::Draws;
 use crate::wire::{LOCK, sent};
 use osc_authz::ClientDesk;
 use osc_ccm::Ccm;
 use osc_client::{Client, Way};
 use osc_model::{Algorithm, Bytes, ETags, Method, Moment, Peer, Request, Step};
+use osc_protect::Suite;
 use osc_scope::text_to_cbor;
 use osc_token::{Audience, Claims, InputMaterial, mint};
 use std::alloc::{AllocError, Global};

@@ -1,11 +1,7 @@
 //! What a program takes from its clock and its generator: here both are written out, so that it prints the same at each run.
 ghost use Rattle.std.specs.Prelude.{◌≡◌, ◌+◌, ◌*◌, ◌%◌, ◌^◌};
 
-use osc_ccm::Ccm;
 use osc_model::{Draw, Moment};
-
-/// The ciphers: AES-CCM with tags of 8 bytes, under which tokens are sealed too, and with tags of 16.
-pub type Suite = (Ccm<8>, Ccm<16>);
 
 /// When the program begins, in seconds since 1970: 15 January 2027, 8:00 UTC.
 pub const BEGINNING: u64 = 1_800_000_000;

@@ -5,11 +5,10 @@ ghost use Rattle.osc_context.specs.Derivation.{taken_of, recipient_of};
 ghost use Rattle.osc_context.specs.Nonce.{longest_id};
 ghost use Rattle.osc_protect.specs.Protection.{HasShortContext, IsFor, note_of, request_nonce};
 
-use osc_ccm::Ccm;
 use osc_coap::{DATAGRAM_LIMIT, MessageRef};
 use osc_context::{ID_LIMIT, RecipientContext, SendNumber, derive};
 use osc_model::{Algorithm, Bytes, ContextName, Note, SharedName, Side};
-use osc_protect::*;
+use osc_protect::{Suite, *};
 use std::alloc::{AllocError, Global};
 use std::fmt;
 use std::process::Abort;
@@ -186,7 +185,7 @@ fn protect_at(
     let message = MessageRef::parse(datagram).expect(rt, "a message");
     let number = number_of(rt, alloc, name, Side::Client, number);
     let room = room_of(rt, alloc, name, &number, DATAGRAM_LIMIT);
-    protect_request::<(Ccm<8>, Ccm<16>)>(room, number, &message).expect(rt, "a request that fits")
+    protect_request::<Suite>(room, number, &message).expect(rt, "a request that fits")
 }
 
 /// What the server opens of a request with this recipient context, if it is genuine.
@@ -202,9 +201,7 @@ fn open_with(
     ensures { IfSome result (λ note. note
         ≡ note_of name.now Server sealed.now.number (request_nonce name.now sealed.now.number) note.plaintext) }
 {
-    let opened = open_request::<(Ccm<8>, Ccm<16>)>(alloc, name, recipient, sealed).expect(
-        rt, "memory",
-    );
+    let opened = open_request::<Suite>(alloc, name, recipient, sealed).expect(rt, "memory");
     opened.ok()
 }
 
@@ -341,7 +338,7 @@ fn uncounted_at(
     // For the proof alone: the call tells how long the ID is.
     let _id = sender.id();
     let room = Room::new(alloc, name, 20, DATAGRAM_LIMIT).expect(rt, "memory");
-    protect_uncounted::<(Ccm<8>, Ccm<16>)>(room, &sender, 20, &message, text).ok()
+    protect_uncounted::<Suite>(room, &sender, 20, &message, text).ok()
 }
 
 /// Whether these are its bytes, or there are none where it didn't fit a datagram.
@@ -390,9 +387,7 @@ fn reply_under(
     assert!(rt; recipient.is_fresh(sealed.number()));
     let number = recipient.accept(sealed.number());
     drop(recipient);
-    let made = protect_reply::<(Ccm<8>, Ccm<16>)>(room, number, &sender, reply).expect(
-        rt, "it fits",
-    );
+    let made = protect_reply::<Suite>(room, number, &sender, reply).expect(rt, "it fits");
     drop(sender);
     made
 }
@@ -422,10 +417,7 @@ fn respond(
     let message = MessageRef::parse(datagram).expect(rt, "a message");
     let number = number_of(rt, alloc, name, Side::Server, number);
     let room = Room::new(alloc, name, 20, DATAGRAM_LIMIT).expect(rt, "memory");
-    protect_response::<(Ccm<8>, Ccm<16>)>(room, 20, number, &message).expect(
-        rt,
-        "a response that fits",
-    )
+    protect_response::<Suite>(room, 20, number, &message).expect(rt, "a response that fits")
 }
 
 /// The plaintext of the responses.
@@ -479,7 +471,7 @@ fn open_response_at(
     let (sender, recipient) = derive(alloc, name, Side::Client).expect(rt, "a context");
     assert!(rt; sender.id().len() <= ID_LIMIT);
     drop(sender);
-    let opened = open_response::<(Ccm<8>, Ccm<16>)>(alloc, name, &recipient, number, &sealed);
+    let opened = open_response::<Suite>(alloc, name, &recipient, number, &sealed);
     opened.expect(rt, "memory").ok()
 }
 
@@ -662,10 +654,10 @@ fn protected_length(
 {
     let number = number_of(rt, alloc, name, Side::Client, 0);
     let room = room_of(rt, alloc, name, &number, DATAGRAM_LIMIT);
-    let MessageTooLong { room, number } = protect_request::<(Ccm<8>, Ccm<16>)>(
+    let MessageTooLong { room, number } = protect_request::<Suite>(
         room, number, too_long,
     ).expect_err(rt, "it is too long");
-    let made = protect_request::<(Ccm<8>, Ccm<16>)>(room, number, message).expect(rt, "it fits");
+    let made = protect_request::<Suite>(room, number, message).expect(rt, "it fits");
     let length = made.message.bytes().len();
     drop(made);
     length
@@ -704,7 +696,7 @@ fn post_size(rt: &impl Abort, alloc: Global, name: &SharedName, size: usize) -> 
 {
     let datagram = post_of(alloc, size).expect(rt, "memory");
     let message = MessageRef::parse(&datagram).expect(rt, "a message");
-    request_size::<(Ccm<8>, Ccm<16>)>(name, 0, &message)
+    request_size::<Suite>(name, 0, &message)
 }
 
 /// So many bytes of plaintext in so many of message.
@@ -766,6 +758,6 @@ fn what_is_printed(rt: HostRuntime) {
 #[test]
 fn laws_at_a_cipher(_rt: HostRuntime) {
     laws::aad_tells_the_number();
-    laws::unprotecting_a_protected_request::<(Ccm<8>, Ccm<16>)>();
-    laws::unprotecting_a_protected_response::<(Ccm<8>, Ccm<16>)>();
+    laws::unprotecting_a_protected_request::<Suite>();
+    laws::unprotecting_a_protected_response::<Suite>();
 }

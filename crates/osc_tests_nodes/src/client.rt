@@ -9,6 +9,7 @@ use osc_fixtures::{
     sent_in, shared_name, straight,
 };
 use osc_model::{ClientResult, Code, Moment, Request, SharedName, Side, Step};
+use osc_protect::Suite;
 use osc_server::Server;
 use std::alloc::{AllocError, Global};
 use std::process::Abort;
@@ -21,13 +22,7 @@ fn client(alloc: Global) -> Result<Client, AllocError> {
 
 /// What the server sends for the client's datagram.
 fn served(alloc: Global, server: &mut Server, datagram: &[u8]) -> Vec<u8> {
-    let step = server.on_datagram::<(Ccm<8>, Ccm<16>)>(
-        alloc,
-        Moment::START,
-        CLIENT,
-        datagram,
-        &drawn(9),
-    );
+    let step = server.on_datagram::<Suite>(alloc, Moment::START, CLIENT, datagram, &drawn(9));
     sent_in(alloc, step)
 }
 
@@ -40,7 +35,7 @@ fn begun(alloc: Global, client: &mut Client, byte: u8) -> Vec<u8> {
 fn asked(alloc: Global, client: &mut Client, request: &Request, byte: u8) -> Vec<u8>
     requires { 0 < request.now.code.0 }
 {
-    let step = client.ask::<(Ccm<8>, Ccm<16>)>(alloc, Moment::START, request, &drawn(byte));
+    let step = client.ask::<Suite>(alloc, Moment::START, request, &drawn(byte));
     sent_in(alloc, step)
 }
 
@@ -50,13 +45,13 @@ fn lied(alloc: Global, client: &Client, number: u64, text: &[u8], byte: u8) -> V
 {
     sent_in(
         alloc,
-        client.lie::<(Ccm<8>, Ccm<16>)>(alloc, number, text, &drawn(byte)),
+        client.lie::<Suite>(alloc, number, text, &drawn(byte)),
     )
 }
 
 /// How a lie goes on that isn't sent.
 fn refused_lie(alloc: Global, client: &Client, text: &[u8]) -> u8 {
-    result_in(client.lie::<(Ccm<8>, Ccm<16>)>(alloc, 0, text, &drawn(7)))
+    result_in(client.lie::<Suite>(alloc, 0, text, &drawn(7)))
 }
 
 /// How a step at the client went on, in one byte: 0 for nothing, 1 for a context, 2 and more by the class of an answer that opened
@@ -83,7 +78,7 @@ fn told_in(step: Step) -> u8 {
 
 /// What comes of the server's datagram at the client.
 fn hears(alloc: Global, client: &mut Client, datagram: &[u8]) -> Result<Step, AllocError> {
-    client.on_datagram::<(Ccm<8>, Ccm<16>)>(alloc, Moment::START, SERVER, datagram)
+    client.on_datagram::<Suite>(alloc, Moment::START, SERVER, datagram)
 }
 
 /// How the server's datagram goes on at the client.
@@ -100,7 +95,7 @@ fn ticked(alloc: Global, client: &mut Client, ms: u64) -> u8 {
 fn hindered(alloc: Global, client: &mut Client, request: &Request) -> u8
     requires { 0 < request.now.code.0 }
 {
-    result_in(client.ask::<(Ccm<8>, Ccm<16>)>(alloc, Moment::START, request, &drawn(7)))
+    result_in(client.ask::<Suite>(alloc, Moment::START, request, &drawn(7)))
 }
 
 /// The client gets a context.

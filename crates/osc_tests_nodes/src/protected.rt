@@ -5,13 +5,12 @@ ghost use Rattle.osc_context.specs.Derivation.{taken_of};
 ghost use Rattle.osc_context.specs.Nonce.{greatest_number};
 ghost use Rattle.osc_protect.specs.Protection.{HasShortContext};
 
-use osc_ccm::Ccm;
 use osc_coap::{Kind, MessageBuilder, MessageRef};
 use osc_context::{SendNumber, derive};
 use osc_fixtures::{CLIENT, empty_server, sent_in, shared_name};
 use osc_model::{Draw, Moment, SharedName, Side, Step};
 use osc_protect::{
-    MessageTooLong, ProtectedRequest, Room, open_response, protect_request, read_response,
+    MessageTooLong, ProtectedRequest, Room, Suite, open_response, protect_request, read_response,
 };
 use osc_server::Server;
 use std::alloc::{AllocError, Global};
@@ -68,7 +67,7 @@ fn protect_in(
     requires short { HasShortContext room.name }
     requires room { 1152 ≤ room.most }
 {
-    match protect_request::<(Ccm<8>, Ccm<16>)>(room, number, message) {
+    match protect_request::<Suite>(room, number, message) {
         Ok(made) => Ok(made),
         Err(MessageTooLong { room: _, number }) => {
             number.spend();
@@ -140,7 +139,7 @@ fn opened(alloc: Global, exchanged: Exchanged, number: u64, reply: &[u8]) -> Res
     let response = read_response(&message)?;
     let name = name(alloc, exchanged)?;
     let (_, recipient) = derive(alloc, &name, Side::Client)?;
-    match open_response::<(Ccm<8>, Ccm<16>)>(alloc, &name, &recipient, number, &response)? {
+    match open_response::<Suite>(alloc, &name, &recipient, number, &response)? {
         Ok(note) => Ok(Vec::from_slice(alloc, note.plaintext.as_slice())?),
         Err(_) => Err("not genuine")?,
     }
@@ -165,7 +164,7 @@ fn hears(
 ) -> Result<Step, AllocError> {
     let mut drawn = [0; 32];
     drawn[7] = nonce;
-    server.on_datagram::<(Ccm<8>, Ccm<16>)>(alloc, Moment::START, CLIENT, datagram, &Draw(drawn))
+    server.on_datagram::<Suite>(alloc, Moment::START, CLIENT, datagram, &Draw(drawn))
 }
 
 /// The server answers the datagram so.

@@ -1,7 +1,7 @@
 //! Datagrams to a small server, and what it sends for each.
-use osc_ccm::Ccm;
 use osc_fixtures::{CLIENT, at, put, scope_of, sent};
 use osc_model::{Draw, Moment, Peer};
+use osc_protect::Suite;
 use osc_server::Server;
 use osc_tree::Tree;
 use std::alloc::{AllocError, Global};
@@ -41,7 +41,7 @@ fn answer(
     datagram: &[u8],
     draw: &Draw,
 ) -> Result<Vec<u8>, AllocError> {
-    let step = server.on_datagram::<(Ccm<8>, Ccm<16>)>(alloc, now, from, datagram, draw)?;
+    let step = server.on_datagram::<Suite>(alloc, now, from, datagram, draw)?;
     Vec::from_slice(alloc, sent(&step))
 }
 

@@ -1,6 +1,6 @@
 //! Tokens with dates, posted to a server whose table of contexts is full.
-use osc_ccm::Ccm;
 use osc_fixtures::{CLIENT, GET_AND_POST, Right, at, drawn, empty_server, own, sent, token};
+use osc_protect::Suite;
 use osc_server::Server;
 use std::alloc::{AllocError, Global};
 use std::process::Abort;
@@ -27,7 +27,7 @@ fn post(alloc: Global, id: u8, expires: Option<u64>) -> Result<Vec<u8>, AllocErr
 
 /// The code that answers the datagram at this moment in ms; 0 where nothing does.
 fn code(alloc: Global, server: &mut Server, ms: u64, datagram: &[u8]) -> u8 {
-    match server.on_datagram::<(Ccm<8>, Ccm<16>)>(alloc, at(ms), CLIENT, datagram, &drawn(0)) {
+    match server.on_datagram::<Suite>(alloc, at(ms), CLIENT, datagram, &drawn(0)) {
         Ok(step) => {
             let code = sent(&step).get(1).copied().unwrap_or(0);
             drop(step);

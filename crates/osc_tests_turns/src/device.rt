@@ -1,10 +1,10 @@
 //! A device that asks its own server, and what others see of it.
 ghost use Rattle.std.specs.Prelude.{◌<◌};
 
-use osc_ccm::Ccm;
 use osc_device::{Device, NewError, OwnToken, Round, ServerParts};
 use osc_fixtures::{CLIENT, GET, KEY, POST, PUT, at, drawn, request, sent_in};
 use osc_model::{Bytes, ClientResult, Path};
+use osc_protect::Suite;
 use osc_scope::Scope;
 use osc_token::Audience;
 use osc_tree::Tree;
@@ -42,7 +42,7 @@ fn own_token(alloc: Global, scope: &[u8]) -> Result<OwnToken, AllocError> {
 fn device(rt: &impl Abort, alloc: Global) -> Device {
     let parts = parts(alloc).expect(rt, "memory");
     let own = own_token(alloc, SCOPE).expect(rt, "memory");
-    Device::new::<(Ccm<8>, Ccm<16>)>(alloc, parts, own).expect(rt, "a device")
+    Device::new::<Suite>(alloc, parts, own).expect(rt, "a device")
 }
 
 /// What the device learnt.
@@ -53,7 +53,7 @@ fn learnt(round: &Round) -> Option<&ClientResult> {
 /// Whether the device has posted its token, and has a context.
 fn opens(alloc: Global, device: &mut Device, number: u8) -> bool {
     let other = drawn(number.wrapping_add(100));
-    match device.open::<(Ccm<8>, Ccm<16>)>(alloc, at(0), &drawn(number), &other) {
+    match device.open::<Suite>(alloc, at(0), &drawn(number), &other) {
         Ok(round) => {
             let made = learnt(&round) == Some(&ClientResult::Made);
             drop(round);
@@ -78,7 +78,7 @@ fn asks(alloc: Global, device: &mut Device, number: u8, code: u8, payload: &'sta
         return 0;
     };
     let other = drawn(number.wrapping_add(100));
-    let round = device.ask::<(Ccm<8>, Ccm<16>)>(alloc, at(0), &request, &drawn(number), &other);
+    let round = device.ask::<Suite>(alloc, at(0), &request, &drawn(number), &other);
     drop(request);
     match round {
         Ok(round) => {
@@ -103,13 +103,7 @@ fn has(alloc: Global, device: &Device, bytes: &[u8]) -> bool {
 
 /// The code that somebody else is answered, who asks without protection; 0 where nothing is.
 fn told(alloc: Global, device: &mut Device) -> u8 {
-    let step = device.on_datagram::<(Ccm<8>, Ccm<16>)>(
-        alloc,
-        at(0),
-        CLIENT,
-        UNPROTECTED,
-        &drawn(9),
-    );
+    let step = device.on_datagram::<Suite>(alloc, at(0), CLIENT, UNPROTECTED, &drawn(9));
     let bytes = sent_in(alloc, step);
     let code = bytes.get(1).copied().unwrap_or(0);
     drop(bytes);
@@ -159,7 +153,7 @@ fn a_device_starts_again(rt: HostRuntime) -> Result<(), Fail> {
 
 /// A tick of a device at rest sends nothing.
 fn ticks(alloc: Global, device: &mut Device) -> bool {
-    let round = device.on_tick::<(Ccm<8>, Ccm<16>)>(alloc, at(1_000), &drawn(9));
+    let round = device.on_tick::<Suite>(alloc, at(1_000), &drawn(9));
     let silent = round.begun.out.as_slice().is_empty() && round.served.is_none();
     drop(round);
     silent
@@ -194,7 +188,7 @@ fn log(rt: &impl Abort, alloc: Global) -> Path {
 fn puts(rt: &impl Abort, alloc: Global, device: &mut Device, number: u8, bytes: &[u8]) -> u8 {
     let payload = Bytes::from_slice(alloc, bytes).expect(rt, "memory");
     let path = log(rt, alloc);
-    code_of(device.put::<(Ccm<8>, Ccm<16>)>(
+    code_of(device.put::<Suite>(
         alloc,
         at(0),
         path,
@@ -208,7 +202,7 @@ fn puts(rt: &impl Abort, alloc: Global, device: &mut Device, number: u8, bytes: 
 fn appends(rt: &impl Abort, alloc: Global, device: &mut Device, number: u8, bytes: &[u8]) -> u8 {
     let payload = Bytes::from_slice(alloc, bytes).expect(rt, "memory");
     let path = log(rt, alloc);
-    code_of(device.append::<(Ccm<8>, Ccm<16>)>(
+    code_of(device.append::<Suite>(
         alloc,
         at(0),
         path,
@@ -221,12 +215,12 @@ fn appends(rt: &impl Abort, alloc: Global, device: &mut Device, number: u8, byte
 
 fn reads(rt: &impl Abort, alloc: Global, device: &mut Device, number: u8) -> u8 {
     let path = log(rt, alloc);
-    code_of(device.read::<(Ccm<8>, Ccm<16>)>(alloc, at(0), path, &drawn(number), &drawn(100)))
+    code_of(device.read::<Suite>(alloc, at(0), path, &drawn(number), &drawn(100)))
 }
 
 fn removes(rt: &impl Abort, alloc: Global, device: &mut Device, number: u8) -> u8 {
     let path = log(rt, alloc);
-    code_of(device.remove::<(Ccm<8>, Ccm<16>)>(alloc, at(0), path, &drawn(number), &drawn(100)))
+    code_of(device.remove::<Suite>(alloc, at(0), path, &drawn(number), &drawn(100)))
 }
 
 fn writes(rt: &impl Abort, alloc: Global, device: &mut Device) {
@@ -273,7 +267,7 @@ fn with_long_scope(alloc: Global, last: u8) -> Result<Device, NewError> {
     let scope = long_scope(alloc, last)?;
     let parts = parts(alloc)?;
     let own = own_token(alloc, &scope)?;
-    Device::new::<(Ccm<8>, Ccm<16>)>(alloc, parts, own)
+    Device::new::<Suite>(alloc, parts, own)
 }
 
 /// A device is made where the post of its token has 1152 bytes, and opens; where it would have one more, there is none.

@@ -2,9 +2,9 @@
 ghost use Rattle.std.specs.Prelude.{None};
 
 use crate::stage::{FORWARDS, goes};
-use osc_ccm::Ccm;
 use osc_fixtures::{CLIENT, SERVER, STRANGER, at, drawn, proxy};
 use osc_model::Peer;
+use osc_protect::Suite;
 use osc_proxy::Proxy;
 use osc_turn::{Pace, Port, PortFault, paced_turn};
 use std::alloc::Global;
@@ -46,14 +46,7 @@ fn takes_turns(alloc: Global, flood: &mut Flood, proxy: &mut Proxy, turns: u64) 
     let mut whole = true;
     for turn in 0..turns {
         let now = at(turn.saturating_mul(5));
-        match paced_turn::<(Ccm<8>, Ccm<16>), _, _>(
-            alloc,
-            flood,
-            proxy,
-            &mut pace,
-            now,
-            &drawn(1),
-        ) {
+        match paced_turn::<Suite, _, _>(alloc, flood, proxy, &mut pace, now, &drawn(1)) {
             Ok(turned) => drop(turned),
             Err(_) => whole = false,
         }

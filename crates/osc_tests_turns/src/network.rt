@@ -3,10 +3,10 @@ ghost use Rattle.std.specs.Prelude.{◌<◌};
 
 use crate::queues::Queues;
 use crate::telling::{sends, takes};
-use osc_ccm::Ccm;
 use osc_client::Client;
 use osc_fixtures::{CLIENT, PROXY, SERVER, at, drawn};
 use osc_model::{Bytes, Datagram, Peer, Request};
+use osc_protect::Suite;
 use osc_proxy::Proxy;
 use osc_server::Server;
 use std::alloc::Global;
@@ -128,7 +128,7 @@ impl<'a, R: Abort> Network<'a, R> {
     pub fn asks(&mut self, client: &mut Client, request: &Request, ms: u64)
         requires { 0 < request.now.code.0 }
     {
-        let step = client.ask::<(Ccm<8>, Ccm<16>)>(self.alloc, at(ms), request, &drawn(2));
+        let step = client.ask::<Suite>(self.alloc, at(ms), request, &drawn(2));
         self.client.failing = self.failing;
         sends(self.rt, &mut self.client, step);
         self.deliver_from_client();

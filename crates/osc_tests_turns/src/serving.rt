@@ -2,9 +2,9 @@
 
 use crate::nodes::server;
 use crate::queues::Queues;
-use osc_ccm::Ccm;
 use osc_fixtures::{CLIENT, at, drawn};
 use osc_model::Bytes;
+use osc_protect::Suite;
 use osc_server::Server;
 use osc_turn::{TurnError, Turned, turn};
 use std::alloc::Global;
@@ -33,7 +33,7 @@ fn turns<R: Abort>(
     port: &mut Queues<'_, R>,
     server: &mut Server,
 ) -> Option<(bool, usize, bool)> {
-    told(turn::<(Ccm<8>, Ccm<16>), _, _>(alloc, port, server, at(0), &drawn(0)))
+    told(turn::<Suite, _, _>(alloc, port, server, at(0), &drawn(0)))
 }
 
 /// The bytes of the only datagram that the port was asked to send.

@@ -1,10 +1,11 @@
 //! One turn, and whether it tells what the queues know of it.
 
 use crate::queues::Queues;
-use osc_ccm::Ccm;
 use osc_fixtures::{at, drawn};
 use osc_model::{ClientResult, Step};
-use osc_turn::{Node, PortFault, TurnError, Turned, send_all, turn};
+use osc_protect::Suite;
+use osc_run::Node;
+use osc_turn::{PortFault, TurnError, Turned, send_all, turn};
 use std::alloc::{AllocError, Global};
 use std::process::Abort;
 use std::test::*;
@@ -81,7 +82,7 @@ fn learnt(turned: Turned) -> u8 {
 }
 
 /// One turn at this moment, each second with bytes of its own: what a client learnt, or `None` where the receive failed.
-pub(crate) fn takes<R: Abort, N: Node<(Ccm<8>, Ccm<16>)>>(
+pub(crate) fn takes<R: Abort, N: Node<Suite>>(
     rt: &R,
     alloc: Global,
     port: &mut Queues<'_, R>,
@@ -89,13 +90,7 @@ pub(crate) fn takes<R: Abort, N: Node<(Ccm<8>, Ccm<16>)>>(
     ms: u64,
 ) -> Option<u8> {
     let before = counts(port);
-    match turn::<(Ccm<8>, Ccm<16>), _, _>(
-        alloc,
-        port,
-        node,
-        at(ms),
-        &drawn((ms / 1_000 % 256) as u8),
-    ) {
+    match turn::<Suite, _, _>(alloc, port, node, at(ms), &drawn((ms / 1_000 % 256) as u8)) {
         Ok(turned) => {
             assert!(rt; is_told(port, before, &turned));
             Some(learnt(turned))

@@ -1,11 +1,11 @@
 //! Worlds, and what happens in them.
 
-use osc_ccm::Ccm;
 use osc_client::Way;
 use osc_fixtures::{
     KEY, PROXY, Right, SERVER, claims, drawn, iv_of, own, place, request, straight,
 };
 use osc_model::{Bytes, Moment, Path, Peer};
+use osc_protect::Suite;
 use osc_proxy::Targets;
 use osc_run::Actor;
 use osc_scope::Scope;
@@ -47,7 +47,7 @@ pub(crate) fn is_enrolled(
     way: Result<Way, AllocError>,
 ) -> bool {
     match holder(alloc, right, way) {
-        Ok(holder) => start.enroll::<(Ccm<8>, Ccm<16>)>(alloc, holder).is_ok(),
+        Ok(holder) => start.enroll::<Suite>(alloc, holder).is_ok(),
         Err(_) => false,
     }
 }
@@ -106,7 +106,7 @@ pub(crate) fn event(number: u8, what: What) -> Event {
 
 /// Whether there was memory for the event.
 pub(crate) fn takes_place(alloc: Global, world: &mut World, event: Event) -> bool {
-    let done = world.step::<(Ccm<8>, Ccm<16>)>(alloc, &event).is_ok();
+    let done = world.step::<Suite>(alloc, &event).is_ok();
     drop(event);
     done
 }

@@ -3,9 +3,9 @@
 use crate::common::{SCOPE, counts, exchanges, start};
 use crate::quiet::settles;
 use osc_authz::GrantError;
-use osc_ccm::Ccm;
 use osc_fixtures::{CLIENT, PROXY, SERVER, straight};
 use osc_model::{Algorithm, Bytes, Peer};
+use osc_protect::Suite;
 use osc_proxy::Targets;
 use osc_token::{Audience, Claims, InputMaterial};
 use osc_tree::Tree;
@@ -81,7 +81,7 @@ fn refusal(alloc: Global, start: &mut Start, at: Peer, row: Row) -> Option<Enrol
                 claims,
                 iv: [1; 13],
             };
-            start.enroll::<(Ccm<8>, Ccm<16>)>(alloc, holder).err()
+            start.enroll::<Suite>(alloc, holder).err()
         }
         Err(_) => Some(EnrollError::Memory),
     }

@@ -2,9 +2,9 @@
 ghost use Rattle.std.specs.Prelude.{◌%◌, replicate};
 
 use crate::common::{GREATEST, accepted, asks, counts, exchanges, has, takes_place, world};
-use osc_ccm::Ccm;
 use osc_fixtures::{POST, at, drawn};
 use osc_model::Draw;
+use osc_protect::Suite;
 use osc_run::Actor;
 use osc_world::{Draws, Event, What, World};
 use std::alloc::Global;
@@ -27,7 +27,7 @@ impl Draws for Numbered {
 /// A quiet round at this moment; none where there was no memory for it.
 pub(crate) fn is_quiet(alloc: Global, world: &mut World, ms: u64, limit: usize) -> Option<bool> {
     world
-        .quiet::<(Ccm<8>, Ccm<16>), Numbered>(alloc, at(ms), &Numbered, limit)
+        .quiet::<Suite, Numbered>(alloc, at(ms), &Numbered, limit)
         .ok()
 }
 

@@ -3,10 +3,10 @@
 //! allocations is refused; `examples/sweeps/memory` refuses each in turn.
 
 use crate::common::{SCOPE, has, has_proxy, is_enrolled, start};
-use osc_ccm::Ccm;
 use osc_client::Way;
 use osc_fixtures::{GET, POST, at, drawn, own, request, straight, targets, through};
 use osc_model::Code;
+use osc_protect::Suite;
 use osc_run::Actor;
 use osc_tree::Tree;
 use osc_world::{Event, What, World};
@@ -147,9 +147,9 @@ fn told(world: &World) -> Told {
 /// Whether the event takes place; where memory was refused, nothing has changed, and it takes place when it comes again.
 fn takes_place_at_last(alloc: Global, world: &mut World, event: &Event) -> bool {
     let before = told(world);
-    match world.step::<(Ccm<8>, Ccm<16>)>(alloc, event) {
+    match world.step::<Suite>(alloc, event) {
         Ok(()) => true,
-        Err(_) => told(world) == before && world.step::<(Ccm<8>, Ccm<16>)>(alloc, event).is_ok(),
+        Err(_) => told(world) == before && world.step::<Suite>(alloc, event).is_ok(),
     }
 }
 

@@ -3,8 +3,8 @@
 use crate::common::{
     asks, counts, delivers, event, exchanges, has, injects, lies, restarts, world,
 };
-use osc_ccm::Ccm;
 use osc_fixtures::{GET, POST, SERVER, STRANGER, request};
+use osc_protect::Suite;
 use osc_run::Actor;
 use osc_world::{Event, What, World};
 use std::alloc::{AllocError, Global};
@@ -25,7 +25,7 @@ fn events(alloc: Global) -> Result<Vec<Event>, AllocError> {
 }
 
 fn runs(rt: &impl Abort, alloc: Global, world: &mut World, events: &[Event]) {
-    assert!(rt; world.run::<(Ccm<8>, Ccm<16>)>(alloc, events).is_ok());
+    assert!(rt; world.run::<Suite>(alloc, events).is_ok());
     assert!(rt; world.sent().len() == 4);
     assert!(rt; world.records().len() == 6);
     assert!(rt; counts(alloc, world) == (1, 1, 1));
