@@ -5,7 +5,7 @@ use Rattle.std.specs.List.{range_with_len}
 use lib.Ieee.Fits.{and_l, and_r}
 use Rattle.osc_aes.specs.Field.{times_x, inverse}
 use Rattle.osc_aes.specs.SubBytes.{sub_byte}
-use Rattle.osc_aes.specs.Tower.{first_place, second_place, form_of, byte_of, substitute, doubled, plain_substitute}
+use Rattle.osc_aes.specs.Inner.Tower.{first_place, second_place, form_of, byte_of, substitute, doubled, plain_substitute}
 use Rattle.osc_aes.proofs.Lanes.{all_below, every_below}
 
 -- two functions that compute to the same at each byte

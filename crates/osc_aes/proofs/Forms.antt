@@ -2,7 +2,7 @@
 use Rattle.std.proofs.Common.{◌≡◌, ℕ, ◌/◌, ◌^◌, ◌∙◌, List, map, replicate, bit_and, bit_xor, ap, T}
 use Rattle.std.proofs.lemmas.Simd.{zip2_splat, zip2_of_maps, map-map}
 use lib.Lanes.{Each1, zip2}
-use Rattle.osc_aes.specs.Tower.{is_place, IsPlace, looked, upper, lower, sum_of, both, one, other, first_place, second_place}
+use Rattle.osc_aes.specs.Inner.Tower.{is_place, IsPlace, looked, upper, lower, sum_of, both, one, other, first_place, second_place}
 use Rattle.osc_aes.proofs.Lanes.{IsBlock, all_below, each_made}
 
 -- the halves of sixteen bytes

@@ -9,9 +9,9 @@ use Rattle.osc_aes.specs.Field.{times_power}
 use Rattle.osc_aes.specs.SubBytes.{sub_byte}
 use Rattle.osc_aes.specs.KeyExpansion.{word, add_words, rot_word, sub_word, round_constant, key_expansion}
 use Rattle.osc_aes.specs.Cipher.{sub_bytes, shift_rows, mix_columns, add_round_key, rounds, cipher, encrypt_block}
-use Rattle.osc_aes.specs.Tower.{byte_of, substitute, plain_substitute}
-use Rattle.osc_aes.specs.States.{turned, state_in, mixed_state, with_constant, round_key}
-use Rattle.osc_aes.specs.Keys.{first_word, second_word, third_word, fourth_word, next_round_key}
+use Rattle.osc_aes.specs.Inner.Tower.{byte_of, substitute, plain_substitute}
+use Rattle.osc_aes.specs.Inner.States.{turned, state_in, mixed_state, with_constant, round_key}
+use Rattle.osc_aes.specs.Inner.Keys.{first_word, second_word, third_word, fourth_word, next_round_key}
 use Rattle.osc_aes.proofs.Lanes.{IsBlock, lanes, explicit, lane-lt, together}
 use Rattle.osc_aes.proofs.FormLaws.{byte_of-sum, byte_of-substitute, substitute-lt, plain_substitute_is}
 use Rattle.osc_aes.proofs.Rounds.{picked, sums, self_left}

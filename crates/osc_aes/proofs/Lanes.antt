@@ -5,7 +5,7 @@ use Rattle.std.proofs.lemmas.List.FromFn.{fill_by_all}
 use Rattle.std.proofs.lemmas.Simd.{SwzOk, swz_l}
 use lib.Lanes.{Each1}
 use lib.Ieee.Fits.{and_l, and_r}
-use Rattle.osc_aes.specs.Tower.{IsPlace, looked}
+use Rattle.osc_aes.specs.Inner.Tower.{IsPlace, looked}
 
 -- what a proof knows of a vector of sixteen bytes
 abbrev pub IsBlock : List ℕ → Type 0

@@ -7,8 +7,8 @@ use lib.Lanes.{zip2}
 use Rattle.osc_aes.specs.Field.{times_x, total, product}
 use Rattle.osc_aes.specs.SubBytes.{sub_byte}
 use Rattle.osc_aes.specs.Cipher.{sub_bytes, shift_rows, mix_columns}
-use Rattle.osc_aes.specs.Tower.{byte_of, substitute, doubled}
-use Rattle.osc_aes.specs.States.{turned, state_in, mixed_state, with_constant}
+use Rattle.osc_aes.specs.Inner.Tower.{byte_of, substitute, doubled}
+use Rattle.osc_aes.specs.Inner.States.{turned, state_in, mixed_state, with_constant}
 use Rattle.osc_aes.specs.declared.cipher.TheConstants.{NEXT_0, NEXT_1, NEXT_2, NEXT_3, BEFORE_0, BEFORE_1, BEFORE_2, BEFORE_3}
 use Rattle.osc_aes.proofs.ByteLaws.{sub_byte-lt}
 use Rattle.osc_aes.proofs.Lanes.{IsBlock, lanes, explicit, lane-lt, together}

@@ -2,6 +2,4 @@ pub mod Field
 pub mod SubBytes
 pub mod KeyExpansion
 pub mod Cipher
-pub mod Tower
-pub mod States
-pub mod Keys
+pub mod Inner

@@ -4,8 +4,8 @@ ghost use Rattle.std.specs.Prelude.{◌≡◌, bit_xor};
 ghost use Rattle.std.specs.Simd.Lanes.{zip2};
 ghost use Rattle.osc_aes.specs.Cipher.{sub_bytes, shift_rows, rounds, cipher};
 ghost use Rattle.osc_aes.specs.KeyExpansion.{key_expansion};
-ghost use Rattle.osc_aes.specs.States.{state_in, mixed_state, with_constant};
-ghost use Rattle.osc_aes.specs.Keys.{AreKeys};
+ghost use Rattle.osc_aes.specs.Inner.States.{state_in, mixed_state, with_constant};
+ghost use Rattle.osc_aes.specs.Inner.Keys.{AreKeys};
 
 use crate::key_expansion::Keys;
 use crate::tower::{doubled_substitutes, forms, plain_substitutes};

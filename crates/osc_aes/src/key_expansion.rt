@@ -1,8 +1,8 @@
 //! The key schedule (FIPS 197, section 5.2) on sixteen lanes, a round key at a time.
 ghost use Rattle.std.specs.Prelude.{◌≡◌, ◌++◌, map, take, replicate, bit_xor};
-ghost use Rattle.osc_aes.specs.Tower.{byte_of};
-ghost use Rattle.osc_aes.specs.States.{state_in, with_constant};
-ghost use Rattle.osc_aes.specs.Keys.{AreKeys, next_round_key};
+ghost use Rattle.osc_aes.specs.Inner.Tower.{byte_of};
+ghost use Rattle.osc_aes.specs.Inner.States.{state_in, with_constant};
+ghost use Rattle.osc_aes.specs.Inner.Keys.{AreKeys, next_round_key};
 
 use crate::tower::{bytes, forms, substitutes};
 use std::simd::prelude::*;

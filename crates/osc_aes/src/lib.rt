@@ -27,7 +27,7 @@ pub struct Aes128 {
 
 impl Model for Aes128 {
     ghost use Rattle.std.specs.Prelude.{ℕ, List};
-    ghost use Rattle.osc_aes.specs.Keys.{AreKeys};
+    ghost use Rattle.osc_aes.specs.Inner.Keys.{AreKeys};
 
     ghost Value = { List ℕ };
 

@@ -9,8 +9,8 @@
 //! The 0x63 of the affine map isn't added here: it is in the round keys.
 ghost use Rattle.std.specs.Prelude.{◌≡◌, map};
 ghost use Rattle.std.specs.Simd.Lanes.{Each1};
-ghost use Rattle.osc_aes.specs.Tower.{IsPlace, looked, upper, lower, first_place, second_place, byte_of, substitute, doubled, plain_substitute};
-ghost use Rattle.osc_aes.specs.States.{state_in};
+ghost use Rattle.osc_aes.specs.Inner.Tower.{IsPlace, looked, upper, lower, first_place, second_place, byte_of, substitute, doubled, plain_substitute};
+ghost use Rattle.osc_aes.specs.Inner.States.{state_in};
 
 use std::simd::prelude::*;
 

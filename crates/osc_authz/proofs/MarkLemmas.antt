@@ -13,7 +13,7 @@ use Rattle.std.proofs.lemmas.Slice.Eq.{bytes_eq-Decides}
 use Rattle.osc_model.specs.declared.node.Moment.{Moment}
 use Rattle.osc_authz.specs.declared.holding.Holding.{Holding}
 use Rattle.osc_authz.specs.Held.{Held}
-use Rattle.osc_authz.specs.Marks.{AddsMarks, is_among, is_marked}
+use Rattle.osc_authz.specs.Inner.Marks.{AddsMarks, is_among, is_marked}
 use Rattle.osc_authz.specs.Table.{IsTable, IsLeastFree, alive, contexts, holds_live, ids, listed, without_pending, without_pending_in}
 use Rattle.osc_authz.proofs.Parts.{part_filter, part_length}
 use Rattle.osc_authz.proofs.Pigeon.{crowded}

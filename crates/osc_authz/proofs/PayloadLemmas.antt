@@ -6,7 +6,7 @@ use Rattle.osc_cbor.specs.Data.{DataItem, unsigned, negative, byte_string, text_
 use Rattle.osc_cbor.specs.Parts.{as_bytes, value}
 use Rattle.osc_cbor.specs.Spelling.{IsWhole}
 use Rattle.osc_authz.specs.Exchange.{IsPost, IsAnswer}
-use Rattle.osc_authz.specs.Payload.{bytes_under, if_nonce, nonce_under, if_id, id_under, post_fields, answer_fields}
+use Rattle.osc_authz.specs.Inner.Payload.{bytes_under, if_nonce, nonce_under, if_id, id_under, post_fields, answer_fields}
 
 -- ---- what is under a label
 

@@ -2,14 +2,12 @@
 pub mod Exchange
 pub mod Held
 pub mod Table
-pub mod Marks
 pub mod Desk
 pub mod Posting
 pub mod Post
 pub mod Begun
 pub mod Client
 pub mod Errors
-pub mod Payload
 pub mod Agreement
 pub mod Granted
 pub mod Members
@@ -17,3 +15,4 @@ pub mod Contexts
 pub mod Agreed
 pub mod HoldsToken
 pub mod Welcome
+pub mod Inner

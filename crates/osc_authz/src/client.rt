@@ -8,11 +8,11 @@ ghost use Rattle.osc_cbor.specs.Data.{DataItem};
 ghost use Rattle.osc_cbor.specs.Spelling.{IsWhole, spelling};
 ghost use Rattle.osc_model.specs.Code.{code as code_of};
 ghost use Rattle.osc_model.specs.Draw.{nonce_drawn};
-ghost use Rattle.osc_token.specs.Reading.{IsItem};
+ghost use Rattle.osc_token.specs.Inner.Reading.{IsItem};
 ghost use Rattle.osc_authz.specs.Begun.{Begun};
 ghost use Rattle.osc_authz.specs.Client.{Finishes, made_name, offered_id as offered};
 ghost use Rattle.osc_authz.specs.Exchange.{post_item};
-ghost use Rattle.osc_authz.specs.Payload.{answer_fields as fields_of};
+ghost use Rattle.osc_authz.specs.Inner.Payload.{answer_fields as fields_of};
 
 use crate::derivation::derived;
 use crate::error::FinishError;

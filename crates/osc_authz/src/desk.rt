@@ -13,8 +13,8 @@ ghost use Rattle.osc_token.specs.Claims.{ComesTo};
 ghost use Rattle.osc_token.specs.declared.claims.Claims.{Claims as AnyClaims};
 ghost use Rattle.osc_authz.specs.Agreement.{Agrees, Answers};
 ghost use Rattle.osc_authz.specs.Held.{Held};
-ghost use Rattle.osc_authz.specs.Payload.{post_fields as fields_of};
-ghost use Rattle.osc_token.specs.Reading.{IsItem};
+ghost use Rattle.osc_authz.specs.Inner.Payload.{post_fields as fields_of};
+ghost use Rattle.osc_token.specs.Inner.Reading.{IsItem};
 ghost use Rattle.osc_authz.specs.Table.{IsTable, IsFull, accepted, alive, confirmed_at, meant, taking, with_id};
 ghost use Rattle.osc_authz.specs.Post.{Posts};
 

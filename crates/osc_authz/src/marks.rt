@@ -1,7 +1,7 @@
 //! Marks of the recipient IDs in use, by which a free one is found.
 
 ghost use Rattle.std.specs.Prelude.{◌≡◌, [], ◌∷◌, not, position, map};
-ghost use Rattle.osc_authz.specs.Marks.{AddsMarks};
+ghost use Rattle.osc_authz.specs.Inner.Marks.{AddsMarks};
 ghost use Rattle.osc_authz.specs.Table.{alive, ids, listed, without_pending};
 
 use crate::context::ServerContext;

@@ -5,7 +5,7 @@ use Rattle.osc_cbor.specs.Data.{DataItem, Items, Pairs, no_pairs, pair, pair_cou
 use Rattle.osc_cbor.specs.Same.{has_key}
 use Rattle.osc_cbor.specs.Spelling.{Spells, SpellsPairs}
 use Rattle.osc_cbor.specs.Faults.{Fails}
-use Rattle.osc_cbor.specs.Ends.{Passed}
+use Rattle.osc_cbor.specs.Inner.Ends.{Passed}
 use Rattle.osc_cbor.specs.Reading.{Found, push_pair, items_from, pairs_from, item_at}
 use Rattle.osc_cbor.specs.declared.error.ReadError.{ReadError}
 use Rattle.osc_cbor.proofs.Steps.{AreBytes, err_is, ok_or_err}

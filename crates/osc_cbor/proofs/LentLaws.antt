@@ -8,7 +8,7 @@ use Rattle.osc_cbor.specs.Lent.{item_of, rest_of, item_in, items_in, pairs_in, S
 use Rattle.osc_cbor.specs.Parts as part
 use Rattle.osc_cbor.specs.Reading.{Found, item_at}
 use Rattle.osc_cbor.specs.Spelling.{Spells, SpellsItems, SpellsPairs, IsWhole}
-use Rattle.osc_cbor.specs.Tokens.{Token, token_at, inside}
+use Rattle.osc_cbor.specs.Inner.Tokens.{Token, token_at, inside}
 use Rattle.osc_cbor.specs.View.{items_of, pairs_of}
 use Rattle.osc_cbor.specs.declared.error.ReadError.{ReadError}
 use Rattle.osc_cbor.proofs.AgainLaws.{item_again}

@@ -6,7 +6,7 @@ use Rattle.osc_cbor.specs.Data.{DataItem, byte_string, text_string, array, map, 
 use Rattle.osc_cbor.specs.Head.{head}
 use Rattle.osc_cbor.specs.Spelling.{spelling, items_spelling, pairs_spelling, HasSpelling, PairsHaveSpellings}
 use Rattle.osc_cbor.specs.Same.{has_key}
-use Rattle.osc_cbor.specs.Notes.{Grows, piece, pieces, times, AreApart, Repeats, Judged, again, apart, key_spellings, Passes, PassesBehind}
+use Rattle.osc_cbor.specs.Inner.Notes.{Grows, piece, pieces, times, AreApart, Repeats, Judged, again, apart, key_spellings, Passes, PassesBehind}
 use Rattle.osc_cbor.specs.Reading.{Found, push_item, push_pair, string_at, text_at, items_from, pairs_from, content_at}
 use Rattle.osc_cbor.specs.declared.heads.Major.TheVariants.{Bytes, Text, Array, Map, Tag}
 use Rattle.osc_cbor.specs.declared.error.ReadError.{ReadError}

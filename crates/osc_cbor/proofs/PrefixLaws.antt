@@ -7,7 +7,7 @@ use Rattle.std.specs.declared.cmp.Ordering.{Ordering}
 use Rattle.std.specs.declared.cmp.Ordering.TheVariants.{Less, Equal}
 use Rattle.std.proofs.lemmas.Bool.{cases_lt, cases_eq}
 use Rattle.std.proofs.Math.Nat.{mul-le-mul_left}
-use Rattle.osc_cbor.specs.Notes.{first_four}
+use Rattle.osc_cbor.specs.Inner.Notes.{first_four}
 use Rattle.osc_cbor.proofs.Steps.{AreBytes, AreBytes-rest}
 
 -- of a list's first bytes a number below m that compares as they do

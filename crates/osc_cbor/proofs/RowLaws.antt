@@ -12,7 +12,7 @@ use Rattle.std.proofs.lemmas.List.Sums.{sum_by-cons, sum_by-append}
 use Rattle.std.proofs.lemmas.List.Sorted.{sum_by-IsPermutation, IsPermutation-map}
 use Rattle.std.proofs.lemmas.Map.Text.{is_eq-slice_cmp}
 use Rattle.std.proofs.lemmas.Slice.Eq.{bytes_eq-Decides}
-use Rattle.osc_cbor.specs.Notes.{times, AreApart, Repeats, Says, piece, pieces}
+use Rattle.osc_cbor.specs.Inner.Notes.{times, AreApart, Repeats, Says, piece, pieces}
 use Rattle.osc_cbor.specs.declared.keys.Key.{Key}
 use Rattle.osc_cbor.specs.declared.keys.Verdict.{Verdict}
 use Rattle.osc_cbor.specs.declared.keys.Verdict.TheVariants.{Apart, Repeated, Unordered}

@@ -8,7 +8,7 @@ use Rattle.osc_cbor.specs.Head.{IsHead, head}
 use Rattle.osc_cbor.specs.Spelling.{Spells, SpellsItems, SpellsPairs, Follows, spelling, items_spelling, pairs_spelling}
 use Rattle.osc_cbor.specs.Reading.{◌>>=◌, number_at, argument_at, string_at}
 use Rattle.osc_cbor.specs.Same.{same, has_key}
-use Rattle.osc_cbor.specs.Tokens.{Token, token_behind, token_at, Stream, tokens, items_tokens, pairs_tokens, inside, Alike, Pending, Keys}
+use Rattle.osc_cbor.specs.Inner.Tokens.{Token, token_behind, token_at, Stream, tokens, items_tokens, pairs_tokens, inside, Alike, Pending, Keys}
 use Rattle.osc_cbor.specs.declared.error.ReadError.{ReadError}
 use Rattle.osc_cbor.specs.declared.error.ReadError.TheVariants.{Truncated, Unsupported}
 use Rattle.osc_cbor.proofs.Steps.{bind_ok, chosen, ok_is, ok_or_err}

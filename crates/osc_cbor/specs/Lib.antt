@@ -8,8 +8,5 @@ pub mod View
 pub mod Parts
 pub mod Same
 pub mod Reading
-pub mod Tokens
-pub mod Ends
-pub mod Notes
-pub mod Code
 pub mod Lent
+pub mod Inner

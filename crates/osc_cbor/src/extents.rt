@@ -2,7 +2,7 @@
 
 ghost use Rattle.std.specs.Prelude.{◌≡◌, ◌↔◌, ◌≤◌, ◌++◌, List, ℕ, length, IfOk, Ok, Err};
 ghost use Rattle.osc_cbor.specs.Data.{DataItem, nesting, most_nesting, no_items, no_pairs};
-ghost use Rattle.osc_cbor.specs.Ends.{Ends};
+ghost use Rattle.osc_cbor.specs.Inner.Ends.{Ends};
 ghost use Rattle.osc_cbor.specs.Faults.{Fails};
 ghost use Rattle.osc_cbor.specs.Reading.{string_at, text_at, simple_at, items_from, pairs_from, content_at, item_at};
 ghost use Rattle.osc_cbor.specs.Spelling.{Spells, Begins};

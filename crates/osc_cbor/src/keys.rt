@@ -8,8 +8,8 @@ ghost use Rattle.std.specs.Cmp.Lexicographic.{slice_cmp};
 ghost use Rattle.arrayvec.specs.ArrayVec.{array_vec_len};
 ghost use Rattle.osc_cbor.specs.Head as head_spec;
 ghost use Rattle.osc_cbor.specs.Major.{major_number};
-ghost use Rattle.osc_cbor.specs.Notes as spec;
-ghost use Rattle.osc_cbor.specs.Notes.{Noted, KeyNoted, Says};
+ghost use Rattle.osc_cbor.specs.Inner.Notes as spec;
+ghost use Rattle.osc_cbor.specs.Inner.Notes.{Noted, KeyNoted, Says};
 
 use crate::error::ReadError;
 use crate::heads::{Major, head};

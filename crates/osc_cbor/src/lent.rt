@@ -30,7 +30,7 @@ impl<'a> fmt::Debug for ItemRef<'a> {
 }
 
 impl<'a> Model for ItemRef<'a> {
-    ghost use Rattle.osc_cbor.specs.Code.{coded_item};
+    ghost use Rattle.osc_cbor.specs.Inner.Code.{coded_item};
     ghost use Rattle.osc_cbor.specs.Data.{DataItem};
     ghost use Rattle.osc_cbor.specs.Lent.{item_in};
     ghost use Rattle.osc_cbor.specs.Spelling.{IsWhole};

@@ -19,7 +19,7 @@ pub struct ItemRefs<'a> {
 impl<'a> Model for ItemRefs<'a> {
     ghost use Rattle.std.specs.Prelude.{List};
     ghost use Rattle.std.specs.Coded.{coded_list};
-    ghost use Rattle.osc_cbor.specs.Code.{coded_item};
+    ghost use Rattle.osc_cbor.specs.Inner.Code.{coded_item};
     ghost use Rattle.osc_cbor.specs.Data.{DataItem};
     ghost use Rattle.osc_cbor.specs.Lent.{items_in, AreItems};
 
@@ -92,7 +92,7 @@ pub struct PairRefs<'a> {
 impl<'a> Model for PairRefs<'a> {
     ghost use Rattle.std.specs.Prelude.{List};
     ghost use Rattle.std.specs.Coded.{coded_list, coded×};
-    ghost use Rattle.osc_cbor.specs.Code.{coded_item};
+    ghost use Rattle.osc_cbor.specs.Inner.Code.{coded_item};
     ghost use Rattle.osc_cbor.specs.Data.{DataItem};
     ghost use Rattle.osc_cbor.specs.Lent.{pairs_in, ArePairs};
 

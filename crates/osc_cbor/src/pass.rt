@@ -8,7 +8,7 @@ ghost use Rattle.arrayvec.specs.ArrayVec.{array_vec_len};
 ghost use Rattle.osc_cbor.specs.Data.{no_items, no_pairs};
 ghost use Rattle.osc_cbor.specs.Head as head_spec;
 ghost use Rattle.osc_cbor.specs.Major.{major_number};
-ghost use Rattle.osc_cbor.specs.Notes.{Grows, Passes, PassesBehind, PassesPairs, pieces};
+ghost use Rattle.osc_cbor.specs.Inner.Notes.{Grows, Passes, PassesBehind, PassesPairs, pieces};
 ghost use Rattle.osc_cbor.specs.Reading.{string_at, text_at, simple_at, items_from, pairs_from, content_at, item_at};
 ghost use Rattle.osc_cbor.specs.Spelling.{spelling, items_spelling, pairs_spelling};
 

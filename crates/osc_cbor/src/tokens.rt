@@ -5,8 +5,8 @@ ghost use Rattle.osc_cbor.specs.Data.{DataItem, Pairs, pair_count, map as spelle
 ghost use Rattle.osc_cbor.specs.Reading.{Reads};
 ghost use Rattle.osc_cbor.specs.Same as equality;
 ghost use Rattle.osc_cbor.specs.Spelling.{Spells, SpellsPairs};
-ghost use Rattle.osc_cbor.specs.Tokens as spec;
-ghost use Rattle.osc_cbor.specs.Tokens.{token_at, token_behind};
+ghost use Rattle.osc_cbor.specs.Inner.Tokens as spec;
+ghost use Rattle.osc_cbor.specs.Inner.Tokens.{token_at, token_behind};
 
 use crate::error::ReadError;
 use crate::heads::Major;

@@ -3,4 +3,4 @@ pub mod Ccm
 pub mod Limits
 pub mod Errors
 pub mod OneText
-pub mod Stream
+pub mod Inner

@@ -2,7 +2,7 @@
 
 ghost use Rattle.std.specs.Prelude.{◌≡◌, ◌+◌, ◌*◌, ◌<◌, ◌≤◌, ◌++◌, ℕ, List, length, take, drop};
 ghost use Rattle.osc_ccm.specs.Ccm.{xor, piece, filled, stream_block, ciphered};
-ghost use Rattle.osc_ccm.specs.Stream.{IsCiphered};
+ghost use Rattle.osc_ccm.specs.Inner.Stream.{IsCiphered};
 
 use crate::{block, lanes};
 use osc_aes::Aes128;

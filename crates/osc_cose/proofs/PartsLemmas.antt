@@ -4,7 +4,7 @@ use Rattle.std.specs.Option.{option_map, option_and_then}
 use Rattle.osc_cbor.specs.Data.{DataItem, unsigned, negative, byte_string, text_string, array, map, tag, bool, null, Items, no_items, item, Pairs}
 use Rattle.osc_cbor.specs.Parts.{as_bytes, as_array, as_map, value}
 use Rattle.osc_cose.specs.Encrypt0.{IsObject, IsProtected, untagged}
-use Rattle.osc_cose.specs.Parts.{three_of, typed, parts_of}
+use Rattle.osc_cose.specs.Inner.Parts.{three_of, typed, parts_of}
 use Rattle.osc_cose.specs.declared.encrypt0.Encrypt0.{Encrypt0}
 
 some_is : {A : Type 0} (x y : A) → Some x ≡ Some y → x ≡ y

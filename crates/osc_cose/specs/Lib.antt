@@ -1,4 +1,4 @@
 -- Definitions that the contracts cite.
 pub mod Encrypt0
 pub mod Errors
-pub mod Parts
+pub mod Inner

@@ -5,7 +5,7 @@ ghost use Rattle.osc_cbor.specs.Data.{DataItem, byte_string, value_under};
 ghost use Rattle.osc_cbor.specs.View.{pairs_of};
 ghost use Rattle.osc_cbor.specs.Spelling.{IsWhole};
 ghost use Rattle.osc_cose.specs.Encrypt0.{IsObject};
-ghost use Rattle.osc_cose.specs.Parts.{object_of_parts};
+ghost use Rattle.osc_cose.specs.Inner.Parts.{object_of_parts};
 ghost use Rattle.osc_cose.specs.declared.encrypt0.Encrypt0.{Encrypt0 as AnyObject};
 
 use crate::encrypt0::Encrypt0;

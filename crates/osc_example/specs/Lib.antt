@@ -1,4 +1,2 @@
 -- Definitions that the contracts cite.
-pub mod Bolt
-pub mod Place
-pub mod Wish
+pub mod Inner

@@ -1,6 +1,6 @@
 //! The bolt: what holders want of it, where it is, and the motor that moves it.
 ghost use Rattle.std.specs.Prelude.{◌≡◌, ◌↔◌, Some};
-ghost use Rattle.osc_example.specs.Bolt.{bolt_after, bolt_word, wanted_word};
+ghost use Rattle.osc_example.specs.Inner.Bolt.{bolt_after, bolt_word, wanted_word};
 ghost use Rattle.osc_example.specs.declared.bolt.Wanted.{Wanted as AnyWanted};
 
 /// Where a holder wants the bolt.

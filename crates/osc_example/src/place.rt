@@ -1,6 +1,6 @@
 //! The resources of the lock.
 ghost use Rattle.std.specs.Prelude.{◌≡◌, IfOk};
-ghost use Rattle.osc_example.specs.Place.{text_of};
+ghost use Rattle.osc_example.specs.Inner.Place.{text_of};
 
 use crate::fault::Fault;
 use osc_model::Path;

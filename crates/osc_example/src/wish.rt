@@ -2,9 +2,9 @@
 ghost use Rattle.std.specs.Prelude.{◌≡◌, ◌↔◌, ◌++◌, IfNone, IfOk, IfSome, IsTrue, Some, codes, option_map};
 ghost use Rattle.osc_model.specs.declared.code.Method.TheVariants.{Put};
 ghost use Rattle.osc_device.specs.Words.{ServedRequest, served_in};
-ghost use Rattle.osc_example.specs.Bolt.{bolt_word, wanted_word};
-ghost use Rattle.osc_example.specs.Place.{text_of};
-ghost use Rattle.osc_example.specs.Wish.{IsDone, IsWish, name_in};
+ghost use Rattle.osc_example.specs.Inner.Bolt.{bolt_word, wanted_word};
+ghost use Rattle.osc_example.specs.Inner.Place.{text_of};
+ghost use Rattle.osc_example.specs.Inner.Wish.{IsDone, IsWish, name_in};
 ghost use Rattle.osc_example.specs.declared.bolt.Wanted.{Wanted as AnyWanted};
 ghost use Rattle.osc_example.specs.declared.place.Place.TheVariants as place;
 

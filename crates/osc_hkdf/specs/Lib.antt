@@ -1,4 +1,4 @@
 -- Definitions that the contracts cite.
 pub mod Hmac
 pub mod Hkdf
-pub mod Mac
+pub mod Inner

@@ -2,7 +2,7 @@
 ghost use Rattle.std.specs.Prelude.{◌≡◌, ◌≤◌, ◌<◌, ◌↔◌, ◌++◌, [], ◌∷◌, IsErr, OnOk, OnErr, List, ℕ, length};
 ghost use Rattle.osc_hkdf.specs.Hmac.{hmac_of};
 ghost use Rattle.osc_hkdf.specs.Hkdf.{extract_of, expand_of};
-ghost use Rattle.osc_hkdf.specs.Mac.{Holds};
+ghost use Rattle.osc_hkdf.specs.Inner.Mac.{Holds};
 
 use crate::error::OutputTooLong;
 use crate::mac::{Mac, hmac};

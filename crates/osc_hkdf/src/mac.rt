@@ -1,7 +1,7 @@
 //! HMAC on SHA-256 (RFC 2104).
 ghost use Rattle.std.specs.Prelude.{◌≡◌, ◌≤◌, ◌-◌, ℕ, List, [], ◌++◌, length, replicate};
 ghost use Rattle.osc_hkdf.specs.Hmac.{block_key, hmac_of, pad};
-ghost use Rattle.osc_hkdf.specs.Mac.{Holds};
+ghost use Rattle.osc_hkdf.specs.Inner.Mac.{Holds};
 
 use sha2::{Digest, Sha256};
 

@@ -18,7 +18,7 @@ pub struct Prk {
 
 impl Model for Prk {
     ghost use Rattle.std.specs.Prelude.{ℕ, List, []};
-    ghost use Rattle.osc_hkdf.specs.Mac.{Holds};
+    ghost use Rattle.osc_hkdf.specs.Inner.Mac.{Holds};
 
     ghost Value = { List ℕ };
 

@@ -6,7 +6,7 @@ use Rattle.osc_coap.specs.Message.{NumberAndValue, Message, spelling}
 use Rattle.osc_coap.specs.Plaintext.{Plaintext, plaintext_spelling}
 use Rattle.osc_coap.specs.Length.{options_length, spelled_length, plaintext_length}
 use Rattle.osc_coap.specs.Building.{last_number, with_option, with_inner_option}
-use Rattle.osc_options.specs.Merging.{with_options, with_inner_options}
+use Rattle.osc_options.specs.Inner.Merging.{with_options, with_inner_options}
 
 -- the last number is that of the option behind the others
 pub last_number-push : (before : ℕ) (options : List NumberAndValue) (option : NumberAndValue) → last_number before (options ++ option ∷ []) ≡ option.0

@@ -7,7 +7,7 @@ use Rattle.std.proofs.lemmas.List.{append-nil}
 use Rattle.osc_coap.specs.Message.{NumberAndValue, IsOptionBehind, AreOptions}
 use Rattle.osc_coap.specs.Length.{extension_length, option_length, options_length}
 use Rattle.osc_options.specs.Split.{insert, merge, of_number, AreInOrder}
-use Rattle.osc_options.specs.Merging.{is_inner_next}
+use Rattle.osc_options.specs.Inner.Merging.{is_inner_next}
 use Rattle.osc_options.specs.MergedOptions.{behind_front}
 
 -- ---- in order

@@ -8,7 +8,7 @@ use Rattle.osc_coap.specs.Building.{payload_of}
 use Rattle.osc_options.specs.declared.table.Class.TheVariants.{E, U}
 use Rattle.osc_options.specs.Table.{class_of}
 use Rattle.osc_options.specs.Split.{same_class, outer_options, inner_options, merge, plaintext_of, protected, unprotected, has_oscore}
-use Rattle.osc_options.specs.Merging.{is_outer, is_inner}
+use Rattle.osc_options.specs.Inner.Merging.{is_outer, is_inner}
 use Rattle.osc_options.specs.Split.{AreInOrder}
 use Rattle.osc_options.proofs.MergeLaws.{merge-first, merge-outer, AreOptions-merge, AreInOrder-options, AreInOrder-merge}
 

@@ -5,7 +5,7 @@ use Rattle.osc_model.specs.Path.{IsPath, path_text, are_segments}
 use Rattle.osc_model.specs.declared.request.Request.{Request}
 use Rattle.osc_coap.specs.Message.{NumberAndValue, Message, spelling}
 use Rattle.osc_coap.specs.Building.{last_number, with_option}
-use Rattle.osc_options.specs.Merging.{with_options}
+use Rattle.osc_options.specs.Inner.Merging.{with_options}
 use Rattle.osc_options.specs.Requests.{each, segments_of, none_match_options, path_options, uint_options, request_options}
 use Rattle.osc_options.proofs.AddLaws.{LengthLaw, with_options-more, options_front}
 

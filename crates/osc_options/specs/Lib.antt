@@ -4,8 +4,8 @@ pub mod Recognised
 pub mod Requests
 pub mod Replies
 pub mod Split
-pub mod Merging
 pub mod MergedOptions
 pub mod Errors
 pub mod PlaintextRequests
 pub mod PlaintextReplies
+pub mod Inner

@@ -2,7 +2,7 @@
 ghost use Rattle.std.specs.Prelude.{◌≡◌, [], ◌∷◌, MatchOption, option_map};
 ghost use Rattle.std.specs.Iterator.{YieldsFirstBy, item_count};
 ghost use Rattle.osc_options.specs.Split as spec;
-ghost use Rattle.osc_options.specs.Merging.{is_inner_next as spec_is_inner_next};
+ghost use Rattle.osc_options.specs.Inner.Merging.{is_inner_next as spec_is_inner_next};
 ghost use Rattle.osc_options.specs.MergedOptions.{behind_front, left_of};
 
 use crate::numbers::OSCORE;

@@ -2,7 +2,7 @@
 ghost use Rattle.std.specs.Prelude.{◌≡◌, [], ◌∷◌, MatchOption};
 ghost use Rattle.std.specs.Iterator.{YieldsFirstBy, item_count};
 ghost use Rattle.osc_options.specs.Split as spec;
-ghost use Rattle.osc_options.specs.Merging as test;
+ghost use Rattle.osc_options.specs.Inner.Merging as test;
 ghost use Rattle.osc_coap.specs.Message.{AreOptions};
 
 use crate::numbers::OSCORE;

@@ -5,7 +5,7 @@ ghost use Rattle.osc_coap.specs.Plaintext.{plaintext_spelling};
 ghost use Rattle.osc_coap.specs.Building.{last_number};
 ghost use Rattle.osc_coap.specs.Length.{datagram_limit};
 ghost use Rattle.osc_options.specs.Split as spec;
-ghost use Rattle.osc_options.specs.Merging.{message_with, with_options, with_inner_options};
+ghost use Rattle.osc_options.specs.Inner.Merging.{message_with, with_options, with_inner_options};
 ghost use Rattle.osc_options.specs.Split.{AreInOrder};
 
 use crate::merging::{Merged, merge, with_oscore};

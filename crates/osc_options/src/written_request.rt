@@ -3,7 +3,7 @@ ghost use Rattle.std.specs.Prelude.{◌≡◌, ◌<◌, ◌≤◌, ◌↔◌, No
 ghost use Rattle.osc_coap.specs.Message.{spelling};
 ghost use Rattle.osc_coap.specs.Length.{datagram_limit};
 ghost use Rattle.osc_coap.specs.Building.{bare, last_number};
-ghost use Rattle.osc_options.specs.Merging.{with_options};
+ghost use Rattle.osc_options.specs.Inner.Merging.{with_options};
 ghost use Rattle.osc_options.specs.Requests.{each, segments_of, none_match_options, path_options, uint_options, request_options, with_request};
 
 use crate::numbers::{ACCEPT, CONTENT_FORMAT, IF_MATCH, IF_NONE_MATCH, URI_PATH};

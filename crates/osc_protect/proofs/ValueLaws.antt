@@ -6,7 +6,7 @@ use Rattle.std.proofs.lemmas.List.{take_at, drop_at, take-append-drop, length-ap
 use Rattle.std.proofs.lemmas.Option.{some_pair_parts}
 use Rattle.osc_context.specs.Nonce.{greatest_number, partial_iv}
 use Rattle.osc_protect.specs.Value.{Compressed, partial_iv_bytes, kid_context_bytes, flag_bits, value_spelling, HasValueSpelling, SpellsValue}
-use Rattle.osc_protect.specs.ValueReading.{◌>>=◌, number_in, has_leading_zero, partial_iv_at, kid_context_at, kid_at, parts_at, value_at}
+use Rattle.osc_protect.specs.Inner.ValueReading.{◌>>=◌, number_in, has_leading_zero, partial_iv_at, kid_context_at, kid_at, parts_at, value_at}
 use Rattle.osc_protect.proofs.ValuePartialIv.{AreBytes, IsShortest, partial_iv-some, partial_iv-short, has_leading_zero-partial_iv, number_in-partial_iv, partial_iv-number_in, number_in-fits}
 
 -- ---- what is written is read again

@@ -2,7 +2,7 @@
 use Rattle.std.proofs.Common.{◌≡◌, ℕ, ◌+◌, ◌*◌, ◌/◌, ◌%◌, ◌^◌, ◌<◌, ◌≤◌, true, false, cond, eqb, List, [], ◌∷◌, length, get_or, refl, sym, ap, ◌∙◌, arith}
 use Rattle.std.proofs.lemmas.Bool.{eqb-true}
 use Rattle.osc_context.specs.Nonce.{greatest_number, five_bytes, without_zeros, partial_iv}
-use Rattle.osc_protect.specs.ValueReading.{number_in, has_leading_zero}
+use Rattle.osc_protect.specs.Inner.ValueReading.{number_in, has_leading_zero}
 
 -- each element is a byte
 abbrev pub AreBytes : List ℕ → Type 0

@@ -1,7 +1,7 @@
 -- Definitions that the contracts cite.
 pub mod Value
-pub mod ValueReading
 pub mod Aad
 pub mod Protection
 pub mod Errors
 pub mod Ciphers
+pub mod Inner

@@ -6,8 +6,8 @@ ghost use Rattle.arrayvec.specs.ArrayVec.{array_vec_len};
 ghost use Rattle.osc_context.specs.Nonce.{longest_id, greatest_number};
 ghost use Rattle.osc_protect.specs.Value.{Compressed, SpellsValue};
 ghost use Rattle.osc_protect.specs.Protection.{HasShortContext, request_value, response_value};
-ghost use Rattle.osc_protect.specs.ValueReading as spec;
-ghost use Rattle.osc_protect.specs.ValueReading.{value_at, parts_at};
+ghost use Rattle.osc_protect.specs.Inner.ValueReading as spec;
+ghost use Rattle.osc_protect.specs.Inner.ValueReading.{value_at, parts_at};
 
 use arrayvec::ArrayVec;
 use osc_context::partial_iv_of;

@@ -5,7 +5,7 @@ use Rattle.std.proofs.lemmas.Bool.{both_ways}
 use Rattle.osc_coap.specs.Message.{NumberAndValue, Message, spelling}
 use Rattle.osc_coap.specs.Length.{options_length, spelled_length}
 use Rattle.osc_coap.specs.Building.{last_number, with_option}
-use Rattle.osc_options.specs.Merging.{with_options}
+use Rattle.osc_options.specs.Inner.Merging.{with_options}
 
 -- the last number is that of the option behind the others
 pub last_number-push : (before : ℕ) (options : List NumberAndValue) (option : NumberAndValue) → last_number before (options ++ option ∷ []) ≡ option.0

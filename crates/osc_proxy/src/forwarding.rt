@@ -3,7 +3,7 @@ ghost use Rattle.std.specs.Prelude.{◌≡◌, ◌<◌, ◌≤◌, ◌↔◌, No
 ghost use Rattle.osc_coap.specs.Building.{last_number};
 ghost use Rattle.osc_coap.specs.Length.{datagram_limit};
 ghost use Rattle.osc_coap.specs.Message.{spelling};
-ghost use Rattle.osc_options.specs.Merging.{with_options};
+ghost use Rattle.osc_options.specs.Inner.Merging.{with_options};
 ghost use Rattle.osc_options.specs.Split.{AreInOrder};
 ghost use Rattle.osc_proxy.specs.Forwarding as spec;
 ghost use Rattle.osc_proxy.specs.Inner.Rewriting.{rewritten, stays, staying};

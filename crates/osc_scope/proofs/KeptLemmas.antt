@@ -5,7 +5,7 @@ use Rattle.std.specs.Result.{OnErr}
 use Rattle.std.proofs.Math.Seq.{drop-append_seam}
 use Rattle.std.proofs.lemmas.List.{take-append-le, drop-append-le, map-append}
 use Rattle.std.proofs.lemmas.List.Elements.{All-head, All-tail}
-use Rattle.osc_scope.specs.Kept.{pair_at, pairs_at, IsWithin}
+use Rattle.osc_scope.specs.Inner.Kept.{pair_at, pairs_at, IsWithin}
 use Rattle.osc_scope.specs.declared.kept.Place.{Place}
 
 same_pair : (texts more : List ℕ) (place : Place) → IsWithin (length texts) place → pair_at (texts ++ more) place ≡ pair_at texts place

@@ -26,7 +26,7 @@ impl Model for Entries {
     ghost use Rattle.std.specs.Prelude.{List, ℕ, length};
     ghost use Rattle.std.specs.Coded.{coded_list, coded_ℕ, coded×};
     ghost use Rattle.std.specs.List.{All};
-    ghost use Rattle.osc_scope.specs.Kept.{pairs_at, IsWithin};
+    ghost use Rattle.osc_scope.specs.Inner.Kept.{pairs_at, IsWithin};
 
     ghost Value = { List (List ℕ × ℕ) };
 
@@ -90,7 +90,7 @@ impl<'a> Model for EntryRefs<'a> {
     ghost use Rattle.std.specs.Prelude.{List, ℕ, length};
     ghost use Rattle.std.specs.Coded.{coded_list, coded_ℕ, coded×};
     ghost use Rattle.std.specs.List.{All};
-    ghost use Rattle.osc_scope.specs.Kept.{pairs_at, IsWithin};
+    ghost use Rattle.osc_scope.specs.Inner.Kept.{pairs_at, IsWithin};
 
     ghost Value = { List (List ℕ × ℕ) };
 

@@ -8,7 +8,7 @@ use Rattle.osc_coap.specs.Message.{NumberAndValue, options_spelling, payload_spe
 use Rattle.osc_coap.specs.Plaintext.{Plaintext, plaintext_spelling}
 use Rattle.osc_coap.specs.Length.{datagram_limit, extension_length, option_length, options_length, plaintext_length}
 use Rattle.osc_coap.specs.Building.{bare_plaintext, last_number, payload_of, with_inner_option}
-use Rattle.osc_options.specs.Merging.{with_inner_options}
+use Rattle.osc_options.specs.Inner.Merging.{with_inner_options}
 use Rattle.osc_options.specs.Requests.{each, segments_of}
 
 -- ---- the laws of paths, options and plaintexts that are used

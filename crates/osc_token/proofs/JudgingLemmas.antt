@@ -11,8 +11,8 @@ use Rattle.osc_scope.specs.Entries.{Entry, IsScope, scope_of}
 use Rattle.osc_scope.specs.declared.error.ScopeError.{ScopeError}
 use Rattle.osc_scope.specs.declared.error.ScopeError.TheVariants.{Memory}
 use Rattle.osc_token.specs.Claims.{Dated, IsClaims, AreInTime, AreFor, AreBound, HasScope, ComesTo}
-use Rattle.osc_token.specs.Opening.{answer_of}
-use Rattle.osc_token.specs.Reading.{IsItem, pairs_in, dates_in, material_in}
+use Rattle.osc_token.specs.Inner.Opening.{answer_of}
+use Rattle.osc_token.specs.Inner.Reading.{IsItem, pairs_in, dates_in, material_in}
 use Rattle.osc_token.specs.declared.claims.Claims.{Claims}
 use Rattle.osc_token.specs.declared.claims.InputMaterial.{InputMaterial}
 use Rattle.osc_token.specs.declared.error.TokenError.TheVariants.{BadClaims, NotYet, Expired, Audience, BadScope}

@@ -8,7 +8,7 @@ use Rattle.osc_cbor.specs.Data.{DataItem, unsigned, byte_string, text_string, ma
 use Rattle.osc_cbor.specs.Head.{head}
 use Rattle.osc_cbor.specs.Spelling.{spelling, pairs_spelling}
 use Rattle.osc_cose.specs.Encrypt0.{parameter}
-use Rattle.osc_token.specs.Lengths.{counted}
+use Rattle.osc_token.specs.Inner.Lengths.{counted}
 use Rattle.osc_token.specs.Token.{alg_field, claims_item, date, material_item, salt_field}
 use Rattle.osc_token.specs.declared.claims.Claims.{Claims}
 use Rattle.osc_token.specs.declared.claims.InputMaterial.{InputMaterial}

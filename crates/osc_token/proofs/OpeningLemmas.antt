@@ -5,7 +5,7 @@ use Rattle.osc_cbor.specs.Data.{DataItem}
 use Rattle.osc_cbor.specs.Spelling.{IsWhole}
 use Rattle.osc_cose.specs.Encrypt0.{IsObject}
 use Rattle.osc_cose.specs.declared.encrypt0.Encrypt0.{Encrypt0}
-use Rattle.osc_token.specs.Opening.{HoldsText, answer_of}
+use Rattle.osc_token.specs.Inner.Opening.{HoldsText, answer_of}
 use Rattle.osc_token.specs.Token.{IsToken, without_cwt_tag}
 
 -- ---- results and bytes

@@ -8,7 +8,7 @@ use Rattle.osc_cbor.specs.Data.{DataItem, byte_string, text_string, map, Pairs, 
 use Rattle.osc_cbor.specs.Spelling.{IsWhole}
 use Rattle.osc_scope.specs.Entries.{Entry, IsScope, scope_of}
 use Rattle.osc_token.specs.Claims.{Dated, IsClaims, HasMaterial, HasScope, ComesTo}
-use Rattle.osc_token.specs.Reading.{pairs_in, dates_in}
+use Rattle.osc_token.specs.Inner.Reading.{pairs_in, dates_in}
 use Rattle.osc_token.specs.declared.claims.Claims.{Claims}
 use Rattle.osc_token.specs.declared.claims.InputMaterial.{InputMaterial}
 use Rattle.osc_token.specs.declared.error.TokenError.{TokenError}

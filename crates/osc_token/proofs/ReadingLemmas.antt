@@ -8,7 +8,7 @@ use Rattle.osc_model.specs.declared.algorithm.Algorithm.TheVariants.{EightByteTa
 use Rattle.osc_cbor.specs.Data.{DataItem, unsigned, negative, byte_string, text_string, array, map, tag, bool, null, Pairs, value_under}
 use Rattle.osc_cbor.specs.Parts.{as_unsigned, as_map, value}
 use Rattle.osc_token.specs.Claims.{IsAbsentOr, IsMaterial, HasMaterial}
-use Rattle.osc_token.specs.Reading.{pairs_in, date_of, dates_in, sized, is_absent_or, is_hkdf, are_known, algorithm_numbered, alg_of, salt_of, id_context_of, parts_of, material_of, material_in}
+use Rattle.osc_token.specs.Inner.Reading.{pairs_in, date_of, dates_in, sized, is_absent_or, is_hkdf, are_known, algorithm_numbered, alg_of, salt_of, id_context_of, parts_of, material_of, material_in}
 use Rattle.osc_token.specs.declared.claims.InputMaterial.{InputMaterial}
 use Rattle.osc_token.specs.declared.judging.Dates.{Dates}
 

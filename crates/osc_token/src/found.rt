@@ -61,7 +61,7 @@ pub(crate) struct ClaimsRef<'a> {
 
 impl<'a> Model for ClaimsRef<'a> {
     ghost use Rattle.std.specs.Prelude.{◌≡◌};
-    ghost use Rattle.osc_cbor.specs.Code.{coded_item};
+    ghost use Rattle.osc_cbor.specs.Inner.Code.{coded_item};
     ghost use Rattle.osc_cbor.specs.Data.{DataItem};
     ghost use Rattle.osc_cbor.specs.Parts.{value};
 
@@ -160,7 +160,7 @@ pub(crate) struct FieldsRef<'a> {
 
 impl<'a> Model for FieldsRef<'a> {
     ghost use Rattle.std.specs.Prelude.{◌≡◌};
-    ghost use Rattle.osc_cbor.specs.Code.{coded_item};
+    ghost use Rattle.osc_cbor.specs.Inner.Code.{coded_item};
     ghost use Rattle.osc_cbor.specs.Data.{DataItem};
     ghost use Rattle.osc_cbor.specs.Parts.{value};
 

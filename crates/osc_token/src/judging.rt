@@ -6,9 +6,9 @@ ghost use Rattle.osc_cbor.specs.Data.{DataItem, text_string};
 ghost use Rattle.osc_cbor.specs.Parts as part;
 ghost use Rattle.osc_cbor.specs.Spelling.{IsWhole};
 ghost use Rattle.osc_token.specs.Claims.{ComesTo};
-ghost use Rattle.osc_token.specs.Judging as spec;
-ghost use Rattle.osc_token.specs.Opening.{answer_of};
-ghost use Rattle.osc_token.specs.Reading as reading;
+ghost use Rattle.osc_token.specs.Inner.Judging as spec;
+ghost use Rattle.osc_token.specs.Inner.Opening.{answer_of};
+ghost use Rattle.osc_token.specs.Inner.Reading as reading;
 
 use crate::audience::Audience;
 use crate::claims::Claims;

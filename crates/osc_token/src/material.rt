@@ -2,7 +2,7 @@
 
 ghost use Rattle.std.specs.Prelude.{◌≡◌, IfOk, option_map, option_and_then, option_copied};
 ghost use Rattle.osc_cbor.specs.Parts as part;
-ghost use Rattle.osc_token.specs.Reading as spec;
+ghost use Rattle.osc_token.specs.Inner.Reading as spec;
 
 use crate::claims::InputMaterial;
 use crate::found::FieldsRef;

@@ -1,8 +1,8 @@
 use Rattle.std.proofs.Common.{◌≡◌, ℕ, List, length, map, bit_xor, sym, refl, ap, ◌∙◌, rules, arith}
 use Rattle.osc_aes.specs.Field.{times_x, times_power}
 use Rattle.osc_aes.specs.KeyExpansion.{key_expansion}
-use Rattle.osc_aes.specs.Tower.{byte_of}
-use Rattle.osc_aes.specs.States.{with_constant, round_key}
+use Rattle.osc_aes.specs.Inner.Tower.{byte_of}
+use Rattle.osc_aes.specs.Inner.States.{with_constant, round_key}
 use Rattle.osc_aes.proofs.KeyLaws.{forms_next, round_key-0}
 use Rattle.osc_aes.proofs.key_expansion.key_expansion.Goals as goal
 

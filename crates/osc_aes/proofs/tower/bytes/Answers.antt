@@ -1,4 +1,4 @@
-use Rattle.osc_aes.specs.Tower.{upper, lower, byte_of}
+use Rattle.osc_aes.specs.Inner.Tower.{upper, lower, byte_of}
 use Rattle.osc_aes.specs.declared.tower.TheConstants.{BYTE_LOWER, BYTE_UPPER}
 use Rattle.osc_aes.proofs.Forms.{made_places, sum_at, lower_places, upper_places}
 use Rattle.osc_aes.proofs.tower.bytes.Goals as goal

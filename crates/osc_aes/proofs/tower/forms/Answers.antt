@@ -1,8 +1,8 @@
 use Rattle.std.proofs.Common.{◌≡◌, ℕ, List, map, length, ap, ◌∙◌}
 use Rattle.std.proofs.lemmas.List.{map-id, length-map}
 use Rattle.std.proofs.lemmas.Simd.{map-map}
-use Rattle.osc_aes.specs.Tower.{upper, lower, form_of, byte_of}
-use Rattle.osc_aes.specs.States.{state_in}
+use Rattle.osc_aes.specs.Inner.Tower.{upper, lower, form_of, byte_of}
+use Rattle.osc_aes.specs.Inner.States.{state_in}
 use Rattle.osc_aes.specs.declared.tower.TheConstants.{FORM_LOWER, FORM_UPPER}
 use Rattle.osc_aes.proofs.Lanes.{IsBlock, map_same}
 use Rattle.osc_aes.proofs.Forms.{made_places, sum_at, lower_places, upper_places}

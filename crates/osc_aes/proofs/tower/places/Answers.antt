@@ -1,7 +1,7 @@
 use Rattle.std.proofs.Common.{◌≡◌, ℕ, List, map, bit_xor}
 use Rattle.std.proofs.lemmas.Simd.{zip2_of_maps}
 use lib.Lanes.{zip2}
-use Rattle.osc_aes.specs.Tower.{looked, upper, lower, both, one, other, first_place, second_place}
+use Rattle.osc_aes.specs.Inner.Tower.{looked, upper, lower, both, one, other, first_place, second_place}
 use Rattle.osc_aes.specs.declared.tower.TheConstants.{INVERSES, QUOTIENTS}
 use Rattle.osc_aes.proofs.Forms.{made_places, looked_at, sum_at, lower_places, upper_places, both_places, one_places, other_places}
 use Rattle.osc_aes.proofs.tower.places.Goals as goal

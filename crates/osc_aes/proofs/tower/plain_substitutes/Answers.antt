@@ -1,4 +1,4 @@
-use Rattle.osc_aes.specs.Tower.{first_place, second_place, plain_substitute}
+use Rattle.osc_aes.specs.Inner.Tower.{first_place, second_place, plain_substitute}
 use Rattle.osc_aes.specs.declared.tower.TheConstants.{PLAIN_FIRST, PLAIN_SECOND}
 use Rattle.osc_aes.proofs.Forms.{made_places, sum_at, first_places, second_places}
 use Rattle.osc_aes.proofs.tower.plain_substitutes.Goals as goal

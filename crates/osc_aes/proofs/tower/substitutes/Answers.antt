@@ -1,4 +1,4 @@
-use Rattle.osc_aes.specs.Tower.{first_place, second_place, substitute}
+use Rattle.osc_aes.specs.Inner.Tower.{first_place, second_place, substitute}
 use Rattle.osc_aes.specs.declared.tower.TheConstants.{SUBSTITUTE_FIRST, SUBSTITUTE_SECOND}
 use Rattle.osc_aes.proofs.Forms.{made_places, sum_at, first_places, second_places}
 use Rattle.osc_aes.proofs.tower.substitutes.Goals as goal

@@ -1,5 +1,5 @@
 use Rattle.std.proofs.Common.{arith}
-use Rattle.osc_authz.specs.Marks.{is_marked}
+use Rattle.osc_authz.specs.Inner.Marks.{is_marked}
 use Rattle.osc_authz.proofs.MarkLemmas.{marked_more}
 use Rattle.osc_authz.proofs.marks.mark_staying.Goals as goal
 

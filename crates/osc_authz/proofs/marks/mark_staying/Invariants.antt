@@ -1,5 +1,5 @@
 use Rattle.std.proofs.Common.{◌≡◌, ℕ, ◌<◌, ◌||◌, drop}
-use Rattle.osc_authz.specs.Marks.{is_among, is_marked}
+use Rattle.osc_authz.specs.Inner.Marks.{is_among, is_marked}
 use Rattle.osc_authz.specs.Table.{alive, ids, without_pending}
 use Rattle.osc_authz.proofs.marks.mark_staying.Given as goal
 

@@ -1,6 +1,6 @@
 use Rattle.std.proofs.Common.{◌≡◌, ◌-◌, ◌+◌, ◌*◌}
 use Rattle.osc_cbor.specs.Data.{Items, no_items}
-use Rattle.osc_cbor.specs.Ends.{Passed}
+use Rattle.osc_cbor.specs.Inner.Ends.{Passed}
 use Rattle.osc_cbor.specs.Reading.{items_from, item_at}
 use Rattle.osc_cbor.proofs.extents.+extent.Given as goal
 

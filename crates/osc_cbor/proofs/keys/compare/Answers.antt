@@ -1,5 +1,5 @@
 use Rattle.std.proofs.Common.{◌<◌, sym, arith}
-use Rattle.osc_cbor.specs.Notes.{first_four}
+use Rattle.osc_cbor.specs.Inner.Notes.{first_four}
 use Rattle.osc_cbor.proofs.PrefixLaws.{prefix_less}
 use Rattle.osc_cbor.proofs.keys.compare.Goals as goal
 

@@ -1,6 +1,6 @@
 use Rattle.std.proofs.Common.{◌≡◌, ◌∷◌, ◌+◌, List, ℕ, [], drop, sym, ap, subst, ◌∙◌}
 use Rattle.std.proofs.lemmas.List.{drop_all}
-use Rattle.osc_cbor.specs.Notes.{pieces}
+use Rattle.osc_cbor.specs.Inner.Notes.{pieces}
 use Rattle.osc_cbor.proofs.RowLaws.{Compared, compared_start, compared_less, compared_equal, compared_end, pieces-drop}
 use Rattle.osc_cbor.proofs.keys.neighbours_say.Goals as goal
 

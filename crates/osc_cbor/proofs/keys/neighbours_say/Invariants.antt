@@ -1,5 +1,5 @@
 use Rattle.std.proofs.Common.{drop}
-use Rattle.osc_cbor.specs.Notes.{pieces}
+use Rattle.osc_cbor.specs.Inner.Notes.{pieces}
 use Rattle.osc_cbor.proofs.RowLaws.{Compared}
 use Rattle.osc_cbor.proofs.keys.neighbours_say.Given as goal
 

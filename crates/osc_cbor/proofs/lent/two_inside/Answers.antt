@@ -1,5 +1,5 @@
 use Rattle.std.proofs.Common.{sym, ◌∙◌}
-use Rattle.osc_cbor.specs.Tokens.{Token}
+use Rattle.osc_cbor.specs.Inner.Tokens.{Token}
 use Rattle.osc_cbor.proofs.LentLaws.{stands_token, stands_read, two_token, two_inside, one_stands, other_stands, two_read}
 use Rattle.osc_cbor.proofs.lent.two_inside.Goals.{then-token-number-via-then-token-number, then-token-number-via-else-token-number+then-token-ne2}
 use Rattle.osc_cbor.proofs.lent.two_inside.Goals as goal

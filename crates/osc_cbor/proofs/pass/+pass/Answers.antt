@@ -3,7 +3,7 @@ use Rattle.std.proofs.lemmas.Result.{err_from_is_err_and}
 use Rattle.osc_cbor.specs.Data.{unsigned, negative}
 use Rattle.osc_cbor.specs.Head.{head}
 use Rattle.osc_cbor.specs.Spelling.{spelling}
-use Rattle.osc_cbor.specs.Notes.{Passes, AreApart, Repeats, pieces}
+use Rattle.osc_cbor.specs.Inner.Notes.{Passes, AreApart, Repeats, pieces}
 use Rattle.osc_cbor.specs.declared.keys.Key.{Key}
 use Rattle.osc_cbor.specs.Reading.{Found, content_at, item_at}
 use Rattle.osc_cbor.proofs.FoundLaws.{item_takes}

@@ -1,7 +1,7 @@
 use Rattle.std.proofs.Common.{◌≡◌, ℕ, List, ◌++◌, length}
 use Rattle.osc_cbor.specs.Data.{DataItem}
 use Rattle.osc_cbor.specs.Spelling.{Spells}
-use Rattle.osc_cbor.specs.Tokens.{Pending}
+use Rattle.osc_cbor.specs.Inner.Tokens.{Pending}
 use Rattle.osc_cbor.proofs.tokens.behind_item.Given as goal
 
 abbrev pub invariant-loop-todo : goal.invariant-loop-todo

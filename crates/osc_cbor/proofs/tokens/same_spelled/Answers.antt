@@ -1,6 +1,6 @@
 use Rattle.std.proofs.Common.{[], sym, ◌∙◌, arith}
 use Rattle.std.proofs.lemmas.Bool.{false≢true}
-use Rattle.osc_cbor.specs.Tokens.{tokens}
+use Rattle.osc_cbor.specs.Inner.Tokens.{tokens}
 use Rattle.osc_cbor.proofs.TokenLaws.{some_bytes, no_bytes, stream, token_shorter, alike_start, alike_step, alike_differ, alike_refused, alike_short, rows_differ, rows_end}
 use Rattle.osc_cbor.proofs.tokens.same_spelled.Goals as goal
 

@@ -1,5 +1,5 @@
 use Rattle.std.proofs.Common.{List, length}
-use Rattle.osc_cbor.specs.Tokens.{Token, Stream, Alike}
+use Rattle.osc_cbor.specs.Inner.Tokens.{Token, Stream, Alike}
 use Rattle.osc_cbor.proofs.tokens.same_spelled.Given as goal
 
 abbrev pub invariant-loop-left : goal.invariant-loop-left

@@ -1,5 +1,5 @@
 use Rattle.std.proofs.Common.{◌*◌}
-use Rattle.osc_ccm.specs.Stream.{IsCiphered}
+use Rattle.osc_ccm.specs.Inner.Stream.{IsCiphered}
 use Rattle.osc_ccm.proofs.stream.cipher_in_place.Given as goal
 
 abbrev pub invariant-loop-pair : goal.invariant-loop-pair

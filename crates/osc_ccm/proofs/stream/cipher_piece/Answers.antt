@@ -2,7 +2,7 @@ use Rattle.std.proofs.Common.{◌≡◌, ℕ, List, ◌≤◌, ◌+◌, ◌*◌,
 use Rattle.std.proofs.lemmas.List.{length-append, length-take, length-drop}
 use Rattle.osc_ccm.specs.Ccm.{xor, key_stream, stream_block}
 use Rattle.osc_ccm.specs.OneText.{length-xor}
-use Rattle.osc_ccm.specs.Stream.{IsCiphered}
+use Rattle.osc_ccm.specs.Inner.Stream.{IsCiphered}
 use Rattle.osc_ccm.proofs.StreamLemmas.{key_stream_more, length-key_stream_more, ciphered_more}
 use Rattle.osc_ccm.proofs.stream.cipher_piece.Goals as goal
 

@@ -1,6 +1,6 @@
 use Rattle.std.proofs.Common.{◌∙◌, ap, sym, subst}
 use Rattle.osc_model.specs.declared.reply.Reply.{Reply}
-use Rattle.osc_example.specs.Wish.{IsDone}
+use Rattle.osc_example.specs.Inner.Wish.{IsDone}
 use Rattle.osc_example.proofs.wish.wanted_by.Goals as goal
 
 pub returns : goal.returns

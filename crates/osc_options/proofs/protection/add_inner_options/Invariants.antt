@@ -1,6 +1,6 @@
 use Rattle.std.proofs.Common.{◌≡◌, None}
 use Rattle.osc_coap.specs.Building.{last_number}
-use Rattle.osc_options.specs.Merging.{with_inner_options}
+use Rattle.osc_options.specs.Inner.Merging.{with_inner_options}
 use Rattle.osc_options.specs.Split.{AreInOrder}
 use Rattle.osc_options.proofs.protection.add_inner_options.Given as goal
 

@@ -7,7 +7,7 @@ use Rattle.std.proofs.lemmas.List.{length_push}
 use Rattle.osc_model.specs.Path.{IsPath}
 use Rattle.osc_coap.specs.Message.{Message, spelling}
 use Rattle.osc_coap.specs.Building.{last_number, with_option}
-use Rattle.osc_options.specs.Merging.{with_options}
+use Rattle.osc_options.specs.Inner.Merging.{with_options}
 use Rattle.osc_options.specs.Requests.{each, segments_of}
 use Rattle.osc_options.proofs.AddLaws.{refused, last_number-push}
 use Rattle.osc_options.proofs.WrittenRequestLaws.{each_more, each_front, each_all, some_path, behind_first}

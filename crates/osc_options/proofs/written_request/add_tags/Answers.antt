@@ -2,7 +2,7 @@ use Rattle.std.proofs.Common.{ℕ, ◌+◌, List, length, drop, refl, ap, ◌∙
 use Rattle.std.proofs.lemmas.Bool.{both_ways}
 use Rattle.osc_coap.specs.Message.{Message, spelling}
 use Rattle.osc_coap.specs.Building.{last_number, with_option}
-use Rattle.osc_options.specs.Merging.{with_options}
+use Rattle.osc_options.specs.Inner.Merging.{with_options}
 use Rattle.osc_options.specs.Requests.{each}
 use Rattle.osc_options.proofs.AddLaws.{refused, last_number-push}
 use Rattle.osc_options.proofs.WrittenRequestLaws.{IsAt, each_more, each_front}

@@ -1,6 +1,6 @@
 use Rattle.std.proofs.Common.{◌∙◌, sym, ap}
 use Rattle.std.proofs.lemmas.Option.{same_Some}
-use Rattle.osc_protect.specs.ValueReading.{value_at}
+use Rattle.osc_protect.specs.Inner.ValueReading.{value_at}
 use Rattle.osc_protect.proofs.ValueLaws.{value_again}
 use Rattle.osc_protect.proofs.laws.one_value.Goals as goal
 

@@ -1,5 +1,5 @@
 use Rattle.std.proofs.Common.{◌≡◌, ◌<◌, ◌^◌, take}
-use Rattle.osc_protect.specs.ValueReading.{number_in}
+use Rattle.osc_protect.specs.Inner.ValueReading.{number_in}
 use Rattle.osc_protect.proofs.value.number_in.Given as goal
 
 abbrev pub invariant-loop-byte : goal.invariant-loop-byte

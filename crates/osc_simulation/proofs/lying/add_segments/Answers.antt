@@ -7,7 +7,7 @@ use Rattle.std.proofs.lemmas.List.{length_push}
 use Rattle.osc_model.specs.Path.{IsPath}
 use Rattle.osc_coap.specs.Building.{last_number, with_inner_option}
 use Rattle.osc_coap.specs.Plaintext.{Plaintext}
-use Rattle.osc_options.specs.Merging.{with_inner_options}
+use Rattle.osc_options.specs.Inner.Merging.{with_inner_options}
 use Rattle.osc_options.specs.Requests.{each, segments_of}
 use Rattle.osc_simulation.proofs.Segments.{some_path, behind_first, inner_more, inner_all, fits_within}
 use Rattle.osc_simulation.proofs.lying.add_segments.Goals.{At-loop-segment}

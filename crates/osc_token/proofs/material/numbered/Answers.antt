@@ -1,6 +1,6 @@
 use Rattle.std.proofs.Common.{sym, ap, ◌∙◌}
 use Rattle.std.specs.Option.{option_and_then}
-use Rattle.osc_token.specs.Reading.{algorithm_numbered}
+use Rattle.osc_token.specs.Inner.Reading.{algorithm_numbered}
 use Rattle.osc_token.proofs.ReadingLemmas.{found_by_number}
 use Rattle.osc_token.proofs.material.numbered.Goals as goal
 

@@ -1,5 +1,5 @@
 use Rattle.std.proofs.Common.{ap, ◌∙◌, arith}
-use Rattle.osc_protect.specs.ValueReading.{value_at}
+use Rattle.osc_protect.specs.Inner.ValueReading.{value_at}
 use Rattle.osc_protect.proofs.ValueLaws.{value_again, found}
 use Rattle.osc_protect.proofs.value.OscoreOption.parse.Goals as goal
 

@@ -1,5 +1,5 @@
 use Rattle.std.proofs.Common.{[], ◌∷◌, ◌++◌, ap, ◌∙◌, rules}
-use Rattle.osc_scope.specs.Kept.{pairs_at}
+use Rattle.osc_scope.specs.Inner.Kept.{pairs_at}
 use Rattle.osc_scope.proofs.KeptLemmas.{on_err, same_pairs, one_more_pair}
 use Rattle.osc_scope.proofs.kept.Entries.push.Goals as goal
 

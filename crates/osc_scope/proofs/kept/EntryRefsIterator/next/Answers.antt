@@ -1,6 +1,6 @@
 use Rattle.std.proofs.Common.{length}
 use Rattle.std.proofs.lemmas.List.Elements.{All-rest}
-use Rattle.osc_scope.specs.Kept.{IsWithin}
+use Rattle.osc_scope.specs.Inner.Kept.{IsWithin}
 use Rattle.osc_scope.proofs.kept.EntryRefsIterator.next.Goals as goal
 
 pub invariant_of-self : goal.invariant_of-self

@@ -3,7 +3,7 @@ use Rattle.std.specs.Prelude.{◌≡◌, ℕ, zero, suc, ◌==◌, if◌then◌e
 use Rattle.std.proofs.Common.{ap, ◌∙◌}
 use Rattle.std.specs.Coded.{Coded, code_by, coded×, coded_ℕ, coded_list}
 use Rattle.osc_cbor.specs.Data.{DataItem, unsigned, negative, byte_string, text_string, array, map, tag, bool, null, Items, no_items, item, Pairs, no_pairs, pair, item_count, pair_count}
-use Rattle.osc_cbor.specs.Tokens.{Token, tokens, items_tokens, pairs_tokens}
+use Rattle.osc_cbor.specs.Inner.Tokens.{Token, tokens, items_tokens, pairs_tokens}
 
 -- The items that heads stand for are found from the last head to the first: a head takes those inside it from the front of
 -- the items found so far.

@@ -4,7 +4,7 @@ use Rattle.osc_model.specs.Grant.{HasBegun, IsNotOver}
 use Rattle.osc_model.specs.declared.node.Moment.{Moment}
 use Rattle.osc_cbor.specs.Data.{DataItem, text_string}
 use Rattle.osc_cbor.specs.Parts.{as_bytes, value}
-use Rattle.osc_token.specs.Reading.{dates_in, material_in}
+use Rattle.osc_token.specs.Inner.Reading.{dates_in, material_in}
 use Rattle.osc_token.specs.declared.claims.InputMaterial.{InputMaterial}
 use Rattle.osc_token.specs.declared.judging.Dates.{Dates}
 

@@ -3,7 +3,7 @@
 use Rattle.std.specs.Prelude.{◌≡◌, ℕ, ◌+◌, ◌*◌, ◌%◌, List, map, bit_xor, slice_index}
 use Rattle.std.specs.List.{range_with_len}
 use Rattle.osc_aes.specs.Cipher.{sub_bytes, shift_rows, mix_columns}
-use Rattle.osc_aes.specs.Tower.{byte_of}
+use Rattle.osc_aes.specs.Inner.Tower.{byte_of}
 
 -- the form at place i of a state that is turned by n stands at place (4 n + 1) i
 unfoldable pub turned : ℕ → List ℕ → List ℕ

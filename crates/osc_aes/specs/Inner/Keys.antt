@@ -2,7 +2,7 @@
 use Rattle.std.specs.Prelude.{◌≡◌, ℕ, List, [], ◌∷◌, ◌++◌, length}
 use Rattle.osc_aes.specs.declared.key_expansion.Keys.{Keys}
 use Rattle.osc_aes.specs.KeyExpansion.{word, add_words, rot_word, sub_word, key_expansion}
-use Rattle.osc_aes.specs.States.{with_constant, round_key, IsRoundKey}
+use Rattle.osc_aes.specs.Inner.States.{with_constant, round_key, IsRoundKey}
 
 -- the round key after k, where the round constant's first byte is c
 abbrev pub first_word : ℕ → List ℕ → List ℕ

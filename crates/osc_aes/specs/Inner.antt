@@ -1,0 +1,4 @@
+-- What private functions owe one another; no public contract rests on it.
+pub mod Tower
+pub mod States
+pub mod Keys

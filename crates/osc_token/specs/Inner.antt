@@ -1,0 +1,5 @@
+-- What private functions owe one another; no public contract rests on it.
+pub mod Opening
+pub mod Reading
+pub mod Judging
+pub mod Lengths
