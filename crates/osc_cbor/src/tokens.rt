@@ -16,7 +16,7 @@ use crate::reader::{argument_of, string_of};
 pub(crate) type Token<'a> = (u8, u64, &'a [u8]);
 
 /// What stands behind a head.
-#[tactic(auto, unfolding(crate::specs::Tokens::token_behind))]
+#[tactic(auto, unfolding(crate::specs::Inner::Tokens::token_behind))]
 fn behind_head(major: u8, argument: u64, bytes: &[u8]) -> Result<(Token, &[u8]), ReadError>
     ensures { Reads (λ x. ((x.0.0, x.0.1, x.0.2.now), x.1.now)) result (token_behind major argument bytes.now) }
 {
@@ -29,7 +29,7 @@ fn behind_head(major: u8, argument: u64, bytes: &[u8]) -> Result<(Token, &[u8]),
 
 /// The string whose head is this byte alone, and the bytes after it.
 #[inline(always)]
-#[tactic(auto, unfolding(crate::specs::Tokens::token_at, crate::specs::Tokens::token_behind, crate::specs::Reading::argument_at, crate::specs::Reading::string_at))]
+#[tactic(auto, unfolding(crate::specs::Inner::Tokens::token_at, crate::specs::Inner::Tokens::token_behind, crate::specs::Reading::argument_at, crate::specs::Reading::string_at))]
 fn short_string_of(first: u8, rest: &[u8]) -> Option<(&[u8], &[u8])>
     requires string { (first / 32 ≡ 2) ⊎ (first / 32 ≡ 3) }
     requires short { first % 32 < 24 }
@@ -44,7 +44,7 @@ fn short_string_of(first: u8, rest: &[u8]) -> Option<(&[u8], &[u8])>
 
 /// The argument of the head that begins with this byte and is that of a number, and the bytes after it, where it takes one byte or two.
 #[inline(always)]
-#[tactic(auto, unfolding(crate::specs::Tokens::token_at, crate::specs::Tokens::token_behind, crate::specs::Reading::argument_at))]
+#[tactic(auto, unfolding(crate::specs::Inner::Tokens::token_at, crate::specs::Inner::Tokens::token_behind, crate::specs::Reading::argument_at))]
 fn short_number_of(first: u8, rest: &[u8]) -> Option<(u64, &[u8])>
     requires { first < 64 }
     ensures { IfSome result (λ x. token_at (first ∷ rest.now) ≡ Ok ((first / 32, x.0, []), x.1.now)) }
@@ -61,7 +61,7 @@ fn short_number_of(first: u8, rest: &[u8]) -> Option<(u64, &[u8])>
 
 /// The head that begins with this byte, with its string, and the bytes after them, where the head takes one byte, or two and is that of a number.
 #[inline(always)]
-#[tactic(auto, unfolding(crate::specs::Tokens::token_at, crate::specs::Tokens::token_behind, crate::specs::Reading::argument_at))]
+#[tactic(auto, unfolding(crate::specs::Inner::Tokens::token_at, crate::specs::Inner::Tokens::token_behind, crate::specs::Reading::argument_at))]
 fn short_token_of(first: u8, rest: &[u8]) -> Option<(Token, &[u8])>
     ensures { IfSome result (λ x. token_at (first ∷ rest.now) ≡ Ok ((x.0.0, x.0.1, x.0.2.now), x.1.now)) }
 {
@@ -84,7 +84,7 @@ fn short_token_of(first: u8, rest: &[u8]) -> Option<(Token, &[u8])>
 
 /// The head that begins with this byte, with its string, and the bytes after them.
 #[inline(never)]
-#[tactic(auto, unfolding(crate::specs::Tokens::token_at))]
+#[tactic(auto, unfolding(crate::specs::Inner::Tokens::token_at))]
 fn token_behind_byte(first: u8, rest: &[u8]) -> Result<(Token, &[u8]), ReadError>
     ensures { Reads (λ x. ((x.0.0, x.0.1, x.0.2.now), x.1.now)) result (token_at (first ∷ rest.now)) }
 {
@@ -97,7 +97,7 @@ fn token_behind_byte(first: u8, rest: &[u8]) -> Result<(Token, &[u8]), ReadError
 
 /// The first head of the bytes with its string, and the bytes after them.
 #[inline(always)]
-#[tactic(auto, unfolding(crate::specs::Tokens::token_at))]
+#[tactic(auto, unfolding(crate::specs::Inner::Tokens::token_at))]
 pub(crate) fn token_of(bytes: &[u8]) -> Result<(Token, &[u8]), ReadError>
     ensures { Reads (λ x. ((x.0.0, x.0.1, x.0.2.now), x.1.now)) result (token_at bytes.now) }
 {
@@ -141,7 +141,7 @@ pub(crate) fn same_spelled(a: &[u8], b: &[u8]) -> bool
 
 /// How many items stand inside one with this head; the greatest number where they are more than that.
 #[inline(always)]
-#[tactic(auto, unfolding(crate::specs::Tokens::inside))]
+#[tactic(auto, unfolding(crate::specs::Inner::Tokens::inside))]
 fn inside(major: u8, argument: u64) -> u64
     ensures { result ≡ min (spec.inside major argument) (2 ^ 64 - 1) }
 {

@@ -63,7 +63,7 @@ fn has_leading_zero(bytes: &[u8]) -> bool
 }
 
 /// The Partial IV in so many bytes, and the bytes after it.
-#[tactic(auto, unfolding(crate::specs::ValueReading::partial_iv_at))]
+#[tactic(auto, unfolding(crate::specs::Inner::ValueReading::partial_iv_at))]
 fn partial_iv_at(size: usize, bytes: &[u8]) -> Option<(Option<u64>, &[u8])>
     ensures { option_map (λ part. (part.0, part.1.now)) result ≡ spec.partial_iv_at size bytes.now }
 {
@@ -81,7 +81,7 @@ fn partial_iv_at(size: usize, bytes: &[u8]) -> Option<(Option<u64>, &[u8])>
 }
 
 /// The kid context, where there is one, and the bytes after it.
-#[tactic(auto, unfolding(crate::specs::ValueReading::kid_context_at))]
+#[tactic(auto, unfolding(crate::specs::Inner::ValueReading::kid_context_at))]
 fn kid_context_at(is_there: bool, bytes: &[u8]) -> Option<(Option<&[u8]>, &[u8])>
     ensures { option_map (λ part. (option_copied part.0, part.1.now)) result ≡ spec.kid_context_at is_there bytes.now }
 {
@@ -97,7 +97,7 @@ fn kid_context_at(is_there: bool, bytes: &[u8]) -> Option<(Option<&[u8]>, &[u8])
 }
 
 /// The kid, where there is one; else nothing may be left.
-#[tactic(auto, unfolding(crate::specs::ValueReading::kid_at))]
+#[tactic(auto, unfolding(crate::specs::Inner::ValueReading::kid_at))]
 fn kid_at(is_there: bool, bytes: &[u8]) -> Option<Option<&[u8]>>
     ensures { option_map option_copied result ≡ spec.kid_at is_there bytes.now }
 {
@@ -111,7 +111,7 @@ fn kid_at(is_there: bool, bytes: &[u8]) -> Option<Option<&[u8]>>
 }
 
 /// What the flag bits say of the bytes after them.
-#[tactic(auto, unfolding(crate::specs::ValueReading::parts_at))]
+#[tactic(auto, unfolding(crate::specs::Inner::ValueReading::parts_at))]
 fn parts(flags: u8, bytes: &[u8]) -> Option<OscoreOption<'_>>
     ensures { result ≡ parts_at flags bytes.now }
 {
@@ -126,7 +126,7 @@ fn parts(flags: u8, bytes: &[u8]) -> Option<OscoreOption<'_>>
 }
 
 /// What the value says.
-#[tactic(auto, unfolding(crate::specs::ValueReading::value_at))]
+#[tactic(auto, unfolding(crate::specs::Inner::ValueReading::value_at))]
 fn read(value: &[u8]) -> Option<OscoreOption<'_>>
     ensures { result ≡ value_at value.now }
 {
