@@ -4,13 +4,14 @@ use Rattle.std.specs.Prelude.{IfSome, bytes_eq, nat_eq}
 use Rattle.std.proofs.lemmas.Bool.{eq-eqb}
 use Rattle.std.proofs.lemmas.Option.{same_Some}
 use Rattle.std.proofs.lemmas.Slice.Eq.{bytes_eq-Decides}
+use Rattle.osc_model.specs.Arrival.{Arrival}
 use Rattle.osc_model.specs.declared.context.ContextName.{ContextName}
 use Rattle.osc_model.specs.declared.context.Side.TheVariants as side
 use Rattle.osc_model.specs.declared.node.Moment.{Moment}
 use Rattle.osc_model.specs.declared.node.Peer.{Peer}
 use Rattle.osc_model.specs.declared.reply.Reply.{Reply}
 use Rattle.osc_model.specs.declared.step.Step.{Step}
-use Rattle.osc_coap.specs.Message.{Message, NumberAndValue, spelling}
+use Rattle.osc_coap.specs.Message.{Message, NumberAndValue}
 use Rattle.osc_coap.specs.Plaintext.{Plaintext, SpellsPlaintext, HasPlaintextSpelling, plaintext_spelling}
 use Rattle.osc_coap.specs.declared.kind.Kind.TheVariants.{Acknowledgement, Confirmable}
 use Rattle.osc_options.specs.PlaintextReplies.{reply_in, reply_plaintext}
@@ -47,7 +48,8 @@ use Rattle.osc_client.specs.declared.waiting.Awaited.{Awaited}
 use Rattle.osc_client.specs.declared.waiting.Awaited.TheVariants.{Ask}
 use Rattle.osc_client.specs.declared.waiting.OpenAsk.{OpenAsk}
 use Rattle.osc_client.specs.declared.waiting.Waiting.{Waiting}
-use Rattle.osc_rounds.specs.Asked.{AwaitsReply, CarriesReply, ComesBack, IsAnsweredWith, in_acknowledgement, in_confirmable}
+use Rattle.osc_rounds.specs.Asked.{AnsweredRequest, AwaitsReply, CarriesReply, ComesBack, IsAnsweredWith, in_acknowledgement, in_confirmable}
+use Rattle.osc_rounds.specs.Coming.{in_bytes}
 use Rattle.osc_proxy.specs.ThereAndBack.{IsCarried}
 use Rattle.osc_client.specs.Hearing.{Hears as ClientHears}
 use Rattle.osc_rounds.proofs.Asking.{received_as, one_option, in_place, payload_is}
@@ -223,9 +225,18 @@ module _ (is_sealing : Sealings) (laws : ReplyLaws is_sealing)
 -- ---- it comes to the client
 
 module _ (is_sealing : Sealings) (laws : ReplyLaws is_sealing)
-    (old : Client) (now : Moment) (from : Peer) (name : ContextName) (number : ℕ) (request m p : Message) (reply : Reply) (step : Step) (new : Client)
-    (awaits : AwaitsReply old from name number request) (carries : CarriesReply old now from request reply m)
-    (made : IsProtectedResponse is_sealing name number None m p) where
+    (old : Client) (came : Arrival Message) (name : ContextName) (number : ℕ) (request m : Message) (reply : Reply) (step : Step) (new : Client)
+    (awaits : AwaitsReply old came.from name number request) (carries : CarriesReply old came.at came.from request reply m)
+    (made : IsProtectedResponse is_sealing name number None m came.what) where
+  abbrev now : Moment
+  now = came.at
+
+  abbrev from : Peer
+  from = came.from
+
+  abbrev p : Message
+  p = came.what
+
   abbrev ask : OpenAsk
   ask = record { number = number; plaintext = awaits.plaintext }
 
@@ -235,7 +246,10 @@ module _ (is_sealing : Sealings) (laws : ReplyLaws is_sealing)
   abbrev due : Outcome
   due = Answers (response_note name number None (reply_text reply)) reply
 
-  counted : Counts is_sealing old now from p step new → IsAnsweredWith (sent_to from (acknowledgement p)) old name number reply step new
+  abbrev request_answered : AnsweredRequest
+  request_answered = record { name = name; number = number; reply = reply }
+
+  counted : Counts is_sealing old came step new → IsAnsweredWith (sent_to from (acknowledgement p)) old request_answered step new
   counted it =
       let waiting_is : it.waiting ≡ awaits.waiting = same_Some it.waiting awaits.waiting (sym it.waits ∙ awaits.waits) in
       let what_is : it.waiting.what ≡ Ask ask = ap (λ (w : Waiting). w.what) waiting_is ∙ awaits.asks in
@@ -252,8 +266,8 @@ module _ (is_sealing : Sealings) (laws : ReplyLaws is_sealing)
         origin = ap (λ (c : Client). c.origin) it.kept;
       }
 
-  pub reply_accepted : IsCarried p → ClientHears is_sealing old now from (spelling p) step new
-      → IsAnsweredWith (sent_to from (acknowledgement p)) old name number reply step new
+  pub reply_accepted : IsCarried p → ClientHears is_sealing old (in_bytes came) step new
+      → IsAnsweredWith (sent_to from (acknowledgement p)) old request_answered step new
   reply_accepted sendable hears =
       let v = response_value None in
       let as_it : hears.received ≡ received.Message (protected m 68 v made.sealed) =
@@ -264,4 +278,4 @@ module _ (is_sealing : Sealings) (laws : ReplyLaws is_sealing)
       ∙ reply_case old now from awaits.waiting request m v made.sealed carries.inside laws.value_short awaits.peer carries.comes
       awaits.id (awaits.token ∙ sym carries.token)
       ∙ ap Counted (sym made.whole) in
-      counted (subst (λ (c : Case). ClientAnswers is_sealing old now from c step new) case_is hears.answers)
+      counted (subst (λ (c : Case). ClientAnswers is_sealing old (in_bytes came) c step new) case_is hears.answers)

@@ -1,8 +1,7 @@
 -- An empty acknowledgement that comes to a client.
 use Rattle.std.proofs.Common.{◌≡◌, ap, subst, ℕ, ◌^◌, ◌<◌, ◌≤◌, List, [], length}
+use Rattle.osc_model.specs.Arrival.{Arrival, read_as}
 use Rattle.osc_model.specs.Step.{sends}
-use Rattle.osc_model.specs.declared.node.Moment.{Moment}
-use Rattle.osc_model.specs.declared.node.Peer.{Peer}
 use Rattle.osc_model.specs.declared.step.Step.{Step}
 use Rattle.osc_coap.specs.Length.{datagram_limit}
 use Rattle.osc_coap.specs.Message.{HasSpelling, spelling}
@@ -26,12 +25,13 @@ module _ (is_sealing : Sealings)
     (one_reception : (bytes : List ℕ) (a b : Received) → Receives bytes a → Receives bytes b → a ≡ b)
     (lawful : (id : ℕ) → id < 2 ^ 16 → HasSpelling (empty_acknowledgement id))
     (short : (id : ℕ) → length (spelling (empty_acknowledgement id)) ≤ datagram_limit) where
-  pub acknowledgement_heard : (old new : Client) (now : Moment) (from : Peer) (id : ℕ) (step : Step) → id < 2 ^ 16
-      → ClientHears is_sealing old now from (spelling (empty_acknowledgement id)) step new
-      → (step ≡ sends []) × (new ≡ record old { endpoint = record old.endpoint { sending = acknowledged from id old.endpoint.sending } })
-  acknowledgement_heard old new now from id step few hears =
+  pub acknowledgement_heard : (old new : Client) (came : Arrival ℕ) (step : Step) → came.what < 2 ^ 16
+      → ClientHears is_sealing old (read_as came (spelling (empty_acknowledgement came.what))) step new
+      → (step ≡ sends []) × (new ≡ record old { endpoint = record old.endpoint { sending = acknowledged came.from came.what old.endpoint.sending } })
+  acknowledgement_heard old new came step few hears =
+      let id = came.what in
       let as_it : hears.received ≡ received.Message (empty_acknowledgement id) =
       received_as one_reception (empty_acknowledgement id) hears.received (record { lawful = lawful id few; short = short id }) hears.receives in
-      let case_is : client_case old.next_hop from old.waiting (heard old.endpoint.seen now from hears.received) ≡ Empty Acknowledgement id =
-      ap (λ (r : Received). client_case old.next_hop from old.waiting (heard old.endpoint.seen now from r)) as_it in
-      subst (λ (c : Case). ClientAnswers is_sealing old now from c step new) case_is hears.answers
+      let case_is : client_case old.next_hop came.from old.waiting (heard old.endpoint.seen came.at came.from hears.received) ≡ Empty Acknowledgement id =
+      ap (λ (r : Received). client_case old.next_hop came.from old.waiting (heard old.endpoint.seen came.at came.from r)) as_it in
+      subst (λ (c : Case). ClientAnswers is_sealing old (read_as came (spelling (empty_acknowledgement id))) c step new) case_is hears.answers

@@ -7,6 +7,7 @@ use Rattle.std.proofs.lemmas.List.{length-take}
 use Rattle.std.proofs.lemmas.Str.{IsUtf8-from_ascii, is_utf8-from_IsUtf8}
 use Rattle.std.proofs.lemmas.Str.Ascii.{IsAscii-nil}
 use Rattle.std.proofs.lemmas.Option.{same_Some}
+use Rattle.osc_model.specs.Arrival.{Arrival, read_as}
 use Rattle.osc_model.specs.Code.{code}
 use Rattle.osc_model.specs.Draw.{nonce_drawn}
 use Rattle.osc_model.specs.Grant.{HasBegun, IsNotOver}
@@ -74,7 +75,8 @@ use Rattle.osc_client.specs.declared.case.Case.TheVariants.{Counted}
 use Rattle.osc_client.specs.declared.waiting.Awaited.{Awaited}
 use Rattle.osc_client.specs.declared.waiting.Awaited.TheVariants.{Exchange}
 use Rattle.osc_client.specs.declared.waiting.Waiting.{Waiting}
-use Rattle.osc_rounds.specs.Agreement.{AwaitsAgreement, AwaitsPost, IsAgreedTo, agreement, body_of}
+use Rattle.osc_rounds.specs.Agreement.{AwaitsAgreement, AwaitsPost, BegunExchange, IsAgreedTo, agreement, body_of, posted}
+use Rattle.osc_rounds.specs.Coming.{in_bytes}
 use Rattle.osc_rounds.specs.ExchangeRound.{IsHeld}
 use Rattle.osc_proxy.specs.ThereAndBack.{IsCarried}
 use Rattle.osc_rounds.proofs.Accepting.{same_bytes, same_number}
@@ -191,12 +193,12 @@ module _ (is_sealing : Sealings) where
     pub answer_length : (nonce2 : List ℕ) (id : ℕ) → length nonce2 ≡ 8 → length (item_spelling (answer_item nonce2 (id ∷ []))) ≡ 16
     pub welcome : (before after : DeskState) (now : Moment) (draw : Draw) (post : Post) (claims : Claims) (entries : List Entry) (holder : ClientDesk) (nonce1 : List ℕ) (id : ℕ)
         → IsWelcome (is_sealing EightByteTag) before now claims entries holder → length nonce1 ≡ 8
-        → Posts (is_sealing EightByteTag) before now (item_spelling (post_item holder.token nonce1 (id ∷ []))) draw post after
+        → Posts (is_sealing EightByteTag) before (record { at = now; body = item_spelling (post_item holder.token nonce1 (id ∷ [])); draw = draw }) post after
         → (answer : PostAnswer) × (post.answer ≡ Ok answer) × (answer.nonce2 ≡ nonce_drawn draw)
     pub one_name : (before after : DeskState) (now : Moment) (draw : Draw) (post : Post) (answer : PostAnswer)
         (claims : Claims) (entries : List Entry) (client : ClientDesk) (begun : Begun) (finished : Result ClientContextState FinishError)
         → length draw.0 ≡ 32 → length begun.nonce1 ≡ 8 → HoldsToken (is_sealing EightByteTag) before.key claims entries client
-        → Posts (is_sealing EightByteTag) before now (item_spelling (post_item client.token begun.nonce1 (begun.recipient_id ∷ []))) draw post after
+        → Posts (is_sealing EightByteTag) before (record { at = now; body = item_spelling (post_item client.token begun.nonce1 (begun.recipient_id ∷ [])); draw = draw }) post after
         → post.answer ≡ Ok answer
         → Finishes client begun (code 2 1) (item_spelling (answer_item answer.nonce2 (answer.recipient_id ∷ []))) finished
         → (held : Held) × In held (contexts after.table) × (held.scope ≡ scope_of entries)
@@ -207,48 +209,66 @@ module _ (is_sealing : Sealings) where
 -- ---- the server agrees
 
 module _ (is_sealing : Sealings) (laws : ExchangeLaws is_sealing)
-    (server : Server) (now : Moment) (from : Peer) (id : ℕ) (claims : Claims) (entries : List Entry) (holder : ClientDesk) (its : Begun)
-    (awaits : AwaitsPost is_sealing server now from id claims entries holder its)
-    (host : Option (List ℕ)) (lawful : AreLawful host) (token : List ℕ) (draw : Draw) (step : Step) (new : Server) where
-  agreed_to : AnswersPost is_sealing server now from draw (post_to host id token (body_of holder its)) step new
-      → IsAgreedTo is_sealing server now from draw holder its id token step new
+    (server : Server) (came : Arrival Message) (exchange : BegunExchange) (awaits : AwaitsPost is_sealing server came exchange)
+    (host : Option (List ℕ)) (lawful : AreLawful host)
+    (is_post : came.what ≡ post_to host came.what.id came.what.token (body_of exchange.holder exchange.begun)) (step : Step) (new : Server) where
+  abbrev body : List ℕ
+  body = body_of exchange.holder exchange.begun
+
+  abbrev id : ℕ
+  id = came.what.id
+
+  abbrev token : List ℕ
+  token = came.what.token
+
+  agreed_to : AnswersPost is_sealing server (read_as came (post_to host id token body)) step new → IsAgreedTo is_sealing server came exchange step new
   agreed_to it =
-      let posts : Posts (is_sealing EightByteTag) server.desk now (body_of holder its) draw it.post new.desk =
-      subst (λ (bytes : List ℕ). Posts (is_sealing EightByteTag) server.desk now bytes draw it.post new.desk) (payload_again (body_of holder its)) it.posts in
-      let answered = laws.welcome server.desk new.desk now draw it.post claims entries holder its.nonce1 its.recipient_id awaits.welcome awaits.nonce posts in
-      let reply_is : reply_to server.endpoint draw (post_to host id token (body_of holder its)) (post_reply it.post.answer) ≡ agreement Acknowledgement id token answered.0 =
-      ap (λ (a : Result PostAnswer PostError). reply_to server.endpoint draw (post_to host id token (body_of holder its)) (post_reply a)) answered.1 in
+      let posts : Posts (is_sealing EightByteTag) server.desk (posted exchange came) it.post new.desk =
+      subst (λ (bytes : List ℕ). Posts (is_sealing EightByteTag) server.desk (record { at = came.at; body = bytes; draw = came.draw }) it.post new.desk) (payload_again body) it.posts in
+      let answered = laws.welcome server.desk new.desk came.at came.draw it.post exchange.claims exchange.entries exchange.holder exchange.begun.nonce1 exchange.begun.recipient_id awaits.welcome awaits.nonce posts in
+      let reply_is : reply_to server.endpoint (read_as came (post_to host id token body)) (post_reply it.post.answer) ≡ agreement Acknowledgement id token answered.0 =
+      ap (λ (a : Result PostAnswer PostError). reply_to server.endpoint (read_as came (post_to host id token body)) (post_reply a)) answered.1 in
       record {
         answer = answered.0;
         post = it.post;
         posts = posts;
         agrees = answered.1;
         nonce = answered.2;
-        out = ap (λ (s : Step). s.out) it.sent.sent ∙ ap (λ (m : Message). datagram from m ∷ []) reply_is;
+        out = ap (λ (s : Step). s.out) it.sent.sent ∙ ap (λ (m : Message). datagram came.from m ∷ []) reply_is;
         notes = ap (λ (s : Step). s.notes) it.sent.sent;
       }
 
-  pub hears_post : IsCarried (post_to host id token (body_of holder its))
-      → ServerHears is_sealing server now draw from (spelling (post_to host id token (body_of holder its))) step new
-      → IsAgreedTo is_sealing server now from draw holder its id token step new
+  pub hears_post : IsCarried came.what → ServerHears is_sealing server (in_bytes came) step new → IsAgreedTo is_sealing server came exchange step new
   hears_post sendable hears =
-      let message = post_to host id token (body_of holder its) in
-      let as_it : hears.received ≡ received.Message message = received_as laws.one_reception message hears.received sendable hears.receives in
-      let case_is : server_case server.open_scope (heard server.endpoint.seen now from hears.received) ≡ Posted message =
-      ap (λ (r : Received). server_case server.open_scope (heard server.endpoint.seen now from r)) as_it
-      ∙ ap (server_case server.open_scope) (heard_post host server.endpoint.seen now from id token (body_of holder its) awaits.unheard)
-      ∙ case_post server.open_scope host id token (body_of holder its) lawful in
-      agreed_to (subst (λ (k : ServerCase). ServerAnswers is_sealing server now from draw k step new) case_is hears.answers)
+      let message = post_to host id token body in
+      let as_it : hears.received ≡ received.Message message =
+      received_as laws.one_reception came.what hears.received sendable hears.receives ∙ ap received.Message is_post in
+      let case_is : server_case server.open_scope (heard server.endpoint.seen came.at came.from hears.received) ≡ Posted message =
+      ap (λ (r : Received). server_case server.open_scope (heard server.endpoint.seen came.at came.from r)) as_it
+      ∙ ap (server_case server.open_scope) (heard_post host server.endpoint.seen came.at came.from id token body awaits.unheard)
+      ∙ case_post server.open_scope host id token body lawful in
+      agreed_to (subst (λ (k : ServerCase). ServerAnswers is_sealing server (in_bytes came) k step new) case_is hears.answers)
 
 -- ---- the client has a context
 
 module _ (is_sealing : Sealings) (laws : ExchangeLaws is_sealing)
-    (server : Server) (now : Moment) (from : Peer) (id : ℕ) (claims : Claims) (entries : List Entry) (holder : ClientDesk) (its : Begun)
-    (awaits : AwaitsPost is_sealing server now from id claims entries holder its)
-    (token : List ℕ) (draw : Draw) (step : Step) (agreed : Server) (size : length draw.0 ≡ 32)
-    (is : IsAgreedTo is_sealing server now from draw holder its id token step agreed) where
+    (server : Server) (came : Arrival Message) (exchange : BegunExchange) (awaits : AwaitsPost is_sealing server came exchange)
+    (step : Step) (agreed : Server) (size : length came.draw.0 ≡ 32)
+    (is : IsAgreedTo is_sealing server came exchange step agreed) where
+  abbrev now : Moment
+  now = came.at
+
+  abbrev entries : List Entry
+  entries = exchange.entries
+
+  abbrev holder : ClientDesk
+  holder = exchange.holder
+
+  abbrev its : Begun
+  its = exchange.begun
+
   nonce2_size : length is.answer.nonce2 ≡ 8
-  nonce2_size = omega (arith, ap (λ (n : List ℕ). length n) is.nonce, length-take 8 draw.0, size)
+  nonce2_size = omega (arith, ap (λ (n : List ℕ). length n) is.nonce, length-take 8 came.draw.0, size)
 
   -- the answer is a message that a datagram can carry, whatever way it goes
   pub agreement_sendable : (kind : Kind) (to : ℕ) (under : List ℕ) → to < 2 ^ 16 → length under ≤ 8 → IsCarried (agreement kind to under is.answer)
@@ -269,10 +289,12 @@ module _ (is_sealing : Sealings) (laws : ExchangeLaws is_sealing)
     );
   }
 
-  finishes : (came : Result ClientContextState FinishError) → Finishes holder its (code 2 1) (item_spelling (answer_item is.answer.nonce2 (is.answer.recipient_id ∷ []))) came
-      → (held : Held) × IsHeld agreed now entries held × (came ≡ Ok (made_of held))
-  finishes came finish =
-      let one = laws.one_name server.desk agreed.desk now draw is.post is.answer claims entries holder its came size awaits.nonce awaits.welcome.holds is.posts is.agrees finish in (
+  finishes : (finished : Result ClientContextState FinishError)
+      → Finishes holder its (code 2 1) (item_spelling (answer_item is.answer.nonce2 (is.answer.recipient_id ∷ []))) finished
+      → (held : Held) × IsHeld agreed now entries held × (finished ≡ Ok (made_of held))
+  finishes finished finish =
+      let one =
+      laws.one_name server.desk agreed.desk now came.draw is.post is.answer exchange.claims entries holder its finished size awaits.nonce awaits.welcome.holds is.posts is.agrees finish in (
         one.0,
         record {
           here = one.1;
@@ -301,7 +323,10 @@ module _ (is_sealing : Sealings) (laws : ExchangeLaws is_sealing)
         let made = finishes finish.came (subst (λ (bytes : List ℕ). Finishes holder its (code 2 1) bytes finish.came) (payload_again payload) finish.finishes) in
         (made.0, made.1, finish.is ∙ ap ended_by made.2)
 
-    module _ (old : Client) (later : Moment) (hop : Peer) (waits : AwaitsAgreement old hop holder its under) (third : Step) (after : Client) where
+    module _ (old : Client) (later : Moment) (hop : Peer) (draw : Draw) (waits : AwaitsAgreement old hop holder its under) (third : Step) (after : Client) where
+      abbrev back : Arrival Message
+      back = record { at = later; from = hop; draw = draw; what = response }
+
       abbrev ending : Outcome → Waiting → EndpointState → Client
       ending outcome waiting endpoint = record old { context = context_after outcome old.context; waiting = waits_after outcome waiting; endpoint = endpoint }
 
@@ -312,7 +337,7 @@ module _ (is_sealing : Sealings) (laws : ExchangeLaws is_sealing)
           ∙ ap (λ (e : EndpointState). ending outcome waiting e) (sym (ap (λ (c : Client). c.endpoint) kept))
           ∙ ap (λ (o : Outcome). ending o waiting after.endpoint) ends
 
-      counted : Counts is_sealing old later hop response third after → (held : Held) × IsHeld agreed now entries held × IsEnded old hop response held third after
+      counted : Counts is_sealing old back third after → (held : Held) × IsHeld agreed now entries held × IsEnded old hop response held third after
       counted it =
           let what_is : it.waiting.what ≡ Exchange its = ap (λ (w : Waiting). w.what) (same_Some it.waiting waits.waiting (sym it.waits ∙ waits.waits)) ∙ waits.exchange in
           let comes_to : ExchangeComes old.desk its response it.outcome = subst (λ (w : Awaited). Comes is_sealing old.desk old.context w response it.outcome) what_is it.comes in
@@ -327,7 +352,7 @@ module _ (is_sealing : Sealings) (laws : ExchangeLaws is_sealing)
 
       pub hears_agreement : IsCarried response
           → client_case old.next_hop hop (Some waits.waiting) (heard old.endpoint.seen later hop (received.Message response)) ≡ Counted response
-          → ClientHears is_sealing old later hop (spelling response) third after
+          → ClientHears is_sealing old (in_bytes back) third after
           → (held : Held) × IsHeld agreed now entries held × IsEnded old hop response held third after
       hears_agreement sendable counts hears =
           let as_it : hears.received ≡ received.Message response = received_as laws.one_reception response hears.received sendable hears.receives in
@@ -335,4 +360,4 @@ module _ (is_sealing : Sealings) (laws : ExchangeLaws is_sealing)
           ap (λ (r : Received). client_case old.next_hop hop old.waiting (heard old.endpoint.seen later hop r)) as_it
           ∙ ap (λ (w : Option Waiting). client_case old.next_hop hop w (heard old.endpoint.seen later hop (received.Message response))) waits.waits
           ∙ counts in
-          counted (subst (λ (k : ClientCase). ClientAnswers is_sealing old later hop k third after) case_is hears.answers)
+          counted (subst (λ (k : ClientCase). ClientAnswers is_sealing old (in_bytes back) k third after) case_is hears.answers)

@@ -7,6 +7,7 @@ use Rattle.std.proofs.lemmas.List.Elements.{recursion_from_All}
 use Rattle.std.proofs.lemmas.List.{length-take}
 use Rattle.std.proofs.lemmas.Option.{same_Some}
 use Rattle.osc_model.specs.Apply.{apply_read}
+use Rattle.osc_model.specs.Arrival.{Arrival}
 use Rattle.osc_model.specs.Draw.{token_drawn}
 use Rattle.osc_model.specs.Scope.{Scope}
 use Rattle.osc_model.specs.Tree.{Tree, IsWithinLimits}
@@ -48,13 +49,14 @@ use Rattle.osc_server.specs.State.{State as Server}
 use Rattle.osc_server.specs.Hearing.{Hears as ServerHears}
 use Rattle.osc_server.specs.Table.{answered, reply_to}
 use Rattle.osc_client.specs.Lawful.{IsLawfulClient}
-use Rattle.osc_client.specs.Sending.{plain_of, plain_request, waits}
+use Rattle.osc_client.specs.Sending.{Asked, plain_of, plain_request, waits}
 use Rattle.osc_client.specs.State.{State as Client}
 use Rattle.osc_client.specs.Way.{HostAndPort, through}
 use Rattle.osc_client.specs.declared.waiting.Awaited.TheVariants.{Ask}
 use Rattle.osc_client.specs.declared.waiting.Waiting.{Waiting}
-use Rattle.osc_rounds.specs.AskRound.{IsAskedAndAnswered, IsLawfulServer, IsServedAndAnswered, asked_text}
-use Rattle.osc_rounds.specs.Asked.{AwaitsReply, AwaitsRequest, CarriesReply, ComesBack, IsAnsweredWith, IsForServer, IsServed, in_acknowledgement, nothing}
+use Rattle.osc_rounds.specs.AskRound.{IsAskedAndAnswered, IsLawfulServer, IsServedAndAnswered, StraightRequest, asked_text}
+use Rattle.osc_rounds.specs.Asked.{AwaitsReply, AwaitsRequest, CarriesReply, ComesBack, IsAnsweredWith, IsForServer, IsServed, OpenedRequest, in_acknowledgement, nothing}
+use Rattle.osc_rounds.specs.Coming.{in_bytes}
 use Rattle.osc_rounds.specs.Ready.{IsStraight, MayAsk}
 use Rattle.osc_proxy.specs.ThereAndBack.{IsCarried}
 use Rattle.osc_rounds.proofs.Accepting.{ReplyLaws, reply_accepted}
@@ -105,11 +107,23 @@ etag_short (Some bytes) is tag e = let same : bytes ≡ tag = same_Some bytes ta
 -- ---- what the server sends back
 
 module _ (is_sealing : Sealings) (tag : Tags) (laws : RoundLaws is_sealing tag)
-    (old : Server) (now : Moment) (from : Peer) (draw : Draw) (held : Held) (number : ℕ) (text : List ℕ) (message : Message) (step : Step) (new : Server)
-    (kind : message.kind ≡ Confirmable) (id : message.id < 2 ^ 16) (token : length message.token ≤ 8) (limits : IsWithinLimits old.tree)
-    (is : IsServed is_sealing old now from draw message held number text step new) where
+    (old : Server) (came : Arrival Message) (request : OpenedRequest) (step : Step) (new : Server)
+    (kind : came.what.kind ≡ Confirmable) (id : came.what.id < 2 ^ 16) (token : length came.what.token ≤ 8) (limits : IsWithinLimits old.tree)
+    (is : IsServed is_sealing old came request step new) where
+  abbrev message : Message
+  message = came.what
+
+  abbrev held : Held
+  held = request.held
+
+  abbrev number : ℕ
+  number = request.number
+
+  abbrev text : List ℕ
+  text = request.text
+
   abbrev pub plain : Message
-  plain = reply_to old.endpoint draw message is.reply
+  plain = reply_to old.endpoint came is.reply
 
   pub plain_kind : plain.kind ≡ Acknowledgement
   plain_kind = rw kind refl
@@ -121,14 +135,14 @@ module _ (is_sealing : Sealings) (tag : Tags) (laws : RoundLaws is_sealing tag)
   plain_inside = nothing_outside is.reply.etag is.reply.format
 
   -- it carries the reply, however it comes to the client
-  pub carries : (asked : Client) (server_at : Peer) (request answer : Message) → ComesBack asked now server_at request answer
-      → answer.token ≡ request.token → outer_options answer.options ≡ [] → plaintext_of answer ≡ plaintext_of plain
-      → CarriesReply asked now server_at request is.reply answer
-  carries asked server_at request answer comes same inside plaintext = record {
+  pub carries : (asked : Client) (server_at : Peer) (first answer : Message) → ComesBack asked came.at server_at first answer
+      → answer.token ≡ first.token → outer_options answer.options ≡ [] → plaintext_of answer ≡ plaintext_of plain
+      → CarriesReply asked came.at server_at first is.reply answer
+  carries asked server_at first answer comes same inside plaintext = record {
     comes = comes;
     token = same;
     inside = inside;
-    plaintext = plaintext ∙ laws.written (reply_start draw old.endpoint.next_id message is.reply.code.0) is.reply;
+    plaintext = plaintext ∙ laws.written (reply_start came.draw old.endpoint.next_id message is.reply.code.0) is.reply;
     within = is.within;
     least = laws.least old.tree new.tree held.scope text is.reply is.applied;
     most = laws.most old.tree new.tree held.scope text is.reply is.applied;
@@ -145,7 +159,7 @@ module _ (is_sealing : Sealings) (tag : Tags) (laws : RoundLaws is_sealing tag)
   answer_sendable =
       response_sendable is_sealing tag laws.spelled_length laws.sealed_length laws.text_length held.name number plain is.answer is.reply is.protected
       plain_inside (subst (λ (n : ℕ). n < 2 ^ 16) (sym plain_id) id) token laws.reply.value_short laws.short_tag
-      (laws.written (reply_start draw old.endpoint.next_id message is.reply.code.0) is.reply) reply_short
+      (laws.written (reply_start came.draw old.endpoint.next_id message is.reply.code.0) is.reply) reply_short
 
   -- in the acknowledgement nothing is acknowledged
   no_acknowledgement : (at : Peer) → sent_to at (acknowledgement is.answer) ≡ []
@@ -154,7 +168,8 @@ module _ (is_sealing : Sealings) (tag : Tags) (laws : RoundLaws is_sealing tag)
       (ap (λ (m : Message). m.kind) is.protected.whole ∙ plain_kind)
 
   pub comes_back : (asked : Client) (server_at : Peer) → AwaitsReply asked server_at held.name number message
-      → IsServedAndAnswered is_sealing asked old now from server_at held number text step new
+      → IsServedAndAnswered is_sealing
+      (record { asked = asked; server = old; at = came.from; server_at = server_at; now = came.at; held = held; number = number; text = text }) step new
   comes_back asked server_at awaits = record {
     reply = is.reply;
     applied = is.applied;
@@ -162,29 +177,48 @@ module _ (is_sealing : Sealings) (tag : Tags) (laws : RoundLaws is_sealing tag)
     kept = ap (λ (s : Server). s.desk) is.kept;
     answer = is.answer;
     out = ap (λ (s : Step). s.out) is.told;
-    answered = λ third after hears.
-        subst (λ (out : List Datagram). IsAnsweredWith out asked held.name number is.reply third after) (no_acknowledgement server_at)
-        (reply_accepted is_sealing laws.reply asked now server_at held.name number message plain is.answer is.reply third after awaits
+    answered = λ draw third after hears.
+        let back : Arrival Message = record { at = came.at; from = server_at; draw = draw; what = is.answer } in
+        subst (λ (out : List Datagram). IsAnsweredWith out asked (record { name = held.name; number = number; reply = is.reply }) third after) (no_acknowledgement server_at)
+        (reply_accepted is_sealing laws.reply asked back held.name number message plain is.reply third after awaits
         (carries asked server_at message plain (in_acknowledgement plain_kind plain_id) refl plain_inside refl) is.protected answer_sendable hears);
   }
 
 -- where a confirmable message is answered, no other is noted
-answered_unheard : (endpoint : EndpointState) (now later : Moment) (from : Peer) (draw : Draw) (message answer : Message) (other : ℕ) → message.kind ≡ Confirmable → other ≢ message.id
-    → looked later from other endpoint.seen ≡ None → looked later from other (answered endpoint now from draw message answer).seen ≡ None
-answered_unheard endpoint now later from draw message answer other kind isnt unheard =
-    rw kind (still_unheard now later from from message.id other (record { until = now.ms + 247000; reply = Some (spelling answer) }) endpoint.seen isnt unheard)
+answered_unheard : (endpoint : EndpointState) (came : Arrival Message) (later : Moment) (answer : Message) (other : ℕ) → came.what.kind ≡ Confirmable → other ≢ came.what.id
+    → looked later came.from other endpoint.seen ≡ None → looked later came.from other (answered endpoint came answer).seen ≡ None
+answered_unheard endpoint came later answer other kind isnt unheard =
+    rw kind (still_unheard came.at later came.from came.from came.what.id other (record { until = came.at.ms + 247000; reply = Some (spelling answer) }) endpoint.seen isnt unheard)
 
 -- ---- what the client asks
 
 module _ (is_sealing : Sealings) (tag : Tags) (laws : RoundLaws is_sealing tag)
-    (client : Client) (server : Server) (asked_at now : Moment) (draw : Draw) (request : Request) (at server_at : Peer) (context : ClientContextState) (held : Held) (first : Step) (asked : Client)
-    (lawful : IsLawfulServer server) (lawful_client : IsLawfulClient asked) (way : IsStraight client server now draw at server_at) (ends : MayAsk client server now context held)
-    (sent : IsSent is_sealing tag client asked asked_at draw request first context) where
+    (client asked : Client) (server : Server) (asks_for : Asked) (now : Moment) (at server_at : Peer) (context : ClientContextState) (held : Held) (first : Step)
+    (lawful : IsLawfulServer server) (lawful_client : IsLawfulClient asked) (goes : IsStraight client server now asks_for.draw at server_at) (ends : MayAsk client server now context held)
+    (sent : IsSent is_sealing tag client asked asks_for first context) where
+  abbrev draw : Draw
+  draw = asks_for.draw
+
+  abbrev request : Request
+  request = asks_for.request
+
+  abbrev way : StraightRequest
+  way = record {
+    asked = asked;
+    server = server;
+    at = at;
+    server_at = server_at;
+    now = now;
+    held = held;
+    number = context.next;
+    text = asked_text client draw request;
+  }
+
   few : own_id draw client.endpoint.next_id < 2 ^ 16
-  few = id_few is_sealing tag client asked asked_at draw request first context sent
+  few = id_few is_sealing tag client asked asks_for first context sent
 
   short : HasShortContext held.name
-  short = subst HasShortContext (sym ends.one_name) (its_context is_sealing tag client asked asked_at draw request first context sent lawful_client)
+  short = subst HasShortContext (sym ends.one_name) (its_context is_sealing tag client asked asks_for first context sent lawful_client)
 
   -- what the table says of the context
   client_id_short : length held.name.client_id ≤ longest_id
@@ -196,14 +230,14 @@ module _ (is_sealing : Sealings) (tag : Tags) (laws : RoundLaws is_sealing tag)
     means = laws.meant_is now server.desk.table held lawful.table ends.here ends.live;
     number_lawful = ends.number;
     fresh = ends.fresh;
-    unheard = way.unheard;
+    unheard = goes.unheard;
   }
 
   abbrev bare_request : Message
   bare_request = plain_request (own_id draw client.endpoint.next_id) (token_drawn draw) request
 
   plain_is : plain_of client draw request ≡ bare_request
-  plain_is = ap (λ (origin : Option HostAndPort). through origin bare_request) way.direct
+  plain_is = ap (λ (origin : Option HostAndPort). through origin bare_request) goes.direct
 
   direct : outer_options bare_request.options ≡ []
   direct = laws.encrypted request
@@ -232,7 +266,7 @@ module _ (is_sealing : Sealings) (tag : Tags) (laws : RoundLaws is_sealing tag)
       request_sendable is_sealing tag laws.spelled_length laws.sealed_length held.name context.next bare_request sent.message its direct few token_short value_short fits
 
   abbrev waiting : Waiting
-  waiting = waits client.endpoint asked_at draw (Ask (record { number = context.next; plaintext = plain_bytes (plain_of client draw request) }))
+  waiting = waits client.endpoint asks_for.at draw (Ask (record { number = context.next; plaintext = plain_bytes (plain_of client draw request) }))
 
   number_taken : asked.context ≡ Some (record { name = held.name; next = context.next + 1 })
   number_taken =
@@ -249,25 +283,28 @@ module _ (is_sealing : Sealings) (tag : Tags) (laws : RoundLaws is_sealing tag)
     asks = refl;
     id = ap (λ (m : Message). m.id) (sym its.whole);
     token = ap (λ (m : Message). m.token) (sym its.whole);
-    peer = ap (λ (c : Client). same_peer c.next_hop server_at) sent.kept ∙ ap (λ (p : Peer). same_peer p server_at) way.next_hop ∙ laws.itself server_at;
+    peer = ap (λ (c : Client). same_peer c.next_hop server_at) sent.kept ∙ ap (λ (p : Peer). same_peer p server_at) goes.next_hop ∙ laws.itself server_at;
     number_lawful = ends.number;
   }
 
-  abbrev served_as : (server_draw : Draw) (second : Step) (after : Server) → ServerHears is_sealing server now server_draw at (spelling sent.message) second after
-      → IsServed is_sealing server now at server_draw sent.message held context.next (plain_bytes bare_request) second after
+  abbrev heard_as : Draw → Arrival Message
+  heard_as server_draw = record { at = now; from = at; draw = server_draw; what = sent.message }
+
+  abbrev served_as : (server_draw : Draw) (second : Step) (after : Server) → ServerHears is_sealing server (in_bytes (heard_as server_draw)) second after
+      → IsServed is_sealing server (heard_as server_draw) (record { held = held; number = context.next; text = plain_bytes bare_request }) second after
   served_as server_draw second after hears =
-      request_served is_sealing laws.request server now at server_draw held context.next bare_request sent.message second after awaits_request for_server its sendable hears
+      request_served is_sealing laws.request server (heard_as server_draw) held context.next bare_request second after awaits_request for_server its sendable hears
 
   -- of what the server heard from there only the request is new
-  no_other_heard : (server_draw : Draw) (second : Step) (after : Server) → ServerHears is_sealing server now server_draw at (spelling sent.message) second after
+  no_other_heard : (server_draw : Draw) (second : Step) (after : Server) → ServerHears is_sealing server (in_bytes (heard_as server_draw)) second after
       → (later : Moment) (id : ℕ) → id ≢ own_id draw client.endpoint.next_id → looked later at id server.endpoint.seen ≡ None → looked later at id after.endpoint.seen ≡ None
   no_other_heard server_draw second after hears later id other unheard =
       let it = served_as server_draw second after hears in
       ap (λ (s : Server). looked later at id s.endpoint.seen) it.kept
-      ∙ answered_unheard server.endpoint now later at server_draw sent.message it.answer id (ap (λ (m : Message). m.kind) its.whole)
+      ∙ answered_unheard server.endpoint (heard_as server_draw) later it.answer id (ap (λ (m : Message). m.kind) its.whole)
       (subst (λ (m : Message). id ≢ m.id) (sym its.whole) other) unheard
 
-  pub is_asked : IsAskedAndAnswered is_sealing client server now draw request at server_at held context.next first asked
+  pub is_asked : IsAskedAndAnswered is_sealing way client draw first
   is_asked = record {
     message = sent.message;
     out = ap (λ (s : Step). s.out) sent.told;
@@ -275,10 +312,11 @@ module _ (is_sealing : Sealings) (tag : Tags) (laws : RoundLaws is_sealing tag)
     unserved = ap (λ (s : Step). s.notes.served) sent.told;
     context = number_taken;
     served = λ server_draw second after hears.
-        let is : IsServed is_sealing server now at server_draw sent.message held context.next (asked_text client draw request) second after =
-        subst (λ (m : Message). IsServed is_sealing server now at server_draw sent.message held context.next (plain_bytes m) second after) (sym plain_is)
+        let opened : OpenedRequest = record { held = held; number = context.next; text = asked_text client draw request } in
+        let is : IsServed is_sealing server (heard_as server_draw) opened second after =
+        subst (λ (m : Message). IsServed is_sealing server (heard_as server_draw) (record { held = held; number = context.next; text = plain_bytes m }) second after) (sym plain_is)
         (served_as server_draw second after hears) in
-        comes_back is_sealing tag laws server now at server_draw held context.next (asked_text client draw request) sent.message second after
+        comes_back is_sealing tag laws server (heard_as server_draw) opened second after
         (ap (λ (m : Message). m.kind) its.whole)
         (subst (λ (m : Message). m.id < 2 ^ 16) (sym its.whole) few)
         (subst (λ (m : Message). length m.token ≤ 8) (sym its.whole) token_short)

@@ -1,5 +1,6 @@
 -- A request that goes through a forward proxy, and its answer, delivery by delivery.
 use Rattle.std.proofs.Common.{◌≡◌, sym, subst, ℕ, ◌<◌, ◌^◌, List, [], length, None, arith}
+use Rattle.osc_model.specs.Arrival.{Arrival, read_as}
 use Rattle.osc_model.specs.Step.{sends}
 use Rattle.osc_model.specs.declared.node.Draw.{Draw}
 use Rattle.osc_model.specs.declared.node.Moment.{Moment}
@@ -16,29 +17,47 @@ use Rattle.osc_authz.specs.Held.{Held}
 use Rattle.osc_server.specs.Hearing.{Hears as ServerHears}
 use Rattle.osc_server.specs.State.{State as Server}
 use Rattle.osc_client.specs.Hearing.{Hears as ClientHears}
+use Rattle.osc_client.specs.Sending.{Asked}
 use Rattle.osc_client.specs.State.{State as Client}
 use Rattle.osc_proxy.specs.Forwarding.{forwarded_token}
 use Rattle.osc_proxy.specs.Hearing.{Hears as ProxyHears}
+use Rattle.osc_proxy.specs.Passage.{Passage}
 use Rattle.osc_proxy.specs.State.{State as Proxy}
 use Rattle.osc_proxy.specs.Table.{forwarded_by, next_own}
-use Rattle.osc_proxy.specs.ThereAndBack.{GoesBack, GoesThereAndBack, IsLawfulProxy, answer_by, answer_id}
+use Rattle.osc_proxy.specs.ThereAndBack.{GoesBack, GoesThereAndBack, IsLawfulProxy, answer_by, answer_id, datagram_of}
 use Rattle.osc_rounds.specs.AskRound.{asked_text}
 use Rattle.osc_rounds.specs.AskRoundThrough.{IsAskedAndServedThrough, IsBroughtBackAndAnswered, IsPassedOnAndServed, IsServedAndBroughtBack, OnItsWay}
-use Rattle.osc_rounds.specs.Ready.{IsThrough}
-use Rattle.osc_rounds.proofs.AskedThrough.{IsAskedAndAnsweredThrough, IsServedAndAnsweredThrough}
-use Rattle.osc_rounds.proofs.PassedOn.{PassesLaw, can_send, takes_up, token_size}
+use Rattle.osc_rounds.specs.Coming.{coming}
+use Rattle.osc_rounds.specs.Ready.{Hops, IsThrough}
+use Rattle.osc_rounds.proofs.AskedThrough.{IsAskedAndAnsweredThrough, IsServedAndAnsweredThrough, RequestFromProxy}
+use Rattle.osc_rounds.proofs.PassedOn.{PassesLaw, can_send, passage_on, takes_up, token_size}
 
 module _ (is_sealing : Sealings) where
   abbrev pub AcknowledgedLaw : Type 0
-  AcknowledgedLaw = (old new : Client) (now : Moment) (from : Peer) (id : ℕ) (step : Step) → id < 2 ^ 16
-      → ClientHears is_sealing old now from (spelling (empty_acknowledgement id)) step new
-      → (step ≡ sends []) × (new ≡ record old { endpoint = record old.endpoint { sending = acknowledged from id old.endpoint.sending } })
+  AcknowledgedLaw = (old new : Client) (came : Arrival ℕ) (step : Step) → came.what < 2 ^ 16
+      → ClientHears is_sealing old (read_as came (spelling (empty_acknowledgement came.what))) step new
+      → (step ≡ sends []) × (new ≡ record old { endpoint = record old.endpoint { sending = acknowledged came.from came.what old.endpoint.sending } })
 
   module _ (passes : PassesLaw) (settles : AcknowledgedLaw)
-      (client asked : Client) (proxy : Proxy) (server : Server) (now : Moment) (draw proxy_draw : Draw) (request : Request)
-      (at proxy_at server_at : Peer) (held : Held) (number : ℕ) (asks : Step)
-      (lawful : IsLawfulProxy proxy) (size : length proxy_draw.0 ≡ 32) (may : IsThrough client proxy server now draw proxy_draw at proxy_at server_at)
-      (is : IsAskedAndAnsweredThrough is_sealing client server now draw request may.origin proxy_at held number asks asked) where
+      (client asked : Client) (proxy : Proxy) (server : Server) (asks_for : Asked) (hops : Hops) (held : Held) (number : ℕ) (asks : Step)
+      (lawful : IsLawfulProxy proxy) (size : length hops.proxy_draw.0 ≡ 32) (may : IsThrough client proxy server asks_for.draw hops)
+      (is : IsAskedAndAnsweredThrough is_sealing client
+      (record { origin = may.origin; proxy_at = hops.proxy_at; asks = asks_for; held = held; number = number; server = server; now = hops.now }) asks asked) where
+    abbrev draw : Draw
+    draw = asks_for.draw
+
+    abbrev request : Request
+    request = asks_for.request
+
+    abbrev now : Moment
+    now = hops.now
+
+    abbrev proxy_at : Peer
+    proxy_at = hops.proxy_at
+
+    abbrev proxy_draw : Draw
+    proxy_draw = hops.proxy_draw
+
     abbrev key : ℕ
     key = may.key
 
@@ -47,9 +66,9 @@ module _ (is_sealing : Sealings) where
       asked = asked;
       proxy = proxy;
       server = server;
-      at = at;
+      at = hops.at;
       proxy_at = proxy_at;
-      server_at = server_at;
+      server_at = hops.server_at;
       now = now;
       proxy_draw = proxy_draw;
       held = held;
@@ -59,8 +78,14 @@ module _ (is_sealing : Sealings) where
       key = key;
     }
 
+    abbrev passage : Passage
+    passage = passage_on hops is.message key
+
     abbrev forwarded_on : Message
-    forwarded_on = forwarded_by proxy proxy_draw key is.message
+    forwarded_on = forwarded_by proxy passage
+
+    abbrev from_proxy : RequestFromProxy
+    from_proxy = record { asked = asked; message = is.message; server = server; request = record { held = held; number = number; text = asked_text client draw request } }
 
     abbrev meanwhile : EndpointState
     meanwhile = record asked.endpoint { sending = acknowledged proxy_at is.message.id asked.endpoint.sending }
@@ -74,27 +99,27 @@ module _ (is_sealing : Sealings) where
     -- the last two
     answered : (server_draw : Draw) (third : Step) (served : Server) (brought : Proxy) (fourth : Step) (settled : Client)
         → settled ≡ record asked { endpoint = meanwhile }
-        → (it : IsServedAndAnsweredThrough is_sealing asked server now proxy_at held number (asked_text client draw request) is.message forwarded_on third served)
-        → GoesBack proxy now proxy_draw at is.message key it.response fourth brought
+        → (it : IsServedAndAnsweredThrough is_sealing from_proxy (record { at = now; from = proxy_at; draw = server_draw; what = forwarded_on }) third served)
+        → GoesBack proxy passage it.response fourth brought
         → IsBroughtBackAndAnswered is_sealing way settled it.reply fourth brought
     answered server_draw third served brought fourth settled settled_is it back = record {
-      back = answer_by proxy proxy_draw is.message it.response;
+      back = answer_by proxy passage it.response;
       out = back.back.told;
-      answered = λ fifth after hears. record {
+      answered = λ its_draw fifth after hears. record {
         is_answered =
-            it.answered meanwhile (answer_id proxy proxy_draw) fifth after answer_few new_at_client
-            (subst (λ (c : Client). ClientHears is_sealing c now proxy_at (spelling (answer_by proxy proxy_draw is.message it.response)) fifth after) settled_is hears);
+            it.answered meanwhile (answer_id proxy proxy_draw) its_draw fifth after answer_few new_at_client
+            (subst (λ (c : Client). ClientHears is_sealing c (coming now proxy_at its_draw (answer_by proxy passage it.response)) fifth after) settled_is hears);
         ends = λ draw sixth rested last. back.ends now draw sixth rested last;
       };
     }
 
     -- the three from the server on
-    served : (first : Step) (passed : Proxy) (settled : Client) → GoesThereAndBack proxy now proxy_draw at server_at is.message key first passed
+    served : (first : Step) (passed : Proxy) (settled : Client) → GoesThereAndBack proxy passage first passed
         → settled ≡ record asked { endpoint = meanwhile }
-        → (server_draw : Draw) (third : Step) (after : Server) → ServerHears is_sealing server now server_draw proxy_at (spelling forwarded_on) third after
+        → (server_draw : Draw) (third : Step) (after : Server) → ServerHears is_sealing server (coming now proxy_at server_draw forwarded_on) third after
         → IsServedAndBroughtBack is_sealing way settled passed third after
     served first passed settled goes settled_is server_draw third after hears =
-        let it : IsServedAndAnsweredThrough is_sealing asked server now proxy_at held number (asked_text client draw request) is.message forwarded_on third after =
+        let it : IsServedAndAnsweredThrough is_sealing from_proxy (record { at = now; from = proxy_at; draw = server_draw; what = forwarded_on }) third after =
         is.served (next_own proxy proxy_draw) (forwarded_token key proxy_draw) server_draw third after goes.there.forwarded.lawful.id (token_size key proxy_draw size) may.new_at_server hears in
         record {
           reply = it.reply;
@@ -108,15 +133,16 @@ module _ (is_sealing : Sealings) where
               (goes.back now later it.response fourth brought it.forwardable comes);
         }
 
-    passed_on : (first : Step) (passed : Proxy) → ProxyHears proxy now proxy_draw at (spelling is.message) first passed → IsPassedOnAndServed is_sealing way first passed
+    passed_on : (first : Step) (passed : Proxy) → ProxyHears proxy (datagram_of passage) first passed → IsPassedOnAndServed is_sealing way first passed
     passed_on first passed hears =
-        let goes : GoesThereAndBack proxy now proxy_draw at server_at is.message key first passed =
-        passes proxy passed now proxy_draw at server_at is.message key first lawful
-        (takes_up client proxy server now draw proxy_draw at proxy_at server_at is.message may is.id is.for_proxy) (can_send proxy at may.none_to_client may.few) hears in
+        let goes : GoesThereAndBack proxy passage first passed =
+        passes proxy passed passage first lawful
+        (takes_up client proxy server draw hops is.message may is.id is.for_proxy) (can_send proxy hops.at may.none_to_client may.few) hears in
         record {
           out = goes.there.told;
-          settled = λ second settled comes.
-              let stays = settles asked settled now proxy_at is.message.id second is.for_proxy.carried.lawful.id comes in
+          settled = λ its_draw second settled comes.
+              let came : Arrival ℕ = record { at = now; from = proxy_at; draw = its_draw; what = is.message.id } in
+              let stays = settles asked settled came second is.for_proxy.carried.lawful.id comes in
               record {
                 told = stays.0;
                 served = λ server_draw third after heard. served first passed settled goes stays.1 server_draw third after heard;

@@ -1,6 +1,7 @@
 -- A request that goes through a forward proxy is asked, served and answered.
 use Rattle.std.proofs.Common.{◌≡◌, ◌∙◌, sym, ap, subst, refl, ℕ, ◌+◌, ◌^◌, ◌<◌, ◌≤◌, Bool, true, false, not, List, [], ◌∷◌, length, Option, Some, None, arith}
 use Rattle.std.specs.Prelude.{filter}
+use Rattle.osc_model.specs.Arrival.{Arrival}
 use Rattle.osc_model.specs.Draw.{token_drawn}
 use Rattle.osc_model.specs.Tree.{IsWithinLimits}
 use Rattle.osc_model.specs.declared.node.Draw.{Draw}
@@ -25,7 +26,7 @@ use Rattle.osc_authz.specs.Held.{Held}
 use Rattle.osc_server.specs.Hearing.{Hears as ServerHears}
 use Rattle.osc_server.specs.State.{State as Server}
 use Rattle.osc_client.specs.Hearing.{Hears as ClientHears}
-use Rattle.osc_client.specs.Sending.{plain_of, plain_request, waits}
+use Rattle.osc_client.specs.Sending.{Asked, plain_of, plain_request, waits}
 use Rattle.osc_client.specs.State.{State as Client}
 use Rattle.osc_client.specs.Way.{HostAndPort, proxy_options, through}
 use Rattle.osc_client.specs.declared.waiting.Awaited.TheVariants.{Ask}
@@ -34,12 +35,13 @@ use Rattle.osc_proxy.specs.Forwarding.{answer as sent_back, forwarded, forwarded
 use Rattle.osc_proxy.specs.ThereAndBack.{IsAnswerTo, IsCarried}
 use Rattle.osc_options.specs.Recognised.{has_unrecognised_unsafe}
 use Rattle.osc_rounds.specs.AskRound.{IsLawfulServer, asked_text}
-use Rattle.osc_rounds.specs.Asked.{AwaitsReply, AwaitsRequest, CarriesReply, IsAnsweredWith, IsServed, a_uri_host, in_confirmable}
+use Rattle.osc_rounds.specs.Asked.{AwaitsReply, AwaitsRequest, CarriesReply, IsAnsweredWith, IsServed, OpenedRequest, a_uri_host, in_confirmable}
+use Rattle.osc_rounds.specs.Coming.{in_bytes}
 use Rattle.osc_rounds.specs.ForProxy.{IsForProxy}
 use Rattle.osc_rounds.specs.Ready.{MayAsk}
 use Rattle.osc_rounds.proofs.Accepting.{reply_accepted}
 use Rattle.osc_rounds.proofs.AskRound.{RoundLaws, answer_sendable, carries, lawful_context, plain, plain_id, plain_inside, plain_kind}
-use Rattle.osc_rounds.proofs.AskedThrough.{IsAskedAndAnsweredThrough, IsAskedThrough, IsForwardedAs, IsServedAndAnsweredThrough, SendsThrough}
+use Rattle.osc_rounds.proofs.AskedThrough.{IsAskedAndAnsweredThrough, IsAskedThrough, IsForwardedAs, IsServedAndAnsweredThrough, RequestToProxy, SendsThrough}
 use Rattle.osc_rounds.proofs.Asking.{request_served}
 use Rattle.osc_rounds.proofs.Forwarded.{outer_forwarded, request_forwarded, response_sent_back, text_forwarded, uri_in_protected, uri_outside}
 use Rattle.osc_rounds.proofs.ProxyOptions.{Reads, outer_merged, proxy_forwarded, proxy_in_order, proxy_outside, proxy_reads, proxy_without_uri}
@@ -49,8 +51,17 @@ use Rattle.osc_rounds.proofs.Sent.{IsSent, its_id}
 -- ---- to a proxy
 
 module _ (is_sealing : Sealings) (tag : Tags) (laws : RoundLaws is_sealing tag)
-    (client asked : Client) (asked_at : Moment) (draw : Draw) (request : Request) (origin : HostAndPort) (proxy_at : Peer) (context : ClientContextState) (first : Step)
-    (may : SendsThrough client draw origin proxy_at context) (is : IsSent is_sealing tag client asked asked_at draw request first context) where
+    (client asked : Client) (asks_for : Asked) (origin : HostAndPort) (proxy_at : Peer) (context : ClientContextState) (first : Step)
+    (may : SendsThrough client asks_for.draw origin proxy_at context) (is : IsSent is_sealing tag client asked asks_for first context) where
+  abbrev draw : Draw
+  draw = asks_for.draw
+
+  abbrev request : Request
+  request = asks_for.request
+
+  abbrev pub to_proxy : RequestToProxy
+  to_proxy = record { origin = origin; proxy_at = proxy_at; asks = asks_for; name = context.name; number = context.next }
+
   abbrev bare_request : Message
   bare_request = plain_request (own_id draw client.endpoint.next_id) (token_drawn draw) request
 
@@ -113,10 +124,10 @@ module _ (is_sealing : Sealings) (tag : Tags) (laws : RoundLaws is_sealing tag)
   }
 
   id_is : is.message.id ≡ own_id draw client.endpoint.next_id
-  id_is = its_id is_sealing tag client asked asked_at draw request first context is
+  id_is = its_id is_sealing tag client asked asks_for first context is
 
   abbrev waiting : Waiting
-  waiting = waits client.endpoint asked_at draw (Ask (record { number = context.next; plaintext = plain_bytes asked_for }))
+  waiting = waits client.endpoint asks_for.at draw (Ask (record { number = context.next; plaintext = plain_bytes asked_for }))
 
   awaits : AwaitsReply asked proxy_at context.name context.next is.message
   awaits = record {
@@ -132,7 +143,7 @@ module _ (is_sealing : Sealings) (tag : Tags) (laws : RoundLaws is_sealing tag)
     number_lawful = may.number;
   }
 
-  pub asked_through : IsAskedThrough is_sealing client draw request origin proxy_at context.name context.next first asked
+  pub asked_through : IsAskedThrough is_sealing client to_proxy first asked
   asked_through = record {
     message = is.message;
     out = ap (λ (s : Step). s.out) is.told ∙ ap (λ (p : Peer). datagram p is.message ∷ []) may.next_hop;
@@ -181,27 +192,42 @@ forwarded_sendable fewer shorter origin id token m few eight is = record {
 -- ---- what the server sends back
 
 module _ (is_sealing : Sealings) (tag : Tags) (laws : RoundLaws is_sealing tag)
-    (asked : Client) (old : Server) (now : Moment) (proxy_at : Peer) (draw : Draw) (held : Held) (number : ℕ) (text : List ℕ) (request message : Message) (step : Step) (new : Server)
-    (kind : message.kind ≡ Confirmable) (id : message.id < 2 ^ 16) (eight : length message.token ≡ 8) (limits : IsWithinLimits old.tree)
-    (is : IsServed is_sealing old now proxy_at draw message held number text step new)
-    (request_eight : length request.token ≡ 8) (awaits : AwaitsReply asked proxy_at held.name number request) where
+    (asked : Client) (old : Server) (came : Arrival Message) (opened : OpenedRequest) (request : Message) (step : Step) (new : Server)
+    (kind : came.what.kind ≡ Confirmable) (id : came.what.id < 2 ^ 16) (eight : length came.what.token ≡ 8) (limits : IsWithinLimits old.tree)
+    (is : IsServed is_sealing old came opened step new)
+    (request_eight : length request.token ≡ 8) (awaits : AwaitsReply asked came.from opened.held.name opened.number request) where
+  abbrev now : Moment
+  now = came.at
+
+  abbrev proxy_at : Peer
+  proxy_at = came.from
+
+  abbrev message : Message
+  message = came.what
+
+  abbrev held : Held
+  held = opened.held
+
+  abbrev number : ℕ
+  number = opened.number
+
   few : length message.token ≤ 8
   few = omega (arith, eight)
 
   abbrev to_send : Message
-  to_send = plain is_sealing tag laws old now proxy_at draw held number text message step new kind id few limits is
+  to_send = plain is_sealing tag laws old came opened step new kind id few limits is
 
   sends_kind : to_send.kind ≡ Acknowledgement
-  sends_kind = plain_kind is_sealing tag laws old now proxy_at draw held number text message step new kind id few limits is
+  sends_kind = plain_kind is_sealing tag laws old came opened step new kind id few limits is
 
   sends_id : to_send.id ≡ message.id
-  sends_id = plain_id is_sealing tag laws old now proxy_at draw held number text message step new kind id few limits is
+  sends_id = plain_id is_sealing tag laws old came opened step new kind id few limits is
 
   sends_inside : outer_options to_send.options ≡ []
-  sends_inside = plain_inside is_sealing tag laws old now proxy_at draw held number text message step new kind id few limits is
+  sends_inside = plain_inside is_sealing tag laws old came opened step new kind id few limits is
 
   sendable : IsCarried is.answer
-  sendable = answer_sendable is_sealing tag laws old now proxy_at draw held number text message step new kind id few limits is
+  sendable = answer_sendable is_sealing tag laws old came opened step new kind id few limits is
 
   code_is : is.answer.code ≡ 68
   code_is = ap (λ (m : Message). m.code) is.protected.whole
@@ -222,7 +248,7 @@ module _ (is_sealing : Sealings) (tag : Tags) (laws : RoundLaws is_sealing tag)
   }
 
   -- it goes back to the client
-  module _ (endpoint : EndpointState) (back_id : ℕ) (third : Step) (after : Client) (back_few : back_id < 2 ^ 16) (unheard : looked now proxy_at back_id endpoint.seen ≡ None) where
+  module _ (endpoint : EndpointState) (back_id : ℕ) (draw : Draw) (third : Step) (after : Client) (back_few : back_id < 2 ^ 16) (unheard : looked now proxy_at back_id endpoint.seen ≡ None) where
     abbrev meanwhile : Client
     meanwhile = record asked { endpoint = endpoint }
 
@@ -260,18 +286,21 @@ module _ (is_sealing : Sealings) (tag : Tags) (laws : RoundLaws is_sealing tag)
 
     carries_it : CarriesReply meanwhile now proxy_at request is.reply plain_back
     carries_it =
-        carries is_sealing tag laws old now proxy_at draw held number text message step new kind id few limits is meanwhile proxy_at request plain_back
+        carries is_sealing tag laws old came opened step new kind id few limits is meanwhile proxy_at request plain_back
         (in_confirmable refl unheard) refl sends_inside refl
 
-    answered : ClientHears is_sealing meanwhile now proxy_at (spelling back) third after
-        → IsAnsweredWith (datagram proxy_at (empty_acknowledgement back_id) ∷ []) asked held.name number is.reply third after
+    abbrev comes : Arrival Message
+    comes = record { at = now; from = proxy_at; draw = draw; what = back }
+
+    answered : ClientHears is_sealing meanwhile (in_bytes comes) third after
+        → IsAnsweredWith (datagram proxy_at (empty_acknowledgement back_id) ∷ []) asked (record { name = held.name; number = number; reply = is.reply }) third after
     answered hears =
         let it =
-        reply_accepted is_sealing laws.reply meanwhile now proxy_at held.name number request plain_back back is.reply third after still_awaits carries_it
+        reply_accepted is_sealing laws.reply meanwhile comes held.name number request plain_back is.reply third after still_awaits carries_it
         (response_sent_back is_sealing held.name number None to_send is.answer Confirmable back_id request.token is.protected) back_sendable hears in
         record { told = it.told; context = it.context; waiting = it.waiting; desk = it.desk; next_hop = it.next_hop; origin = it.origin }
 
-  pub comes_back_through : IsServedAndAnsweredThrough is_sealing asked old now proxy_at held number text request message step new
+  pub comes_back_through : IsServedAndAnsweredThrough is_sealing (record { asked = asked; message = request; server = old; request = opened }) came step new
   comes_back_through = record {
     reply = is.reply;
     applied = is.applied;
@@ -280,15 +309,18 @@ module _ (is_sealing : Sealings) (tag : Tags) (laws : RoundLaws is_sealing tag)
     response = is.answer;
     out = ap (λ (s : Step). s.out) is.told;
     forwardable = forwardable;
-    answered = λ endpoint id third after few unheard hears. answered endpoint id third after few unheard hears;
+    answered = λ endpoint id draw third after few unheard hears. answered endpoint id draw third after few unheard hears;
   }
 
 -- ---- there and back
 
 module _ (is_sealing : Sealings) (tag : Tags) (laws : ThroughLaws is_sealing tag)
-    (client asked : Client) (server : Server) (now : Moment) (draw : Draw) (request : Request) (origin : HostAndPort) (proxy_at : Peer) (context : ClientContextState) (held : Held) (first : Step)
+    (client asked : Client) (server : Server) (now : Moment) (asks_for : Asked) (origin : HostAndPort) (proxy_at : Peer) (context : ClientContextState) (held : Held) (first : Step)
     (lawful : IsLawfulServer server) (ends : MayAsk client server now context held) (short : HasShortContext held.name)
-    (is : IsAskedThrough is_sealing client draw request origin proxy_at held.name context.next first asked) where
+    (is : IsAskedThrough is_sealing client (record { origin = origin; proxy_at = proxy_at; asks = asks_for; name = held.name; number = context.next }) first asked) where
+  abbrev text : List ℕ
+  text = asked_text client asks_for.draw asks_for.request
+
   client_id_short : length held.name.client_id ≤ longest_id
   client_id_short = let it = lawful_context server.desk.table held lawful.table ends.here in omega (arith, ap (λ (id : List ℕ). length id) it.one_byte)
 
@@ -303,23 +335,32 @@ module _ (is_sealing : Sealings) (tag : Tags) (laws : ThroughLaws is_sealing tag
       unheard = unheard;
     }
 
-    abbrev goes_as : IsForwardedAs is_sealing held.name context.next (asked_text client draw request) (forwarded id token (plain_of client draw request)) (forwarded id token is.message)
+    abbrev plain_on : Message
+    plain_on = forwarded id token (plain_of client asks_for.draw asks_for.request)
+
+    abbrev goes_as : IsForwardedAs is_sealing held.name context.next text plain_on (forwarded id token is.message)
     goes_as = is.goes_on id token
 
-    served : ServerHears is_sealing server now server_draw proxy_at (spelling (forwarded id token is.message)) second after
-        → IsServed is_sealing server now proxy_at server_draw (forwarded id token is.message) held context.next (asked_text client draw request) second after
+    abbrev comes_on : Arrival Message
+    comes_on = record { at = now; from = proxy_at; draw = server_draw; what = forwarded id token is.message }
+
+    abbrev opened_on : OpenedRequest
+    opened_on = record { held = held; number = context.next; text = text }
+
+    served : ServerHears is_sealing server (in_bytes comes_on) second after → IsServed is_sealing server comes_on opened_on second after
     served hears =
-        subst (λ (text : List ℕ). IsServed is_sealing server now proxy_at server_draw (forwarded id token is.message) held context.next text second after) goes_as.text_is
-        (request_served is_sealing laws.round.request server now proxy_at server_draw held context.next (forwarded id token (plain_of client draw request)) (forwarded id token is.message) second after
+        subst (λ (t : List ℕ). IsServed is_sealing server comes_on (record { held = held; number = context.next; text = t }) second after) goes_as.text_is
+        (request_served is_sealing laws.round.request server comes_on held context.next plain_on second after
         awaits_request goes_as.for_server goes_as.protected (forwarded_sendable laws.fewer laws.shorter origin id token is.message few eight is.for_proxy) hears)
 
-    served_and_answered : ServerHears is_sealing server now server_draw proxy_at (spelling (forwarded id token is.message)) second after
-        → IsServedAndAnsweredThrough is_sealing asked server now proxy_at held context.next (asked_text client draw request) is.message (forwarded id token is.message) second after
+    served_and_answered : ServerHears is_sealing server (in_bytes comes_on) second after
+        → IsServedAndAnsweredThrough is_sealing (record { asked = asked; message = is.message; server = server; request = opened_on }) comes_on second after
     served_and_answered hears =
-        comes_back_through is_sealing tag laws.round asked server now proxy_at server_draw held context.next (asked_text client draw request) is.message (forwarded id token is.message) second after
+        comes_back_through is_sealing tag laws.round asked server comes_on opened_on is.message second after
         is.for_proxy.kind few eight lawful.limits (served hears) is.for_proxy.token is.awaits
 
-  pub answered_through : IsAskedAndAnsweredThrough is_sealing client server now draw request origin proxy_at held context.next first asked
+  pub answered_through : IsAskedAndAnsweredThrough is_sealing client
+      (record { origin = origin; proxy_at = proxy_at; asks = asks_for; held = held; number = context.next; server = server; now = now }) first asked
   answered_through = record {
     message = is.message;
     out = is.out;

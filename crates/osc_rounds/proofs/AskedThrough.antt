@@ -2,15 +2,15 @@
 -- of a request is `forwarded`, and what it makes of the response is `answer` (RFC 7252 section 5.7.2).
 use Rattle.std.specs.Prelude.{◌≡◌, ℕ, ◌+◌, ◌≤◌, ◌<◌, ◌^◌, List, [], ◌∷◌, length, Some, None}
 use Rattle.osc_model.specs.Apply.{apply_read}
+use Rattle.osc_model.specs.Arrival.{Arrival}
 use Rattle.osc_model.specs.Draw.{token_drawn}
 use Rattle.osc_model.specs.declared.context.ContextName.{ContextName}
 use Rattle.osc_model.specs.declared.node.Draw.{Draw}
 use Rattle.osc_model.specs.declared.node.Moment.{Moment}
 use Rattle.osc_model.specs.declared.node.Peer.{Peer}
 use Rattle.osc_model.specs.declared.reply.Reply.{Reply}
-use Rattle.osc_model.specs.declared.request.Request.{Request}
 use Rattle.osc_model.specs.declared.step.Step.{Step}
-use Rattle.osc_coap.specs.Message.{Message, spelling}
+use Rattle.osc_coap.specs.Message.{Message}
 use Rattle.osc_coap.specs.declared.kind.Kind.TheVariants.{Confirmable}
 use Rattle.osc_dedup.specs.Table.{looked}
 use Rattle.osc_message.specs.Endpoint.{EndpointState, own_id}
@@ -28,13 +28,14 @@ use Rattle.osc_server.specs.Hearing.{Hears as ServerHears}
 use Rattle.osc_server.specs.State.{State as Server}
 use Rattle.osc_server.specs.Table.{notes_of_request}
 use Rattle.osc_client.specs.Hearing.{Hears as ClientHears}
-use Rattle.osc_client.specs.Sending.{plain_of}
+use Rattle.osc_client.specs.Sending.{Asked, plain_of}
 use Rattle.osc_client.specs.State.{State as Client}
 use Rattle.osc_client.specs.Way.{HostAndPort, IsLawfulOrigin}
 use Rattle.osc_proxy.specs.Forwarding.{answer as sent_back, forwarded}
 use Rattle.osc_proxy.specs.ThereAndBack.{IsAnswerTo}
 use Rattle.osc_rounds.specs.AskRound.{asked_text}
-use Rattle.osc_rounds.specs.Asked.{AwaitsReply, IsAnsweredWith, IsForServer}
+use Rattle.osc_rounds.specs.Asked.{AwaitsReply, IsAnsweredWith, IsForServer, OpenedRequest}
+use Rattle.osc_rounds.specs.Coming.{coming}
 use Rattle.osc_rounds.specs.ForProxy.{IsForProxy}
 
 -- ---- before
@@ -48,6 +49,36 @@ pub record SendsThrough (client : Client) (draw : Draw) (origin : HostAndPort) (
   pub origin_lawful : IsLawfulOrigin origin
   pub token_size : length (token_drawn draw) ≡ 8
 
+-- the text that is sealed
+abbrev pub text_asked : Client → Asked → List ℕ
+text_asked client asks = asked_text client asks.draw asks.request
+
+-- what goes to the proxy: the host and port by which the client names the server, and the proxy's address; what the client asks, and
+-- under which name and number
+pub record RequestToProxy : Type 0 where
+  pub origin : HostAndPort
+  pub proxy_at : Peer
+  pub asks : Asked
+  pub name : ContextName
+  pub number : ℕ
+
+-- the same, with the server before, which has this context, and the moment
+pub record ProxiedRequest : Type 0 where
+  pub origin : HostAndPort
+  pub proxy_at : Peer
+  pub asks : Asked
+  pub held : Held
+  pub number : ℕ
+  pub server : Server
+  pub now : Moment
+
+-- what comes from the proxy: the client that has asked, its message, the server before, and the request that it opens
+pub record RequestFromProxy : Type 0 where
+  pub asked : Client
+  pub message : Message
+  pub server : Server
+  pub request : OpenedRequest
+
 -- ---- behind
 
 -- `is_sealing algorithm` is the relation of the algorithm's cipher
@@ -60,47 +91,50 @@ module _ (is_sealing : Sealings) where
 
   -- The client asks: one datagram goes to the proxy, with a protected request that a proxy forwards, and what it forwards is the same
   -- request to the server, whatever message ID and token it has; and the client waits for the answer from the proxy.
-  pub record IsAskedThrough (client : Client) (draw : Draw) (request : Request) (origin : HostAndPort) (proxy_at : Peer) (name : ContextName) (number : ℕ) (first : Step) (asked : Client) : Type 0 where
+  pub record IsAskedThrough (client : Client) (way : RequestToProxy) (first : Step) (asked : Client) : Type 0 where
     pub message : Message
-    pub out : first.out ≡ datagram proxy_at message ∷ []
-    pub sealed : first.notes.seals ≡ Some (request_note name number (asked_text client draw request))
+    pub out : first.out ≡ datagram way.proxy_at message ∷ []
+    pub sealed : first.notes.seals ≡ Some (request_note way.name way.number (text_asked client way.asks))
     pub unserved : first.notes.served ≡ None
-    pub context : asked.context ≡ Some (record { name = name; next = number + 1 })
-    pub id : message.id ≡ own_id draw client.endpoint.next_id
+    pub context : asked.context ≡ Some (record { name = way.name; next = way.number + 1 })
+    pub id : message.id ≡ own_id way.asks.draw client.endpoint.next_id
     pub heard : asked.endpoint.seen ≡ client.endpoint.seen
-    pub for_proxy : IsForProxy origin message
+    pub for_proxy : IsForProxy way.origin message
     pub goes_on : (id : ℕ) (token : List ℕ)
-        → IsForwardedAs name number (asked_text client draw request) (forwarded id token (plain_of client draw request)) (forwarded id token message)
-    pub awaits : AwaitsReply asked proxy_at name number message
+        → IsForwardedAs way.name way.number (text_asked client way.asks) (forwarded id token (plain_of client way.asks.draw way.asks.request)) (forwarded id token message)
+    pub awaits : AwaitsReply asked way.proxy_at way.name way.number message
 
-  -- The server serves this text as one entry, under its context's scope, and sends one datagram, which a proxy sends back; and where the
+  -- The server serves this request as one entry, under its context's scope, and sends one datagram, which a proxy sends back; and where the
   -- client takes that, in a confirmable message that it hasn't heard before, and whatever else its message layer heard meanwhile, it is
   -- the answer, with that reply, and is acknowledged.
-  pub record IsServedAndAnsweredThrough (asked : Client) (server : Server) (now : Moment) (proxy_at : Peer) (held : Held) (number : ℕ) (text : List ℕ) (request forwarded : Message) (second : Step) (served : Server) : Type 0 where
+  pub record IsServedAndAnsweredThrough (way : RequestFromProxy) (came : Arrival Message) (second : Step) (served : Server) : Type 0 where
     pub reply : Reply
-    pub applied : AppliesTo server.tree (apply_read server.tree held.scope (read_request text)) reply served.tree
-    pub entry : second.notes ≡ notes_of_request now held number text reply
-    pub kept : served.desk ≡ record server.desk { table = accepted held.name.client_id number server.desk.table }
+    pub applied : AppliesTo way.server.tree (apply_read way.server.tree way.request.held.scope (read_request way.request.text)) reply served.tree
+    pub entry : second.notes ≡ notes_of_request came.at way.request.held way.request.number way.request.text reply
+    pub kept : served.desk ≡ record way.server.desk { table = accepted way.request.held.name.client_id way.request.number way.server.desk.table }
     pub response : Message
-    pub out : second.out ≡ datagram proxy_at response ∷ []
-    pub forwardable : IsAnswerTo forwarded response
-    pub answered : (endpoint : EndpointState) (id : ℕ) (third : Step) (after : Client)
-        → id < 2 ^ 16 → looked now proxy_at id endpoint.seen ≡ None
-        → ClientHears is_sealing (record asked { endpoint = endpoint }) now proxy_at (spelling (sent_back Confirmable id request.token response)) third after
-        → IsAnsweredWith (datagram proxy_at (empty_acknowledgement id) ∷ []) asked held.name number reply third after
+    pub out : second.out ≡ datagram came.from response ∷ []
+    pub forwardable : IsAnswerTo came.what response
+    pub answered : (endpoint : EndpointState) (id : ℕ) (draw : Draw) (third : Step) (after : Client)
+        → id < 2 ^ 16 → looked came.at came.from id endpoint.seen ≡ None
+        → ClientHears is_sealing (record way.asked { endpoint = endpoint }) (coming came.at came.from draw (sent_back Confirmable id way.message.token response)) third after
+        → IsAnsweredWith (datagram came.from (empty_acknowledgement id) ∷ []) way.asked
+        (record { name = way.request.held.name; number = way.request.number; reply = reply }) third after
 
   -- One datagram goes to the proxy, with a request that a proxy forwards; and where that comes to the server, under a message ID that
   -- wasn't heard there and a token of 8 bytes, it is served and answered.
-  pub record IsAskedAndAnsweredThrough (client : Client) (server : Server) (now : Moment) (draw : Draw) (request : Request) (origin : HostAndPort) (proxy_at : Peer) (held : Held) (number : ℕ) (first : Step) (asked : Client) : Type 0 where
+  pub record IsAskedAndAnsweredThrough (client : Client) (way : ProxiedRequest) (first : Step) (asked : Client) : Type 0 where
     pub message : Message
-    pub out : first.out ≡ datagram proxy_at message ∷ []
-    pub sealed : first.notes.seals ≡ Some (request_note held.name number (asked_text client draw request))
+    pub out : first.out ≡ datagram way.proxy_at message ∷ []
+    pub sealed : first.notes.seals ≡ Some (request_note way.held.name way.number (text_asked client way.asks))
     pub unserved : first.notes.served ≡ None
-    pub context : asked.context ≡ Some (record { name = held.name; next = number + 1 })
-    pub id : message.id ≡ own_id draw client.endpoint.next_id
+    pub context : asked.context ≡ Some (record { name = way.held.name; next = way.number + 1 })
+    pub id : message.id ≡ own_id way.asks.draw client.endpoint.next_id
     pub heard : asked.endpoint.seen ≡ client.endpoint.seen
-    pub for_proxy : IsForProxy origin message
+    pub for_proxy : IsForProxy way.origin message
     pub served : (id : ℕ) (token : List ℕ) (server_draw : Draw) (second : Step) (after : Server)
-        → id < 2 ^ 16 → length token ≡ 8 → looked now proxy_at id server.endpoint.seen ≡ None
-        → ServerHears is_sealing server now server_draw proxy_at (spelling (forwarded id token message)) second after
-        → IsServedAndAnsweredThrough asked server now proxy_at held number (asked_text client draw request) message (forwarded id token message) second after
+        → id < 2 ^ 16 → length token ≡ 8 → looked way.now way.proxy_at id way.server.endpoint.seen ≡ None
+        → ServerHears is_sealing way.server (coming way.now way.proxy_at server_draw (forwarded id token message)) second after
+        → IsServedAndAnsweredThrough
+        (record { asked = asked; message = message; server = way.server; request = record { held = way.held; number = way.number; text = text_asked client way.asks } })
+        (record { at = way.now; from = way.proxy_at; draw = server_draw; what = forwarded id token message }) second after

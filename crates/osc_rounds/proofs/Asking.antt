@@ -4,10 +4,10 @@ use Rattle.std.specs.Prelude.{IfSome}
 use Rattle.std.proofs.lemmas.Bool.{le-leb}
 use Rattle.std.proofs.lemmas.Option.{same_Some}
 use Rattle.osc_model.specs.Apply.{apply_read}
+use Rattle.osc_model.specs.Arrival.{Arrival}
 use Rattle.osc_model.specs.Scope.{Scope}
 use Rattle.osc_model.specs.declared.context.ContextName.{ContextName}
 use Rattle.osc_model.specs.declared.context.Side.TheVariants as side
-use Rattle.osc_model.specs.declared.node.Draw.{Draw}
 use Rattle.osc_model.specs.declared.node.Moment.{Moment}
 use Rattle.osc_model.specs.declared.node.Peer.{Peer}
 use Rattle.osc_model.specs.declared.reply.Reply.{Reply}
@@ -43,7 +43,8 @@ use Rattle.osc_server.specs.declared.case.Case.{Case}
 use Rattle.osc_server.specs.declared.case.Case.TheVariants.{Protected}
 use Rattle.osc_server.specs.declared.refusal.Refusal.{Refusal}
 use Rattle.osc_server.specs.declared.refusal.Refusal.TheVariants.{Malformed, NoContext, Replayed, NotGenuine}
-use Rattle.osc_rounds.specs.Asked.{AreForServer, AwaitsRequest, IsForServer, IsServed, a_uri_host, nothing}
+use Rattle.osc_rounds.specs.Asked.{AreForServer, AwaitsRequest, IsForServer, IsServed, OpenedRequest, a_uri_host, nothing}
+use Rattle.osc_rounds.specs.Coming.{in_bytes}
 use Rattle.osc_proxy.specs.ThereAndBack.{IsCarried}
 use Rattle.osc_server.specs.Hearing.{Hears as ServerHears}
 use Rattle.osc_client.specs.Way.{IsHost}
@@ -173,11 +174,20 @@ module _ (is_sealing : Sealings) (laws : RequestLaws is_sealing)
 -- ---- it is served
 
 module _ (is_sealing : Sealings) (laws : RequestLaws is_sealing)
-    (old : Server) (now : Moment) (from : Peer) (draw : Draw) (held : Held) (number : ℕ) (m p : Message) (step : Step) (new : Server)
-    (awaits : AwaitsRequest old now from held number m.id) (for_server : IsForServer m)
-    (made : IsProtectedRequest is_sealing held.name number m p) where
+    (old : Server) (came : Arrival Message) (held : Held) (number : ℕ) (m : Message) (step : Step) (new : Server)
+    (awaits : AwaitsRequest old came.at came.from held number m.id) (for_server : IsForServer m)
+    (made : IsProtectedRequest is_sealing held.name number m came.what) where
+  abbrev now : Moment
+  now = came.at
+
+  abbrev p : Message
+  p = came.what
+
   abbrev name : ContextName
   name = held.name
+
+  abbrev opened : OpenedRequest
+  opened = record { held = held; number = number; text = plain_bytes m }
 
   abbrev what : SealedRequest
   what = said is_sealing laws name number m p awaits.lawful.context awaits.lawful.client_id awaits.number_lawful made
@@ -192,13 +202,13 @@ module _ (is_sealing : Sealings) (laws : RequestLaws is_sealing)
   once = opens_once is_sealing laws name number m p awaits.lawful.context awaits.lawful.client_id awaits.number_lawful made
 
   -- which context it means
-  same_held : (request : SealedRequest) (other : Held) → IsMeant old.desk now p request other → held ≡ other
+  same_held : (request : SealedRequest) (other : Held) → IsMeant old.desk came request other → held ≡ other
   same_held request other is =
       same_Some held other
       (sym awaits.means ∙ ap (λ (r : SealedRequest). meant now r.kid r.kid_context old.desk.table) (sym (whatever request is.is_request)) ∙ is.is_meant)
 
   -- none of the reasons stands
-  not_refused : (refusal : Refusal) → IsRefused is_sealing old.desk now p refusal → ⊥
+  not_refused : (refusal : Refusal) → IsRefused is_sealing old.desk came refusal → ⊥
   not_refused Malformed is = is what is_read
   not_refused NoContext is =
       let none : Some held ≡ None = sym awaits.means ∙ ap (λ (r : SealedRequest). meant now r.kid r.kid_context old.desk.table) (sym (whatever is.0 is.1)) ∙ is.2 in cc
@@ -217,11 +227,11 @@ module _ (is_sealing : Sealings) (laws : RequestLaws is_sealing)
     within : IsWithinRanges reply
     applied : AppliesTo old.tree (apply_read old.tree h.scope (read_request text)) reply new.tree
     answer : Message
-    protects : IsProtectedResponse is_sealing h.name request.number None (reply_to old.endpoint draw p reply) answer
-    sends : Sends old now from draw p answer (notes_of_request now h request.number text reply) new.tree
-        (record old.desk { table = accepted request.kid request.number old.desk.table }) step new
+    protects : IsProtectedResponse is_sealing h.name request.number None (reply_to old.endpoint came reply) answer
+    sends : Sends (record old { tree = new.tree; desk = record old.desk { table = accepted request.kid request.number old.desk.table } })
+        came answer (notes_of_request now h request.number text reply) step new
 
-  are_served : (s : Serves is_sealing old now from draw p step new) → AreServed s.held s.request s.text
+  are_served : (s : Serves is_sealing old came step new) → AreServed s.held s.request s.text
   are_served s = record {
     opens = s.opened.opens;
     reply = s.reply;
@@ -232,7 +242,7 @@ module _ (is_sealing : Sealings) (laws : RequestLaws is_sealing)
     sends = s.sent;
   }
 
-  is_served : Serves is_sealing old now from draw p step new → IsServed is_sealing old now from draw p held number (plain_bytes m) step new
+  is_served : Serves is_sealing old came step new → IsServed is_sealing old came opened step new
   is_served s =
       let request_is : s.request ≡ what = whatever s.request s.opened.meant.is_request in
       let held_is : s.held ≡ held = sym (same_held s.request s.held s.opened.meant) in
@@ -240,7 +250,7 @@ module _ (is_sealing : Sealings) (laws : RequestLaws is_sealing)
       let under : AreServed held what s.text = subst (λ (h : Held). AreServed h what s.text) held_is read in
       by (subst (λ (t : List ℕ). AreServed held what t) (once s.text under.opens) under)
     where
-      by : AreServed held what (plain_bytes m) → IsServed is_sealing old now from draw p held number (plain_bytes m) step new
+      by : AreServed held what (plain_bytes m) → IsServed is_sealing old came opened step new
       by it = record {
         reply = it.reply;
         within = it.within;
@@ -251,18 +261,18 @@ module _ (is_sealing : Sealings) (laws : RequestLaws is_sealing)
         kept = it.sends.kept;
       }
 
-  answered_so : AnswersProtected is_sealing old now from draw p step new → IsServed is_sealing old now from draw p held number (plain_bytes m) step new
+  answered_so : AnswersProtected is_sealing old came step new → IsServed is_sealing old came opened step new
   answered_so (refused refusal is sends) = absurd (not_refused refusal is)
   answered_so (served s) = is_served s
 
   -- it comes to the server, which serves it
-  pub request_served : IsCarried p → ServerHears is_sealing old now draw from (spelling p) step new → IsServed is_sealing old now from draw p held number (plain_bytes m) step new
+  pub request_served : IsCarried p → ServerHears is_sealing old (in_bytes came) step new → IsServed is_sealing old came opened step new
   request_served sendable hears =
       let v = request_value name number in
       let as_it : hears.received ≡ received.Message (protected m 2 v made.sealed) =
       received_as laws.one_reception p hears.received sendable hears.receives ∙ ap received.Message made.whole in
-      let case_is : server_case old.open_scope (heard old.endpoint.seen now from hears.received) ≡ Protected p =
-      ap (λ (r : Received). server_case old.open_scope (heard old.endpoint.seen now from r)) as_it
-      ∙ protected_case old.open_scope old.endpoint.seen now from m v made.sealed for_server (laws.value_short name number awaits.lawful.context awaits.lawful.client_id) awaits.unheard
+      let case_is : server_case old.open_scope (heard old.endpoint.seen now came.from hears.received) ≡ Protected p =
+      ap (λ (r : Received). server_case old.open_scope (heard old.endpoint.seen now came.from r)) as_it
+      ∙ protected_case old.open_scope old.endpoint.seen now came.from m v made.sealed for_server (laws.value_short name number awaits.lawful.context awaits.lawful.client_id) awaits.unheard
       ∙ ap Protected (sym made.whole) in
-      answered_so (subst (λ (c : Case). ServerAnswers is_sealing old now from draw c step new) case_is hears.answers)
+      answered_so (subst (λ (c : Case). ServerAnswers is_sealing old (in_bytes came) c step new) case_is hears.answers)

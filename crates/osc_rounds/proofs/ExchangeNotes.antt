@@ -2,6 +2,7 @@
 use Rattle.std.proofs.Common.{◌≡◌, ◌∙◌, sym, ap, subst, refl, ℕ, ◌^◌, ◌<◌, ◌≤◌, List, [], ◌∷◌, length, Option, Some, None, Result, Ok, unwrap_or, arith}
 use Rattle.std.specs.Prelude.{◌≢◌}
 use Rattle.std.proofs.lemmas.List.{length-take}
+use Rattle.osc_model.specs.Arrival.{Arrival, read_as}
 use Rattle.osc_model.specs.Draw.{nonce_drawn, token_drawn}
 use Rattle.osc_model.specs.StepNotes.{StepNotes, quiet}
 use Rattle.osc_model.specs.declared.algorithm.Algorithm.TheVariants.{EightByteTag}
@@ -32,6 +33,7 @@ use Rattle.osc_authz.specs.Agreed.{IsAgreed}
 use Rattle.osc_authz.specs.Desk.{DeskState}
 use Rattle.osc_authz.specs.Exchange.{IsPost, post_item}
 use Rattle.osc_authz.specs.Post.{Posts}
+use Rattle.osc_authz.specs.Posting.{Posting}
 use Rattle.osc_authz.specs.Welcome.{IsWelcome}
 use Rattle.osc_authz.specs.declared.error.PostError.{PostError}
 use Rattle.osc_authz.specs.declared.granted.ClientDesk.{ClientDesk}
@@ -49,8 +51,10 @@ use Rattle.osc_client.specs.Sending as sending
 use Rattle.osc_client.specs.State.{State as Client}
 use Rattle.osc_client.specs.Way.{HostAndPort, through}
 use Rattle.osc_client.specs.declared.waiting.Awaited.TheVariants.{Exchange}
+use Rattle.osc_rounds.specs.Coming.{coming, in_bytes}
+use Rattle.osc_rounds.specs.ProxiedExchange.{claims_text}
 use Rattle.osc_rounds.specs.Ready.{IsStraight, MayExchange}
-use Rattle.osc_rounds.specs.RoundNotes.{AreNotesOfExchange}
+use Rattle.osc_rounds.specs.RoundNotes.{AreNotesOfAgreement, AreNotesOfExchange}
 use Rattle.osc_proxy.specs.ThereAndBack.{IsCarried}
 use Rattle.osc_rounds.proofs.Agreement.{case_post, heard_post, payload_again}
 use Rattle.osc_rounds.proofs.Asking.{received_as}
@@ -61,10 +65,10 @@ module _ (is_sealing : Sealings) where
   pub record TokenLaws : Type 0 where
     pub welcome : (before after : DeskState) (now : Moment) (draw : Draw) (post : Post) (claims : Claims) (entries : List Entry) (holder : ClientDesk) (nonce1 : List ℕ) (id : ℕ)
         → IsWelcome (is_sealing EightByteTag) before now claims entries holder → length nonce1 ≡ 8
-        → Posts (is_sealing EightByteTag) before now (item_spelling (post_item holder.token nonce1 (id ∷ []))) draw post after
+        → Posts (is_sealing EightByteTag) before (record { at = now; body = item_spelling (post_item holder.token nonce1 (id ∷ [])); draw = draw }) post after
         → (answer : PostAnswer) × (post.answer ≡ Ok answer) × (answer.nonce2 ≡ nonce_drawn draw)
-    pub agreed : (before after : DeskState) (now : Moment) (body : List ℕ) (draw : Draw) (post : Post) (answer : PostAnswer)
-        → Posts (is_sealing EightByteTag) before now body draw post after → post.answer ≡ Ok answer → IsAgreed (is_sealing EightByteTag) before now body draw post answer after
+    pub agreed : (before after : DeskState) (posting : Posting) (post : Post) (answer : PostAnswer)
+        → Posts (is_sealing EightByteTag) before posting post after → post.answer ≡ Ok answer → IsAgreed (is_sealing EightByteTag) before posting post answer after
     pub written : (token nonce1 client_id : List ℕ) → length token < 2 ^ 64 → 1 ≤ length nonce1 → length nonce1 ≤ 64 → length client_id ≤ 7
         → IsPost (item_spelling (post_item token nonce1 client_id)) token nonce1 client_id
     pub one_post : (body token nonce1 client_id others nonces ids : List ℕ) → IsPost body token nonce1 client_id → IsPost body others nonces ids
@@ -81,15 +85,18 @@ module _ (is_sealing : Sealings) where
 module _ (is_sealing : Sealings) (laws : TokenLaws is_sealing)
     (before after : DeskState) (now : Moment) (draw : Draw) (post : Post) (claims : Claims) (entries : List Entry) (holder : ClientDesk) (nonce1 : List ℕ) (client_id : ℕ)
     (welcome : IsWelcome (is_sealing EightByteTag) before now claims entries holder) (size : length nonce1 ≡ 8)
-    (posts : Posts (is_sealing EightByteTag) before now (item_spelling (post_item holder.token nonce1 (client_id ∷ []))) draw post after) where
+    (posts : Posts (is_sealing EightByteTag) before (record { at = now; body = item_spelling (post_item holder.token nonce1 (client_id ∷ [])); draw = draw }) post after) where
+  abbrev offering : Posting
+  offering = record { at = now; body = item_spelling (post_item holder.token nonce1 (client_id ∷ [])); draw = draw }
+
   abbrev text : List ℕ
   text = item_spelling (claims_item claims)
 
   answer : (answer : PostAnswer) × (post.answer ≡ Ok answer) × (answer.nonce2 ≡ nonce_drawn draw)
   answer = laws.welcome before after now draw post claims entries holder nonce1 client_id welcome size posts
 
-  is_agreed : IsAgreed (is_sealing EightByteTag) before now (item_spelling (post_item holder.token nonce1 (client_id ∷ []))) draw post answer.0 after
-  is_agreed = laws.agreed before after now (item_spelling (post_item holder.token nonce1 (client_id ∷ []))) draw post answer.0 posts answer.1
+  is_agreed : IsAgreed (is_sealing EightByteTag) before offering post answer.0 after
+  is_agreed = laws.agreed before after offering post answer.0 posts answer.1
 
   its_token : is_agreed.opened.token ≡ holder.token
   its_token =
@@ -97,43 +104,42 @@ module _ (is_sealing : Sealings) (laws : TokenLaws is_sealing)
       is_agreed.opened.is_post
       (laws.written holder.token nonce1 (client_id ∷ []) welcome.holds.token_size (omega (arith, size)) (omega (arith, size)) (omega arith))).0
 
-  its_text : is_agreed.text ≡ text
+  its_text : is_agreed.its.text ≡ text
   its_text =
       let holds = welcome.holds in
       let bytes : List ℕ = item_spelling (object_item (token_object holds.iv holds.ciphertext)) in
-      let opened : IsToken (is_sealing EightByteTag) before.key bytes is_agreed.protected is_agreed.iv is_agreed.text =
-      subst (λ (b : List ℕ). IsToken (is_sealing EightByteTag) before.key b is_agreed.protected is_agreed.iv is_agreed.text) (its_token ∙ holds.token) is_agreed.opened.is_token in
-      let same = laws.one_token before.key bytes is_agreed.protected is_agreed.iv is_agreed.text algorithm_header holds.iv text opened
+      let opened : IsToken (is_sealing EightByteTag) before.key bytes is_agreed.its.protected is_agreed.its.iv is_agreed.its.text =
+      subst (λ (b : List ℕ). IsToken (is_sealing EightByteTag) before.key b is_agreed.its.protected is_agreed.its.iv is_agreed.its.text) (its_token ∙ holds.token) is_agreed.opened.is_token in
+      let same = laws.one_token before.key bytes is_agreed.its.protected is_agreed.its.iv is_agreed.its.text algorithm_header holds.iv text opened
       (laws.minted before.key holds.iv text holds.ciphertext holds.iv_size holds.short holds.sealed) in
       same.2
 
   -- it opened the token, to the text of its claims, and drew a nonce
-  pub post_notes : (protected : List ℕ) × (iv : List ℕ) × (notes_of_post post ≡ record quiet { opens = Some (token_note before.key protected iv text); drawn = Some (nonce_drawn draw) })
-  post_notes = (
-    is_agreed.protected,
-    is_agreed.iv,
-    ap (λ (o : Option Note). let n : StepNotes = record quiet { opens = o; drawn = nonce_of_post post.answer; refused = refusal_of_post post.answer } in n) is_agreed.noted
-        ∙ ap (λ (a : Result PostAnswer PostError). let n : StepNotes = record quiet { opens = Some (token_note before.key is_agreed.protected is_agreed.iv is_agreed.text); drawn = nonce_of_post a; refused = refusal_of_post a } in n) answer.1
-        ∙ ap (λ (d : List ℕ). let n : StepNotes = record quiet { opens = Some (token_note before.key is_agreed.protected is_agreed.iv is_agreed.text); drawn = Some d } in n) answer.2
-        ∙ ap (λ (t : List ℕ). let n : StepNotes = record quiet { opens = Some (token_note before.key is_agreed.protected is_agreed.iv t); drawn = Some (nonce_drawn draw) } in n) its_text,
-  )
+  pub post_notes : AreNotesOfAgreement before.key text draw (notes_of_post post)
+  post_notes = record {
+    protected = is_agreed.its.protected;
+    iv = is_agreed.its.iv;
+    is =
+        ap (λ (o : Option Note). let n : StepNotes = record quiet { opens = o; drawn = nonce_of_post post.answer; refused = refusal_of_post post.answer } in n) is_agreed.noted
+        ∙ ap (λ (a : Result PostAnswer PostError). let n : StepNotes = record quiet { opens = Some (token_note before.key is_agreed.its.protected is_agreed.its.iv is_agreed.its.text); drawn = nonce_of_post a; refused = refusal_of_post a } in n) answer.1
+        ∙ ap (λ (d : List ℕ). let n : StepNotes = record quiet { opens = Some (token_note before.key is_agreed.its.protected is_agreed.its.iv is_agreed.its.text); drawn = Some d } in n) answer.2
+        ∙ ap (λ (t : List ℕ). let n : StepNotes = record quiet { opens = Some (token_note before.key is_agreed.its.protected is_agreed.its.iv t); drawn = Some (nonce_drawn draw) } in n) its_text;
+  }
 
 -- what a server notes of it, whichever way the post came
 pub answer_notes : (is_sealing : Sealings) (laws : TokenLaws is_sealing)
-    (server agreed : Server) (now : Moment) (from : Peer) (draw : Draw) (message : Message) (step : Step)
-    (claims : Claims) (entries : List Entry) (holder : ClientDesk) (nonce1 : List ℕ) (client_id : ℕ)
-    → IsWelcome (is_sealing EightByteTag) server.desk now claims entries holder → length nonce1 ≡ 8
-    → message.payload ≡ payload_of (item_spelling (post_item holder.token nonce1 (client_id ∷ [])))
-    → AnswersPost is_sealing server now from draw message step agreed
-    → (protected : List ℕ) × (iv : List ℕ)
-    × (step.notes ≡ record quiet { opens = Some (token_note server.desk.key protected iv (item_spelling (claims_item claims))); drawn = Some (nonce_drawn draw) })
-answer_notes is_sealing laws server agreed now from draw message step claims entries holder nonce1 client_id welcome size payload it =
+    (server agreed : Server) (came : Arrival Message) (step : Step) (claims : Claims) (entries : List Entry) (holder : ClientDesk) (nonce1 : List ℕ) (client_id : ℕ)
+    → IsWelcome (is_sealing EightByteTag) server.desk came.at claims entries holder → length nonce1 ≡ 8
+    → came.what.payload ≡ payload_of (item_spelling (post_item holder.token nonce1 (client_id ∷ [])))
+    → AnswersPost is_sealing server came step agreed
+    → AreNotesOfAgreement server.desk.key (claims_text claims) came.draw step.notes
+answer_notes is_sealing laws server agreed came step claims entries holder nonce1 client_id welcome size payload it =
     let body : List ℕ = item_spelling (post_item holder.token nonce1 (client_id ∷ [])) in
-    let bytes : unwrap_or message.payload [] ≡ body = ap (λ (p : Option (List ℕ)). unwrap_or p []) payload ∙ payload_again body in
-    let posts : Posts (is_sealing EightByteTag) server.desk now body draw it.post agreed.desk =
-    subst (λ (b : List ℕ). Posts (is_sealing EightByteTag) server.desk now b draw it.post agreed.desk) bytes it.posts in
-    let notes = post_notes is_sealing laws server.desk agreed.desk now draw it.post claims entries holder nonce1 client_id welcome size posts in
-    (notes.0, notes.1, ap (λ (s : Step). s.notes) it.sent.sent ∙ notes.2)
+    let bytes : unwrap_or came.what.payload [] ≡ body = ap (λ (p : Option (List ℕ)). unwrap_or p []) payload ∙ payload_again body in
+    let posts : Posts (is_sealing EightByteTag) server.desk (record { at = came.at; body = body; draw = came.draw }) it.post agreed.desk =
+    subst (λ (b : List ℕ). Posts (is_sealing EightByteTag) server.desk (record { at = came.at; body = b; draw = came.draw }) it.post agreed.desk) bytes it.posts in
+    let notes = post_notes is_sealing laws server.desk agreed.desk came.at came.draw it.post claims entries holder nonce1 client_id welcome size posts in
+    record { protected = notes.protected; iv = notes.iv; is = ap (λ (s : Step). s.notes) it.sent.sent ∙ notes.is }
 
 -- ---- what went out
 
@@ -151,7 +157,7 @@ module _ (is_sealing : Sealings)
     (client begun : Client) (server agreed : Server) (asked_at now : Moment) (draw server_draw : Draw) (at server_at : Peer) (sent : Message) (first second : Step)
     (lawful : IsLawfulClient begun) (straight : IsStraight client server now draw at server_at)
     (exchanges : Exchanges client asked_at draw first begun) (out : first.out ≡ datagram client.next_hop sent ∷ [])
-    (hears : ServerHears is_sealing server now server_draw at (spelling sent) second agreed) where
+    (hears : ServerHears is_sealing server (coming now at server_draw sent) second agreed) where
   abbrev body : List ℕ
   body = item_spelling (post_item client.desk.token (nonce_drawn draw) ((begun_by client draw).recipient_id ∷ []))
 
@@ -165,14 +171,14 @@ module _ (is_sealing : Sealings)
   message_is = ap (λ (origin : Option HostAndPort). through origin message) straight.direct
 
   -- what goes out is the post, and the client drew a nonce
-  record Posting : Type 0 where
+  record HasPosted : Type 0 where
     notes : first.notes ≡ record quiet { drawn = Some (nonce_drawn draw) }
     size : 16 ≤ length draw.0
     bytes : spelling sent ≡ spelling message
     spelled : Spells (spelling message) message
     short : length (spelling message) ≤ longest_message
 
-  posting_so : Exchanges client asked_at draw first begun → Posting
+  posting_so : Exchanges client asked_at draw first begun → HasPosted
   posting_so (busy waits refused) = absurd (sends_one client.next_hop sent (sym (ap (λ (s : Step). s.out) refused.told) ∙ out))
   posting_so (sending.Exchanges.too_long idle long refused) = absurd (sends_one client.next_hop sent (sym (ap (λ (s : Step). s.out) refused.told) ∙ out))
   posting_so (begins idle short spelled told kept) = record {
@@ -183,21 +189,24 @@ module _ (is_sealing : Sealings)
     short = subst (λ (m : Message). length (spelling m) ≤ longest_message) message_is short;
   }
 
-  posting : Posting
+  posting : HasPosted
   posting = posting_so exchanges
 
   -- and the server answers it
-  answers : AnswersPost is_sealing server now at server_draw message second agreed
+  abbrev came : Arrival Message
+  came = record { at = now; from = at; draw = server_draw; what = message }
+
+  answers : AnswersPost is_sealing server came second agreed
   answers =
-      let it : ServerHears is_sealing server now server_draw at (spelling message) second agreed =
-      subst (λ (b : List ℕ). ServerHears is_sealing server now server_draw at b second agreed) posting.bytes hears in
+      let it : ServerHears is_sealing server (in_bytes came) second agreed =
+      subst (λ (b : List ℕ). ServerHears is_sealing server (read_as came b) second agreed) posting.bytes hears in
       let sendable : IsCarried message = record { lawful = posting.spelled.lawful; short = posting.short } in
       let as_it : it.received ≡ received.Message message = received_as one_reception message it.received sendable it.receives in
       let case_is : server_case server.open_scope (heard server.endpoint.seen now at it.received) ≡ Posted message =
       ap (λ (r : Received). server_case server.open_scope (heard server.endpoint.seen now at r)) as_it
       ∙ ap (server_case server.open_scope) (heard_post None server.endpoint.seen now at id (token_drawn draw) body straight.unheard)
       ∙ case_post server.open_scope None id (token_drawn draw) body tt in
-      subst (λ (k : ServerCase). ServerAnswers is_sealing server now at server_draw k second agreed) case_is it.answers
+      subst (λ (k : ServerCase). ServerAnswers is_sealing server (in_bytes came) k second agreed) case_is it.answers
 
   -- of what the server heard from there only the post is new
   pub exchange_heard : (later : Moment) (other : ℕ) → other ≢ own_id draw client.endpoint.next_id → looked later at other server.endpoint.seen ≡ None
@@ -207,16 +216,13 @@ module _ (is_sealing : Sealings)
 
   module _ (laws : TokenLaws is_sealing) (claims : Claims) (entries : List Entry) (may : MayExchange is_sealing client server now claims entries) where
     pub exchange_notes : (made : StepNotes) → made ≡ record quiet { result = Some result.Made }
-        → AreNotesOfExchange server.desk.key (item_spelling (claims_item claims)) draw server_draw first.notes second.notes made
+        → AreNotesOfExchange server.desk.key (claims_text claims) (record { client = draw; server = server_draw }) first.notes second.notes made
     exchange_notes made is =
         let nonce_size : length (nonce_drawn draw) ≡ 8 = omega (arith, length-take 8 draw.0, posting.size) in
-        let notes =
-        answer_notes is_sealing laws server agreed now at server_draw message second claims entries client.desk (nonce_drawn draw) (begun_by client draw).recipient_id may.welcome
-        nonce_size refl answers in
         record {
-          protected = notes.0;
-          iv = notes.1;
           begun_is = posting.notes;
-          agreed_is = notes.2;
+          agreed_is =
+              answer_notes is_sealing laws server agreed came second claims entries client.desk (nonce_drawn draw) (begun_by client draw).recipient_id may.welcome
+              nonce_size refl answers;
           made_is = is;
         }

@@ -2,9 +2,9 @@
 use Rattle.std.proofs.Common.{◌≡◌, ◌∙◌, ap, subst, refl, ℕ, ◌^◌, ◌<◌, ◌≤◌, true, List, [], ◌∷◌, length, Option, Some, None, arith}
 use Rattle.std.specs.Prelude.{◌≢◌, IfSome, drop}
 use Rattle.std.proofs.lemmas.List.{length-drop, length-take}
+use Rattle.osc_model.specs.Arrival.{Arrival}
 use Rattle.osc_model.specs.Draw.{nonce_drawn, token_drawn}
 use Rattle.osc_model.specs.StepNotes.{quiet}
-use Rattle.osc_model.specs.declared.algorithm.Algorithm.TheVariants.{EightByteTag}
 use Rattle.osc_model.specs.declared.node.Draw.{Draw}
 use Rattle.osc_model.specs.declared.node.Moment.{Moment}
 use Rattle.osc_model.specs.declared.node.Peer.{Peer}
@@ -12,7 +12,6 @@ use Rattle.osc_model.specs.declared.step.ClientResult.TheVariants as result
 use Rattle.osc_model.specs.declared.step.Step.{Step}
 use Rattle.osc_coap.specs.Message.{Message, Spells, spelling}
 use Rattle.osc_coap.specs.declared.kind.Kind.TheVariants.{Acknowledgement}
-use Rattle.osc_dedup.specs.Table.{looked}
 use Rattle.osc_message.specs.Confirmables.{same_peer}
 use Rattle.osc_message.specs.Endpoint.{own_id}
 use Rattle.osc_message.specs.Sending.{datagram}
@@ -22,7 +21,6 @@ use Rattle.osc_scope.specs.Entries.{Entry}
 use Rattle.osc_token.specs.declared.claims.Claims.{Claims}
 use Rattle.osc_authz.specs.Begun.{Begun}
 use Rattle.osc_authz.specs.Held.{Held}
-use Rattle.osc_authz.specs.Welcome.{IsWelcome}
 use Rattle.osc_client.specs.Hearing.{Hears as ClientHears}
 use Rattle.osc_client.specs.Lawful.{IsLawfulClient}
 use Rattle.osc_client.specs.Sending.{Exchanges, begun_by, busy, begins, opened, post_by, post_with, waits}
@@ -34,8 +32,9 @@ use Rattle.osc_client.specs.declared.waiting.Awaited.TheVariants.{Exchange}
 use Rattle.osc_client.specs.declared.waiting.Waiting.{Waiting}
 use Rattle.osc_server.specs.Hearing.{Hears as ServerHears}
 use Rattle.osc_server.specs.State.{State as Server}
-use Rattle.osc_rounds.specs.Agreement.{AwaitsAgreement, AwaitsPost, IsAgreedTo, agreement, body_of}
-use Rattle.osc_rounds.specs.ExchangeRound.{IsAgreedAndMade, IsBegunAndMade, IsHeld, IsMade}
+use Rattle.osc_rounds.specs.Agreement.{AwaitsAgreement, AwaitsPost, BegunExchange, IsAgreedTo, agreement, body_of}
+use Rattle.osc_rounds.specs.Coming.{coming, in_bytes}
+use Rattle.osc_rounds.specs.ExchangeRound.{IsAgreedAndMade, IsBegunAndMade, IsHeld, IsMade, StraightPost}
 use Rattle.osc_rounds.specs.Ready.{IsStraight, MayExchange}
 use Rattle.osc_proxy.specs.ThereAndBack.{IsCarried}
 use Rattle.osc_rounds.proofs.Agreement.{ExchangeLaws, agreement_sendable, counts_acknowledged, hears_agreement, hears_post, post_lawful}
@@ -48,38 +47,34 @@ drawn_size client begun at draw message what lawful kept =
     subst (λ (w : Option Waiting). IfSome w (λ waiting. length waiting.token ≡ 8)) (ap (λ (c : Client). c.waiting) kept) lawful.token in
     omega (arith, length-take 8 (drop 8 draw.0), length-drop 8 draw.0, token)
 
-module _ (is_sealing : Sealings) where
-  -- how both ends stand where the client begins an exchange that goes straight to the server
-  pub record MayPost (client : Client) (server : Server) (now : Moment) (draw : Draw) (at server_at : Peer) (claims : Claims) (entries : List Entry) : Type 0 where
-    pub direct : client.origin ≡ None
-    pub next_hop : client.next_hop ≡ server_at
-    pub unheard : looked now at (own_id draw client.endpoint.next_id) server.endpoint.seen ≡ None
-    pub welcome : IsWelcome (is_sealing EightByteTag) server.desk now claims entries client.desk
-    pub id : own_id draw client.endpoint.next_id < 2 ^ 16
-    pub draw_size : 16 ≤ length draw.0
+-- what the client draws for an exchange that goes straight to the server
+pub record AreDrawn (client : Client) (draw : Draw) : Type 0 where
+  pub id : own_id draw client.endpoint.next_id < 2 ^ 16
+  pub draw_size : 16 ≤ length draw.0
 
-  pub may_post : (client begun : Client) (server : Server) (asked_at now : Moment) (draw : Draw) (at server_at : Peer) (claims : Claims) (entries : List Entry)
-      → IsLawfulClient begun → IsStraight client server now draw at server_at → MayExchange is_sealing client server now claims entries
-      → Spells (spelling (post_by client draw)) (post_by client draw) → begun ≡ opened client asked_at draw (post_by client draw) (Exchange (begun_by client draw))
-      → MayPost client server now draw at server_at claims entries
-  may_post client begun server asked_at now draw at server_at claims entries lawful straight may spelled kept =
-      let id = own_id draw client.endpoint.next_id in
-      let message_is : post_by client draw ≡ post_with id (token_drawn draw) (body_of client.desk (begun_by client draw)) =
-      ap (λ (origin : Option HostAndPort). through origin (post_with id (token_drawn draw) (body_of client.desk (begun_by client draw)))) straight.direct in
-      record {
-        direct = straight.direct;
-        next_hop = straight.next_hop;
-        unheard = straight.unheard;
-        welcome = may.welcome;
-        id = subst (λ (m : Message). m.id < 2 ^ 16) message_is spelled.lawful.id;
-        draw_size = drawn_size client begun asked_at draw (post_by client draw) (Exchange (begun_by client draw)) lawful kept;
-      }
+pub are_drawn : (client begun : Client) (asked_at : Moment) (draw : Draw) → IsLawfulClient begun → client.origin ≡ None
+    → Spells (spelling (post_by client draw)) (post_by client draw) → begun ≡ opened client asked_at draw (post_by client draw) (Exchange (begun_by client draw))
+    → AreDrawn client draw
+are_drawn client begun asked_at draw lawful direct spelled kept =
+    let id = own_id draw client.endpoint.next_id in
+    let message_is : post_by client draw ≡ post_with id (token_drawn draw) (body_of client.desk (begun_by client draw)) =
+    ap (λ (origin : Option HostAndPort). through origin (post_with id (token_drawn draw) (body_of client.desk (begun_by client draw)))) direct in
+    record {
+      id = subst (λ (m : Message). m.id < 2 ^ 16) message_is spelled.lawful.id;
+      draw_size = drawn_size client begun asked_at draw (post_by client draw) (Exchange (begun_by client draw)) lawful kept;
+    }
 
 module _ (is_sealing : Sealings) (laws : ExchangeLaws is_sealing)
     (client : Client) (server : Server) (asked_at now : Moment) (draw : Draw) (at server_at : Peer) (claims : Claims) (entries : List Entry) (first : Step) (begun : Client)
-    (may : MayPost is_sealing client server now draw at server_at claims entries) where
+    (straight : IsStraight client server now draw at server_at) (may : MayExchange is_sealing client server now claims entries) (drawn : AreDrawn client draw) where
   abbrev its : Begun
   its = begun_by client draw
+
+  abbrev exchange : BegunExchange
+  exchange = record { claims = claims; entries = entries; holder = client.desk; begun = its }
+
+  abbrev post : StraightPost
+  post = record { begun = begun; server = server; at = at; server_at = server_at; now = now; entries = entries }
 
   abbrev id : ℕ
   id = own_id draw client.endpoint.next_id
@@ -91,16 +86,20 @@ module _ (is_sealing : Sealings) (laws : ExchangeLaws is_sealing)
   message = post_with id token (body_of client.desk its)
 
   message_is : post_by client draw ≡ message
-  message_is = ap (λ (origin : Option HostAndPort). through origin message) may.direct
+  message_is = ap (λ (origin : Option HostAndPort). through origin message) straight.direct
 
   token_short : length token ≤ 8
   token_short = omega (arith, length-take 8 (drop 8 draw.0))
 
   nonce_size : length its.nonce1 ≡ 8
-  nonce_size = omega (arith, length-take 8 draw.0, may.draw_size)
+  nonce_size = omega (arith, length-take 8 draw.0, drawn.draw_size)
 
-  awaits_post : AwaitsPost is_sealing server now at id claims entries client.desk its
-  awaits_post = record { welcome = may.welcome; nonce = nonce_size; unheard = may.unheard }
+  -- as it comes to the server
+  abbrev heard_as : Draw → Arrival Message
+  heard_as server_draw = record { at = now; from = at; draw = server_draw; what = message }
+
+  awaits_post : (server_draw : Draw) → AwaitsPost is_sealing server (heard_as server_draw) exchange
+  awaits_post server_draw = record { welcome = may.welcome; nonce = nonce_size; unheard = straight.unheard }
 
   abbrev waiting : Waiting
   waiting = waits client.endpoint asked_at draw (Exchange its)
@@ -110,12 +109,12 @@ module _ (is_sealing : Sealings) (laws : ExchangeLaws is_sealing)
       (kept : begun ≡ opened client asked_at draw (post_by client draw) (Exchange its)) where
     sendable : IsCarried message
     sendable = record {
-      lawful = post_lawful None id token (body_of client.desk its) tt may.id token_short;
+      lawful = post_lawful None id token (body_of client.desk its) tt drawn.id token_short;
       short = subst (λ (m : Message). length (spelling m) ≤ longest_message) message_is short;
     }
 
     peer : same_peer begun.next_hop server_at ≡ true
-    peer = ap (λ (c : Client). same_peer c.next_hop server_at) kept ∙ ap (λ (p : Peer). same_peer p server_at) may.next_hop ∙ laws.itself server_at
+    peer = ap (λ (c : Client). same_peer c.next_hop server_at) kept ∙ ap (λ (p : Peer). same_peer p server_at) straight.next_hop ∙ laws.itself server_at
 
     awaits_agreement : AwaitsAgreement begun server_at client.desk its token
     awaits_agreement = record {
@@ -128,15 +127,15 @@ module _ (is_sealing : Sealings) (laws : ExchangeLaws is_sealing)
     }
 
     made_so : (server_draw : Draw) (second : Step) (agreed : Server) (size : length server_draw.0 ≡ 32)
-        (is : IsAgreedTo is_sealing server now at server_draw client.desk its id token second agreed) (third : Step) (after : Client)
-        → ClientHears is_sealing begun now server_at (spelling (agreement Acknowledgement id token is.answer)) third after
+        (is : IsAgreedTo is_sealing server (heard_as server_draw) exchange second agreed) (its_draw : Draw) (third : Step) (after : Client)
+        → ClientHears is_sealing begun (coming now server_at its_draw (agreement Acknowledgement id token is.answer)) third after
         → (held : Held) × IsHeld agreed now entries held × IsMade held third after
     unfolding awaits_agreement
-    made_so server_draw second agreed size is third after hears =
+    made_so server_draw second agreed size is its_draw third after hears =
         let it =
-        hears_agreement is_sealing laws server now at id claims entries client.desk its awaits_post token server_draw second agreed size is
-        Acknowledgement id token begun now server_at awaits_agreement third after
-        (agreement_sendable is_sealing laws server now at id claims entries client.desk its awaits_post token server_draw second agreed size is Acknowledgement id token may.id token_short)
+        hears_agreement is_sealing laws server (heard_as server_draw) exchange (awaits_post server_draw) second agreed size is
+        Acknowledgement id token begun now server_at its_draw awaits_agreement third after
+        (agreement_sendable is_sealing laws server (heard_as server_draw) exchange (awaits_post server_draw) second agreed size is Acknowledgement id token drawn.id token_short)
         (counts_acknowledged begun.next_hop server_at waiting begun.endpoint.seen now id token is.answer peer refl refl)
         hears in (
           it.0,
@@ -145,16 +144,16 @@ module _ (is_sealing : Sealings) (laws : ExchangeLaws is_sealing)
         )
 
     agreed_so : (server_draw : Draw) (second : Step) (agreed : Server) → length server_draw.0 ≡ 32
-        → ServerHears is_sealing server now server_draw at (spelling message) second agreed → IsAgreedAndMade is_sealing begun now at server_at entries second agreed
+        → ServerHears is_sealing server (in_bytes (heard_as server_draw)) second agreed → IsAgreedAndMade is_sealing post second agreed
     agreed_so server_draw second agreed size hears =
-        let is = hears_post is_sealing laws server now at id claims entries client.desk its awaits_post None tt token server_draw second agreed sendable hears in
+        let is = hears_post is_sealing laws server (heard_as server_draw) exchange (awaits_post server_draw) None tt refl second agreed sendable hears in
         record {
           answer = agreement Acknowledgement id token is.answer;
           out = is.out;
           made = made_so server_draw second agreed size is;
         }
 
-    pub begun_so : IsBegunAndMade is_sealing client server now draw at server_at entries first begun
+    pub begun_so : IsBegunAndMade is_sealing post client draw first
     begun_so = record {
       message = message;
       out = ap (λ (s : Step). s.out) told ∙ ap (λ (m : Message). datagram client.next_hop m ∷ []) message_is;
@@ -166,9 +165,9 @@ module _ (is_sealing : Sealings) (laws : ExchangeLaws is_sealing)
     (client begun : Client) (server : Server) (asked_at now : Moment) (draw : Draw) (at server_at : Peer) (claims : Claims) (entries : List Entry) (first : Step)
     (lawful : IsLawfulClient begun) (straight : IsStraight client server now draw at server_at) (may : MayExchange is_sealing client server now claims entries) where
   pub is_begun : first.notes.result ≢ Some (result.Refused 14) → Exchanges client asked_at draw first begun
-      → IsBegunAndMade is_sealing client server now draw at server_at entries first begun
+      → IsBegunAndMade is_sealing (record { begun = begun; server = server; at = at; server_at = server_at; now = now; entries = entries }) client draw first
   is_begun fits (busy waits refused) = absurd (waits may.idle)
   is_begun fits (sending.Exchanges.too_long idle long refused) = absurd (fits (ap (λ (s : Step). s.notes.result) refused.told))
   is_begun fits (begins idle short spelled told kept) =
-      let ready = may_post is_sealing client begun server asked_at now draw at server_at claims entries lawful straight may spelled kept in
-      begun_so is_sealing laws client server asked_at now draw at server_at claims entries first begun ready short told kept
+      let drawn = are_drawn client begun asked_at draw lawful straight.direct spelled kept in
+      begun_so is_sealing laws client server asked_at now draw at server_at claims entries first begun straight may drawn short told kept

@@ -1,12 +1,12 @@
 -- An exchange that goes through a forward proxy, delivery by delivery.
-use Rattle.std.proofs.Common.{◌≡◌, ◌∙◌, sym, ap, subst, ℕ, ◌<◌, ◌^◌, List, length, Option, Some, None, arith}
+use Rattle.std.proofs.Common.{◌≡◌, ◌∙◌, sym, ap, subst, ◌<◌, ◌^◌, List, length, Option, Some, None, arith}
 use Rattle.std.specs.Prelude.{◌≢◌, IfSome}
 use Rattle.osc_model.specs.declared.node.Draw.{Draw}
 use Rattle.osc_model.specs.declared.node.Moment.{Moment}
 use Rattle.osc_model.specs.declared.node.Peer.{Peer}
 use Rattle.osc_model.specs.declared.step.ClientResult.TheVariants as result
 use Rattle.osc_model.specs.declared.step.Step.{Step}
-use Rattle.osc_coap.specs.Message.{Message, spelling}
+use Rattle.osc_coap.specs.Message.{Message}
 use Rattle.osc_dedup.specs.Table.{Entry as Noted, looked}
 use Rattle.osc_message.specs.Confirmables.{acknowledged}
 use Rattle.osc_message.specs.Endpoint.{EndpointState}
@@ -24,24 +24,45 @@ use Rattle.osc_client.specs.Way.{HostAndPort, IsLawfulOrigin}
 use Rattle.osc_client.specs.declared.waiting.Awaited.TheVariants.{Exchange}
 use Rattle.osc_proxy.specs.Forwarding.{forwarded_token}
 use Rattle.osc_proxy.specs.Hearing.{Hears as ProxyHears}
+use Rattle.osc_proxy.specs.Passage.{Passage}
 use Rattle.osc_proxy.specs.State.{State as Proxy}
 use Rattle.osc_proxy.specs.Table.{forwarded_by, next_own}
-use Rattle.osc_proxy.specs.ThereAndBack.{GoesBack, GoesThereAndBack, IsLawfulProxy, answer_by, answer_id}
+use Rattle.osc_proxy.specs.ThereAndBack.{GoesBack, GoesThereAndBack, IsLawfulProxy, answer_by, answer_id, datagram_of}
+use Rattle.osc_rounds.specs.Coming.{coming}
 use Rattle.osc_rounds.specs.ExchangeRoundThrough.{IsAgreedAndBroughtBack, IsBroughtBackAndMade, IsPassedOnAndAgreed, IsPostedAndAgreedThrough, PostOnItsWay}
-use Rattle.osc_rounds.specs.ProxiedExchange.{IsAgreedAndMadeThrough, IsBegunAndMadeThrough, MayExchangeThrough}
-use Rattle.osc_rounds.specs.Ready.{IsThrough, MayExchange}
+use Rattle.osc_rounds.specs.ProxiedExchange.{IsAgreedAndMadeThrough, IsBegunAndMadeThrough, MayExchangeThrough, Posted, ProxiedExchange, at_server, claims_text}
+use Rattle.osc_rounds.specs.Ready.{Hops, IsThrough, MayExchange}
+use Rattle.osc_rounds.specs.RoundNotes.{AreNotesOfAgreement}
 use Rattle.osc_rounds.proofs.ExchangeRound.{drawn_size}
-use Rattle.osc_rounds.proofs.PassedOn.{PassesLaw, can_send, takes_up, token_size}
+use Rattle.osc_rounds.proofs.PassedOn.{PassesLaw, can_send, passage_on, takes_up, token_size}
 
 module _ (is_sealing : Sealings)
-    (client begun : Client) (proxy : Proxy) (server : Server) (now : Moment) (draw proxy_draw : Draw)
-    (at proxy_at server_at : Peer) (claims : Claims) (entries : List Entry) (posts : Step)
-    (through : IsThrough client proxy server now draw proxy_draw at proxy_at server_at) where
+    (client begun : Client) (proxy : Proxy) (server : Server) (draw : Draw) (hops : Hops) (claims : Claims) (entries : List Entry) (posts : Step)
+    (through : IsThrough client proxy server draw hops) where
+  abbrev now : Moment
+  now = hops.now
+
+  abbrev proxy_at : Peer
+  proxy_at = hops.proxy_at
+
+  abbrev proxy_draw : Draw
+  proxy_draw = hops.proxy_draw
+
+  abbrev pub exchange : ProxiedExchange
+  exchange = record {
+    server = server;
+    now = now;
+    draw = draw;
+    origin = through.origin;
+    proxy_at = proxy_at;
+    claims = claims;
+    entries = entries;
+  }
+
   -- ---- before
 
   module _ (begun_at : Moment) (lawful : IsLawfulClient begun) (may : MayExchange is_sealing client server now claims entries) where
-    begun_so : begun ≡ opened client begun_at draw (post_by client draw) (Exchange (begun_by client draw))
-        → MayExchangeThrough is_sealing client server now draw through.origin proxy_at claims entries
+    begun_so : begun ≡ opened client begun_at draw (post_by client draw) (Exchange (begun_by client draw)) → MayExchangeThrough is_sealing client exchange
     begun_so kept = record {
       through = through.named;
       next_hop = through.next_hop;
@@ -51,8 +72,7 @@ module _ (is_sealing : Sealings)
       draw_size = drawn_size client begun begun_at draw (post_by client draw) (Exchange (begun_by client draw)) lawful kept;
     }
 
-    pub may_go_through : posts.notes.result ≢ Some (result.Refused 14) → Exchanges client begun_at draw posts begun
-        → MayExchangeThrough is_sealing client server now draw through.origin proxy_at claims entries
+    pub may_go_through : posts.notes.result ≢ Some (result.Refused 14) → Exchanges client begun_at draw posts begun → MayExchangeThrough is_sealing client exchange
     may_go_through fits (busy waits refused) = absurd (waits may.idle)
     may_go_through fits (sending.Exchanges.too_long idle long refused) = absurd (fits (ap (λ (s : Step). s.notes.result) refused.told))
     may_go_through fits (begins idle short spelled told kept) = begun_so kept
@@ -60,15 +80,15 @@ module _ (is_sealing : Sealings)
   -- ---- from one delivery to the next
 
   module _ (passes : PassesLaw) (lawful : IsLawfulProxy proxy) (size : length proxy_draw.0 ≡ 32)
-      (is : IsBegunAndMadeThrough is_sealing client server now draw through.origin proxy_at claims entries posts begun) where
+      (is : IsBegunAndMadeThrough is_sealing client exchange posts begun) where
     abbrev pub post : PostOnItsWay
     post = record {
       begun = begun;
       proxy = proxy;
       server = server;
-      at = at;
+      at = hops.at;
       proxy_at = proxy_at;
-      server_at = server_at;
+      server_at = hops.server_at;
       now = now;
       draw = draw;
       proxy_draw = proxy_draw;
@@ -78,8 +98,14 @@ module _ (is_sealing : Sealings)
       key = through.key;
     }
 
+    abbrev passage : Passage
+    passage = passage_on hops is.message through.key
+
     abbrev forwarded_on : Message
-    forwarded_on = forwarded_by proxy proxy_draw through.key is.message
+    forwarded_on = forwarded_by proxy passage
+
+    abbrev sent : Posted
+    sent = record { begun = begun; message = is.message }
 
     abbrev meanwhile : EndpointState
     meanwhile = record begun.endpoint { sending = acknowledged proxy_at is.message.id begun.endpoint.sending }
@@ -93,17 +119,16 @@ module _ (is_sealing : Sealings)
     -- the last two
     made : (server_draw : Draw) (third : Step) (agreed : Server) (brought : Proxy) (fourth : Step) (settled : Client)
         → settled ≡ record begun { endpoint = meanwhile }
-        → (it : IsAgreedAndMadeThrough is_sealing is.message begun server now server_draw proxy_at claims entries (next_own proxy proxy_draw)
-        (forwarded_token through.key proxy_draw) third agreed)
-        → GoesBack proxy now proxy_draw at is.message through.key it.response fourth brought
+        → (it : IsAgreedAndMadeThrough is_sealing exchange sent (at_server exchange server_draw forwarded_on) third agreed)
+        → GoesBack proxy passage it.response fourth brought
         → IsBroughtBackAndMade is_sealing post settled agreed fourth brought
     made server_draw third agreed brought fourth settled settled_is it back = record {
-      back = answer_by proxy proxy_draw is.message it.response;
+      back = answer_by proxy passage it.response;
       out = back.back.told;
-      made = λ fifth after hears.
-          let comes : ClientHears is_sealing (record begun { endpoint = meanwhile }) now proxy_at (spelling (answer_by proxy proxy_draw is.message it.response)) fifth after =
-          subst (λ (c : Client). ClientHears is_sealing c now proxy_at (spelling (answer_by proxy proxy_draw is.message it.response)) fifth after) settled_is hears in
-          let both = it.made meanwhile (answer_id proxy proxy_draw) fifth after answer_few new_at_client comes in
+      made = λ its_draw fifth after hears.
+          let comes : ClientHears is_sealing (record begun { endpoint = meanwhile }) (coming now proxy_at its_draw (answer_by proxy passage it.response)) fifth after =
+          subst (λ (c : Client). ClientHears is_sealing c (coming now proxy_at its_draw (answer_by proxy passage it.response)) fifth after) settled_is hears in
+          let both = it.made meanwhile (answer_id proxy proxy_draw) its_draw fifth after answer_few new_at_client comes in
           record {
             held = both.0;
             is_held = both.1;
@@ -113,36 +138,34 @@ module _ (is_sealing : Sealings)
     }
 
     -- the three from the server on
-    agreed : (first : Step) (passed : Proxy) (settled : Client) → GoesThereAndBack proxy now proxy_draw at server_at is.message through.key first passed
+    agreed : (first : Step) (passed : Proxy) (settled : Client) → GoesThereAndBack proxy passage first passed
         → settled ≡ record begun { endpoint = meanwhile }
         → (server_draw : Draw) (third : Step) (after : Server) → length server_draw.0 ≡ 32
-        → ServerHears is_sealing server now server_draw proxy_at (spelling forwarded_on) third after
-        → IsAgreedAndBroughtBack is_sealing post settled passed server_draw third after
+        → ServerHears is_sealing server (coming now proxy_at server_draw forwarded_on) third after
+        → AreNotesOfAgreement server.desk.key (claims_text claims) server_draw third.notes × IsAgreedAndBroughtBack is_sealing post settled passed third after
     agreed first passed settled goes settled_is server_draw third after drawn hears =
-        let it : IsAgreedAndMadeThrough is_sealing is.message begun server now server_draw proxy_at claims entries (next_own proxy proxy_draw)
-        (forwarded_token through.key proxy_draw) third after =
+        let it : IsAgreedAndMadeThrough is_sealing exchange sent (at_server exchange server_draw forwarded_on) third after =
         is.agreed (next_own proxy proxy_draw) (forwarded_token through.key proxy_draw) server_draw third after goes.there.forwarded.lawful.id
-        (token_size through.key proxy_draw size) through.new_at_server drawn hears in
-        record {
-          protected = it.protected;
-          iv = it.iv;
-          notes = it.notes;
-          response = it.response;
-          out = it.out;
-          brought = λ later fourth brought comes.
-              made server_draw third after brought fourth settled settled_is it
-              (goes.back now later it.response fourth brought it.forwardable comes);
-        }
+        (token_size through.key proxy_draw size) through.new_at_server drawn hears in (
+          it.notes,
+          record {
+            response = it.response;
+            out = it.out;
+            brought = λ later fourth brought comes.
+                made server_draw third after brought fourth settled settled_is it
+                (goes.back now later it.response fourth brought it.forwardable comes);
+          },
+        )
 
-    passed_on : (first : Step) (passed : Proxy) → ProxyHears proxy now proxy_draw at (spelling is.message) first passed → IsPassedOnAndAgreed is_sealing post first passed
+    passed_on : (first : Step) (passed : Proxy) → ProxyHears proxy (datagram_of passage) first passed → IsPassedOnAndAgreed is_sealing post first passed
     passed_on first passed hears =
-        let goes : GoesThereAndBack proxy now proxy_draw at server_at is.message through.key first passed =
-        passes proxy passed now proxy_draw at server_at is.message through.key first lawful
-        (takes_up client proxy server now draw proxy_draw at proxy_at server_at is.message through is.id is.for_proxy) (can_send proxy at through.none_to_client through.few) hears in
+        let goes : GoesThereAndBack proxy passage first passed =
+        passes proxy passed passage first lawful
+        (takes_up client proxy server draw hops is.message through is.id is.for_proxy) (can_send proxy hops.at through.none_to_client through.few) hears in
         record {
           out = goes.there.told;
-          settled = λ second settled comes.
-              let stays = is.settled now second settled comes in
+          settled = λ its_draw second settled comes.
+              let stays = is.settled now its_draw second settled comes in
               record {
                 told = stays.0;
                 agreed = λ server_draw third after drawn heard. agreed first passed settled goes stays.1 server_draw third after drawn heard;

@@ -5,10 +5,9 @@ use Rattle.std.proofs.lemmas.Bool.{lt-ltb}
 use Rattle.std.proofs.lemmas.List.{length-drop, length-take}
 use Rattle.osc_model.specs.Draw.{token_drawn}
 use Rattle.osc_model.specs.declared.node.Draw.{Draw}
-use Rattle.osc_model.specs.declared.node.Moment.{Moment}
 use Rattle.osc_model.specs.declared.node.Peer.{Peer}
 use Rattle.osc_model.specs.declared.step.Step.{Step}
-use Rattle.osc_coap.specs.Message.{Message, spelling}
+use Rattle.osc_coap.specs.Message.{Message}
 use Rattle.osc_dedup.specs.Table.{looked}
 use Rattle.osc_message.specs.Confirmables.{Open, has_open, peers_of, takes}
 use Rattle.osc_message.specs.Endpoint.{own_id}
@@ -16,17 +15,18 @@ use Rattle.osc_server.specs.State.{State as Server}
 use Rattle.osc_client.specs.State.{State as Client}
 use Rattle.osc_proxy.specs.Forwarding.{forwarded_token}
 use Rattle.osc_proxy.specs.Hearing.{Hears as ProxyHears}
+use Rattle.osc_proxy.specs.Passage.{Passage}
 use Rattle.osc_proxy.specs.State.{State as Proxy}
 use Rattle.osc_proxy.specs.Targets.{peer_of}
-use Rattle.osc_proxy.specs.ThereAndBack.{CanSendTo, GoesThereAndBack, IsLawfulProxy, TakesUp}
+use Rattle.osc_proxy.specs.ThereAndBack.{CanSendTo, GoesThereAndBack, IsLawfulProxy, TakesUp, datagram_of}
 use Rattle.osc_rounds.specs.ForProxy.{IsForProxy}
-use Rattle.osc_rounds.specs.Ready.{IsThrough}
+use Rattle.osc_rounds.specs.Ready.{Hops, IsThrough}
 
 -- what is passed on goes there, and its answer comes back
 abbrev pub PassesLaw : Type 0
-PassesLaw = (proxy passed : Proxy) (now : Moment) (draw : Draw) (from to : Peer) (message : Message) (key : ℕ) (step : Step)
-    → IsLawfulProxy proxy → TakesUp proxy now from to message key → CanSendTo proxy from
-    → ProxyHears proxy now draw from (spelling message) step passed → GoesThereAndBack proxy now draw from to message key step passed
+PassesLaw = (proxy passed : Proxy) (passage : Passage) (step : Step)
+    → IsLawfulProxy proxy → TakesUp proxy passage → CanSendTo proxy passage.came.from
+    → ProxyHears proxy (datagram_of passage) step passed → GoesThereAndBack proxy passage step passed
 
 pub token_size : (key : ℕ) (draw : Draw) → length draw.0 ≡ 32 → length (forwarded_token key draw) ≡ 8
 token_size key draw size = omega (arith, length-drop 1 (token_drawn draw), length-take 8 (drop 8 draw.0), length-drop 8 draw.0, size)
@@ -38,16 +38,23 @@ takes_one peer all none few = rw (none, lt-ltb (length (peers_of all)) 64 few) r
 pub can_send : (proxy : Proxy) (peer : Peer) → has_open peer proxy.endpoint.sending ≡ false → length (peers_of proxy.endpoint.sending) < 64 → CanSendTo proxy peer
 can_send proxy peer none few = record { idle = none; room = takes_one peer proxy.endpoint.sending none few }
 
+-- a message that goes so, and the key of its exchange, as the proxy takes it up
+abbrev pub passage_on : Hops → Message → ℕ → Passage
+passage_on hops message key = record {
+  came = record { at = hops.now; from = hops.at; draw = hops.proxy_draw; what = message };
+  to = hops.server_at;
+  key = key;
+}
+
 -- what is for the proxy, under the message ID that the client takes, it takes up on this way
-pub takes_up : (client : Client) (proxy : Proxy) (server : Server) (now : Moment) (draw proxy_draw : Draw) (at proxy_at server_at : Peer) (message : Message)
-    (way : IsThrough client proxy server now draw proxy_draw at proxy_at server_at)
-    → message.id ≡ own_id draw client.endpoint.next_id → IsForProxy way.origin message → TakesUp proxy now at server_at message way.key
-takes_up client proxy server now draw proxy_draw at proxy_at server_at message way id is = record {
+pub takes_up : (client : Client) (proxy : Proxy) (server : Server) (draw : Draw) (hops : Hops) (message : Message) (way : IsThrough client proxy server draw hops)
+    → message.id ≡ own_id draw client.endpoint.next_id → IsForProxy way.origin message → TakesUp proxy (passage_on hops message way.key)
+takes_up client proxy server draw hops message way id is = record {
   carried = is.carried;
   kind = is.kind;
   request = is.code;
   token = is.token;
-  unheard = subst (λ (n : ℕ). looked now at n proxy.endpoint.seen ≡ None) (sym id) way.unheard;
+  unheard = subst (λ (n : ℕ). looked hops.now hops.at n proxy.endpoint.seen ≡ None) (sym id) way.unheard;
   safe = is.safe;
   no_uri = is.no_uri;
   scheme = is.scheme;
@@ -55,5 +62,5 @@ takes_up client proxy server now draw proxy_draw at proxy_at server_at message w
   host_is = is.host;
   target = ap (λ (n : ℕ). peer_of proxy.targets way.origin.host n) is.port ∙ way.target;
   free = way.free;
-  there = can_send proxy server_at way.none_to_server way.few;
+  there = can_send proxy hops.server_at way.none_to_server way.few;
 }

@@ -3,7 +3,6 @@ use Rattle.std.proofs.Common.{◌≡◌, ◌⊎◌, ◌∙◌, sym, ap, subst, r
 use Rattle.osc_model.specs.StepNotes.{StepNotes, quiet}
 use Rattle.osc_model.specs.declared.context.ContextName.{ContextName}
 use Rattle.osc_model.specs.declared.context.Side.TheVariants as side
-use Rattle.osc_model.specs.declared.node.Draw.{Draw}
 use Rattle.osc_model.specs.declared.node.Moment.{Moment}
 use Rattle.osc_model.specs.declared.reply.Reply.{Reply}
 use Rattle.osc_model.specs.declared.step.Note.{Note}
@@ -17,7 +16,8 @@ use Rattle.osc_run.specs.Premise.{HasFreshDraws, IsDrawn, IsGenuine, IsGenuineOp
 use Rattle.osc_run.specs.ServerKinds.{opening_note, reply_note}
 use Rattle.osc_run.specs.States.{Minted}
 use Rattle.osc_run.specs.Texts.{reply_text}
-use Rattle.osc_rounds.specs.RoundNotes.{AreAmongQuiet, AreNotesOfExchange, AreNotesOfRequest}
+use Rattle.osc_rounds.specs.Asked.{OpenedRequest}
+use Rattle.osc_rounds.specs.RoundNotes.{AreAmongQuiet, AreNotesOfExchange, AreNotesOfRequest, Draws}
 
 nothing : {A : Type 0} (it : Option A) (one : A) → it ≡ None → it ≡ Some one → ⊥
 nothing it one none some = let wrong : None ≡ Some one = sym none ∙ some in cc
@@ -127,8 +127,17 @@ no_byte bytes byte some none = let wrong : [] ≡ byte ∷ [] = sym none ∙ som
 
 -- ---- a request
 
-module _ (minted : List Minted) (old : List Noted) (now : Moment) (held : Held) (number : ℕ) (text : List ℕ) (reply : Reply) (asked served answered : Noted)
-    (lawful : IsLawfulContext held) (notes : AreNotesOfRequest now held number text reply asked.notes served.notes answered.notes) where
+module _ (minted : List Minted) (old : List Noted) (now : Moment) (request : OpenedRequest) (reply : Reply) (asked served answered : Noted)
+    (lawful : IsLawfulContext request.held) (notes : AreNotesOfRequest now request reply asked.notes served.notes answered.notes) where
+  abbrev held : Held
+  held = request.held
+
+  abbrev number : ℕ
+  number = request.number
+
+  abbrev text : List ℕ
+  text = request.text
+
   -- the server opens what the client sealed
   request_opens : IsGenuineOpening minted (asked ∷ old) (opening_note held.name number text)
   request_opens = record {
@@ -190,9 +199,9 @@ module _ (minted : List Minted) (old : List Noted) (now : Moment) (held : Held) 
 
 -- ---- an exchange
 
-module _ (minted : List Minted) (old : List Noted) (key text : List ℕ) (draw server_draw : Draw) (begun agreed made : Noted)
-    (is_minted : IsMinted minted text) (notes : AreNotesOfExchange key text draw server_draw begun.notes agreed.notes made.notes) where
-  token_opens : IsGenuineOpening minted (begun ∷ old) (token_note key notes.protected notes.iv text)
+module _ (minted : List Minted) (old : List Noted) (key text : List ℕ) (draws : Draws) (begun agreed made : Noted)
+    (is_minted : IsMinted minted text) (notes : AreNotesOfExchange key text draws begun.notes agreed.notes made.notes) where
+  token_opens : IsGenuineOpening minted (begun ∷ old) (token_note key notes.agreed_is.protected notes.agreed_is.iv text)
   token_opens = record { token = λ _. is_minted; message = λ isnt. absurd (isnt (refl, refl)) }
 
   pub exchange_keeps : HasFreshDraws (made ∷ agreed ∷ begun ∷ old) → Premise minted old → Premise minted (made ∷ agreed ∷ begun ∷ old)
@@ -200,7 +209,7 @@ module _ (minted : List Minted) (old : List Noted) (key text : List ℕ) (draw s
     genuine = (
       (λ opening e. absurd (nothing made.notes.opens opening (ap (λ (n : StepNotes). n.opens) notes.made_is) e)),
       (
-        (λ opening e. opening_is minted (begun ∷ old) agreed.notes.opens (token_note key notes.protected notes.iv text) opening (ap (λ (n : StepNotes). n.opens) notes.agreed_is) token_opens e),
+        (λ opening e. opening_is minted (begun ∷ old) agreed.notes.opens (token_note key notes.agreed_is.protected notes.agreed_is.iv text) opening (ap (λ (n : StepNotes). n.opens) notes.agreed_is.is) token_opens e),
         (
           (λ opening e. absurd (nothing begun.notes.opens opening (ap (λ (n : StepNotes). n.opens) notes.begun_is) e)),
           p.genuine,
@@ -213,16 +222,16 @@ module _ (minted : List Minted) (old : List Noted) (key text : List ℕ) (draw s
 
 -- ---- with quiet steps between them
 
-pub request_among : (minted : List Minted) (old all : List Noted) (now : Moment) (held : Held) (number : ℕ) (text : List ℕ) (reply : Reply) (asked served answered : Noted)
-    → IsLawfulContext held → AreNotesOfRequest now held number text reply asked.notes served.notes answered.notes
+pub request_among : (minted : List Minted) (old all : List Noted) (now : Moment) (request : OpenedRequest) (reply : Reply) (asked served answered : Noted)
+    → IsLawfulContext request.held → AreNotesOfRequest now request reply asked.notes served.notes answered.notes
     → AreAmongQuiet (answered ∷ served ∷ asked ∷ []) all → Premise minted old → Premise minted (all ++ old)
-request_among minted old all now held number text reply asked served answered lawful notes among p =
-    premise_among minted (answered ∷ served ∷ asked ∷ []) all old among (request_keeps minted old now held number text reply asked served answered lawful notes p)
+request_among minted old all now request reply asked served answered lawful notes among p =
+    premise_among minted (answered ∷ served ∷ asked ∷ []) all old among (request_keeps minted old now request reply asked served answered lawful notes p)
 
-pub exchange_among : (minted : List Minted) (old all : List Noted) (key text : List ℕ) (draw server_draw : Draw) (begun agreed made : Noted)
-    → IsMinted minted text → AreNotesOfExchange key text draw server_draw begun.notes agreed.notes made.notes
+pub exchange_among : (minted : List Minted) (old all : List Noted) (key text : List ℕ) (draws : Draws) (begun agreed made : Noted)
+    → IsMinted minted text → AreNotesOfExchange key text draws begun.notes agreed.notes made.notes
     → AreAmongQuiet (made ∷ agreed ∷ begun ∷ []) all → HasFreshDraws (all ++ old) → Premise minted old → Premise minted (all ++ old)
-exchange_among minted old all key text draw server_draw begun agreed made is_minted notes among fresh p =
+exchange_among minted old all key text draws begun agreed made is_minted notes among fresh p =
     let steps = made ∷ agreed ∷ begun ∷ [] in
     premise_among minted steps all old among
-    (exchange_keeps minted old key text draw server_draw begun agreed made is_minted notes (fresh_without steps all old among fresh) p)
+    (exchange_keeps minted old key text draws begun agreed made is_minted notes (fresh_without steps all old among fresh) p)

@@ -2,56 +2,45 @@
 use Rattle.std.proofs.Common.{◌≡◌, ◌∙◌, sym, ap, subst, refl, ℕ, ◌^◌, ◌<◌, ◌≤◌, true, List, [], ◌∷◌, length, Option, Some, None, arith}
 use Rattle.std.specs.Prelude.{◌≢◌, drop}
 use Rattle.std.proofs.lemmas.List.{length-drop, length-take}
+use Rattle.osc_model.specs.Arrival.{Arrival, read_as}
 use Rattle.osc_model.specs.Draw.{nonce_drawn, token_drawn}
-use Rattle.osc_model.specs.Step.{sends}
 use Rattle.osc_model.specs.StepNotes.{quiet}
 use Rattle.osc_model.specs.declared.node.Draw.{Draw}
 use Rattle.osc_model.specs.declared.node.Moment.{Moment}
 use Rattle.osc_model.specs.declared.node.Peer.{Peer}
 use Rattle.osc_model.specs.declared.step.ClientResult.TheVariants as result
 use Rattle.osc_model.specs.declared.step.Step.{Step}
-use Rattle.osc_cbor.specs.Spelling.{spelling as item_spelling}
 use Rattle.osc_coap.specs.Length.{datagram_limit}
 use Rattle.osc_coap.specs.Message.{HasSpelling, Message, spelling}
 use Rattle.osc_coap.specs.declared.kind.Kind.TheVariants.{Acknowledgement, Confirmable}
-use Rattle.osc_dedup.specs.Table.{Entry as Noted, looked}
-use Rattle.osc_message.specs.Confirmables.{acknowledged, same_peer}
+use Rattle.osc_dedup.specs.Table.{looked}
+use Rattle.osc_message.specs.Confirmables.{same_peer}
 use Rattle.osc_message.specs.Endpoint.{EndpointState, own_id}
-use Rattle.osc_message.specs.Heard.{heard}
-use Rattle.osc_message.specs.Received.{Receives}
 use Rattle.osc_message.specs.Sending.{datagram, empty_acknowledgement}
-use Rattle.osc_message.specs.declared.received.Received.{Received}
-use Rattle.osc_message.specs.declared.received.Received.TheVariants as received
 use Rattle.osc_protect.specs.Ciphers.{Sealings}
 use Rattle.osc_protect.specs.Protection.{longest_message}
-use Rattle.osc_scope.specs.Entries.{Entry}
-use Rattle.osc_token.specs.Token.{claims_item, token_note}
-use Rattle.osc_token.specs.declared.claims.Claims.{Claims}
 use Rattle.osc_authz.specs.Begun.{Begun}
 use Rattle.osc_authz.specs.Held.{Held}
 use Rattle.osc_authz.specs.declared.granted.ClientDesk.{ClientDesk}
-use Rattle.osc_client.specs.Case.{case_of as client_case}
 use Rattle.osc_client.specs.Hearing.{Hears as ClientHears}
 use Rattle.osc_client.specs.Sending.{Exchanges, begun_by, busy, begins, opened, post_by, post_of, waits}
 use Rattle.osc_client.specs.Sending as sending
 use Rattle.osc_client.specs.State.{State as Client}
-use Rattle.osc_client.specs.Table.{Answers as ClientAnswers}
 use Rattle.osc_client.specs.Way.{HostAndPort, IsLawfulOrigin, through}
-use Rattle.osc_client.specs.declared.case.Case.{Case as ClientCase}
-use Rattle.osc_client.specs.declared.case.Case.TheVariants.{Empty}
 use Rattle.osc_client.specs.declared.waiting.Awaited.TheVariants.{Exchange}
-use Rattle.osc_client.specs.declared.waiting.Waiting.{Waiting}
 use Rattle.osc_proxy.specs.Forwarding.{answer as sent_back, forwarded}
 use Rattle.osc_server.specs.Hearing.{Hears as ServerHears}
 use Rattle.osc_server.specs.State.{State as Server}
 use Rattle.osc_server.specs.Table.{notes_of_post}
-use Rattle.osc_rounds.specs.Agreement.{AwaitsAgreement, AwaitsPost, IsAgreedTo, agreement, body_of}
+use Rattle.osc_rounds.specs.Agreement.{AwaitsAgreement, AwaitsPost, BegunExchange, IsAgreedTo, agreement, body_of}
+use Rattle.osc_rounds.specs.Coming.{coming, in_bytes}
 use Rattle.osc_rounds.specs.ExchangeRound.{IsHeld}
 use Rattle.osc_rounds.specs.ForProxy.{IsForProxy}
-use Rattle.osc_rounds.specs.ProxiedExchange.{IsAgreedAndMadeThrough, IsBegunAndMadeThrough, IsMadeThrough, IsPostedThrough, MayExchangeThrough}
+use Rattle.osc_rounds.specs.ProxiedExchange.{IsAgreedAndMadeThrough, IsBegunAndMadeThrough, IsMadeThrough, IsPostedThrough, MayExchangeThrough, Posted, ProxiedExchange, at_server, claims_text}
+use Rattle.osc_rounds.specs.RoundNotes.{AreNotesOfAgreement}
 use Rattle.osc_proxy.specs.ThereAndBack.{IsCarried}
 use Rattle.osc_rounds.proofs.Agreement.{ExchangeLaws, agreement_sendable, counts_confirmable, hears_agreement, hears_post, post_lawful, post_to}
-use Rattle.osc_rounds.proofs.Asking.{received_as}
+use Rattle.osc_rounds.proofs.Acknowledged.{acknowledgement_heard}
 use Rattle.osc_rounds.proofs.ExchangeNotes.{TokenLaws, post_notes}
 use Rattle.osc_rounds.proofs.ForProxy.{are_for, forwarded_post}
 
@@ -111,43 +100,48 @@ NothingAdded = (id : ℕ) (token : List ℕ) (message : Message) → HasSpelling
     → length (spelling (forwarded id token message)) ≤ length (spelling message)
 
 module _ (is_sealing : Sealings) (laws : ExchangeLaws is_sealing) (nothing_added : NothingAdded) where
-  pub forwarded_agreed : (old new : Server) (now : Moment) (from : Peer) (draw : Draw) (claims : Claims) (entries : List Entry) (holder : ClientDesk) (its : Begun)
-      (origin : HostAndPort) (its_id id : ℕ) (its_token token : List ℕ) (step : Step)
-      → AwaitsPost is_sealing old now from id claims entries holder its → IsLawfulOrigin origin → IsForProxy origin (post_through origin holder its its_id its_token)
-      → id < 2 ^ 16 → length token ≡ 8
-      → ServerHears is_sealing old now draw from (spelling (forwarded id token (post_through origin holder its its_id its_token))) step new
-      → IsAgreedTo is_sealing old now from draw holder its id token step new
-  forwarded_agreed old new now from draw claims entries holder its origin its_id id its_token token step awaits lawful posted small size hears =
-      let same : forwarded id token (post_through origin holder its its_id its_token) ≡ post_to (Some origin.host) id token (body_of holder its) =
-      forwarded_post origin its_id id its_token token (body_of holder its) in
-      let added : length (spelling (forwarded id token (post_through origin holder its its_id its_token))) ≤ length (spelling (post_through origin holder its its_id its_token)) =
-      nothing_added id token (post_through origin holder its its_id its_token) posted.carried.lawful (omega (arith, size, posted.token)) in
-      let short : length (spelling (forwarded id token (post_through origin holder its its_id its_token))) ≤ datagram_limit = omega (arith, added, posted.carried.short) in
-      let sendable : IsCarried (post_to (Some origin.host) id token (body_of holder its)) = record {
-        lawful = post_lawful (Some origin.host) id token (body_of holder its) lawful.host small (omega (arith, size));
-        short = subst (λ (m : Message). length (spelling m) ≤ datagram_limit) same short;
+  pub forwarded_agreed : (old new : Server) (came : Arrival Message) (exchange : BegunExchange) (origin : HostAndPort) (its_id : ℕ) (its_token : List ℕ) (step : Step)
+      → AwaitsPost is_sealing old came exchange → IsLawfulOrigin origin → IsForProxy origin (post_through origin exchange.holder exchange.begun its_id its_token)
+      → came.what ≡ forwarded came.what.id came.what.token (post_through origin exchange.holder exchange.begun its_id its_token)
+      → came.what.id < 2 ^ 16 → length came.what.token ≡ 8
+      → ServerHears is_sealing old (in_bytes came) step new
+      → IsAgreedTo is_sealing old came exchange step new
+  forwarded_agreed old new came exchange origin its_id its_token step awaits lawful posted is_forwarded small size hears =
+      let id = came.what.id in
+      let token = came.what.token in
+      let post : Message = post_through origin exchange.holder exchange.begun its_id its_token in
+      let body : List ℕ = body_of exchange.holder exchange.begun in
+      let same : came.what ≡ post_to (Some origin.host) id token body = is_forwarded ∙ forwarded_post origin its_id id its_token token body in
+      let added : length (spelling (forwarded id token post)) ≤ length (spelling post) =
+      nothing_added id token post posted.carried.lawful (omega (arith, size, posted.token)) in
+      let short : length (spelling (forwarded id token post)) ≤ datagram_limit = omega (arith, added, posted.carried.short) in
+      let sendable : IsCarried came.what = record {
+        lawful = subst HasSpelling (sym same) (post_lawful (Some origin.host) id token body lawful.host small (omega (arith, size)));
+        short = subst (λ (m : Message). length (spelling m) ≤ datagram_limit) (sym is_forwarded) short;
       } in
-      hears_post is_sealing laws old now from id claims entries holder its awaits (Some origin.host) lawful.host token draw step new sendable
-      (subst (λ (m : Message). ServerHears is_sealing old now draw from (spelling m) step new) same hears)
+      hears_post is_sealing laws old came exchange awaits (Some origin.host) lawful.host same step new sendable hears
 
 -- ---- the answer in a confirmable message
 
 module _ (is_sealing : Sealings) (laws : ExchangeLaws is_sealing) where
-  pub confirmable_makes : (server agreed : Server) (now : Moment) (from : Peer) (draw : Draw) (claims : Claims) (entries : List Entry) (holder : ClientDesk) (its : Begun)
-      (id : ℕ) (token : List ℕ) (second : Step) (client after : Client) (later : Moment) (hop : Peer) (back : ℕ) (its_token : List ℕ) (third : Step)
-      → AwaitsPost is_sealing server now from id claims entries holder its → length draw.0 ≡ 32
-      → (is : IsAgreedTo is_sealing server now from draw holder its id token second agreed)
-      → AwaitsAgreement client hop holder its its_token
-      → back < 2 ^ 16 → length its_token ≤ 8 → looked later hop back client.endpoint.seen ≡ None
-      → ClientHears is_sealing client later hop (spelling (sent_back Confirmable back its_token (agreement Acknowledgement id token is.answer))) third after
-      → (held : Held) × IsHeld agreed now entries held × IsMadeThrough client hop back held third after
-  confirmable_makes server agreed now from draw claims entries holder its id token second client after later hop back its_token third awaits size is waits small short unheard hears =
+  pub confirmable_makes : (server agreed : Server) (came : Arrival Message) (exchange : BegunExchange) (second : Step)
+      (client after : Client) (back : Arrival Message) (third : Step)
+      → AwaitsPost is_sealing server came exchange → length came.draw.0 ≡ 32
+      → (is : IsAgreedTo is_sealing server came exchange second agreed)
+      → AwaitsAgreement client back.from exchange.holder exchange.begun back.what.token
+      → back.what.id < 2 ^ 16 → length back.what.token ≤ 8 → looked back.at back.from back.what.id client.endpoint.seen ≡ None
+      → back.what ≡ sent_back Confirmable back.what.id back.what.token (agreement Acknowledgement came.what.id came.what.token is.answer)
+      → ClientHears is_sealing client (in_bytes back) third after
+      → (held : Held) × IsHeld agreed came.at exchange.entries held × IsMadeThrough client back.from back.what.id held third after
+  confirmable_makes server agreed came exchange second client after back third awaits size is waits small short unheard is_back hears =
+      let id = back.what.id in
+      let token = back.what.token in
       let it =
-      hears_agreement is_sealing laws server now from id claims entries holder its awaits token draw second agreed size is
-      Confirmable back its_token client later hop waits third after
-      (agreement_sendable is_sealing laws server now from id claims entries holder its awaits token draw second agreed size is Confirmable back its_token small short)
-      (counts_confirmable client.next_hop hop waits.waiting client.endpoint.seen later back its_token is.answer waits.peer unheard waits.token)
-      hears in
+      hears_agreement is_sealing laws server came exchange awaits second agreed size is
+      Confirmable id token client back.at back.from back.draw waits third after
+      (agreement_sendable is_sealing laws server came exchange awaits second agreed size is Confirmable id token small short)
+      (counts_confirmable client.next_hop back.from waits.waiting client.endpoint.seen back.at id token is.answer waits.peer unheard waits.token)
+      (subst (λ (m : Message). ClientHears is_sealing client (read_as back (spelling m)) third after) is_back hears) in
       (it.0, it.1, record { told = it.2.told; kept = it.2.kept })
 
 -- ---- an empty acknowledgement
@@ -157,29 +151,25 @@ pub record EmptyLaws : Type 0 where
   pub spelled : (id : ℕ) → id < 2 ^ 16 → HasSpelling (empty_acknowledgement id)
   pub short : (id : ℕ) → length (spelling (empty_acknowledgement id)) ≤ datagram_limit
 
-case_empty : (next_hop from : Peer) (waiting : Option Waiting) (seen : List Noted) (now : Moment) (id : ℕ)
-    → client_case next_hop from waiting (heard seen now from (received.Message (empty_acknowledgement id))) ≡ Empty Acknowledgement id
-case_empty next_hop from waiting seen now id = refl
-
-module _ (is_sealing : Sealings)
-    (one_reception : (bytes : List ℕ) (a b : Received) → Receives bytes a → Receives bytes b → a ≡ b) (empty : EmptyLaws) where
-  pub acknowledgement_kept : (old new : Client) (now : Moment) (from : Peer) (id : ℕ) (step : Step) → id < 2 ^ 16
-      → ClientHears is_sealing old now from (spelling (empty_acknowledgement id)) step new
-      → (step ≡ sends []) × (new ≡ record old { endpoint = record old.endpoint { sending = acknowledged from id old.endpoint.sending } })
-  acknowledgement_kept old new now from id step small hears =
-      let message = empty_acknowledgement id in
-      let as_it : hears.received ≡ received.Message message =
-      received_as one_reception message hears.received (record { lawful = empty.spelled id small; short = empty.short id }) hears.receives in
-      let case_is : client_case old.next_hop from old.waiting (heard old.endpoint.seen now from hears.received) ≡ Empty Acknowledgement id =
-      ap (λ (r : Received). client_case old.next_hop from old.waiting (heard old.endpoint.seen now from r)) as_it
-      ∙ case_empty old.next_hop from old.waiting old.endpoint.seen now id in
-      subst (λ (k : ClientCase). ClientAnswers is_sealing old now from k step new) case_is hears.answers
-
 -- ---- the whole
 
 module _ (is_sealing : Sealings) (laws : ExchangeLaws is_sealing) (tokens : TokenLaws is_sealing) (nothing_added : NothingAdded) (empty : EmptyLaws)
-    (client : Client) (server : Server) (asked_at now : Moment) (draw : Draw) (origin : HostAndPort) (proxy_at : Peer) (claims : Claims) (entries : List Entry) (first : Step) (begun : Client)
-    (may : MayExchangeThrough is_sealing client server now draw origin proxy_at claims entries) where
+    (client : Client) (asked_at : Moment) (exchange : ProxiedExchange) (first : Step) (begun : Client) (may : MayExchangeThrough is_sealing client exchange) where
+  abbrev server : Server
+  server = exchange.server
+
+  abbrev now : Moment
+  now = exchange.now
+
+  abbrev draw : Draw
+  draw = exchange.draw
+
+  abbrev origin : HostAndPort
+  origin = exchange.origin
+
+  abbrev proxy_at : Peer
+  proxy_at = exchange.proxy_at
+
   abbrev its : Begun
   its = begun_by client draw
 
@@ -192,11 +182,12 @@ module _ (is_sealing : Sealings) (laws : ExchangeLaws is_sealing) (tokens : Toke
   abbrev message : Message
   message = post_through origin client.desk its its_id its_token
 
+  -- as the server knows it
+  abbrev known : BegunExchange
+  known = record { claims = exchange.claims; entries = exchange.entries; holder = client.desk; begun = its }
+
   message_is : post_by client draw ≡ message
   message_is = ap (λ (o : Option HostAndPort). through o (post_of client.desk its its_id its_token)) may.through
-
-  awaits_post : (id : ℕ) → looked now proxy_at id server.endpoint.seen ≡ None → AwaitsPost is_sealing server now proxy_at id claims entries client.desk its
-  awaits_post id unheard = record { welcome = may.welcome; nonce = nonce_size draw may.draw_size; unheard = unheard }
 
   module _ (posted : IsPostedThrough origin client draw first) (kept : begun ≡ opened client asked_at draw (post_by client draw) (Exchange its)) where
     is_for_proxy : IsForProxy origin message
@@ -226,40 +217,45 @@ module _ (is_sealing : Sealings) (laws : ExchangeLaws is_sealing) (tokens : Toke
       peer = awaits_agreement.peer;
     }
 
+    abbrev sent : Posted
+    sent = record { begun = begun; message = message }
+
     module _ (id : ℕ) (token : List ℕ) (server_draw : Draw) (second : Step) (agreed : Server) (small : id < 2 ^ 16) (token_is : length token ≡ 8)
         (unheard : looked now proxy_at id server.endpoint.seen ≡ None) (size : length server_draw.0 ≡ 32) where
-      module _ (is : IsAgreedTo is_sealing server now proxy_at server_draw client.desk its id token second agreed) where
+      abbrev came : Arrival Message
+      came = at_server exchange server_draw (forwarded id token message)
+
+      awaits_post : AwaitsPost is_sealing server came known
+      awaits_post = record { welcome = may.welcome; nonce = nonce_size draw may.draw_size; unheard = unheard }
+
+      module _ (is : IsAgreedTo is_sealing server came known second agreed) where
         abbrev response : Message
         response = agreement Acknowledgement id token is.answer
 
         response_sendable : IsCarried response
         response_sendable =
-            agreement_sendable is_sealing laws server now proxy_at id claims entries client.desk its (awaits_post id unheard) token server_draw second agreed size is
-            Acknowledgement id token small (omega (arith, token_is))
+            agreement_sendable is_sealing laws server came known awaits_post second agreed size is Acknowledgement id token small (omega (arith, token_is))
 
-        made_so : (endpoint : EndpointState) (back : ℕ) (third : Step) (after : Client)
+        made_so : (endpoint : EndpointState) (back : ℕ) (its_draw : Draw) (third : Step) (after : Client)
             → back < 2 ^ 16 → looked now proxy_at back endpoint.seen ≡ None
-            → ClientHears is_sealing (record begun { endpoint = endpoint }) now proxy_at (spelling (sent_back Confirmable back its_token response)) third after
-            → (held : Held) × IsHeld agreed now entries held × IsMadeThrough begun proxy_at back held third after
-        made_so endpoint back third after little fresh hears =
+            → ClientHears is_sealing (record begun { endpoint = endpoint }) (coming now proxy_at its_draw (sent_back Confirmable back its_token response)) third after
+            → (held : Held) × IsHeld agreed now exchange.entries held × IsMadeThrough begun proxy_at back held third after
+        made_so endpoint back its_draw third after little fresh hears =
             let waiting : Client = record begun { endpoint = endpoint } in
+            let comes : Arrival Message = record { at = now; from = proxy_at; draw = its_draw; what = sent_back Confirmable back its_token response } in
             let it =
-            confirmable_makes is_sealing laws server agreed now proxy_at server_draw claims entries client.desk its id token second waiting after now proxy_at back its_token third
-            (awaits_post id unheard) size is (still_awaits endpoint) little (omega (arith, token_size draw may.draw_size)) fresh hears in
+            confirmable_makes is_sealing laws server agreed came known second waiting after comes third
+            awaits_post size is (still_awaits endpoint) little (omega (arith, token_size draw may.draw_size)) fresh refl hears in
             (it.0, it.1, record { told = it.2.told; kept = it.2.kept })
 
-        post_noted : (protected : List ℕ) × (iv : List ℕ)
-            × (notes_of_post is.post
-            ≡ record quiet { opens = Some (token_note server.desk.key protected iv (item_spelling (claims_item claims))); drawn = Some (nonce_drawn server_draw) })
+        post_noted : AreNotesOfAgreement server.desk.key (claims_text exchange.claims) server_draw (notes_of_post is.post)
         post_noted =
-            post_notes is_sealing tokens server.desk agreed.desk now server_draw is.post claims entries client.desk its.nonce1 its.recipient_id may.welcome
+            post_notes is_sealing tokens server.desk agreed.desk now server_draw is.post exchange.claims exchange.entries client.desk its.nonce1 its.recipient_id may.welcome
             (nonce_size draw may.draw_size) is.posts
 
-        made : IsAgreedAndMadeThrough is_sealing message begun server now server_draw proxy_at claims entries id token second agreed
+        made : IsAgreedAndMadeThrough is_sealing exchange sent came second agreed
         made = record {
-          protected = post_noted.0;
-          iv = post_noted.1;
-          notes = is.notes ∙ post_noted.2;
+          notes = record { protected = post_noted.protected; iv = post_noted.iv; is = is.notes ∙ post_noted.is };
           response = response;
           out = is.out;
           forwardable = record {
@@ -273,13 +269,12 @@ module _ (is_sealing : Sealings) (laws : ExchangeLaws is_sealing) (tokens : Toke
           made = made_so;
         }
 
-      agreed_so : ServerHears is_sealing server now server_draw proxy_at (spelling (forwarded id token message)) second agreed
-          → IsAgreedAndMadeThrough is_sealing message begun server now server_draw proxy_at claims entries id token second agreed
+      agreed_so : ServerHears is_sealing server (in_bytes came) second agreed → IsAgreedAndMadeThrough is_sealing exchange sent came second agreed
       agreed_so hears =
-          made (forwarded_agreed is_sealing laws nothing_added server agreed now proxy_at server_draw claims entries client.desk its origin its_id id its_token token second
-          (awaits_post id unheard) may.origin_lawful is_for_proxy small token_is hears)
+          made (forwarded_agreed is_sealing laws nothing_added server agreed came known origin its_id its_token second
+          awaits_post may.origin_lawful is_for_proxy refl small token_is hears)
 
-    begun_so : first.notes ≡ record quiet { drawn = Some (nonce_drawn draw) } → IsBegunAndMadeThrough is_sealing client server now draw origin proxy_at claims entries first begun
+    begun_so : first.notes ≡ record quiet { drawn = Some (nonce_drawn draw) } → IsBegunAndMadeThrough is_sealing client exchange first begun
     begun_so notes = record {
       message = message;
       id = refl;
@@ -288,17 +283,19 @@ module _ (is_sealing : Sealings) (laws : ExchangeLaws is_sealing) (tokens : Toke
       for_proxy = is_for_proxy;
       kept = kept ∙ ap (λ (c : Client). record client { waiting = c.waiting; endpoint = c.endpoint }) (sym kept);
       seen = ap (λ (c : Client). c.endpoint.seen) kept;
-      settled = λ at step later hears. acknowledgement_kept is_sealing laws.one_reception empty begun later at proxy_at its_id step is_for_proxy.carried.lawful.id hears;
+      settled = λ at its_draw step later hears.
+          let came : Arrival ℕ = record { at = at; from = proxy_at; draw = its_draw; what = its_id } in
+          acknowledgement_heard is_sealing laws.one_reception empty.spelled empty.short begun later came step is_for_proxy.carried.lawful.id hears;
       agreed = agreed_so;
     }
 
   pub is_begun_through : first.notes.result ≢ Some (result.Refused 14) → Exchanges client asked_at draw first begun
-      → IsBegunAndMadeThrough is_sealing client server now draw origin proxy_at claims entries first begun
+      → IsBegunAndMadeThrough is_sealing client exchange first begun
   is_begun_through fits exchanges =
       by (is_posted client begun asked_at draw origin first may.through may.origin_lawful may.idle may.draw_size fits exchanges) exchanges
     where
       by : IsPostedThrough origin client draw first → Exchanges client asked_at draw first begun
-          → IsBegunAndMadeThrough is_sealing client server now draw origin proxy_at claims entries first begun
+          → IsBegunAndMadeThrough is_sealing client exchange first begun
       by posted (busy waits refused) = absurd (waits may.idle)
       by posted (sending.Exchanges.too_long idle long refused) = absurd (fits (ap (λ (s : Step). s.notes.result) refused.told))
       by posted (begins idle short spelled told kept) = begun_so posted kept (ap (λ (s : Step). s.notes) told)

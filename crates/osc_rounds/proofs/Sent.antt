@@ -1,11 +1,10 @@
 -- A request goes out where its client has a context and waits for nothing; and what is true of each client says of it then.
-use Rattle.std.proofs.Common.{◌≡◌, ◌∙◌, sym, ap, subst, refl, ℕ, ◌+◌, ◌^◌, ◌<◌, ◌≤◌, List, [], ◌∷◌, length, Option, Some, None, arith}
+use Rattle.std.proofs.Common.{◌≡◌, ◌∙◌, sym, ap, subst, refl, ℕ, ◌+◌, ◌^◌, ◌<◌, ◌≤◌, [], ◌∷◌, length, Option, Some, None, arith}
 use Rattle.std.specs.Prelude.{◌≢◌, IfSome}
 use Rattle.std.proofs.lemmas.Option.{same_Some}
 use Rattle.osc_model.specs.Draw.{token_drawn}
 use Rattle.osc_model.specs.StepNotes.{quiet}
 use Rattle.osc_model.specs.declared.node.Draw.{Draw}
-use Rattle.osc_model.specs.declared.node.Moment.{Moment}
 use Rattle.osc_model.specs.declared.request.Request.{Request}
 use Rattle.osc_model.specs.declared.step.ClientResult.TheVariants as result
 use Rattle.osc_model.specs.declared.step.Step.{Step}
@@ -18,14 +17,20 @@ use Rattle.osc_protect.specs.Protection.{HasShortContext, IsProtectedRequest, pl
 use Rattle.osc_authz.specs.Begun.{ClientContextState}
 use Rattle.osc_run.specs.ClientKinds.{request_note}
 use Rattle.osc_client.specs.Lawful.{IsLawfulClient}
-use Rattle.osc_client.specs.Sending.{Asks, IsFree, IsHindered, IsRefused, asks, hindered, busy, exhausted, no_context, too_long, opened, plain_of, plain_request}
+use Rattle.osc_client.specs.Sending.{Asked, Asks, IsFree, IsHindered, IsRefused, asks, hindered, busy, exhausted, no_context, too_long, opened, plain_of, plain_request}
 use Rattle.osc_client.specs.State.{State as Client}
 use Rattle.osc_client.specs.Way.{HostAndPort, IsLawfulOrigin, through}
 use Rattle.osc_client.specs.declared.waiting.Awaited.TheVariants.{Ask}
 use Rattle.osc_client.specs.declared.waiting.Waiting.{Waiting}
 
 module _ (is_sealing : Sealings) (tag : Tags)
-    (client asked : Client) (asked_at : Moment) (draw : Draw) (request : Request) (first : Step) where
+    (client asked : Client) (asks_for : Asked) (first : Step) where
+  abbrev draw : Draw
+  draw = asks_for.draw
+
+  abbrev request : Request
+  request = asks_for.request
+
   -- what is known of one that went out under this context
   pub record IsSent (context : ClientContextState) : Type 0 where
     pub message : Message
@@ -38,7 +43,7 @@ module _ (is_sealing : Sealings) (tag : Tags)
           notes = record quiet { seals = Some (request_note context.name context.next (plain_bytes (plain_of client draw request))) };
         }
     pub kept : asked
-        ≡ opened (record client { context = Some (record context { next = context.next + 1 }) }) asked_at draw message
+        ≡ opened (record client { context = Some (record context { next = context.next + 1 }) }) asks_for.at draw message
         (Ask (record { number = context.next; plaintext = plain_bytes (plain_of client draw request) }))
 
   not_hindered : (context : ClientContextState) (number : ℕ) → client.waiting ≡ None → client.context ≡ Some context → context.next ≤ greatest_number
@@ -52,7 +57,7 @@ module _ (is_sealing : Sealings) (tag : Tags)
       fits (ap (λ (s : Step). s.notes.result) refused.told ∙ ap (λ (n : ℕ). Some (result.Refused n)) is)
 
   pub goes_out : (context : ClientContextState) → client.waiting ≡ None → client.context ≡ Some context → context.next ≤ greatest_number
-      → first.notes.result ≢ Some (result.Refused 14) → Asks is_sealing tag client asked_at request draw first asked → IsSent context
+      → first.notes.result ≢ Some (result.Refused 14) → Asks is_sealing tag client asks_for first asked → IsSent context
   goes_out context idle has few fits (hindered number hinders refused) = absurd (not_hindered context number idle has few fits refused hinders)
   goes_out context idle has few fits (asks other message free made spelled told kept) =
       subst IsSent (same_Some other context (sym free.held ∙ has))

@@ -1,11 +1,10 @@
 -- The two ends of an exchange (RFC 9203 section 4), whatever way its post and the answer go: the server agrees to a post, and the client
 -- waits for that.
 use Rattle.std.specs.Prelude.{◌≡◌, ℕ, true, List, [], ◌∷◌, length, Some, None, Ok}
+use Rattle.osc_model.specs.Arrival.{Arrival}
 use Rattle.osc_model.specs.Code.{code}
 use Rattle.osc_model.specs.Draw.{nonce_drawn}
 use Rattle.osc_model.specs.declared.algorithm.Algorithm.TheVariants.{EightByteTag}
-use Rattle.osc_model.specs.declared.node.Draw.{Draw}
-use Rattle.osc_model.specs.declared.node.Moment.{Moment}
 use Rattle.osc_model.specs.declared.node.Peer.{Peer}
 use Rattle.osc_model.specs.declared.step.Step.{Step}
 use Rattle.osc_cbor.specs.Spelling.{spelling as item_spelling}
@@ -23,6 +22,7 @@ use Rattle.osc_protect.specs.Ciphers.{Sealings}
 use Rattle.osc_authz.specs.Begun.{Begun}
 use Rattle.osc_authz.specs.Exchange.{post_item}
 use Rattle.osc_authz.specs.Post.{Posts}
+use Rattle.osc_authz.specs.Posting.{Posting}
 use Rattle.osc_authz.specs.Welcome.{IsWelcome}
 use Rattle.osc_authz.specs.declared.granted.ClientDesk.{ClientDesk}
 use Rattle.osc_authz.specs.declared.post.Post.{Post}
@@ -33,9 +33,21 @@ use Rattle.osc_client.specs.State.{State as Client}
 use Rattle.osc_client.specs.declared.waiting.Awaited.TheVariants.{Exchange}
 use Rattle.osc_client.specs.declared.waiting.Waiting.{Waiting}
 
+-- an exchange that a client has begun: what its token claims, and the entries of the token's scope; what the client was granted, and what
+-- it began
+pub record BegunExchange : Type 0 where
+  pub claims : Claims
+  pub entries : List Entry
+  pub holder : ClientDesk
+  pub begun : Begun
+
 -- what this exchange posts: the token, the client's nonce and its recipient ID
 abbrev pub body_of : ClientDesk → Begun → List ℕ
 body_of holder begun = item_spelling (post_item holder.token begun.nonce1 (begun.recipient_id ∷ []))
+
+-- the same, as it comes to a desk
+abbrev pub posted : BegunExchange → Arrival Message → Posting
+posted exchange came = record { at = came.at; body = body_of exchange.holder exchange.begun; draw = came.draw }
 
 -- 2.01 with the nonce and the recipient ID of the server, in a message of this kind, message ID and token (section 4.2)
 abbrev pub agreement : Kind → ℕ → List ℕ → PostAnswer → Message
@@ -43,22 +55,22 @@ agreement kind id token answer = with_reply (bare kind (code 2 1).0 id token) (p
 
 -- `is_sealing algorithm` is the relation of the algorithm's cipher
 module _ (is_sealing : Sealings) where
-  -- The token of this client is welcome at the server, the client's nonce is one of 8 bytes, and no message of this ID was heard from
-  -- there.
-  pub record AwaitsPost (server : Server) (now : Moment) (from : Peer) (id : ℕ) (claims : Claims) (entries : List Entry) (holder : ClientDesk) (begun : Begun) : Type 0 where
-    pub welcome : IsWelcome (is_sealing EightByteTag) server.desk now claims entries holder
-    pub nonce : length begun.nonce1 ≡ 8
-    pub unheard : looked now from id server.endpoint.seen ≡ None
+  -- The token of this client is welcome at the server, the client's nonce is one of 8 bytes, and no message of the post's ID was heard
+  -- from there.
+  pub record AwaitsPost (server : Server) (came : Arrival Message) (exchange : BegunExchange) : Type 0 where
+    pub welcome : IsWelcome (is_sealing EightByteTag) server.desk came.at exchange.claims exchange.entries exchange.holder
+    pub nonce : length exchange.begun.nonce1 ≡ 8
+    pub unheard : looked came.at came.from came.what.id server.endpoint.seen ≡ None
 
   -- The server's desk agreed to what this exchange posts, and one datagram says so, in the acknowledgement of the post. The step notes what
   -- the desk did: it opened the token and drew a nonce.
-  pub record IsAgreedTo (old : Server) (now : Moment) (from : Peer) (draw : Draw) (holder : ClientDesk) (begun : Begun) (id : ℕ) (token : List ℕ) (step : Step) (new : Server) : Type 0 where
+  pub record IsAgreedTo (old : Server) (came : Arrival Message) (exchange : BegunExchange) (step : Step) (new : Server) : Type 0 where
     pub answer : PostAnswer
     pub post : Post
-    pub posts : Posts (is_sealing EightByteTag) old.desk now (body_of holder begun) draw post new.desk
+    pub posts : Posts (is_sealing EightByteTag) old.desk (posted exchange came) post new.desk
     pub agrees : post.answer ≡ Ok answer
-    pub nonce : answer.nonce2 ≡ nonce_drawn draw
-    pub out : step.out ≡ datagram from (agreement Acknowledgement id token answer) ∷ []
+    pub nonce : answer.nonce2 ≡ nonce_drawn came.draw
+    pub out : step.out ≡ datagram came.from (agreement Acknowledgement came.what.id came.what.token answer) ∷ []
     pub notes : step.notes ≡ notes_of_post post
 
 -- the client waits for the answer to this exchange, under this token, from its next hop, which has this address

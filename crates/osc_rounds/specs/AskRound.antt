@@ -8,7 +8,7 @@ use Rattle.osc_model.specs.declared.node.Peer.{Peer}
 use Rattle.osc_model.specs.declared.reply.Reply.{Reply}
 use Rattle.osc_model.specs.declared.request.Request.{Request}
 use Rattle.osc_model.specs.declared.step.Step.{Step}
-use Rattle.osc_coap.specs.Message.{Message, spelling}
+use Rattle.osc_coap.specs.Message.{Message}
 use Rattle.osc_dedup.specs.Table.{looked}
 use Rattle.osc_message.specs.Endpoint.{own_id}
 use Rattle.osc_message.specs.Sending.{datagram}
@@ -24,6 +24,7 @@ use Rattle.osc_server.specs.Table.{notes_of_request}
 use Rattle.osc_client.specs.Sending.{plain_of}
 use Rattle.osc_client.specs.State.{State as Client}
 use Rattle.osc_rounds.specs.Asked.{IsAnswered}
+use Rattle.osc_rounds.specs.Coming.{coming}
 use Rattle.osc_client.specs.Hearing.{Hears as ClientHears}
 use Rattle.osc_server.specs.Hearing.{Hears as ServerHears}
 
@@ -35,30 +36,44 @@ pub record IsLawfulServer (server : Server) : Type 0 where
 abbrev pub asked_text : Client → Draw → Request → List ℕ
 asked_text client draw request = plain_bytes (plain_of client draw request)
 
+-- a request on its way, straight to the server: the client that has asked and the server before, their addresses, and the moment; the
+-- server's context, the number and the text of the request
+pub record StraightRequest : Type 0 where
+  pub asked : Client
+  pub server : Server
+  pub at : Peer
+  pub server_at : Peer
+  pub now : Moment
+  pub held : Held
+  pub number : ℕ
+  pub text : List ℕ
+
 -- `is_sealing algorithm` is the relation of the algorithm's cipher
 module _ (is_sealing : Sealings) where
   -- The server serves this text as one entry, under its context's scope, whose window takes the number, and sends one datagram, which
   -- the client takes for the answer, with that reply.
-  pub record IsServedAndAnswered (asked : Client) (server : Server) (now : Moment) (at server_at : Peer) (held : Held) (number : ℕ) (text : List ℕ) (second : Step) (served : Server) : Type 0 where
+  pub record IsServedAndAnswered (way : StraightRequest) (second : Step) (served : Server) : Type 0 where
     pub reply : Reply
-    pub applied : AppliesTo server.tree (apply_read server.tree held.scope (read_request text)) reply served.tree
-    pub entry : second.notes ≡ notes_of_request now held number text reply
-    pub kept : served.desk ≡ record server.desk { table = accepted held.name.client_id number server.desk.table }
+    pub applied : AppliesTo way.server.tree (apply_read way.server.tree way.held.scope (read_request way.text)) reply served.tree
+    pub entry : second.notes ≡ notes_of_request way.now way.held way.number way.text reply
+    pub kept : served.desk ≡ record way.server.desk { table = accepted way.held.name.client_id way.number way.server.desk.table }
     pub answer : Message
-    pub out : second.out ≡ datagram at answer ∷ []
-    pub answered : (third : Step) (after : Client) → ClientHears is_sealing asked now server_at (spelling answer) third after
-        → IsAnswered asked held.name number reply third after
+    pub out : second.out ≡ datagram way.at answer ∷ []
+    pub answered : (draw : Draw) (third : Step) (after : Client) → ClientHears is_sealing way.asked (coming way.now way.server_at draw answer) third after
+        → IsAnswered way.asked way.held.name way.number reply third after
 
   -- One datagram goes to the server, and the client's next number is taken; and where that comes there, it is served and answered, and
   -- of the client's other message IDs the server has heard none that it hadn't heard before.
-  pub record IsAskedAndAnswered (client : Client) (server : Server) (now : Moment) (draw : Draw) (request : Request) (at server_at : Peer) (held : Held) (number : ℕ) (first : Step) (asked : Client) : Type 0 where
+  pub record IsAskedAndAnswered (way : StraightRequest) (client : Client) (draw : Draw) (first : Step) : Type 0 where
     pub message : Message
     pub out : first.out ≡ datagram client.next_hop message ∷ []
-    pub sealed : first.notes.seals ≡ Some (request_note held.name number (asked_text client draw request))
+    pub sealed : first.notes.seals ≡ Some (request_note way.held.name way.number way.text)
     pub unserved : first.notes.served ≡ None
-    pub context : asked.context ≡ Some (record { name = held.name; next = number + 1 })
-    pub served : (server_draw : Draw) (second : Step) (after : Server) → ServerHears is_sealing server now server_draw at (spelling message) second after
-        → IsServedAndAnswered asked server now at server_at held number (asked_text client draw request) second after
-    pub heard : (server_draw : Draw) (second : Step) (after : Server) → ServerHears is_sealing server now server_draw at (spelling message) second after
-        → (later : Moment) (id : ℕ) → id ≢ own_id draw client.endpoint.next_id → looked later at id server.endpoint.seen ≡ None
-        → looked later at id after.endpoint.seen ≡ None
+    pub context : way.asked.context ≡ Some (record { name = way.held.name; next = way.number + 1 })
+    pub served : (server_draw : Draw) (second : Step) (after : Server)
+        → ServerHears is_sealing way.server (coming way.now way.at server_draw message) second after
+        → IsServedAndAnswered way second after
+    pub heard : (server_draw : Draw) (second : Step) (after : Server)
+        → ServerHears is_sealing way.server (coming way.now way.at server_draw message) second after
+        → (later : Moment) (id : ℕ) → id ≢ own_id draw client.endpoint.next_id → looked later way.at id way.server.endpoint.seen ≡ None
+        → looked later way.at id after.endpoint.seen ≡ None

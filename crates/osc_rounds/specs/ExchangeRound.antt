@@ -1,5 +1,5 @@
 -- An exchange that goes straight to the server: what comes of it.
-use Rattle.std.specs.Prelude.{◌≡◌, ℕ, List, [], ◌∷◌, length, Some, None}
+use Rattle.std.specs.Prelude.{◌≡◌, List, [], ◌∷◌, length, Some, None}
 use Rattle.osc_model.specs.Draw.{nonce_drawn}
 use Rattle.osc_model.specs.StepNotes.{quiet}
 use Rattle.osc_model.specs.declared.node.Draw.{Draw}
@@ -7,7 +7,7 @@ use Rattle.osc_model.specs.declared.node.Moment.{Moment}
 use Rattle.osc_model.specs.declared.node.Peer.{Peer}
 use Rattle.osc_model.specs.declared.step.ClientResult.TheVariants as result
 use Rattle.osc_model.specs.declared.step.Step.{Step}
-use Rattle.osc_coap.specs.Message.{Message, spelling}
+use Rattle.osc_coap.specs.Message.{Message}
 use Rattle.osc_message.specs.Sending.{datagram}
 use Rattle.osc_protect.specs.Ciphers.{Sealings}
 use Rattle.osc_protect.specs.Protection.{HasShortContext}
@@ -20,6 +20,7 @@ use Rattle.osc_server.specs.State.{State as Server}
 use Rattle.osc_client.specs.State.{State as Client}
 use Rattle.osc_client.specs.Hearing.{Hears as ClientHears}
 use Rattle.osc_server.specs.Hearing.{Hears as ServerHears}
+use Rattle.osc_rounds.specs.Coming.{coming}
 
 -- the client's end of an exchange, once it is over: nothing goes out, nothing waits, and it has this context
 pub record IsMade (held : Held) (step : Step) (new : Client) : Type 0 where
@@ -35,21 +36,31 @@ pub record IsHeld (server : Server) (now : Moment) (entries : List Entry) (held 
   pub window : held.window ≡ []
   pub short : HasShortContext held.name
 
+-- a post on its way, straight to the server: the client that has begun the exchange and the server before, their addresses, and the
+-- moment; and the entries of the token's scope
+pub record StraightPost : Type 0 where
+  pub begun : Client
+  pub server : Server
+  pub at : Peer
+  pub server_at : Peer
+  pub now : Moment
+  pub entries : List Entry
+
 -- `is_sealing algorithm` is the relation of the algorithm's cipher
 module _ (is_sealing : Sealings) where
   -- The server sends one datagram; and where that comes to the client, both have a context of one name, the server's with the scope
   -- of these entries.
-  pub record IsAgreedAndMade (begun : Client) (now : Moment) (at server_at : Peer) (entries : List Entry) (second : Step) (agreed : Server) : Type 0 where
+  pub record IsAgreedAndMade (post : StraightPost) (second : Step) (agreed : Server) : Type 0 where
     pub answer : Message
-    pub out : second.out ≡ datagram at answer ∷ []
-    pub made : (third : Step) (after : Client) → ClientHears is_sealing begun now server_at (spelling answer) third after
-        → (held : Held) × IsHeld agreed now entries held × IsMade held third after
+    pub out : second.out ≡ datagram post.at answer ∷ []
+    pub made : (draw : Draw) (third : Step) (after : Client) → ClientHears is_sealing post.begun (coming post.now post.server_at draw answer) third after
+        → (held : Held) × IsHeld agreed post.now post.entries held × IsMade held third after
 
   -- One datagram goes to the server; and where that comes there, it is agreed, and a context is made.
-  pub record IsBegunAndMade (client : Client) (server : Server) (now : Moment) (draw : Draw) (at server_at : Peer) (entries : List Entry) (first : Step) (begun : Client) : Type 0 where
+  pub record IsBegunAndMade (post : StraightPost) (client : Client) (draw : Draw) (first : Step) : Type 0 where
     pub message : Message
     pub out : first.out ≡ datagram client.next_hop message ∷ []
     pub drawn : first.notes.drawn ≡ Some (nonce_drawn draw)
     pub agreed : (server_draw : Draw) (second : Step) (after : Server) → length server_draw.0 ≡ 32
-        → ServerHears is_sealing server now server_draw at (spelling message) second after
-        → IsAgreedAndMade begun now at server_at entries second after
+        → ServerHears is_sealing post.server (coming post.now post.at server_draw message) second after
+        → IsAgreedAndMade post second after

@@ -7,11 +7,9 @@ use Rattle.osc_model.specs.declared.node.Draw.{Draw}
 use Rattle.osc_model.specs.declared.node.Moment.{Moment}
 use Rattle.osc_model.specs.declared.node.Peer.{Peer}
 use Rattle.osc_model.specs.declared.step.Step.{Step}
-use Rattle.osc_cbor.specs.Spelling.{spelling as item_spelling}
-use Rattle.osc_coap.specs.Message.{Message, spelling}
+use Rattle.osc_coap.specs.Message.{Message}
 use Rattle.osc_message.specs.Sending.{datagram, empty_acknowledgement}
 use Rattle.osc_scope.specs.Entries.{Entry}
-use Rattle.osc_token.specs.Token.{claims_item, token_note}
 use Rattle.osc_token.specs.declared.claims.Claims.{Claims}
 use Rattle.osc_protect.specs.Ciphers.{Sealings}
 use Rattle.osc_authz.specs.Held.{Held}
@@ -20,11 +18,14 @@ use Rattle.osc_server.specs.State.{State as Server}
 use Rattle.osc_client.specs.Hearing.{Hears as ClientHears}
 use Rattle.osc_client.specs.State.{State as Client}
 use Rattle.osc_proxy.specs.Hearing.{Hears as ProxyHears}
+use Rattle.osc_proxy.specs.Passage.{Passage}
 use Rattle.osc_proxy.specs.State.{State as Proxy}
 use Rattle.osc_proxy.specs.Table.{forwarded_by}
 use Rattle.osc_proxy.specs.ThereAndBack.{IsAtRest, answer_id}
+use Rattle.osc_rounds.specs.Coming.{coming}
 use Rattle.osc_rounds.specs.ExchangeRound.{IsHeld}
-use Rattle.osc_rounds.specs.ProxiedExchange.{IsMadeThrough}
+use Rattle.osc_rounds.specs.ProxiedExchange.{IsMadeThrough, claims_text}
+use Rattle.osc_rounds.specs.RoundNotes.{AreNotesOfAgreement}
 
 -- a post on its way: the client that has begun the exchange, proxy and server before, their addresses, the moment, and what client and
 -- proxy draw; what its token claims, and the scope's entries; its message, and the key of its exchange at the proxy
@@ -43,9 +44,17 @@ pub record PostOnItsWay : Type 0 where
   pub message : Message
   pub key : ℕ
 
+-- the same, as the proxy takes it up
+abbrev pub post_passage : PostOnItsWay → Passage
+post_passage post = record {
+  came = record { at = post.now; from = post.at; draw = post.proxy_draw; what = post.message };
+  to = post.server_at;
+  key = post.key;
+}
+
 -- what the proxy forwards, and the message ID of what it sends back
 abbrev pub forwarded_post : PostOnItsWay → Message
-forwarded_post post = forwarded_by post.proxy post.proxy_draw post.key post.message
+forwarded_post post = forwarded_by post.proxy (post_passage post)
 
 abbrev pub post_id_back : PostOnItsWay → ℕ
 post_id_back post = answer_id post.proxy post.proxy_draw
@@ -59,49 +68,43 @@ module _ (is_sealing : Sealings) where
     pub is_held : IsHeld agreed post.now post.entries held
     pub is_made : IsMadeThrough post.begun post.proxy_at (post_id_back post) held fifth made
     pub ends : (draw : Draw) (sixth : Step) (rested : Proxy)
-        → ProxyHears brought post.now draw post.at (spelling (empty_acknowledgement (post_id_back post))) sixth rested
-        → IsAtRest post.proxy post.now post.proxy_draw post.at post.message post.key sixth rested
+        → ProxyHears brought (coming post.now post.at draw (empty_acknowledgement (post_id_back post))) sixth rested
+        → IsAtRest post.proxy (post_passage post) sixth rested
 
   -- fifth: one datagram goes back to the client; and where that comes there, the context is made
   pub record IsBroughtBackAndMade (post : PostOnItsWay) (settled : Client) (agreed : Server) (fourth : Step) (brought : Proxy) : Type 0 where
     pub back : Message
     pub out : fourth ≡ sends (datagram post.at back ∷ [])
-    pub made : (fifth : Step) (after : Client) → ClientHears is_sealing settled post.now post.proxy_at (spelling back) fifth after
+    pub made : (draw : Draw) (fifth : Step) (after : Client) → ClientHears is_sealing settled (coming post.now post.proxy_at draw back) fifth after
         → IsMadeAndEnds post agreed brought fifth after
 
-  -- fourth: the server opened the token, to the text of its claims, and drew a nonce, and one datagram goes to the proxy; and where that
-  -- comes there, it goes back
-  pub record IsAgreedAndBroughtBack (post : PostOnItsWay) (settled : Client) (passed : Proxy) (server_draw : Draw) (third : Step) (agreed : Server) : Type 0 where
-    pub protected : List ℕ
-    pub iv : List ℕ
-    pub notes : third.notes
-        ≡ record quiet {
-          opens = Some (token_note post.server.desk.key protected iv (item_spelling (claims_item post.claims)));
-          drawn = Some (nonce_drawn server_draw);
-        }
+  -- fourth: one datagram goes to the proxy; and where that comes there, it goes back
+  pub record IsAgreedAndBroughtBack (post : PostOnItsWay) (settled : Client) (passed : Proxy) (third : Step) (agreed : Server) : Type 0 where
     pub response : Message
     pub out : third.out ≡ datagram post.proxy_at response ∷ []
-    pub brought : (draw : Draw) (fourth : Step) (after : Proxy) → ProxyHears passed post.now draw post.server_at (spelling response) fourth after
+    pub brought : (draw : Draw) (fourth : Step) (after : Proxy) → ProxyHears passed (coming post.now post.server_at draw response) fourth after
         → IsBroughtBackAndMade post settled agreed fourth after
 
-  -- third: the client's message is acknowledged, and nothing goes out; and where what is forwarded comes to the server, it agrees
+  -- third: the client's message is acknowledged, and nothing goes out; and where what is forwarded comes to the server, it opens the token,
+  -- to the text of its claims, draws a nonce, and agrees
   pub record IsSettledAndAgreed (post : PostOnItsWay) (passed : Proxy) (second : Step) (settled : Client) : Type 0 where
     pub told : second ≡ sends []
     pub agreed : (server_draw : Draw) (third : Step) (after : Server) → length server_draw.0 ≡ 32
-        → ServerHears is_sealing post.server post.now server_draw post.proxy_at (spelling (forwarded_post post)) third after
-        → IsAgreedAndBroughtBack post settled passed server_draw third after
+        → ServerHears is_sealing post.server (coming post.now post.proxy_at server_draw (forwarded_post post)) third after
+        → AreNotesOfAgreement post.server.desk.key (claims_text post.claims) server_draw third.notes
+        × IsAgreedAndBroughtBack post settled passed third after
 
   -- second: two datagrams go out, an acknowledgement to the client and the forwarded post to the server; and where the first comes to the
   -- client, that waits as before
   pub record IsPassedOnAndAgreed (post : PostOnItsWay) (first : Step) (passed : Proxy) : Type 0 where
     pub out : first ≡ sends (datagram post.at (empty_acknowledgement post.message.id) ∷ datagram post.server_at (forwarded_post post) ∷ [])
-    pub settled : (second : Step) (after : Client)
-        → ClientHears is_sealing post.begun post.now post.proxy_at (spelling (empty_acknowledgement post.message.id)) second after
+    pub settled : (draw : Draw) (second : Step) (after : Client)
+        → ClientHears is_sealing post.begun (coming post.now post.proxy_at draw (empty_acknowledgement post.message.id)) second after
         → IsSettledAndAgreed post passed second after
 
   -- first: one datagram goes to the proxy, and the client drew a nonce; and where that comes there, it is passed on
   pub record IsPostedAndAgreedThrough (post : PostOnItsWay) (posts : Step) : Type 0 where
     pub out : posts.out ≡ datagram post.proxy_at post.message ∷ []
     pub notes : posts.notes ≡ record quiet { drawn = Some (nonce_drawn post.draw) }
-    pub passed : (first : Step) (after : Proxy) → ProxyHears post.proxy post.now post.proxy_draw post.at (spelling post.message) first after
+    pub passed : (first : Step) (after : Proxy) → ProxyHears post.proxy (coming post.now post.at post.proxy_draw post.message) first after
         → IsPassedOnAndAgreed post first after

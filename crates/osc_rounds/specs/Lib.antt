@@ -1,5 +1,6 @@
 -- Definitions that the contracts cite.
 pub mod Ready
+pub mod Coming
 pub mod Asked
 pub mod AskRound
 pub mod ForProxy

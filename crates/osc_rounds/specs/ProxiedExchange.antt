@@ -1,6 +1,7 @@
 -- An exchange that goes to the server through a forward proxy: how both ends stand before, and what comes of it, whatever the proxy is,
 -- where the server hears what was posted as a proxy forwards it, and the client hears the answer as a proxy sends it back.
 use Rattle.std.specs.Prelude.{◌≡◌, ℕ, ◌<◌, ◌≤◌, ◌^◌, List, [], ◌∷◌, length, Some, None}
+use Rattle.osc_model.specs.Arrival.{Arrival}
 use Rattle.osc_model.specs.Draw.{nonce_drawn}
 use Rattle.osc_model.specs.Step.{sends}
 use Rattle.osc_model.specs.StepNotes.{quiet}
@@ -11,14 +12,14 @@ use Rattle.osc_model.specs.declared.node.Peer.{Peer}
 use Rattle.osc_model.specs.declared.step.ClientResult.TheVariants as result
 use Rattle.osc_model.specs.declared.step.Step.{Step}
 use Rattle.osc_cbor.specs.Spelling.{spelling as item_spelling}
-use Rattle.osc_coap.specs.Message.{Message, spelling}
+use Rattle.osc_coap.specs.Message.{Message}
 use Rattle.osc_coap.specs.declared.kind.Kind.TheVariants.{Confirmable}
 use Rattle.osc_dedup.specs.Table.{looked}
 use Rattle.osc_message.specs.Confirmables.{acknowledged}
 use Rattle.osc_message.specs.Endpoint.{EndpointState, own_id}
 use Rattle.osc_message.specs.Sending.{datagram, empty_acknowledgement}
 use Rattle.osc_scope.specs.Entries.{Entry}
-use Rattle.osc_token.specs.Token.{claims_item, token_note}
+use Rattle.osc_token.specs.Token.{claims_item}
 use Rattle.osc_token.specs.declared.claims.Claims.{Claims}
 use Rattle.osc_protect.specs.Ciphers.{Sealings}
 use Rattle.osc_authz.specs.Held.{Held}
@@ -31,8 +32,34 @@ use Rattle.osc_client.specs.State.{State as Client}
 use Rattle.osc_client.specs.Way.{HostAndPort, IsLawfulOrigin}
 use Rattle.osc_proxy.specs.Forwarding.{answer as sent_back, forwarded}
 use Rattle.osc_proxy.specs.ThereAndBack.{IsAnswerTo}
+use Rattle.osc_rounds.specs.Coming.{coming, in_bytes}
 use Rattle.osc_rounds.specs.ExchangeRound.{IsHeld}
 use Rattle.osc_rounds.specs.ForProxy.{IsForProxy}
+use Rattle.osc_rounds.specs.RoundNotes.{AreNotesOfAgreement}
+
+-- an exchange that goes through a proxy, whatever that is: the server before, the moment, what the client draws, the host and port by which
+-- it names the server, and the proxy's address; what its token claims, and the entries of the token's scope
+pub record ProxiedExchange : Type 0 where
+  pub server : Server
+  pub now : Moment
+  pub draw : Draw
+  pub origin : HostAndPort
+  pub proxy_at : Peer
+  pub claims : Claims
+  pub entries : List Entry
+
+-- a message of the proxy, as it comes to the server
+abbrev pub at_server : ProxiedExchange → Draw → Message → Arrival Message
+at_server exchange draw message = record { at = exchange.now; from = exchange.proxy_at; draw = draw; what = message }
+
+-- the text of the token's claims
+abbrev pub claims_text : Claims → List ℕ
+claims_text claims = item_spelling (claims_item claims)
+
+-- what was posted: the client that waits for the answer, and its message
+pub record Posted : Type 0 where
+  pub begun : Client
+  pub message : Message
 
 -- one datagram goes to the next hop: the post, as a proxy can take it up for this server
 pub record IsPostedThrough (origin : HostAndPort) (old : Client) (draw : Draw) (step : Step) : Type 0 where
@@ -49,50 +76,48 @@ pub record IsMadeThrough (old : Client) (from : Peer) (id : ℕ) (held : Held) (
 module _ (is_sealing : Sealings) where
   -- The client waits for nothing, sends through the proxy, which has this address, to the server, which that one knows by this host and
   -- port, and holds a token that is welcome there.
-  pub record MayExchangeThrough (client : Client) (server : Server) (now : Moment) (draw : Draw) (origin : HostAndPort) (proxy_at : Peer) (claims : Claims) (entries : List Entry) : Type 0 where
-    pub through : client.origin ≡ Some origin
-    pub next_hop : client.next_hop ≡ proxy_at
+  pub record MayExchangeThrough (client : Client) (exchange : ProxiedExchange) : Type 0 where
+    pub through : client.origin ≡ Some exchange.origin
+    pub next_hop : client.next_hop ≡ exchange.proxy_at
     pub idle : client.waiting ≡ None
-    pub welcome : IsWelcome (is_sealing EightByteTag) server.desk now claims entries client.desk
+    pub welcome : IsWelcome (is_sealing EightByteTag) exchange.server.desk exchange.now exchange.claims exchange.entries client.desk
     -- what the type of an origin says; and a draw has a nonce and a token, of 8 bytes each
-    pub origin_lawful : IsLawfulOrigin origin
-    pub draw_size : 16 ≤ length draw.0
+    pub origin_lawful : IsLawfulOrigin exchange.origin
+    pub draw_size : 16 ≤ length exchange.draw.0
 
   -- The server opened the token, to the text of its claims, and drew a nonce, and it sends one datagram, which the proxy can send back. Where
   -- the client takes that, in a confirmable message that is new to it, and whatever else its message layer heard meanwhile, both have a
   -- context of one name, the server's with the scope of these entries.
-  pub record IsAgreedAndMadeThrough (posted : Message) (begun : Client) (server : Server) (now : Moment) (server_draw : Draw) (proxy_at : Peer) (claims : Claims) (entries : List Entry) (id : ℕ) (token : List ℕ) (second : Step) (agreed : Server) : Type 0 where
-    pub protected : List ℕ
-    pub iv : List ℕ
-    pub notes : second.notes
-        ≡ record quiet {
-          opens = Some (token_note server.desk.key protected iv (item_spelling (claims_item claims)));
-          drawn = Some (nonce_drawn server_draw);
-        }
+  pub record IsAgreedAndMadeThrough (exchange : ProxiedExchange) (posted : Posted) (came : Arrival Message) (second : Step) (agreed : Server) : Type 0 where
+    pub notes : AreNotesOfAgreement exchange.server.desk.key (claims_text exchange.claims) came.draw second.notes
     pub response : Message
-    pub out : second.out ≡ datagram proxy_at response ∷ []
-    pub forwardable : IsAnswerTo (forwarded id token posted) response
-    pub made : (endpoint : EndpointState) (back : ℕ) (third : Step) (after : Client)
-        → back < 2 ^ 16 → looked now proxy_at back endpoint.seen ≡ None
-        → ClientHears is_sealing (record begun { endpoint = endpoint }) now proxy_at (spelling (sent_back Confirmable back posted.token response)) third after
-        → (held : Held) × IsHeld agreed now entries held × IsMadeThrough begun proxy_at back held third after
+    pub out : second.out ≡ datagram exchange.proxy_at response ∷ []
+    pub forwardable : IsAnswerTo came.what response
+    pub made : (endpoint : EndpointState) (back : ℕ) (draw : Draw) (third : Step) (after : Client)
+        → back < 2 ^ 16 → looked exchange.now exchange.proxy_at back endpoint.seen ≡ None
+        → ClientHears is_sealing (record posted.begun { endpoint = endpoint })
+        (coming exchange.now exchange.proxy_at draw (sent_back Confirmable back posted.message.token response)) third after
+        → (held : Held) × IsHeld agreed exchange.now exchange.entries held × IsMadeThrough posted.begun exchange.proxy_at back held third after
 
   -- One datagram goes to the proxy, under the message ID that the client takes, and the proxy can take it up. The client drew a nonce, and
   -- of it nothing else changes but what waits and its message layer, which heard nothing. Where the proxy acknowledges the datagram, the
   -- client sends nothing, and waits as before. Where what the proxy forwards comes to the server, under a message ID that is new to it and
   -- a token of 8 bytes, it is agreed, and a context is made.
-  pub record IsBegunAndMadeThrough (client : Client) (server : Server) (now : Moment) (draw : Draw) (origin : HostAndPort) (proxy_at : Peer) (claims : Claims) (entries : List Entry) (first : Step) (begun : Client) : Type 0 where
+  pub record IsBegunAndMadeThrough (client : Client) (exchange : ProxiedExchange) (first : Step) (begun : Client) : Type 0 where
     pub message : Message
-    pub id : message.id ≡ own_id draw client.endpoint.next_id
-    pub out : first.out ≡ datagram proxy_at message ∷ []
-    pub notes : first.notes ≡ record quiet { drawn = Some (nonce_drawn draw) }
-    pub for_proxy : IsForProxy origin message
+    pub id : message.id ≡ own_id exchange.draw client.endpoint.next_id
+    pub out : first.out ≡ datagram exchange.proxy_at message ∷ []
+    pub notes : first.notes ≡ record quiet { drawn = Some (nonce_drawn exchange.draw) }
+    pub for_proxy : IsForProxy exchange.origin message
     pub kept : begun ≡ record client { waiting = begun.waiting; endpoint = begun.endpoint }
     pub seen : begun.endpoint.seen ≡ client.endpoint.seen
-    pub settled : (at : Moment) (step : Step) (later : Client)
-        → ClientHears is_sealing begun at proxy_at (spelling (empty_acknowledgement message.id)) step later
-        → (step ≡ sends []) × (later ≡ record begun { endpoint = record begun.endpoint { sending = acknowledged proxy_at message.id begun.endpoint.sending } })
+    pub settled : (at : Moment) (draw : Draw) (step : Step) (later : Client)
+        → ClientHears is_sealing begun (coming at exchange.proxy_at draw (empty_acknowledgement message.id)) step later
+        → (step ≡ sends [])
+        × (later ≡ record begun { endpoint = record begun.endpoint { sending = acknowledged exchange.proxy_at message.id begun.endpoint.sending } })
     pub agreed : (id : ℕ) (token : List ℕ) (server_draw : Draw) (second : Step) (after : Server)
-        → id < 2 ^ 16 → length token ≡ 8 → looked now proxy_at id server.endpoint.seen ≡ None → length server_draw.0 ≡ 32
-        → ServerHears is_sealing server now server_draw proxy_at (spelling (forwarded id token message)) second after
-        → IsAgreedAndMadeThrough message begun server now server_draw proxy_at claims entries id token second after
+        → id < 2 ^ 16 → length token ≡ 8 → looked exchange.now exchange.proxy_at id exchange.server.endpoint.seen ≡ None
+        → length server_draw.0 ≡ 32
+        → ServerHears is_sealing exchange.server (in_bytes (at_server exchange server_draw (forwarded id token message))) second after
+        → IsAgreedAndMadeThrough exchange (record { begun = begun; message = message }) (at_server exchange server_draw (forwarded id token message))
+        second after

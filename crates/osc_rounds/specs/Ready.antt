@@ -37,23 +37,31 @@ pub record IsStraight (client : Client) (server : Server) (now : Moment) (draw :
   pub next_hop : client.next_hop ≡ server_at
   pub unheard : looked now at (own_id draw client.endpoint.next_id) server.endpoint.seen ≡ None
 
+-- the way of a round through a proxy: the addresses of client, proxy and server, when it goes, and what the proxy draws
+pub record Hops : Type 0 where
+  pub at : Peer
+  pub proxy_at : Peer
+  pub server_at : Peer
+  pub now : Moment
+  pub proxy_draw : Draw
+
 -- The client sends to the proxy (RFC 7252 section 5.7.2). That has the server among its targets, by the host and port that the client
 -- writes; a key for one more exchange; fewer than 64 peers with a confirmable message open, and none open to the server or the client.
 -- No message ID that is taken on the way was heard where it comes: the client's at the proxy, the proxy's first at the server, and its
 -- second at the client.
-pub record IsThrough (client : Client) (proxy : Proxy) (server : Server) (now : Moment) (draw proxy_draw : Draw) (at proxy_at server_at : Peer) : Type 0 where
+pub record IsThrough (client : Client) (proxy : Proxy) (server : Server) (draw : Draw) (hops : Hops) : Type 0 where
   pub origin : HostAndPort
   pub named : client.origin ≡ Some origin
-  pub next_hop : client.next_hop ≡ proxy_at
-  pub target : peer_of proxy.targets origin.host origin.port ≡ Some server_at
+  pub next_hop : client.next_hop ≡ hops.proxy_at
+  pub target : peer_of proxy.targets origin.host origin.port ≡ Some hops.server_at
   pub key : ℕ
   pub free : free_key proxy.exchanges ≡ Some key
   pub few : length (peers_of proxy.endpoint.sending) < 64
-  pub none_to_server : has_open server_at proxy.endpoint.sending ≡ false
-  pub none_to_client : has_open at proxy.endpoint.sending ≡ false
-  pub unheard : looked now at (own_id draw client.endpoint.next_id) proxy.endpoint.seen ≡ None
-  pub new_at_server : looked now proxy_at (next_own proxy proxy_draw) server.endpoint.seen ≡ None
-  pub new_at_client : looked now proxy_at (answer_id proxy proxy_draw) client.endpoint.seen ≡ None
+  pub none_to_server : has_open hops.server_at proxy.endpoint.sending ≡ false
+  pub none_to_client : has_open hops.at proxy.endpoint.sending ≡ false
+  pub unheard : looked hops.now hops.at (own_id draw client.endpoint.next_id) proxy.endpoint.seen ≡ None
+  pub new_at_server : looked hops.now hops.proxy_at (next_own proxy hops.proxy_draw) server.endpoint.seen ≡ None
+  pub new_at_client : looked hops.now hops.proxy_at (answer_id proxy hops.proxy_draw) client.endpoint.seen ≡ None
 
 -- ---- the ends
 

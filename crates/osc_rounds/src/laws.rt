@@ -1,6 +1,7 @@
 //! Laws of the definitions, for the crates above. These functions do nothing: whoever calls one has its clauses for a proof.
 
 ghost use Rattle.std.specs.Prelude.{◌≡◌, ◌≢◌, ◌<◌, ◌^◌, ℕ, false, List, [], Option, Some, None, ◌≤◌, length, ◌∷◌, ◌++◌};
+ghost use Rattle.osc_model.specs.Arrival.{Arrival, read_as};
 ghost use Rattle.osc_model.specs.Step.{sends};
 ghost use Rattle.osc_model.specs.StepNotes.{StepNotes, quiet};
 ghost use Rattle.osc_model.specs.declared.context.ContextName.{ContextName as AnyName};
@@ -8,10 +9,8 @@ ghost use Rattle.osc_model.specs.declared.node.Draw.{Draw as AnyDraw};
 ghost use Rattle.osc_model.specs.declared.node.Moment.{Moment as AnyMoment};
 ghost use Rattle.osc_model.specs.declared.node.Peer.{Peer as AnyPeer};
 ghost use Rattle.osc_model.specs.declared.reply.Reply.{Reply as AnyReply};
-ghost use Rattle.osc_model.specs.declared.request.Request.{Request as AnyRequest};
 ghost use Rattle.osc_model.specs.declared.step.ClientResult.TheVariants as result_as;
 ghost use Rattle.osc_model.specs.declared.step.Step.{Step as AnyStep};
-ghost use Rattle.osc_cbor.specs.Spelling.{spelling as item_spelling};
 ghost use Rattle.osc_coap.specs.Message.{Message, spelling};
 ghost use Rattle.osc_coap.specs.declared.kind.Kind.{Kind as AnyKind};
 ghost use Rattle.osc_options.specs.Split.{AreInOrder, outer_options};
@@ -22,11 +21,9 @@ ghost use Rattle.osc_dedup.specs.Table.{looked};
 ghost use Rattle.osc_scope.specs.Entries.{Entry};
 ghost use Rattle.osc_message.specs.Endpoint.{own_id};
 ghost use Rattle.osc_protect.specs.Protection.{IsProtectedRequest, IsProtectedResponse, plain_bytes};
-ghost use Rattle.osc_token.specs.Token.{claims_item};
 ghost use Rattle.osc_token.specs.declared.claims.Claims.{Claims as AnyClaims};
-ghost use Rattle.osc_authz.specs.Begun.{Begun, ClientContextState};
+ghost use Rattle.osc_authz.specs.Begun.{ClientContextState};
 ghost use Rattle.osc_authz.specs.Held.{Held};
-ghost use Rattle.osc_authz.specs.declared.granted.ClientDesk.{ClientDesk as Holder};
 ghost use Rattle.osc_authz.specs.Members.{In};
 ghost use Rattle.osc_authz.specs.Table.{IsTable, contexts};
 ghost use Rattle.osc_authz.specs.declared.holding.Holding.{Holding};
@@ -36,23 +33,24 @@ ghost use Rattle.osc_run.specs.States.{Minted};
 ghost use Rattle.osc_server.specs.Hearing.{Hears as ServerHears};
 ghost use Rattle.osc_server.specs.State.{State as Server};
 ghost use Rattle.osc_client.specs.Hearing.{Hears as ClientHears};
-ghost use Rattle.osc_client.specs.Sending.{Asks, Exchanges, post_of};
+ghost use Rattle.osc_client.specs.Sending.{Asked, Asks, Exchanges, post_of};
 ghost use Rattle.osc_client.specs.State.{State as Client};
 ghost use Rattle.osc_client.specs.Way.{HostAndPort, IsLawfulOrigin, through};
 ghost use Rattle.osc_proxy.specs.Forwarding.{answer as sent_back, forwarded, forwarded_options, has_proxy_uri};
 ghost use Rattle.osc_proxy.specs.State.{State as Proxy};
-ghost use Rattle.osc_rounds.specs.Asked.{AwaitsReply, AwaitsRequest, CarriesReply, IsAnsweredWith, IsForServer, IsServed};
+ghost use Rattle.osc_rounds.specs.Asked.{AwaitsReply, AwaitsRequest, CarriesReply, IsAnsweredWith, IsForServer, IsServed, OpenedRequest};
 ghost use Rattle.osc_rounds.specs.AskRound.{IsAskedAndAnswered, IsLawfulServer, asked_text};
 ghost use Rattle.osc_rounds.specs.AskRoundThrough.{IsAskedAndServedThrough};
+ghost use Rattle.osc_rounds.specs.Coming.{coming, in_bytes};
 ghost use Rattle.osc_rounds.specs.ExchangeRound.{IsBegunAndMade, IsHeld};
 ghost use Rattle.osc_rounds.specs.ExchangeRoundThrough.{IsPostedAndAgreedThrough};
-ghost use Rattle.osc_rounds.specs.Ready.{IsStraight, IsThrough, MayAsk, MayExchange};
+ghost use Rattle.osc_rounds.specs.Ready.{Hops, IsStraight, IsThrough, MayAsk, MayExchange};
 ghost use Rattle.osc_client.specs.Lawful.{IsLawfulClient};
 ghost use Rattle.osc_proxy.specs.ThereAndBack.{IsCarried, IsLawfulProxy};
-ghost use Rattle.osc_rounds.specs.Agreement.{AwaitsAgreement, AwaitsPost, IsAgreedTo, agreement};
+ghost use Rattle.osc_rounds.specs.Agreement.{AwaitsAgreement, AwaitsPost, BegunExchange, IsAgreedTo, agreement};
 ghost use Rattle.osc_rounds.specs.ForProxy.{IsForProxy};
-ghost use Rattle.osc_rounds.specs.ProxiedExchange.{IsBegunAndMadeThrough, IsMadeThrough, IsPostedThrough, MayExchangeThrough};
-ghost use Rattle.osc_rounds.specs.RoundNotes.{AreAmongQuiet, AreNotesOfExchange, AreNotesOfRequest};
+ghost use Rattle.osc_rounds.specs.ProxiedExchange.{IsBegunAndMadeThrough, IsMadeThrough, IsPostedThrough, MayExchangeThrough, ProxiedExchange, claims_text};
+ghost use Rattle.osc_rounds.specs.RoundNotes.{AreAmongQuiet, AreNotesOfExchange, AreNotesOfRequest, Draws};
 
 use osc_authz::laws::{
     held_contexts_are_meant, lengths_of_answers, one_name, one_payload, posts_that_agree,
@@ -77,11 +75,11 @@ use osc_token::laws::{minted_tokens, one_token};
 /// proxy leaves, is served: its plaintext is applied to the resources under the context's scope, one entry is served, and one protected
 /// reply goes out.
 pub fn a_request_is_served<A: Ciphers>()
-    ensures { (old new : Server) (now : AnyMoment) (from : AnyPeer) (draw : AnyDraw) (held : Held) (number : ℕ) (plain protected : Message) (step : AnyStep)
-        → AwaitsRequest old now from held number plain.id → IsForServer plain
-        → IsProtectedRequest A.is_sealing held.name number plain protected → IsCarried protected
-        → ServerHears A.is_sealing old now draw from (spelling protected) step new
-        → IsServed A.is_sealing old now from draw protected held number (plain_bytes plain) step new }
+    ensures { (old new : Server) (came : Arrival Message) (held : Held) (number : ℕ) (plain : Message) (step : AnyStep)
+        → AwaitsRequest old came.at came.from held number plain.id → IsForServer plain
+        → IsProtectedRequest A.is_sealing held.name number plain came.what → IsCarried came.what
+        → ServerHears A.is_sealing old (in_bytes came) step new
+        → IsServed A.is_sealing old came (record { held = held; number = number; text = plain_bytes plain }) step new }
 {
     one_reception();
     one_value();
@@ -93,11 +91,11 @@ pub fn a_request_is_served<A: Ciphers>()
 /// A protected reply to what a client asked, which comes in the acknowledgement, or in a confirmable message that it hasn't heard
 /// before, is its answer: the reply that was encrypted is the result, a confirmable message is acknowledged, and nothing waits.
 pub fn a_reply_is_accepted<A: Ciphers>()
-    ensures { (old new : Client) (now : AnyMoment) (from : AnyPeer) (name : AnyName) (number : ℕ) (request plain protected : Message) (reply : AnyReply) (step : AnyStep)
-        → AwaitsReply old from name number request → CarriesReply old now from request reply plain
-        → IsProtectedResponse A.is_sealing name number None plain protected → IsCarried protected
-        → ClientHears A.is_sealing old now from (spelling protected) step new
-        → IsAnsweredWith (sent_to from (acknowledgement protected)) old name number reply step new }
+    ensures { (old new : Client) (came : Arrival Message) (name : AnyName) (number : ℕ) (request plain : Message) (reply : AnyReply) (step : AnyStep)
+        → AwaitsReply old came.from name number request → CarriesReply old came.at came.from request reply plain
+        → IsProtectedResponse A.is_sealing name number None plain came.what → IsCarried came.what
+        → ClientHears A.is_sealing old (in_bytes came) step new
+        → IsAnsweredWith (sent_to came.from (acknowledgement came.what)) old (record { name = name; number = number; reply = reply }) step new }
 {
     one_reception();
     one_value();
@@ -113,13 +111,22 @@ pub fn a_reply_is_accepted<A: Ciphers>()
 /// datagram; where that comes to the server, its plaintext is served as one entry, and one datagram goes back; and where that comes
 /// to the client, the request is answered by the reply that was served.
 pub fn a_request_is_answered<A: Ciphers>()
-    ensures { (client asked : Client) (server : Server) (asked_at now : AnyMoment) (draw : AnyDraw) (request : AnyRequest) (at server_at : AnyPeer)
-        (context : ClientContextState) (held : Held) (first : AnyStep)
+    ensures { (client asked : Client) (server : Server) (asks : Asked) (now : AnyMoment) (at server_at : AnyPeer) (context : ClientContextState) (held : Held)
+        (first : AnyStep)
         → IsLawfulServer server → IsLawfulClient asked
-        → IsStraight client server now draw at server_at → MayAsk client server now context held
+        → IsStraight client server now asks.draw at server_at → MayAsk client server now context held
         → first.notes.result ≢ Some (result_as.Refused 14)
-        → Asks A.is_sealing A.TAG client asked_at request draw first asked
-        → IsAskedAndAnswered A.is_sealing client server now draw request at server_at held context.next first asked }
+        → Asks A.is_sealing A.TAG client asks first asked
+        → IsAskedAndAnswered A.is_sealing (record {
+          asked = asked;
+          server = server;
+          at = at;
+          server_at = server_at;
+          now = now;
+          held = held;
+          number = context.next;
+          text = asked_text client asks.draw asks.request;
+        }) client asks.draw first }
 {
     one_peer();
     held_contexts_are_meant();
@@ -147,7 +154,7 @@ pub fn an_exchange_is_made<A: Ciphers>()
         → IsLawfulClient begun → IsStraight client server now draw at server_at → MayExchange A.is_sealing client server now claims entries
         → first.notes.result ≢ Some (result_as.Refused 14)
         → Exchanges client asked_at draw first begun
-        → IsBegunAndMade A.is_sealing client server now draw at server_at entries first begun }
+        → IsBegunAndMade A.is_sealing (record { begun = begun; server = server; at = at; server_at = server_at; now = now; entries = entries }) client draw first }
 {
     one_peer();
     one_reception();
@@ -175,9 +182,10 @@ pub fn forwarding_keeps_the_protection<A: Ciphers>()
 /// An empty acknowledgement that comes to a client acknowledges the confirmable message that it names: nothing goes out, and nothing
 /// else changes.
 pub fn an_acknowledgement_is_heard<A: Ciphers>()
-    ensures { (old new : Client) (now : AnyMoment) (from : AnyPeer) (id : ℕ) (step : AnyStep) → id < 2 ^ 16
-        → ClientHears A.is_sealing old now from (spelling (empty_acknowledgement id)) step new
-        → (step ≡ sends []) × (new ≡ record old { endpoint = record old.endpoint { sending = acknowledged from id old.endpoint.sending } }) }
+    ensures { (old new : Client) (came : Arrival ℕ) (step : AnyStep) → came.what < 2 ^ 16
+        → ClientHears A.is_sealing old (read_as came (spelling (empty_acknowledgement came.what))) step new
+        → (step ≡ sends [])
+        × (new ≡ record old { endpoint = record old.endpoint { sending = acknowledged came.from came.what old.endpoint.sending } }) }
 {
     one_reception();
     what_nodes_send();
@@ -195,13 +203,13 @@ pub fn what_is_posted_through_a_proxy()
 /// A post that a proxy forwards is agreed to, where its token is welcome at the server and its message ID is new there: the answer goes
 /// back in the acknowledgement, under the forwarded token.
 pub fn a_forwarded_post_is_agreed_to<A: Ciphers>()
-    ensures { (old new : Server) (now : AnyMoment) (from : AnyPeer) (draw : AnyDraw) (claims : AnyClaims) (entries : List Entry)
-        (holder : Holder) (begun : Begun) (origin : HostAndPort) (its_id id : ℕ) (its_token token : List ℕ) (step : AnyStep)
-        → AwaitsPost A.is_sealing old now from id claims entries holder begun → IsLawfulOrigin origin
-        → IsForProxy origin (through (Some origin) (post_of holder begun its_id its_token))
-        → id < 2 ^ 16 → length token ≡ 8
-        → ServerHears A.is_sealing old now draw from (spelling (forwarded id token (through (Some origin) (post_of holder begun its_id its_token)))) step new
-        → IsAgreedTo A.is_sealing old now from draw holder begun id token step new }
+    ensures { (old new : Server) (came : Arrival Message) (exchange : BegunExchange) (origin : HostAndPort) (id : ℕ) (token : List ℕ) (step : AnyStep)
+        → AwaitsPost A.is_sealing old came exchange → IsLawfulOrigin origin
+        → IsForProxy origin (through (Some origin) (post_of exchange.holder exchange.begun id token))
+        → came.what ≡ forwarded came.what.id came.what.token (through (Some origin) (post_of exchange.holder exchange.begun id token))
+        → came.what.id < 2 ^ 16 → length came.what.token ≡ 8
+        → ServerHears A.is_sealing old (in_bytes came) step new
+        → IsAgreedTo A.is_sealing old came exchange step new }
 {
     one_peer();
     one_reception();
@@ -215,15 +223,15 @@ pub fn a_forwarded_post_is_agreed_to<A: Ciphers>()
 /// What the server agreed to makes the client's context, where a proxy sends the answer back in a confirmable message that is new to the
 /// client, and the client waits for it: server and client have a context of one name, and the message is acknowledged.
 pub fn an_answer_sent_back_makes_a_context<A: Ciphers>()
-    ensures { (server agreed : Server) (now : AnyMoment) (from : AnyPeer) (draw : AnyDraw) (claims : AnyClaims) (entries : List Entry)
-        (holder : Holder) (begun : Begun) (id : ℕ) (token : List ℕ) (second : AnyStep)
-        (client after : Client) (later : AnyMoment) (hop : AnyPeer) (back : ℕ) (its_token : List ℕ) (third : AnyStep)
-        → AwaitsPost A.is_sealing server now from id claims entries holder begun → length draw.0 ≡ 32
-        → (is : IsAgreedTo A.is_sealing server now from draw holder begun id token second agreed)
-        → AwaitsAgreement client hop holder begun its_token
-        → back < 2 ^ 16 → length its_token ≤ 8 → looked later hop back client.endpoint.seen ≡ None
-        → ClientHears A.is_sealing client later hop (spelling (sent_back Confirmable back its_token (agreement Acknowledgement id token is.answer))) third after
-        → (held : Held) × IsHeld agreed now entries held × IsMadeThrough client hop back held third after }
+    ensures { (server agreed : Server) (came : Arrival Message) (exchange : BegunExchange) (second : AnyStep)
+        (client after : Client) (back : Arrival Message) (third : AnyStep)
+        → AwaitsPost A.is_sealing server came exchange → length came.draw.0 ≡ 32
+        → (is : IsAgreedTo A.is_sealing server came exchange second agreed)
+        → AwaitsAgreement client back.from exchange.holder exchange.begun back.what.token
+        → back.what.id < 2 ^ 16 → length back.what.token ≤ 8 → looked back.at back.from back.what.id client.endpoint.seen ≡ None
+        → back.what ≡ sent_back Confirmable back.what.id back.what.token (agreement Acknowledgement came.what.id came.what.token is.answer)
+        → ClientHears A.is_sealing client (in_bytes back) third after
+        → (held : Held) × IsHeld agreed came.at exchange.entries held × IsMadeThrough client back.from back.what.id held third after }
 {
     one_peer();
     one_reception();
@@ -238,12 +246,11 @@ pub fn an_answer_sent_back_makes_a_context<A: Ciphers>()
 /// one datagram goes back, which a proxy can send back; and where that comes to the client, both ends have a context of one name, which is live at the
 /// server, with the token's scope.
 pub fn an_exchange_is_made_through_a_proxy<A: Ciphers>()
-    ensures { (client begun : Client) (server : Server) (asked_at now : AnyMoment) (draw : AnyDraw) (origin : HostAndPort) (proxy_at : AnyPeer)
-        (claims : AnyClaims) (entries : List Entry) (first : AnyStep)
-        → MayExchangeThrough A.is_sealing client server now draw origin proxy_at claims entries
+    ensures { (client begun : Client) (asked_at : AnyMoment) (exchange : ProxiedExchange) (first : AnyStep)
+        → MayExchangeThrough A.is_sealing client exchange
         → first.notes.result ≢ Some (result_as.Refused 14)
-        → Exchanges client asked_at draw first begun
-        → IsBegunAndMadeThrough A.is_sealing client server now draw origin proxy_at claims entries first begun }
+        → Exchanges client asked_at exchange.draw first begun
+        → IsBegunAndMadeThrough A.is_sealing client exchange first begun }
 {
     one_peer();
     one_reception();
@@ -264,28 +271,27 @@ pub fn an_exchange_is_made_through_a_proxy<A: Ciphers>()
 /// request and forwards it; the server serves it as one entry, and answers in the acknowledgement; the proxy sends the answer back; the
 /// client takes it for the answer, with the reply that was served, and acknowledges it; and the proxy is at rest again.
 pub fn a_request_goes_through_a_proxy<A: Ciphers>()
-    ensures { (client asked : Client) (proxy : Proxy) (server : Server) (asked_at now : AnyMoment) (draw proxy_draw : AnyDraw) (request : AnyRequest)
-        (at proxy_at server_at : AnyPeer) (context : ClientContextState) (held : Held) (asks : AnyStep)
-        → IsLawfulServer server → IsLawfulProxy proxy → IsLawfulClient asked → length proxy_draw.0 ≡ 32
-        → (way : IsThrough client proxy server now draw proxy_draw at proxy_at server_at) → MayAsk client server now context held
-        → asks.notes.result ≢ Some (result_as.Refused 14)
-        → Asks A.is_sealing A.TAG client asked_at request draw asks asked
+    ensures { (client asked : Client) (proxy : Proxy) (server : Server) (asks : Asked) (hops : Hops) (context : ClientContextState) (held : Held) (first : AnyStep)
+        → IsLawfulServer server → IsLawfulProxy proxy → IsLawfulClient asked → length hops.proxy_draw.0 ≡ 32
+        → (way : IsThrough client proxy server asks.draw hops) → MayAsk client server hops.now context held
+        → first.notes.result ≢ Some (result_as.Refused 14)
+        → Asks A.is_sealing A.TAG client asks first asked
         → (message : Message)
         × IsAskedAndServedThrough A.is_sealing (record {
           asked = asked;
           proxy = proxy;
           server = server;
-          at = at;
-          proxy_at = proxy_at;
-          server_at = server_at;
-          now = now;
-          proxy_draw = proxy_draw;
+          at = hops.at;
+          proxy_at = hops.proxy_at;
+          server_at = hops.server_at;
+          now = hops.now;
+          proxy_draw = hops.proxy_draw;
           held = held;
           number = context.next;
-          text = asked_text client draw request;
+          text = asked_text client asks.draw asks.request;
           message = message;
           key = way.key;
-        }) client draw request asks }
+        }) client asks.draw asks.request first }
 {
     one_peer();
     held_contexts_are_meant();
@@ -312,10 +318,10 @@ pub fn a_request_goes_through_a_proxy<A: Ciphers>()
 /// it; the server agrees, and answers in the acknowledgement; the proxy sends the answer back; the client makes its context of it, and
 /// acknowledges it; and the proxy is at rest again.
 pub fn an_exchange_goes_through_a_proxy<A: Ciphers>()
-    ensures { (client begun : Client) (proxy : Proxy) (server : Server) (begun_at now : AnyMoment) (draw proxy_draw : AnyDraw)
-        (at proxy_at server_at : AnyPeer) (claims : AnyClaims) (entries : List Entry) (posts : AnyStep)
-        → IsLawfulProxy proxy → IsLawfulClient begun → length proxy_draw.0 ≡ 32
-        → (way : IsThrough client proxy server now draw proxy_draw at proxy_at server_at) → MayExchange A.is_sealing client server now claims entries
+    ensures { (client begun : Client) (proxy : Proxy) (server : Server) (begun_at : AnyMoment) (draw : AnyDraw) (hops : Hops)
+        (claims : AnyClaims) (entries : List Entry) (posts : AnyStep)
+        → IsLawfulProxy proxy → IsLawfulClient begun → length hops.proxy_draw.0 ≡ 32
+        → (way : IsThrough client proxy server draw hops) → MayExchange A.is_sealing client server hops.now claims entries
         → posts.notes.result ≢ Some (result_as.Refused 14)
         → Exchanges client begun_at draw posts begun
         → (message : Message)
@@ -323,12 +329,12 @@ pub fn an_exchange_goes_through_a_proxy<A: Ciphers>()
           begun = begun;
           proxy = proxy;
           server = server;
-          at = at;
-          proxy_at = proxy_at;
-          server_at = server_at;
-          now = now;
+          at = hops.at;
+          proxy_at = hops.proxy_at;
+          server_at = hops.server_at;
+          now = hops.now;
           draw = draw;
-          proxy_draw = proxy_draw;
+          proxy_draw = hops.proxy_draw;
           claims = claims;
           entries = entries;
           message = message;
@@ -342,9 +348,9 @@ pub fn an_exchange_goes_through_a_proxy<A: Ciphers>()
 /// Where a request is asked, served under a context of a server's table and answered, and other steps noted nothing, what is assumed of a
 /// run goes on: what each end opened was sealed by the other, and no nonce was drawn.
 pub fn a_request_keeps_the_premise()
-    ensures { (minted : List Minted) (old all : List Noted) (table : List Holding) (now : AnyMoment) (held : Held) (number : ℕ) (text : List ℕ)
-        (reply : AnyReply) (asked served answered : Noted)
-        → IsTable table → In held (contexts table) → AreNotesOfRequest now held number text reply asked.notes served.notes answered.notes
+    ensures { (minted : List Minted) (old all : List Noted) (table : List Holding) (now : AnyMoment) (request : OpenedRequest) (reply : AnyReply)
+        (asked served answered : Noted)
+        → IsTable table → In request.held (contexts table) → AreNotesOfRequest now request reply asked.notes served.notes answered.notes
         → AreAmongQuiet (answered ∷ served ∷ asked ∷ []) all
         → Premise minted old → Premise minted (all ++ old) }
 {}
@@ -352,8 +358,8 @@ pub fn a_request_keeps_the_premise()
 /// Where an exchange is begun, agreed and made, with a token that was minted, and other steps noted nothing, what is assumed of a run
 /// goes on, if the two nonces that were drawn are fresh.
 pub fn an_exchange_keeps_the_premise()
-    ensures { (minted : List Minted) (old all : List Noted) (key text : List ℕ) (draw server_draw : AnyDraw) (begun agreed made : Noted)
-        → IsMinted minted text → AreNotesOfExchange key text draw server_draw begun.notes agreed.notes made.notes
+    ensures { (minted : List Minted) (old all : List Noted) (key text : List ℕ) (draws : Draws) (begun agreed made : Noted)
+        → IsMinted minted text → AreNotesOfExchange key text draws begun.notes agreed.notes made.notes
         → AreAmongQuiet (made ∷ agreed ∷ begun ∷ []) all → HasFreshDraws (all ++ old)
         → Premise minted old → Premise minted (all ++ old) }
 {}
@@ -366,14 +372,14 @@ pub fn what_an_exchange_notes<A: Ciphers>()
         (claims : AnyClaims) (entries : List Entry) (message : Message) (first second : AnyStep) (made : StepNotes)
         → IsLawfulClient begun → IsStraight client server now draw at server_at → MayExchange A.is_sealing client server now claims entries
         → Exchanges client asked_at draw first begun → first.out ≡ datagram client.next_hop message ∷ []
-        → ServerHears A.is_sealing server now server_draw at (spelling message) second agreed
+        → ServerHears A.is_sealing server (coming now at server_draw message) second agreed
         → made ≡ record quiet { result = Some result_as.Made }
-        → AreNotesOfExchange server.desk.key (item_spelling (claims_item claims)) draw server_draw first.notes second.notes made }
+        → AreNotesOfExchange server.desk.key (claims_text claims) (record { client = draw; server = server_draw }) first.notes second.notes made }
     ensures heard { (client begun : Client) (server agreed : Server) (asked_at now later : AnyMoment) (draw server_draw : AnyDraw) (at server_at : AnyPeer)
         (claims : AnyClaims) (entries : List Entry) (message : Message) (first second : AnyStep) (id : ℕ)
         → IsLawfulClient begun → IsStraight client server now draw at server_at → MayExchange A.is_sealing client server now claims entries
         → Exchanges client asked_at draw first begun → first.out ≡ datagram client.next_hop message ∷ []
-        → ServerHears A.is_sealing server now server_draw at (spelling message) second agreed
+        → ServerHears A.is_sealing server (coming now at server_draw message) second agreed
         → id ≢ own_id draw client.endpoint.next_id → looked later at id server.endpoint.seen ≡ None
         → looked later at id agreed.endpoint.seen ≡ None }
 {

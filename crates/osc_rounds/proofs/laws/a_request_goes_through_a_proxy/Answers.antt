@@ -4,7 +4,7 @@ use Rattle.osc_protect.specs.Protection.{HasShortContext}
 use Rattle.osc_rounds.proofs.AskRound.{RoundLaws}
 use Rattle.osc_rounds.proofs.AskRoundThrough.{goes_through}
 use Rattle.osc_rounds.proofs.AskThrough.{ThroughLaws, answered_through, asked_through}
-use Rattle.osc_rounds.proofs.AskedThrough.{IsAskedAndAnsweredThrough, IsAskedThrough, SendsThrough}
+use Rattle.osc_rounds.proofs.AskedThrough.{IsAskedAndAnsweredThrough, IsAskedThrough, RequestToProxy, SendsThrough}
 use Rattle.osc_rounds.proofs.Sent.{goes_out, its_context, its_origin, its_token}
 use Rattle.osc_rounds.proofs.laws.a_request_goes_through_a_proxy.Goals as goal
 
@@ -45,22 +45,25 @@ returns g c =
       fewer = c.fewer_options.ensures.options;
       shorter = c.forwarding_adds_nothing.ensures;
     } in
-    λ client asked proxy server asked_at now draw proxy_draw request at proxy_at server_at context held asks lawful lawful_proxy lawful_client size way ends fits is.
-    let sent = goes_out g.A.Ciphers.is_sealing g.A.Ciphers.TAG client asked asked_at draw request asks context ends.idle ends.has ends.number fits is in
-    let sends : SendsThrough client draw way.origin proxy_at context = record {
+    λ client asked proxy server asks hops context held first lawful lawful_proxy lawful_client size way ends fits is.
+    let sent = goes_out g.A.Ciphers.is_sealing g.A.Ciphers.TAG client asked asks first context ends.idle ends.has ends.number fits is in
+    let sends : SendsThrough client asks.draw way.origin hops.proxy_at context = record {
       through = way.named;
       next_hop = way.next_hop;
       number = ends.number;
-      origin_lawful = its_origin g.A.Ciphers.is_sealing g.A.Ciphers.TAG client asked asked_at draw request asks context sent lawful_client way.origin way.named;
-      token_size = its_token g.A.Ciphers.is_sealing g.A.Ciphers.TAG client asked asked_at draw request asks context sent lawful_client;
+      origin_lawful = its_origin g.A.Ciphers.is_sealing g.A.Ciphers.TAG client asked asks first context sent lawful_client way.origin way.named;
+      token_size = its_token g.A.Ciphers.is_sealing g.A.Ciphers.TAG client asked asks first context sent lawful_client;
     } in
     let short : HasShortContext held.name =
-    subst HasShortContext (sym ends.one_name) (its_context g.A.Ciphers.is_sealing g.A.Ciphers.TAG client asked asked_at draw request asks context sent lawful_client) in
-    let answered : IsAskedAndAnsweredThrough g.A.Ciphers.is_sealing client server now draw request way.origin proxy_at held context.next asks asked =
-    answered_through g.A.Ciphers.is_sealing g.A.Ciphers.TAG through client asked server now draw request way.origin proxy_at context held asks lawful ends short
-    (subst (λ (n : ContextName). IsAskedThrough g.A.Ciphers.is_sealing client draw request way.origin proxy_at n context.next asks asked) (sym ends.one_name)
-    (asked_through g.A.Ciphers.is_sealing g.A.Ciphers.TAG laws client asked asked_at draw request way.origin proxy_at context asks sends sent)) in (
+    subst HasShortContext (sym ends.one_name) (its_context g.A.Ciphers.is_sealing g.A.Ciphers.TAG client asked asks first context sent lawful_client) in
+    let to_proxy : ContextName → RequestToProxy =
+    λ name. record { origin = way.origin; proxy_at = hops.proxy_at; asks = asks; name = name; number = context.next } in
+    let answered : IsAskedAndAnsweredThrough g.A.Ciphers.is_sealing client
+    (record { origin = way.origin; proxy_at = hops.proxy_at; asks = asks; held = held; number = context.next; server = server; now = hops.now }) first asked =
+    answered_through g.A.Ciphers.is_sealing g.A.Ciphers.TAG through client asked server hops.now asks way.origin hops.proxy_at context held first lawful ends short
+    (subst (λ (n : ContextName). IsAskedThrough g.A.Ciphers.is_sealing client (to_proxy n) first asked) (sym ends.one_name)
+    (asked_through g.A.Ciphers.is_sealing g.A.Ciphers.TAG laws client asked asks way.origin hops.proxy_at context first sends sent)) in (
       answered.message,
       goes_through g.A.Ciphers.is_sealing c.a_request_goes_there_and_back.ensures c.an_acknowledgement_is_heard.ensures
-          client asked proxy server now draw proxy_draw request at proxy_at server_at held context.next asks lawful_proxy size way answered,
+          client asked proxy server asks hops held context.next first lawful_proxy size way answered,
     )

@@ -34,6 +34,6 @@ returns g c =
       most = c.codes_of_replies.ensures.most;
       short = c.lengths_of_replies.ensures.payload;
     } in
-    λ client asked server asked_at now draw request at server_at context held first lawful lawful_client way ends fits is.
-    is_asked g.A.Ciphers.is_sealing g.A.Ciphers.TAG laws client server asked_at now draw request at server_at context held first asked lawful lawful_client way ends
-    (goes_out g.A.Ciphers.is_sealing g.A.Ciphers.TAG client asked asked_at draw request first context ends.idle ends.has ends.number fits is)
+    λ client asked server asks now at server_at context held first lawful lawful_client way ends fits is.
+    is_asked g.A.Ciphers.is_sealing g.A.Ciphers.TAG laws client asked server asks now at server_at context held first lawful lawful_client way ends
+    (goes_out g.A.Ciphers.is_sealing g.A.Ciphers.TAG client asked asks first context ends.idle ends.has ends.number fits is)

@@ -25,5 +25,5 @@ returns g c =
       spelled = c.what_nodes_send.ensures.acknowledgement;
       short = λ id. (c.what_nodes_send.ensures.short id).1;
     } in
-    λ client begun server asked_at now draw origin proxy_at claims entries first may fits is.
-    is_begun_through g.A.Ciphers.is_sealing laws tokens c.forwarding_adds_nothing.ensures empty client server asked_at now draw origin proxy_at claims entries first begun may fits is
+    λ client begun asked_at exchange first may fits is.
+    is_begun_through g.A.Ciphers.is_sealing laws tokens c.forwarding_adds_nothing.ensures empty client asked_at exchange first begun may fits is
