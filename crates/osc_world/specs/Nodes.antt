@@ -1,15 +1,21 @@
--- The nodes of a world, and whose step an event is.
-use Rattle.std.specs.Prelude.{ℕ, ◌==◌, nat_le, if◌then◌else◌, Bool, List, ◌∷◌, ◌++◌, map, Option, Some, None, position, slice_get, slice_set}
+-- The nodes of a world, and what an event comes to.
+use Rattle.std.specs.Prelude.{ℕ, ◌==◌, nat_le, if◌then◌else◌, Bool, true, false, List, ◌∷◌, ◌++◌, map, Option, Some, None, position, slice_get, slice_set}
 use Rattle.std.specs.List.{IsDistinct, list_any}
+use Rattle.osc_model.specs.declared.node.Draw.{Draw}
+use Rattle.osc_model.specs.declared.node.Moment.{Moment}
 use Rattle.osc_model.specs.declared.node.Peer.{Peer}
 use Rattle.osc_context.specs.Nonce.{greatest_number}
 use Rattle.osc_message.specs.Confirmables.{same_peer}
+use Rattle.osc_run.specs.Nodes.{Cause, Came, Due}
 use Rattle.osc_run.specs.declared.noted.Actor.{Actor}
 use Rattle.osc_run.specs.declared.noted.Actor.TheVariants as actor
+use Rattle.osc_client.specs.Sending.{Asked}
+use Rattle.osc_client.specs.Lying.{Lie}
 use Rattle.osc_client.specs.State.{skipped_to}
 use Rattle.osc_server.specs.State.{State as Server}
+use Rattle.osc_world.specs.declared.event.Event.{Event}
 use Rattle.osc_world.specs.declared.event.What.{What}
-use Rattle.osc_world.specs.declared.event.What.TheVariants.{Exchange, Ask, Lie, Tick, Restart, Deliver, Inject}
+use Rattle.osc_world.specs.declared.event.What.TheVariants as what
 use Rattle.osc_world.specs.declared.log.SentDatagram.{SentDatagram}
 use Rattle.osc_world.specs.declared.nodes.Placed.{Placed}
 use Rattle.osc_world.specs.declared.nodes.PlacedProxy.{PlacedProxy}
@@ -37,7 +43,7 @@ is_among at places = list_any (λ place. same_peer place at) places
 abbrev pub StandApart : NodeStates → Type 0
 StandApart nodes = IsDistinct same_peer (places nodes.server_at nodes.clients nodes.proxies)
 
--- ---- whose step an event is
+-- ---- who stands where
 
 -- the client of this number, if one was found, or else the proxy of that number
 abbrev pub found : Option ℕ → Option ℕ → Whose
@@ -61,19 +67,59 @@ node_of actor.Server = whose.Server
 node_of (actor.Client number) = whose.Client number
 node_of (actor.Proxy number) = whose.Proxy number
 
--- a datagram is heard by whom it was sent to
-abbrev pub hearer : NodeStates → Option SentDatagram → Whose
-hearer nodes None = whose.Nobody
-hearer nodes (Some datagram) = node_at nodes datagram.to
+-- ---- what an event comes to
 
-abbrev pub whose_step : NodeStates → List SentDatagram → What → Whose
-whose_step nodes sent (Exchange client) = whose.Client client
-whose_step nodes sent (Ask client request) = if request.code.0 == 0 then whose.Nobody else whose.Client client
-whose_step nodes sent (Lie client number text) = if nat_le number greatest_number then whose.Client client else whose.Nobody
-whose_step nodes sent (Tick node) = node_of node
-whose_step nodes sent (Restart node) = node_of node
-whose_step nodes sent (Deliver datagram) = hearer nodes (slice_get sent datagram)
-whose_step nodes sent (Inject from to bytes) = node_at nodes to
+-- what any node may do: take a step for what came or what is due, or start again
+pub data Task : Type 0 where
+  Take : Cause → Task
+  StartAgain : Task
+
+-- what a client may do besides: begin an exchange, ask a request, or seal what its holder likes
+pub data ClientTask : Type 0 where
+  Begin : Moment → Draw → ClientTask
+  Ask : Asked → ClientTask
+  TellLie : Lie → Draw → ClientTask
+  Do : Task → ClientTask
+
+-- who does what: a client, or a proxy, is there by its number, or nobody does anything
+pub data Deed : Type 0 where
+  Nothing : Deed
+  OfServer : Task → Deed
+  OfClient : ℕ → ClientTask → Deed
+  OfProxy : ℕ → Task → Deed
+
+-- this task, of the node that it is for
+abbrev pub deed_by : Whose → Task → Deed
+deed_by whose.Server task = OfServer task
+deed_by (whose.Client number) task = OfClient number (Do task)
+deed_by (whose.Proxy number) task = OfProxy number task
+deed_by whose.Nobody task = Nothing
+
+-- bytes that come from an address are for whom stands where they come to
+abbrev pub arriving : NodeStates → Event → Peer → Peer → List ℕ → Deed
+arriving nodes event from to bytes =
+    deed_by (node_at nodes to) (Take (Came (record { at = event.moment; from = from; draw = event.draw; what = bytes })))
+
+-- a datagram that was sent comes to whom it was sent to; what was never sent doesn't come
+abbrev pub delivering : NodeStates → Event → Option SentDatagram → Deed
+delivering nodes event None = Nothing
+delivering nodes event (Some datagram) = arriving nodes event datagram.from datagram.to datagram.bytes
+
+-- A request with the code 0.00 is none, and a number that no seal may have is no lie.
+abbrev pub deed_for : NodeStates → List SentDatagram → Event → What → Deed
+deed_for nodes sent event (what.Exchange client) = OfClient client (Begin event.moment event.draw)
+deed_for nodes sent event (what.Ask client request) =
+    if request.code.0 == 0 then Nothing
+    else OfClient client (Ask (record { at = event.moment; draw = event.draw; request = request }))
+deed_for nodes sent event (what.Lie client number text) =
+    if nat_le number greatest_number then OfClient client (TellLie (record { number = number; text = text }) event.draw) else Nothing
+deed_for nodes sent event (what.Tick node) = deed_by (node_of node) (Take (Due event.moment event.draw))
+deed_for nodes sent event (what.Restart node) = deed_by (node_of node) StartAgain
+deed_for nodes sent event (what.Deliver datagram) = delivering nodes event (slice_get sent datagram)
+deed_for nodes sent event (what.Inject from to bytes) = arriving nodes event from to bytes
+
+abbrev pub deed_of : NodeStates → List SentDatagram → Event → Deed
+deed_of nodes sent event = deed_for nodes sent event event.what
 
 -- ---- between events
 

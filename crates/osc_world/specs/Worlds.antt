@@ -7,7 +7,7 @@ use Rattle.osc_run.specs.States.{Minted, WorldState}
 use Rattle.osc_server.specs.State.{core as core_of_server}
 use Rattle.osc_client.specs.State.{core as core_of_client}
 use Rattle.osc_world.specs.Log.{LogState, delivered, sent_by, steps_with, recorded}
-use Rattle.osc_world.specs.Nodes.{NodeStates, whose_step}
+use Rattle.osc_world.specs.Nodes.{NodeStates, deed_of}
 use Rattle.osc_world.specs.Steps.{Takes}
 use Rattle.osc_world.specs.declared.event.Event.{Event}
 use Rattle.osc_world.specs.declared.log.Record.{Record}
@@ -53,11 +53,11 @@ after old event taken nodes = record old {
 
 -- `is_sealing algorithm` is the relation of the algorithm's cipher, and `tag algorithm` how long its tag is
 module _ (is_sealing : Sealings) (tag : Tags) where
-  -- An event: the node whose step it is takes it, and no other changes; what it sends and notes is kept.
+  -- An event: whoever it is for does what it comes to, and no other node changes; what is sent and noted is kept.
   pub record Happens (old : State) (event : Event) (new : State) : Type 0 where
     pub taken : Option Taken
     pub nodes : NodeStates
-    pub takes : Takes is_sealing tag old.nodes (whose_step old.nodes old.sent event.what) old.sent event taken nodes
+    pub takes : Takes is_sealing tag old.nodes (deed_of old.nodes old.sent event) taken nodes
     pub is : new ≡ after old event taken nodes
 
   -- events in order
