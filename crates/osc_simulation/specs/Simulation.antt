@@ -167,7 +167,8 @@ ComesOf old (Some what) new = Comes old what new
 -- what waits is delivered, and whether nothing waits then
 abbrev pub Quiets : Stage → Bool → Stage → Type 0
 Quiets old quiet new =
-    (world : State) × Rounds is_sealing tag_of (drawn old.draws) old.moment quiet_limit old.world quiet world × (new ≡ record old { world = world })
+    (world : State) × Rounds (Happens is_sealing tag_of) (record { drawn = drawn old.draws; at = old.moment }) quiet_limit old.world quiet world
+    × (new ≡ record old { world = world })
 
 -- what a line does, and whether a quiet round left nothing that waits
 abbrev pub Does : Names → Stage → Line → Bool → Stage → Type 0

@@ -8,15 +8,15 @@ use Rattle.std.proofs.lemmas.Option.{same_Some, slice_get_within}
 use Rattle.osc_model.specs.declared.node.Peer.{Peer}
 use Rattle.osc_message.specs.Confirmables.{same_peer}
 use Rattle.osc_protect.specs.Ciphers.{Sealings, Tags}
-use Rattle.osc_client.specs.State.{skipped_to}
-use Rattle.osc_world.specs.Nodes.{NodeStates, StandApart, client_at, is_among, node_at, places, proxy_at, skipped, skipped_at}
-use Rattle.osc_world.specs.Steps.{Takes, TakesOf, TakesOfProxy}
-use Rattle.osc_world.specs.declared.event.Event.{Event}
-use Rattle.osc_world.specs.declared.log.SentDatagram.{SentDatagram}
+use Rattle.osc_model.specs.declared.step.Step.{Step}
+use Rattle.osc_client.specs.State.{State as Client, skipped_to}
+use Rattle.osc_proxy.specs.State.{State as Proxy, restarted as proxy_again}
+use Rattle.osc_proxy.specs.Steps.{IsStep as IsProxyStep}
+use Rattle.osc_world.specs.Nodes.{Deed, Nothing, OfServer, OfClient, OfProxy, NodeStates, StandApart, client_at, is_among, node_at, places, proxy_at, skipped, skipped_at}
+use Rattle.osc_world.specs.Steps.{ClientDoes, ClientTakes, Does, ProxyTakes, Takes, a_client, a_proxy, is_lie, no_client, no_proxy}
 use Rattle.osc_world.specs.declared.nodes.Placed.{Placed}
 use Rattle.osc_world.specs.declared.nodes.PlacedProxy.{PlacedProxy}
 use Rattle.osc_world.specs.declared.nodes.Taken.{Taken}
-use Rattle.osc_world.specs.declared.nodes.Whose.{Whose}
 use Rattle.osc_world.specs.declared.nodes.Whose.TheVariants as whose
 
 abbrev of_client : Placed → Peer
@@ -43,20 +43,24 @@ proxy_stays nodes number before after there same apart =
     subst (λ (all : List Peer). IsDistinct same_peer (nodes.server_at ∷ (map of_client nodes.clients ++ all))) (sym (same_places of_proxy nodes.proxies number before after there same)) apart
 
 -- a step moves no node
-pub apart_after : (is_sealing : Sealings) (tag : Tags) (old new : NodeStates) (who : Whose) (sent : List SentDatagram) (event : Event) (taken : Option Taken)
-    → Takes is_sealing tag old who sent event taken new → StandApart old → StandApart new
-apart_after is_sealing tag old new whose.Server sent event taken takes apart = subst StandApart (sym takes.is) apart
-apart_after is_sealing tag old new (whose.Client number) sent event taken takes apart = by (slice_get old.clients number) refl takes
-  where
-    by : (o : Option Placed) → slice_get old.clients number ≡ o → TakesOf is_sealing tag old number o sent event taken new → StandApart new
-    by None there t = subst StandApart (sym t.is) apart
-    by (Some placed) there t = subst StandApart (sym t.is) (client_stays old number placed (record placed { client = t.client }) there refl apart)
-apart_after is_sealing tag old new (whose.Proxy number) sent event taken takes apart = by (slice_get old.proxies number) refl takes
-  where
-    by : (o : Option PlacedProxy) → slice_get old.proxies number ≡ o → TakesOfProxy old number o sent event taken new → StandApart new
-    by None there t = subst StandApart (sym t.is) apart
-    by (Some placed) there t = subst StandApart (sym t.is) (proxy_stays old number placed (record placed { proxy = t.proxy }) there refl apart)
-apart_after is_sealing tag old new whose.Nobody sent event taken takes apart = subst StandApart (sym takes.is) apart
+client_apart : (does : Client → Step → Client → Type 0) (lied : Bool) (old : NodeStates) (number : ℕ) (taken : Option Taken) (new : NodeStates)
+    → ClientTakes does lied old number taken new → StandApart old → StandApart new
+client_apart does lied old number taken new (no_client none nobody) apart = subst StandApart (sym nobody.is) apart
+client_apart does lied old number taken new (a_client placed step client there it taken_is is) apart =
+    subst StandApart (sym is) (client_stays old number placed (record placed { client = client }) there refl apart)
+
+proxy_apart : (does : Proxy → Step → Proxy → Type 0) (old : NodeStates) (number : ℕ) (taken : Option Taken) (new : NodeStates)
+    → ProxyTakes does old number taken new → StandApart old → StandApart new
+proxy_apart does old number taken new (no_proxy none nobody) apart = subst StandApart (sym nobody.is) apart
+proxy_apart does old number taken new (a_proxy placed step proxy there it taken_is is) apart =
+    subst StandApart (sym is) (proxy_stays old number placed (record placed { proxy = proxy }) there refl apart)
+
+pub apart_after : (is_sealing : Sealings) (tag : Tags) (old new : NodeStates) (deed : Deed) (taken : Option Taken)
+    → Takes is_sealing tag old deed taken new → StandApart old → StandApart new
+apart_after is_sealing tag old new Nothing taken takes apart = subst StandApart (sym takes.is) apart
+apart_after is_sealing tag old new (OfServer task) taken takes apart = subst StandApart (sym takes.is) apart
+apart_after is_sealing tag old new (OfClient number task) taken takes apart = client_apart (ClientDoes is_sealing tag task) (is_lie task) old number taken new takes apart
+apart_after is_sealing tag old new (OfProxy number task) taken takes apart = proxy_apart (Does IsProxyStep proxy_again task) old number taken new takes apart
 
 -- nor does a number that is raised
 pub apart_skipped : (client number : ℕ) (nodes : NodeStates) → StandApart nodes → StandApart (skipped client number nodes)

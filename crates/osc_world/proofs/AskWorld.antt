@@ -1,13 +1,12 @@
 -- A request is asked, and a quiet round serves and answers it: straight to the server, in two deliveries.
 use Rattle.std.proofs.Common.{◌≡◌, ◌∙◌, sym, ap, subst, refl, ℕ, suc, ◌+◌, ◌%◌, Bool, true, false, List, [], ◌∷◌, ◌++◌, map, Option, Some, None, append-nil}
-use Rattle.std.specs.Prelude.{◌≢◌, slice_get, slice_set, ◌==◌, option_to_list}
+use Rattle.std.specs.Prelude.{◌≢◌, slice_get, slice_set, option_to_list}
 use Rattle.std.proofs.lemmas.Option.{same_Some}
 use Rattle.osc_model.specs.Apply.{apply_read}
 use Rattle.osc_model.specs.declared.node.Draw.{Draw}
 use Rattle.osc_model.specs.declared.node.Moment.{Moment}
 use Rattle.osc_model.specs.declared.node.Peer.{Peer}
 use Rattle.osc_model.specs.declared.reply.Reply.{Reply}
-use Rattle.osc_model.specs.declared.request.Request.{Request}
 use Rattle.osc_model.specs.declared.step.ClientResult.TheVariants as result
 use Rattle.osc_model.specs.declared.step.Datagram.{Datagram}
 use Rattle.osc_model.specs.declared.step.Entry.{Entry}
@@ -33,63 +32,86 @@ use Rattle.osc_run.specs.Texts.{read_request}
 use Rattle.osc_server.specs.Hearing.{Hears as ServerHears}
 use Rattle.osc_server.specs.State.{State as Server}
 use Rattle.osc_client.specs.Lawful.{IsLawfulClient}
-use Rattle.osc_client.specs.Sending.{Asks}
+use Rattle.osc_client.specs.Sending.{Asked, Asks}
 use Rattle.osc_client.specs.State.{State as Client}
-use Rattle.osc_rounds.specs.AskRound.{IsAskedAndAnswered, IsLawfulServer, IsServedAndAnswered, asked_text}
-use Rattle.osc_rounds.specs.Asked.{IsAnswered}
+use Rattle.osc_rounds.specs.AskRound.{IsAskedAndAnswered, IsLawfulServer, IsServedAndAnswered, StraightRequest, asked_text}
+use Rattle.osc_rounds.specs.Asked.{IsAnswered, OpenedRequest}
 use Rattle.osc_rounds.specs.Ready.{IsStraight, MayAsk}
 use Rattle.osc_rounds.specs.RoundNotes.{AreAmongQuiet, AreNotesOfRequest}
 use Rattle.osc_world.specs.Lawful.{AreLawfulClients}
 use Rattle.osc_world.specs.Log.{sent_from}
 use Rattle.osc_world.specs.Nodes.{NodeStates, StandApart}
 use Rattle.osc_world.specs.Queue.{queue}
-use Rattle.osc_world.specs.Quiet.{Rounds, waiting_first}
-use Rattle.osc_world.specs.Ready.{GoesTheSameWay, HasAnswered, HoldsStill, IsNotRefused, IsRound, KeepsThePremise, LeavesUnheard, asking}
+use Rattle.osc_world.specs.Quiet.{Deliveries, Rounds}
+use Rattle.osc_world.specs.Ready.{AskedRequest, GoesTheSameWay, HasAnswered, HoldsStill, IsRound, KeepsThePremise, LeavesUnheard, asking}
 use Rattle.osc_world.specs.Worlds.{Happens, State}
 use Rattle.osc_world.specs.declared.nodes.Placed.{Placed}
-use Rattle.osc_world.proofs.Asked.{IsAsked, is_asked, lawful_asked}
+use Rattle.osc_world.proofs.Asked.{IsAsked, is_asked, lawful_after}
 use Rattle.osc_world.proofs.Deliveries.{still_minted}
 use Rattle.osc_world.proofs.Premises.{asks_notes, keeps, these_three}
 use Rattle.osc_world.proofs.Slots.{got_back}
-use Rattle.osc_world.proofs.Straight.{IsAnsweredBack, IsStraight as IsRoundOfTwo, from_to, straight as round_of_two}
+use Rattle.osc_world.proofs.Straight.{IsAnsweredBack, IsStraight as IsRoundOfTwo, coming_from, from_to, straight as round_of_two}
 use Rattle.osc_world.proofs.StillHeld.{TakesNumbers, holds_still}
 use Rattle.osc_world.proofs.Way.{asks_id, asks_same, hears_id}
 
 -- what is assumed goes on over a request's round
 abbrev pub KeepsByNotes : Type 0
-KeepsByNotes = (minted : List Minted) (old all : List Noted) (table : List Holding) (now : Moment) (held : Held) (number : ℕ) (text : List ℕ) (reply : Reply) (asked served answered : Noted)
-    → IsTable table → In held (contexts table) → AreNotesOfRequest now held number text reply asked.notes served.notes answered.notes
+KeepsByNotes = (minted : List Minted) (old all : List Noted) (table : List Holding) (now : Moment) (request : OpenedRequest) (reply : Reply) (asked served answered : Noted)
+    → IsTable table → In request.held (contexts table) → AreNotesOfRequest now request reply asked.notes served.notes answered.notes
     → AreAmongQuiet (answered ∷ served ∷ asked ∷ []) all → Premise minted old → Premise minted (all ++ old)
 
 module _ (is_sealing : Sealings) (tag : Tags) where
   -- a request that goes straight to the server is answered
   abbrev pub AnswersStraight : Type 0
-  AnswersStraight = (client asked : Client) (server : Server) (asked_at now : Moment) (draw : Draw) (request : Request) (at server_at : Peer) (context : ClientContextState) (held : Held) (first : Step)
+  AnswersStraight = (client asked : Client) (server : Server) (asks : Asked) (now : Moment) (at server_at : Peer) (context : ClientContextState) (held : Held) (first : Step)
       → IsLawfulServer server → IsLawfulClient asked
-      → IsStraight client server now draw at server_at → MayAsk client server now context held
+      → IsStraight client server now asks.draw at server_at → MayAsk client server now context held
       → first.notes.result ≢ Some (result.Refused 14)
-      → Asks is_sealing tag client asked_at request draw first asked
-      → IsAskedAndAnswered is_sealing client server now draw request at server_at held context.next first asked
+      → Asks is_sealing tag client asks first asked
+      → IsAskedAndAnswered is_sealing
+      (record { asked = asked; server = server; at = at; server_at = server_at; now = now; held = held; number = context.next; text = asked_text client asks.draw asks.request })
+      client asks.draw first
+
+  -- what was asked, as it is served
+  abbrev pub opened_of : (deliveries : Deliveries) (count : ℕ) (w1 : State) → AskedRequest is_sealing tag deliveries count w1 → OpenedRequest
+  opened_of deliveries count w1 it = record { held = it.held; number = it.context.next; text = asked_text it.placed.client it.what.draw it.what.request }
 
   module _ (itself : (a : Peer) → same_peer a a ≡ true) (law : AnswersStraight) (premises : KeepsByNotes) (takes_numbers : TakesNumbers)
-      (drawn : ℕ → Draw) (asked_at now : Moment) (draw : Draw) (number : ℕ) (request : Request) (placed : Placed) (context : ClientContextState) (held : Held)
-      (old w1 new : State) (left : ℕ) (is_quiet : Bool)
+      (deliveries : Deliveries) (count : ℕ) (w1 new : State) (it : AskedRequest is_sealing tag deliveries count w1) (left : ℕ) (is_quiet : Bool)
       (apart : StandApart w1.nodes)
       (lawful : IsLawfulServer w1.nodes.server)
       (lawful_clients : AreLawfulClients w1.nodes.clients)
-      (still : waiting_first old ≡ None)
-      (here : slice_get old.nodes.clients number ≡ Some placed)
-      (goes : IsStraight placed.client old.nodes.server now draw placed.at old.nodes.server_at)
-      (may : MayAsk placed.client old.nodes.server now context held)
-      (code : (request.code.0 == 0) ≡ false)
-      (happens : Happens is_sealing tag old (asking asked_at draw number request) w1)
-      (fits : IsNotRefused 14 old w1)
-      (rounds : Rounds is_sealing tag drawn now (suc (suc left)) w1 is_quiet new) where
-    asks : IsAsked is_sealing tag asked_at draw number request placed old w1
-    asks = is_asked is_sealing tag asked_at draw number request placed old w1 still here code happens fits
+      (goes : IsStraight it.placed.client it.before.nodes.server deliveries.at it.what.draw it.placed.at it.before.nodes.server_at)
+      (rounds : Rounds (Happens is_sealing tag) deliveries (suc (suc left)) w1 is_quiet new) where
+    abbrev old : State
+    old = it.before
+
+    abbrev number : ℕ
+    number = it.client
+
+    abbrev placed : Placed
+    placed = it.placed
+
+    abbrev draw : Draw
+    draw = it.what.draw
+
+    abbrev context : ClientContextState
+    context = it.context
+
+    abbrev held : Held
+    held = it.held
+
+    abbrev now : Moment
+    now = deliveries.at
+
+    asks : IsAsked is_sealing tag deliveries count w1 it
+    asks = is_asked is_sealing tag deliveries count w1 it
+
+    abbrev request : OpenedRequest
+    request = opened_of deliveries count w1 it
 
     abbrev text : List ℕ
-    text = asked_text placed.client draw request
+    text = request.text
 
     abbrev after : Placed
     after = record placed { client = asks.client }
@@ -100,10 +122,22 @@ module _ (is_sealing : Sealings) (tag : Tags) where
     lawful_server : IsLawfulServer old.nodes.server
     lawful_server = subst IsLawfulServer (ap (λ (n : NodeStates). n.server) asks.nodes) lawful
 
-    is : IsAskedAndAnswered is_sealing placed.client old.nodes.server now draw request placed.at old.nodes.server_at held context.next asks.step asks.client
+    abbrev way : StraightRequest
+    way = record {
+      asked = asks.client;
+      server = old.nodes.server;
+      at = placed.at;
+      server_at = old.nodes.server_at;
+      now = now;
+      held = held;
+      number = context.next;
+      text = text;
+    }
+
+    is : IsAskedAndAnswered is_sealing way placed.client draw asks.step
     is =
-        law placed.client asks.client old.nodes.server asked_at now draw request placed.at old.nodes.server_at context held asks.step
-        lawful_server (lawful_asked is_sealing tag number placed asks.client old w1 here asks.nodes lawful_clients) goes may asks.fits asks.asks
+        law placed.client asks.client old.nodes.server it.what now placed.at old.nodes.server_at context held asks.step
+        lawful_server (lawful_after number placed asks.client old w1 it.ready.here asks.nodes lawful_clients) goes it.may asks.fits asks.asks
 
     alone : queue w1 ≡ from_to placed.at old.nodes.server_at (spelling is.message) ∷ []
     alone =
@@ -114,29 +148,30 @@ module _ (is_sealing : Sealings) (tag : Tags) where
     -- ---- it comes to the server, and its answer to the client
 
     abbrev IsAny : Draw → Type 0
-    IsAny draw = Unit {0}
+    IsAny any = Unit {0}
 
-    abbrev coming : (server_draw : Draw) (step : Step) (served : Server) → IsAny server_draw → ServerHears is_sealing old.nodes.server now server_draw placed.at (spelling is.message) step served
+    abbrev coming : (server_draw : Draw) (step : Step) (served : Server) → IsAny server_draw
+        → ServerHears is_sealing old.nodes.server (coming_from now placed.at server_draw (spelling is.message)) step served
         → IsAnsweredBack is_sealing now asks.client placed.at old.nodes.server_at step
     coming server_draw step served good hears = record {
       answer = spelling (is.served server_draw step served hears).answer;
       out = (is.served server_draw step served hears).out;
-      silent = λ last client heard. ap (λ (s : Step). s.out) ((is.served server_draw step served hears).answered last client heard).told;
+      silent = λ client_draw last client heard. ap (λ (s : Step). s.out) ((is.served server_draw step served hears).answered client_draw last client heard).told;
     }
 
     there : slice_get nodes.clients number ≡ Some after
-    there = got_back old.nodes.clients number placed after here
+    there = got_back old.nodes.clients number placed after it.ready.here
 
-    round : IsRoundOfTwo is_sealing IsAny now number after nodes (spelling is.message) coming w1 new is_quiet
+    round : IsRoundOfTwo is_sealing IsAny deliveries number after nodes (spelling is.message) coming w1 new is_quiet
     round =
-        round_of_two is_sealing IsAny now number after nodes (spelling is.message) coming tag itself drawn left w1 new is_quiet
+        round_of_two is_sealing IsAny deliveries number after nodes (spelling is.message) coming tag itself left w1 new is_quiet
         (λ event least below. tt) asks.nodes apart there alone rounds
 
-    abbrev served : IsServedAndAnswered is_sealing asks.client old.nodes.server now placed.at old.nodes.server_at held context.next text round.serving round.server
+    abbrev served : IsServedAndAnswered is_sealing way round.serving round.server
     served = is.served round.draw round.serving round.server round.served
 
     answered : IsAnswered asks.client held.name context.next served.reply round.taking round.client
-    answered = served.answered round.taking round.client round.taken
+    answered = served.answered round.client_draw round.taking round.client round.taken
 
     server_is : new.nodes.server ≡ round.server
     server_is = ap (λ (n : NodeStates). n.server) round.nodes_are
@@ -152,12 +187,12 @@ module _ (is_sealing : Sealings) (tag : Tags) where
     still_held : HoldsStill new.nodes.server held context.next (taking context.next held)
     still_held =
         subst (λ (s : Server). HoldsStill s held context.next (taking context.next held)) (sym server_is)
-        (holds_still takes_numbers now old.nodes.server round.server held context.next lawful_server.table may.here served.kept)
+        (holds_still takes_numbers now old.nodes.server round.server held context.next lawful_server.table it.may.here served.kept)
 
     same_way : (before : Placed) → slice_get old.nodes.clients number ≡ Some before → GoesTheSameWay before last
     same_way before stood =
-        let same : placed ≡ before = same_Some placed before (sym here ∙ stood) in
-        let sent = asks_same is_sealing tag placed.client asked_at request draw asks.step asks.client asks.asks in
+        let same : placed ≡ before = same_Some placed before (sym it.ready.here ∙ stood) in
+        let sent = asks_same is_sealing tag placed.client it.what asks.step asks.client asks.asks in
         subst (λ (p : Placed). GoesTheSameWay p last) same
         (record { at = refl; next_hop = answered.next_hop ∙ sent.0; origin = answered.origin ∙ sent.1 })
 
@@ -182,21 +217,21 @@ module _ (is_sealing : Sealings) (tag : Tags) where
     among : AreAmongQuiet all all
     among = these_three (by_client number false round.taking.notes) (by_server round.serving.notes) (by_client number false asks.step.notes)
 
-    notes_are : AreNotesOfRequest now held context.next text served.reply asks.step.notes round.serving.notes round.taking.notes
+    notes_are : AreNotesOfRequest now request served.reply asks.step.notes round.serving.notes round.taking.notes
     notes_are = record {
-      asked_is = asks_notes is_sealing tag placed.client asks.client asked_at request draw asks.step (request_note held.name context.next text) asks.asks is.sealed;
+      asked_is = asks_notes is_sealing tag placed.client asks.client it.what asks.step (request_note held.name context.next text) asks.asks is.sealed;
       served_is = served.entry;
       answered_is = ap (λ (s : Step). s.notes) answered.told;
     }
 
     goes_on : KeepsThePremise old new
     goes_on =
-        keeps old new (all ++ old.steps) (still_minted is_sealing tag drawn now (suc (suc left)) old w1 is_quiet new (asking asked_at draw number request) happens rounds) steps_are
-        (premises old.minted old.steps all old.nodes.server.desk.table now held context.next text served.reply
+        keeps old new (all ++ old.steps) (still_minted is_sealing tag deliveries (suc (suc left)) old w1 is_quiet new (asking number it.what) it.happens rounds) steps_are
+        (premises old.minted old.steps all old.nodes.server.desk.table now request served.reply
         (by_client number false asks.step.notes) (by_server round.serving.notes) (by_client number false round.taking.notes)
-        lawful_server.table may.here notes_are among)
+        lawful_server.table it.may.here notes_are among)
 
-    pub answered_straight : IsRound 2 w1 is_quiet new × HasAnswered old number text now held context.next new × KeepsThePremise old new
+    pub answered_straight : IsRound 2 w1 is_quiet new × HasAnswered old number now request new × KeepsThePremise old new
     answered_straight = (
       round.round,
       record {
@@ -230,8 +265,8 @@ module _ (is_sealing : Sealings) (tag : Tags) where
 
     next_id_is : round.client.endpoint.next_id ≡ Some ((own_id draw placed.client.endpoint.next_id + 1) % 65536)
     next_id_is =
-        hears_id is_sealing asks.client now old.nodes.server_at (spelling served.answer) round.taking round.client round.taken
-        ∙ asks_id is_sealing tag placed.client asked_at request draw asks.step asks.client (datagram placed.client.next_hop is.message) asks.asks is.out
+        hears_id is_sealing asks.client (coming_from now old.nodes.server_at round.client_draw (spelling served.answer)) round.taking round.client round.taken
+        ∙ asks_id is_sealing tag placed.client it.what asks.step asks.client (datagram placed.client.next_hop is.message) asks.asks is.out
 
     pub left_unheard : (standing : Placed) → slice_get new.nodes.clients number ≡ Some standing → LeavesUnheard old new draw placed standing
     left_unheard standing stands =

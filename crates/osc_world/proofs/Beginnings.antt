@@ -3,7 +3,6 @@ use Rattle.std.proofs.Common.{◌≡◌, ◌∙◌, sym, ap, subst, refl, ℕ, �
 use Rattle.std.specs.Prelude.{slice_get}
 use Rattle.osc_model.specs.Grant.{HasBegun, IsNotOver}
 use Rattle.osc_model.specs.declared.algorithm.Algorithm.TheVariants.{EightByteTag}
-use Rattle.osc_model.specs.declared.node.Draw.{Draw}
 use Rattle.osc_model.specs.declared.node.Moment.{Moment}
 use Rattle.osc_model.specs.declared.node.Peer.{Peer}
 use Rattle.osc_ccm.specs.Limits.{most_tag}
@@ -22,7 +21,7 @@ use Rattle.osc_token.specs.Minted.{FitTheirTypes, HasLawfulParts}
 use Rattle.osc_token.specs.Token.{algorithm_header, claims_item}
 use Rattle.osc_token.specs.declared.claims.Claims.{Claims}
 use Rattle.osc_protect.specs.Ciphers.{Sealings, IsLongerBy}
-use Rattle.osc_world.specs.Ready.{IsReady}
+use Rattle.osc_world.specs.Ready.{ClientRound, IsReady}
 use Rattle.osc_world.specs.Ready as ready_as
 use Rattle.osc_world.specs.Refusals.{FitAToken}
 use Rattle.osc_world.specs.Starts.{Beginning, Enrols, begun, new_proxy}
@@ -86,10 +85,10 @@ module _ (is_sealing : Sealings) (tag : ℕ)
   may_exchange = record { idle = enrols.enrolled.client.waiting; welcome = welcome }
 
 module _ (is_sealing : Sealings)
-    (before after start : Beginning) (holder : Holder) (now : Moment) (draw first : Draw) (enrols : Enrols is_sealing before holder after) where
+    (before after start : Beginning) (holder : Holder) (round : ClientRound) (enrols : Enrols is_sealing before holder after) where
   pub ready_straight : slice_get start.clients (length before.clients) ≡ Some enrols.placed
       → holder.way.origin ≡ None → holder.way.next_hop ≡ start.server_at
-      → IsReady (begun start) (length before.clients) enrols.placed now draw first 2
+      → IsReady (begun start) (length before.clients) enrols.placed round 2
   ready_straight there direct next_hop =
       let is = enrols.enrolled.client in record {
         still = refl;
@@ -102,7 +101,7 @@ module _ (is_sealing : Sealings)
       → slice_get start.clients (length before.clients) ≡ Some enrols.placed
       → holder.way.origin ≡ Some origin → holder.way.next_hop ≡ at
       → slice_get start.proxies number ≡ Some (new_proxy at targets) → peer_of targets origin.host origin.port ≡ Some start.server_at
-      → IsReady (begun start) (length before.clients) enrols.placed now draw first 6
+      → IsReady (begun start) (length before.clients) enrols.placed round 6
   ready_through origin number at targets there named next_hop stands target =
       let is = enrols.enrolled.client in
       let proxy : PlacedProxy = new_proxy at targets in record {
@@ -121,6 +120,6 @@ module _ (is_sealing : Sealings)
               none_to_client = refl;
               unheard = refl;
               new_at_server = refl;
-              new_at_client = ap (λ (endpoint : EndpointState). looked now at (answer_id proxy.proxy first) endpoint.seen) is.endpoint;
+              new_at_client = ap (λ (endpoint : EndpointState). looked round.at at (answer_id proxy.proxy round.first) endpoint.seen) is.endpoint;
             });
       }

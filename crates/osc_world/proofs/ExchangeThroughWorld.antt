@@ -9,7 +9,6 @@ use Rattle.osc_model.specs.declared.node.Peer.{Peer}
 use Rattle.osc_model.specs.declared.step.ClientResult.TheVariants as result
 use Rattle.osc_model.specs.declared.step.Datagram.{Datagram}
 use Rattle.osc_model.specs.declared.step.Step.{Step}
-use Rattle.osc_cbor.specs.Spelling.{spelling as item_spelling}
 use Rattle.osc_coap.specs.Message.{Message, spelling}
 use Rattle.osc_message.specs.Confirmables.{same_peer}
 use Rattle.osc_message.specs.Sending.{empty_acknowledgement}
@@ -23,73 +22,73 @@ use Rattle.osc_proxy.specs.Hearing.{Hears as ProxyHears}
 use Rattle.osc_proxy.specs.State.{State as Proxy}
 use Rattle.osc_proxy.specs.ThereAndBack.{IsAtRest, IsLawfulProxy}
 use Rattle.osc_rounds.specs.ExchangeRound.{IsHeld}
-use Rattle.osc_rounds.specs.ExchangeRoundThrough.{IsAgreedAndBroughtBack, IsBroughtBackAndMade, IsMadeAndEnds, IsPassedOnAndAgreed, IsPostedAndAgreedThrough, IsSettledAndAgreed, PostOnItsWay, forwarded_post, post_id_back}
-use Rattle.osc_rounds.specs.Ready.{IsThrough, MayExchange}
-use Rattle.osc_rounds.specs.RoundNotes.{AreAmongQuiet, AreNotesOfExchange}
+use Rattle.osc_rounds.specs.ExchangeRoundThrough.{IsAgreedAndBroughtBack, IsBroughtBackAndMade, IsMadeAndEnds, IsPassedOnAndAgreed, IsPostedAndAgreedThrough, IsSettledAndAgreed, PostOnItsWay, forwarded_post, post_id_back, post_passage}
+use Rattle.osc_rounds.specs.ProxiedExchange.{claims_text}
+use Rattle.osc_rounds.specs.Ready.{Hops, IsThrough, MayExchange}
+use Rattle.osc_rounds.specs.RoundNotes.{AreAmongQuiet, AreNotesOfAgreement, AreNotesOfExchange, Draws}
 use Rattle.osc_scope.specs.Entries.{Entry}
-use Rattle.osc_token.specs.Token.{claims_item}
 use Rattle.osc_token.specs.declared.claims.Claims.{Claims}
 use Rattle.osc_protect.specs.Ciphers.{Sealings, Tags}
 use Rattle.osc_world.specs.Lawful.{AreLawfulClients, AreLawfulProxies}
 use Rattle.osc_world.specs.Log.{sent_from}
 use Rattle.osc_world.specs.Nodes.{NodeStates, StandApart}
 use Rattle.osc_world.specs.Queue.{queue}
-use Rattle.osc_world.specs.Quiet.{AreWhole, Rounds, waiting_first}
-use Rattle.osc_world.specs.Ready.{AreMinted, GoesTheSameWay, HasMade, IsNotRefused, IsReady, IsRound, KeepsThePremise, LeavesUnheard, Way, beginning}
+use Rattle.osc_world.specs.Quiet.{AreWhole, Deliveries, Rounds, next_draw}
+use Rattle.osc_world.specs.Ready.{AreMinted, BegunExchange, ClientRound, GoesTheSameWay, HasMade, IsRound, KeepsThePremise, LeavesUnheard, Way, beginning, hops_through, round_of}
 use Rattle.osc_world.specs.Ready as ready_as
 use Rattle.osc_world.specs.Worlds.{Happens, State}
 use Rattle.osc_world.specs.declared.nodes.Placed.{Placed}
 use Rattle.osc_world.specs.declared.nodes.PlacedProxy.{PlacedProxy}
-use Rattle.osc_world.proofs.Asked.{lawful_asked}
+use Rattle.osc_world.proofs.Asked.{lawful_after}
 use Rattle.osc_world.proofs.Deliveries.{still_minted}
 use Rattle.osc_world.proofs.ExchangeWorld.{HearsNoOther, KeepsOverExchange, MakesStraight, NotesExchange, exchange_goes_on, left_unheard, made_straight}
 use Rattle.osc_world.proofs.Posted.{IsPosted, is_posted, post_goes_out}
 use Rattle.osc_world.proofs.Slots.{got_back}
-use Rattle.osc_world.proofs.Straight.{IsWhole, from_to}
+use Rattle.osc_world.proofs.Straight.{IsWhole, coming_from, from_to}
 use Rattle.osc_world.proofs.Through.{IsAcknowledged, IsForwarded, IsSentBack, IsServed, IsTaken, IsThrough as IsRoundOfSix, Route, first_is_whole, three_of_seven, through as round_of_six}
 use Rattle.osc_world.proofs.Way.{exchanges_same}
 
 -- ---- what each delivery sends, as the law of the round has it
 
-module _ (is_sealing : Sealings) (drawn : ℕ → Draw) (first : ℕ) (post : PostOnItsWay) where
+module _ (is_sealing : Sealings) (post : PostOnItsWay) where
   abbrev takes : (agreed : Server) (brought : Proxy) (fifth : Step) (made : Client) → IsMadeAndEnds is_sealing post agreed brought fifth made
-      → IsTaken is_sealing drawn first post.now post.at post.proxy_at post.server_at brought fifth
+      → IsTaken is_sealing post.now post.at post.proxy_at post.server_at brought fifth
   takes agreed brought fifth made is = record {
     taken = spelling (empty_acknowledgement (post_id_back post));
     out = ap (λ (s : Step). s.out) is.is_made.told;
-    silent = λ last after whole hears. ap (λ (s : Step). s.out) (is.ends (drawn (first + 5)) last after hears).told;
+    silent = λ draw last after hears. ap (λ (s : Step). s.out) (is.ends draw last after hears).told;
   }
 
   abbrev brings : (settled : Client) (agreed : Server) (fourth : Step) (brought : Proxy) → IsBroughtBackAndMade is_sealing post settled agreed fourth brought
-      → IsSentBack is_sealing drawn first post.now post.at post.proxy_at post.server_at settled brought fourth
+      → IsSentBack is_sealing post.now post.at post.proxy_at post.server_at settled brought fourth
   brings settled agreed fourth brought is = record {
     answer = spelling is.back;
     out = ap (λ (s : Step). s.out) is.out;
-    taken = λ next after hears. takes agreed brought next after (is.made next after hears);
+    taken = λ draw next after hears. takes agreed brought next after (is.made draw next after hears);
   }
 
-  abbrev agrees : (settled : Client) (passed : Proxy) (third : Step) (agreed : Server) → IsAgreedAndBroughtBack is_sealing post settled passed (drawn (first + 2)) third agreed
-      → IsServed is_sealing drawn first post.now post.at post.proxy_at post.server_at settled passed third
+  abbrev agrees : (settled : Client) (passed : Proxy) (third : Step) (agreed : Server) → IsAgreedAndBroughtBack is_sealing post settled passed third agreed
+      → IsServed is_sealing post.now post.at post.proxy_at post.server_at settled passed third
   agrees settled passed third agreed is = record {
     reply = spelling is.response;
     out = is.out;
-    back = λ next after whole hears. brings settled agreed next after (is.brought (drawn (first + 3)) next after hears);
+    back = λ draw next after hears. brings settled agreed next after (is.brought draw next after hears);
   }
 
   abbrev settles : (passed : Proxy) (second : Step) (settled : Client) → IsSettledAndAgreed is_sealing post passed second settled
-      → IsAcknowledged is_sealing drawn first post.now post.at post.proxy_at post.server_at settled post.server passed (spelling (forwarded_post post)) second
+      → IsAcknowledged is_sealing post.now post.at post.proxy_at post.server_at settled post.server passed (spelling (forwarded_post post)) second
   settles passed second settled is = record {
     silent = ap (λ (s : Step). s.out) is.told;
-    served = λ next after whole hears. agrees settled passed next after (is.agreed (drawn (first + 2)) next after whole hears);
+    served = λ draw next after whole hears. agrees settled passed next after (is.agreed draw next after whole hears).1;
   }
 
   abbrev passes : (step : Step) (passed : Proxy) → IsPassedOnAndAgreed is_sealing post step passed
-      → IsForwarded is_sealing drawn first post.now post.at post.proxy_at post.server_at post.begun post.server passed step
+      → IsForwarded is_sealing post.now post.at post.proxy_at post.server_at post.begun post.server passed step
   passes step passed is = record {
     acknowledgement = spelling (empty_acknowledgement post.message.id);
     forwarded = spelling (forwarded_post post);
     out = ap (λ (s : Step). s.out) is.out;
-    acknowledged = λ next after hears. settles passed next after (is.settled next after hears);
+    acknowledged = λ draw next after hears. settles passed next after (is.settled draw next after hears);
   }
 
 -- ---- the round
@@ -97,38 +96,71 @@ module _ (is_sealing : Sealings) (drawn : ℕ → Draw) (first : ℕ) (post : Po
 module _ (is_sealing : Sealings) (tag : Tags) where
   -- an exchange that goes through a proxy is made
   abbrev pub MakesThrough : Type 0
-  MakesThrough = (client begun : Client) (proxy : Proxy) (server : Server) (begun_at now : Moment) (draw proxy_draw : Draw)
-      (at proxy_at server_at : Peer) (claims : Claims) (entries : List Entry) (posts : Step)
-      → IsLawfulProxy proxy → IsLawfulClient begun → length proxy_draw.0 ≡ 32
-      → (way : IsThrough client proxy server now draw proxy_draw at proxy_at server_at) → MayExchange is_sealing client server now claims entries
+  MakesThrough = (client begun : Client) (proxy : Proxy) (server : Server) (begun_at : Moment) (draw : Draw) (hops : Hops)
+      (claims : Claims) (entries : List Entry) (posts : Step)
+      → IsLawfulProxy proxy → IsLawfulClient begun → length hops.proxy_draw.0 ≡ 32
+      → (way : IsThrough client proxy server draw hops) → MayExchange is_sealing client server hops.now claims entries
       → posts.notes.result ≢ Some (result.Refused 14)
       → Exchanges client begun_at draw posts begun
       → (message : Message)
       × IsPostedAndAgreedThrough is_sealing
-      (record { begun = begun; proxy = proxy; server = server; at = at; proxy_at = proxy_at; server_at = server_at; now = now; draw = draw; proxy_draw = proxy_draw; claims = claims; entries = entries; message = message; key = way.key })
+      (record {
+        begun = begun;
+        proxy = proxy;
+        server = server;
+        at = hops.at;
+        proxy_at = hops.proxy_at;
+        server_at = hops.server_at;
+        now = hops.now;
+        draw = draw;
+        proxy_draw = hops.proxy_draw;
+        claims = claims;
+        entries = entries;
+        message = message;
+        key = way.key;
+      })
       posts
 
   module _ (itself : (a : Peer) → same_peer a a ≡ true) (law : MakesThrough) (premises : KeepsOverExchange)
-      (drawn : ℕ → Draw) (begun_at now : Moment) (draw : Draw) (number : ℕ) (placed : Placed) (claims : Claims) (entries : List Entry)
-      (old w1 new : State) (left : ℕ) (is_quiet : Bool)
-      (sizes : AreWhole drawn w1 new)
+      (deliveries : Deliveries) (count : ℕ) (w1 new : State) (begins : BegunExchange is_sealing tag deliveries count w1) (left : ℕ) (is_quiet : Bool)
+      (sizes : AreWhole deliveries.drawn w1 new)
       (apart : StandApart w1.nodes)
       (lawful_proxies : AreLawfulProxies w1.nodes.proxies)
       (lawful_clients : AreLawfulClients w1.nodes.clients)
-      (still : waiting_first old ≡ None)
-      (here : slice_get old.nodes.clients number ≡ Some placed)
       (proxy_number : ℕ) (proxy : PlacedProxy)
-      (proxy_here : slice_get old.nodes.proxies proxy_number ≡ Some proxy)
-      (goes : IsThrough placed.client proxy.proxy old.nodes.server now draw (drawn (length w1.records)) placed.at proxy.at old.nodes.server_at)
-      (may : MayExchange is_sealing placed.client old.nodes.server now claims entries)
-      (happens : Happens is_sealing tag old (beginning begun_at draw number) w1)
-      (fits : IsNotRefused 14 old w1)
-      (rounds : Rounds is_sealing tag drawn now (suc (suc (suc (suc (suc (suc left)))))) w1 is_quiet new) where
-    abbrev first : ℕ
-    first = length w1.records
+      (proxy_here : slice_get begins.before.nodes.proxies proxy_number ≡ Some proxy)
+      (goes : IsThrough begins.placed.client proxy.proxy begins.before.nodes.server begins.draw
+      (hops_through proxy begins.before begins.placed (round_of deliveries begins.draw w1)))
+      (rounds : Rounds (Happens is_sealing tag) deliveries (suc (suc (suc (suc (suc (suc left)))))) w1 is_quiet new) where
+    abbrev old : State
+    old = begins.before
 
-    posts : IsPosted begun_at draw number placed old w1
-    posts = is_posted is_sealing tag begun_at draw number placed old w1 still here happens fits
+    abbrev number : ℕ
+    number = begins.client
+
+    abbrev placed : Placed
+    placed = begins.placed
+
+    abbrev begun_at : Moment
+    begun_at = begins.at
+
+    abbrev draw : Draw
+    draw = begins.draw
+
+    abbrev claims : Claims
+    claims = begins.claims
+
+    abbrev entries : List Entry
+    entries = begins.entries
+
+    abbrev now : Moment
+    now = deliveries.at
+
+    abbrev first : Draw
+    first = next_draw deliveries w1
+
+    posts : IsPosted is_sealing tag deliveries count w1 begins
+    posts = is_posted is_sealing tag deliveries count w1 begins
 
     abbrev after : Placed
     after = record placed { client = posts.client }
@@ -137,7 +169,7 @@ module _ (is_sealing : Sealings) (tag : Tags) where
     nodes = record old.nodes { clients = slice_set old.nodes.clients number after }
 
     there : slice_get nodes.clients number ≡ Some after
-    there = got_back old.nodes.clients number placed after here
+    there = got_back old.nodes.clients number placed after begins.ready.here
 
     abbrev route : Route
     route = record {
@@ -154,18 +186,17 @@ module _ (is_sealing : Sealings) (tag : Tags) where
     lawful_proxy = lawful_proxies proxy_number proxy (ap (λ (n : NodeStates). slice_get n.proxies proxy_number) posts.nodes ∙ proxy_here)
 
     lawful_client : IsLawfulClient posts.client
-    lawful_client = lawful_asked is_sealing tag number placed posts.client old w1 here posts.nodes lawful_clients
+    lawful_client = lawful_after number placed posts.client old w1 begins.ready.here posts.nodes lawful_clients
 
     to_proxy : queue w1 ≡ from_to placed.at proxy.at (spelling (post_by placed.client draw)) ∷ []
     to_proxy =
         posts.waits
         ∙ ap (λ (out : List Datagram). map (sent_from placed.at) out)
-        (post_goes_out placed.client posts.client begun_at draw posts.step may.idle posts.fits posts.exchanges)
+        (post_goes_out placed.client posts.client begun_at draw posts.step begins.may.idle posts.fits posts.exchanges)
         ∙ ap (λ (to : Peer). from_to placed.at to (spelling (post_by placed.client draw)) ∷ []) goes.next_hop
 
-    whole : IsWhole (drawn first)
-    whole =
-        first_is_whole is_sealing tag drawn now itself route (spelling (post_by placed.client draw)) (suc (suc (suc (suc (suc left))))) w1 new is_quiet sizes posts.nodes apart to_proxy rounds
+    whole : IsWhole first
+    whole = first_is_whole is_sealing tag deliveries itself route (spelling (post_by placed.client draw)) (suc (suc (suc (suc (suc left))))) w1 new is_quiet sizes posts.nodes apart to_proxy rounds
 
     abbrev way_of : Message → PostOnItsWay
     way_of message = record {
@@ -177,7 +208,7 @@ module _ (is_sealing : Sealings) (tag : Tags) where
       server_at = old.nodes.server_at;
       now = now;
       draw = draw;
-      proxy_draw = drawn first;
+      proxy_draw = first;
       claims = claims;
       entries = entries;
       message = message;
@@ -186,8 +217,8 @@ module _ (is_sealing : Sealings) (tag : Tags) where
 
     it : (message : Message) × IsPostedAndAgreedThrough is_sealing (way_of message) posts.step
     it =
-        law placed.client posts.client proxy.proxy old.nodes.server begun_at now draw (drawn first) placed.at proxy.at old.nodes.server_at claims entries posts.step
-        lawful_proxy lawful_client whole goes may posts.fits posts.exchanges
+        law placed.client posts.client proxy.proxy old.nodes.server begun_at draw (hops_through proxy old placed (round_of deliveries draw w1)) claims entries posts.step
+        lawful_proxy lawful_client whole goes begins.may posts.fits posts.exchanges
 
     abbrev way : PostOnItsWay
     way = way_of it.0
@@ -200,30 +231,31 @@ module _ (is_sealing : Sealings) (tag : Tags) where
 
     -- ---- there and back
 
-    abbrev coming : (step : Step) (passed : Proxy) → IsWhole (drawn first) → ProxyHears proxy.proxy now (drawn first) placed.at (spelling it.0) step passed
-        → IsForwarded is_sealing drawn first now placed.at proxy.at old.nodes.server_at posts.client old.nodes.server passed step
-    coming step passed good hears = passes is_sealing drawn first way step passed (is.passed step passed hears)
+    abbrev coming : (step : Step) (passed : Proxy) → IsWhole first → ProxyHears proxy.proxy (coming_from now placed.at first (spelling it.0)) step passed
+        → IsForwarded is_sealing now placed.at proxy.at old.nodes.server_at posts.client old.nodes.server passed step
+    coming step passed good hears = passes is_sealing way step passed (is.passed step passed hears)
 
-    round : IsRoundOfSix is_sealing drawn first now route (spelling it.0) coming w1 new is_quiet
-    round = round_of_six is_sealing drawn first now route (spelling it.0) coming tag itself left w1 new is_quiet refl sizes posts.nodes apart alone rounds
+    round : IsRoundOfSix is_sealing deliveries w1 route (spelling it.0) coming new is_quiet
+    round = round_of_six is_sealing deliveries w1 route (spelling it.0) coming tag itself left new is_quiet sizes posts.nodes apart alone rounds
 
     abbrev passed : IsPassedOnAndAgreed is_sealing way round.step_1 round.proxy_1
     passed = is.passed round.step_1 round.proxy_1 round.hears_1
 
     abbrev settled : IsSettledAndAgreed is_sealing way round.proxy_1 round.step_2 round.client_2
-    settled = passed.settled round.step_2 round.client_2 round.hears_2
+    settled = passed.settled round.draw_2 round.step_2 round.client_2 round.hears_2
 
-    abbrev agreed : IsAgreedAndBroughtBack is_sealing way round.client_2 round.proxy_1 (drawn (first + 2)) round.step_3 round.server_3
-    agreed = settled.agreed (drawn (first + 2)) round.step_3 round.server_3 round.whole_3 round.hears_3
+    abbrev agreed : AreNotesOfAgreement old.nodes.server.desk.key (claims_text claims) round.draw_3 round.step_3.notes
+        × IsAgreedAndBroughtBack is_sealing way round.client_2 round.proxy_1 round.step_3 round.server_3
+    agreed = settled.agreed round.draw_3 round.step_3 round.server_3 round.whole_3 round.hears_3
 
     abbrev brought : IsBroughtBackAndMade is_sealing way round.client_2 round.server_3 round.step_4 round.proxy_4
-    brought = agreed.brought (drawn (first + 3)) round.step_4 round.proxy_4 round.hears_4
+    brought = agreed.1.brought round.draw_4 round.step_4 round.proxy_4 round.hears_4
 
     abbrev made : IsMadeAndEnds is_sealing way round.server_3 round.proxy_4 round.step_5 round.client_5
-    made = brought.made round.step_5 round.client_5 round.hears_5
+    made = brought.made round.draw_5 round.step_5 round.client_5 round.hears_5
 
-    ended : IsAtRest proxy.proxy now (drawn first) placed.at it.0 goes.key round.step_6 round.proxy_6
-    ended = made.ends (drawn (first + 5)) round.step_6 round.proxy_6 round.hears_6
+    ended : IsAtRest proxy.proxy (post_passage way) round.step_6 round.proxy_6
+    ended = made.ends round.draw_6 round.step_6 round.proxy_6 round.hears_6
 
     -- ---- what is kept of it
 
@@ -235,7 +267,7 @@ module _ (is_sealing : Sealings) (tag : Tags) where
 
     same_way : (before : Placed) → slice_get old.nodes.clients number ≡ Some before → GoesTheSameWay before last
     same_way before stood =
-        let same : placed ≡ before = same_Some placed before (sym here ∙ stood) in
+        let same : placed ≡ before = same_Some placed before (sym begins.ready.here ∙ stood) in
         let posting = exchanges_same placed.client begun_at draw posts.step posts.client posts.exchanges in
         subst (λ (p : Placed). GoesTheSameWay p last) same
         (record {
@@ -287,18 +319,15 @@ module _ (is_sealing : Sealings) (tag : Tags) where
         (by_proxy proxy_number round.step_4.notes) (by_client number false round.step_5.notes) (by_proxy proxy_number round.step_6.notes)
         quiet_1 quiet_2 quiet_4 quiet_6
 
-    notes_are : AreNotesOfExchange old.nodes.server.desk.key (item_spelling (claims_item claims)) draw (drawn (first + 2)) posts.step.notes round.step_3.notes round.step_5.notes
-    notes_are = record {
-      protected = agreed.protected;
-      iv = agreed.iv;
-      begun_is = is.notes;
-      agreed_is = agreed.notes;
-      made_is = ap (λ (s : Step). s.notes) made.is_made.told;
-    }
+    abbrev draws : Draws
+    draws = record { client = draw; server = round.draw_3 }
+
+    notes_are : AreNotesOfExchange old.nodes.server.desk.key (claims_text claims) draws posts.step.notes round.step_3.notes round.step_5.notes
+    notes_are = record { begun_is = is.notes; agreed_is = agreed.0; made_is = ap (λ (s : Step). s.notes) made.is_made.told }
 
     pub made_through : IsRound 6 w1 is_quiet new × HasMade old number now entries new × (AreMinted old claims → HasFreshDraws new.steps → KeepsThePremise old new)
     made_through = (
-      record { count = round.deliveries; quiet = round.quiet; still = round.still },
+      record { count = round.count; quiet = round.quiet; still = round.still },
       record {
         held = made.held;
         at_server = subst (λ (s : Server). IsHeld s now entries made.held) (sym server_is) made.is_held;
@@ -316,54 +345,55 @@ module _ (is_sealing : Sealings) (tag : Tags) where
         steps = steps_are;
         learnt = ap (λ (s : Step). s.notes.result) made.is_made.told;
       },
-      exchange_goes_on premises old new all claims old.nodes.server.desk.key draw (drawn (first + 2))
+      exchange_goes_on premises old new all claims old.nodes.server.desk.key draws
           (by_client number false posts.step.notes) (by_server round.step_3.notes) (by_client number false round.step_5.notes) notes_are among
-          (still_minted is_sealing tag drawn now (suc (suc (suc (suc (suc (suc left)))))) old w1 is_quiet new (beginning begun_at draw number) happens rounds) steps_are,
+          (still_minted is_sealing tag deliveries (suc (suc (suc (suc (suc (suc left)))))) old w1 is_quiet new (beginning begun_at draw number) begins.happens rounds) steps_are,
     )
 
 -- ---- whichever way it goes
 
 module _ (is_sealing : Sealings) (tag : Tags) (itself : (a : Peer) → same_peer a a ≡ true)
     (straight_law : MakesStraight is_sealing tag)
-    (drawn : ℕ → Draw) (begun_at now : Moment) (draw : Draw) (number : ℕ) (placed : Placed) (claims : Claims) (entries : List Entry)
-    (old w1 new : State) (limit : ℕ) (is_quiet : Bool)
-    (sizes : AreWhole drawn w1 new)
+    (deliveries : Deliveries) (count limit : ℕ) (w1 new : State) (begins : BegunExchange is_sealing tag deliveries count w1) (is_quiet : Bool)
+    (sizes : AreWhole deliveries.drawn w1 new)
     (apart : StandApart w1.nodes)
     (lawful_clients : AreLawfulClients w1.nodes.clients)
-    (may : MayExchange is_sealing placed.client old.nodes.server now claims entries)
-    (happens : Happens is_sealing tag old (beginning begun_at draw number) w1)
-    (fits : IsNotRefused 14 old w1)
-    (rounds : Rounds is_sealing tag drawn now limit w1 is_quiet new) where
+    (enough : count ≤ limit)
+    (rounds : Rounds (Happens is_sealing tag) deliveries limit w1 is_quiet new) where
   abbrev IsMet : ℕ → Type 0
-  IsMet n = IsRound n w1 is_quiet new × HasMade old number now entries new × (AreMinted old claims → HasFreshDraws new.steps → KeepsThePremise old new)
+  IsMet n =
+      IsRound n w1 is_quiet new × HasMade begins.before begins.client deliveries.at begins.entries new
+      × (AreMinted begins.before begins.claims → HasFreshDraws new.steps → KeepsThePremise begins.before new)
 
-  rounds_of : (n : ℕ) → limit ≡ n → Rounds is_sealing tag drawn now n w1 is_quiet new
-  rounds_of n is = subst (λ (m : ℕ). Rounds is_sealing tag drawn now m w1 is_quiet new) is rounds
+  rounds_of : (n : ℕ) → limit ≡ n → Rounds (Happens is_sealing tag) deliveries n w1 is_quiet new
+  rounds_of n is = subst (λ (m : ℕ). Rounds (Happens is_sealing tag) deliveries m w1 is_quiet new) is rounds
 
-  pub made_round : MakesThrough is_sealing tag → NotesExchange is_sealing tag → KeepsOverExchange → AreLawfulProxies w1.nodes.proxies
-      → (deliveries : ℕ) → deliveries ≤ limit → IsReady old number placed now draw (drawn (length w1.records)) deliveries → IsMet deliveries
-  made_round through_law notes premises lawful_proxies deliveries enough ready = by ready.way
+  abbrev round_is : ClientRound
+  round_is = round_of deliveries begins.draw w1
+
+  pub made_round : MakesThrough is_sealing tag → NotesExchange is_sealing tag → KeepsOverExchange → AreLawfulProxies w1.nodes.proxies → IsMet count
+  made_round through_law notes premises lawful_proxies = by begins.ready.way
     where
-      by : Way old placed now draw (drawn (length w1.records)) deliveries → IsMet deliveries
+      by : Way begins.before begins.placed round_is count → IsMet count
       by (ready_as.Way.straight two goes) =
           let more : limit ≡ suc (suc (limit - 2)) = omega (arith, enough, two) in
           subst IsMet (sym two)
-          (made_straight is_sealing tag itself straight_law drawn begun_at now draw number placed claims entries old w1 new (limit - 2) is_quiet
-          sizes apart lawful_clients ready.still ready.here goes may happens fits (rounds_of (suc (suc (limit - 2))) more) notes premises)
+          (made_straight is_sealing tag itself straight_law deliveries count w1 new begins (limit - 2) is_quiet
+          sizes apart lawful_clients goes (rounds_of (suc (suc (limit - 2))) more) notes premises)
       by (ready_as.Way.through six proxy_number proxy there goes) =
           let more : limit ≡ suc (suc (suc (suc (suc (suc (limit - 6)))))) = omega (arith, enough, six) in
           subst IsMet (sym six)
-          (made_through is_sealing tag itself through_law premises drawn begun_at now draw number placed claims entries old w1 new (limit - 6) is_quiet
-          sizes apart lawful_proxies lawful_clients ready.still ready.here proxy_number proxy there goes may happens fits
+          (made_through is_sealing tag itself through_law premises deliveries count w1 new begins (limit - 6) is_quiet
+          sizes apart lawful_proxies lawful_clients proxy_number proxy there goes
           (rounds_of (suc (suc (suc (suc (suc (suc (limit - 6))))))) more))
 
-  pub unheard_round : HearsNoOther is_sealing tag → 2 ≤ limit → IsReady old number placed now draw (drawn (length w1.records)) 2
-      → (standing : Placed) → slice_get new.nodes.clients number ≡ Some standing → LeavesUnheard old new draw placed standing
-  unheard_round hears_no_other enough ready standing stands = by ready.way
+  pub unheard_round : HearsNoOther is_sealing tag → count ≡ 2 → (standing : Placed) → slice_get new.nodes.clients begins.client ≡ Some standing
+      → LeavesUnheard begins.before new begins.draw begins.placed standing
+  unheard_round hears_no_other is_two standing stands = by begins.ready.way
     where
-      by : Way old placed now draw (drawn (length w1.records)) 2 → LeavesUnheard old new draw placed standing
+      by : Way begins.before begins.placed round_is count → LeavesUnheard begins.before new begins.draw begins.placed standing
       by (ready_as.Way.straight two goes) =
-          let more : limit ≡ suc (suc (limit - 2)) = omega (arith, enough) in
-          left_unheard is_sealing tag itself straight_law drawn begun_at now draw number placed claims entries old w1 new (limit - 2) is_quiet
-          sizes apart lawful_clients ready.still ready.here goes may happens fits (rounds_of (suc (suc (limit - 2))) more) hears_no_other standing stands
-      by (ready_as.Way.through six proxy_number proxy there goes) = absurd (omega (arith, six))
+          let more : limit ≡ suc (suc (limit - 2)) = omega (arith, enough, two) in
+          left_unheard is_sealing tag itself straight_law deliveries count w1 new begins (limit - 2) is_quiet
+          sizes apart lawful_clients goes (rounds_of (suc (suc (limit - 2))) more) hears_no_other standing stands
+      by (ready_as.Way.through six proxy_number proxy there goes) = absurd (omega (arith, six, is_two))

@@ -9,7 +9,6 @@ use Rattle.osc_model.specs.declared.node.Peer.{Peer}
 use Rattle.osc_model.specs.declared.step.ClientResult.TheVariants as result
 use Rattle.osc_model.specs.declared.step.Datagram.{Datagram}
 use Rattle.osc_model.specs.declared.step.Step.{Step}
-use Rattle.osc_cbor.specs.Spelling.{spelling as item_spelling}
 use Rattle.osc_coap.specs.Message.{Message, spelling}
 use Rattle.osc_dedup.specs.Table.{looked}
 use Rattle.osc_message.specs.Confirmables.{same_peer}
@@ -24,43 +23,43 @@ use Rattle.osc_server.specs.State.{State as Server}
 use Rattle.osc_client.specs.Lawful.{IsLawfulClient}
 use Rattle.osc_client.specs.Sending.{Exchanges}
 use Rattle.osc_client.specs.State.{State as Client}
-use Rattle.osc_rounds.specs.ExchangeRound.{IsAgreedAndMade, IsBegunAndMade, IsHeld, IsMade}
+use Rattle.osc_rounds.specs.ExchangeRound.{IsAgreedAndMade, IsBegunAndMade, IsHeld, IsMade, StraightPost}
+use Rattle.osc_rounds.specs.ProxiedExchange.{claims_text}
 use Rattle.osc_rounds.specs.Ready.{IsStraight, MayExchange}
-use Rattle.osc_rounds.specs.RoundNotes.{AreAmongQuiet, AreNotesOfExchange}
+use Rattle.osc_rounds.specs.RoundNotes.{AreAmongQuiet, AreNotesOfExchange, Draws}
 use Rattle.osc_scope.specs.Entries.{Entry}
-use Rattle.osc_token.specs.Token.{claims_item}
 use Rattle.osc_token.specs.declared.claims.Claims.{Claims}
 use Rattle.osc_protect.specs.Ciphers.{Sealings, Tags}
 use Rattle.osc_world.specs.Lawful.{AreLawfulClients}
 use Rattle.osc_world.specs.Log.{sent_from}
 use Rattle.osc_world.specs.Nodes.{NodeStates, StandApart}
 use Rattle.osc_world.specs.Queue.{queue}
-use Rattle.osc_world.specs.Quiet.{AreWhole, Rounds, waiting_first}
-use Rattle.osc_world.specs.Ready.{AreMinted, GoesTheSameWay, HasMade, IsNotRefused, IsRound, KeepsThePremise, LeavesUnheard, beginning}
+use Rattle.osc_world.specs.Quiet.{AreWhole, Deliveries, Rounds}
+use Rattle.osc_world.specs.Ready.{AreMinted, BegunExchange, GoesTheSameWay, HasMade, IsRound, KeepsThePremise, LeavesUnheard, beginning}
 use Rattle.osc_world.specs.Worlds.{Happens, State}
 use Rattle.osc_world.specs.declared.nodes.Placed.{Placed}
-use Rattle.osc_world.proofs.Asked.{lawful_asked}
+use Rattle.osc_world.proofs.Asked.{lawful_after}
 use Rattle.osc_world.proofs.Deliveries.{still_minted}
 use Rattle.osc_world.proofs.Posted.{IsPosted, is_posted}
 use Rattle.osc_world.proofs.Premises.{fresh_as, keeps, these_three}
 use Rattle.osc_world.proofs.Slots.{got_back}
-use Rattle.osc_world.proofs.Straight.{IsAnsweredBack, IsStraight as IsRoundOfTwo, IsWhole, from_to, straight as round_of_two}
+use Rattle.osc_world.proofs.Straight.{IsAnsweredBack, IsStraight as IsRoundOfTwo, IsWhole, coming_from, from_to, straight as round_of_two}
 use Rattle.osc_world.proofs.Way.{exchanges_id, exchanges_same, hears_id, hears_same}
 
 -- what is assumed goes on over the steps of an exchange
 abbrev pub KeepsOverExchange : Type 0
-KeepsOverExchange = (minted : List Minted) (old all : List Noted) (key text : List ℕ) (draw server_draw : Draw) (begun agreed made : Noted)
-    → IsMinted minted text → AreNotesOfExchange key text draw server_draw begun.notes agreed.notes made.notes
+KeepsOverExchange = (minted : List Minted) (old all : List Noted) (key text : List ℕ) (draws : Draws) (begun agreed made : Noted)
+    → IsMinted minted text → AreNotesOfExchange key text draws begun.notes agreed.notes made.notes
     → AreAmongQuiet (made ∷ agreed ∷ begun ∷ []) all → HasFreshDraws (all ++ old) → Premise minted old → Premise minted (all ++ old)
 
 -- in a world whose steps these are, on top of the old ones
-pub exchange_goes_on : KeepsOverExchange → (old new : State) (all : List Noted) (claims : Claims) (key : List ℕ) (draw server_draw : Draw) (begun agreed made : Noted)
-    → AreNotesOfExchange key (item_spelling (claims_item claims)) draw server_draw begun.notes agreed.notes made.notes
+pub exchange_goes_on : KeepsOverExchange → (old new : State) (all : List Noted) (claims : Claims) (key : List ℕ) (draws : Draws) (begun agreed made : Noted)
+    → AreNotesOfExchange key (claims_text claims) draws begun.notes agreed.notes made.notes
     → AreAmongQuiet (made ∷ agreed ∷ begun ∷ []) all → new.minted ≡ old.minted → new.steps ≡ all ++ old.steps
     → AreMinted old claims → HasFreshDraws new.steps → KeepsThePremise old new
-exchange_goes_on law old new all claims key draw server_draw begun agreed made notes among minted steps are_minted fresh =
+exchange_goes_on law old new all claims key draws begun agreed made notes among minted steps are_minted fresh =
     keeps old new (all ++ old.steps) minted steps
-    (law old.minted old.steps all key (item_spelling (claims_item claims)) draw server_draw begun agreed made are_minted notes among (fresh_as new (all ++ old.steps) steps fresh))
+    (law old.minted old.steps all key (claims_text claims) draws begun agreed made are_minted notes among (fresh_as new (all ++ old.steps) steps fresh))
 
 module _ (is_sealing : Sealings) (tag : Tags) where
   -- an exchange that goes straight to the server is made
@@ -69,40 +68,58 @@ module _ (is_sealing : Sealings) (tag : Tags) where
       → IsLawfulClient begun → IsStraight client server now draw at server_at → MayExchange is_sealing client server now claims entries
       → first.notes.result ≢ Some (result.Refused 14)
       → Exchanges client begun_at draw first begun
-      → IsBegunAndMade is_sealing client server now draw at server_at entries first begun
+      → IsBegunAndMade is_sealing (record { begun = begun; server = server; at = at; server_at = server_at; now = now; entries = entries }) client draw first
 
   -- what its steps note
   abbrev pub NotesExchange : Type 0
   NotesExchange = (client begun : Client) (server agreed : Server) (begun_at now : Moment) (draw server_draw : Draw) (at server_at : Peer) (claims : Claims) (entries : List Entry) (message : Message) (first second : Step) (made : StepNotes)
       → IsLawfulClient begun → IsStraight client server now draw at server_at → MayExchange is_sealing client server now claims entries
       → Exchanges client begun_at draw first begun → first.out ≡ datagram client.next_hop message ∷ []
-      → ServerHears is_sealing server now server_draw at (spelling message) second agreed
+      → ServerHears is_sealing server (coming_from now at server_draw (spelling message)) second agreed
       → made ≡ record quiet { result = Some result.Made }
-      → AreNotesOfExchange server.desk.key (item_spelling (claims_item claims)) draw server_draw first.notes second.notes made
+      → AreNotesOfExchange server.desk.key (claims_text claims) (record { client = draw; server = server_draw }) first.notes second.notes made
 
   -- what the server has heard of the client behind it
   abbrev pub HearsNoOther : Type 0
   HearsNoOther = (client begun : Client) (server agreed : Server) (begun_at now later : Moment) (draw server_draw : Draw) (at server_at : Peer) (claims : Claims) (entries : List Entry) (message : Message) (first second : Step) (id : ℕ)
       → IsLawfulClient begun → IsStraight client server now draw at server_at → MayExchange is_sealing client server now claims entries
       → Exchanges client begun_at draw first begun → first.out ≡ datagram client.next_hop message ∷ []
-      → ServerHears is_sealing server now server_draw at (spelling message) second agreed
+      → ServerHears is_sealing server (coming_from now at server_draw (spelling message)) second agreed
       → id ≢ own_id draw client.endpoint.next_id → looked later at id server.endpoint.seen ≡ None → looked later at id agreed.endpoint.seen ≡ None
 
   module _ (itself : (a : Peer) → same_peer a a ≡ true) (law : MakesStraight)
-      (drawn : ℕ → Draw) (begun_at now : Moment) (draw : Draw) (number : ℕ) (placed : Placed) (claims : Claims) (entries : List Entry)
-      (old w1 new : State) (left : ℕ) (is_quiet : Bool)
-      (sizes : AreWhole drawn w1 new)
+      (deliveries : Deliveries) (count : ℕ) (w1 new : State) (it : BegunExchange is_sealing tag deliveries count w1) (left : ℕ) (is_quiet : Bool)
+      (sizes : AreWhole deliveries.drawn w1 new)
       (apart : StandApart w1.nodes)
       (lawful_clients : AreLawfulClients w1.nodes.clients)
-      (still : waiting_first old ≡ None)
-      (here : slice_get old.nodes.clients number ≡ Some placed)
-      (goes : IsStraight placed.client old.nodes.server now draw placed.at old.nodes.server_at)
-      (may : MayExchange is_sealing placed.client old.nodes.server now claims entries)
-      (happens : Happens is_sealing tag old (beginning begun_at draw number) w1)
-      (fits : IsNotRefused 14 old w1)
-      (rounds : Rounds is_sealing tag drawn now (suc (suc left)) w1 is_quiet new) where
-    posts : IsPosted begun_at draw number placed old w1
-    posts = is_posted is_sealing tag begun_at draw number placed old w1 still here happens fits
+      (goes : IsStraight it.placed.client it.before.nodes.server deliveries.at it.draw it.placed.at it.before.nodes.server_at)
+      (rounds : Rounds (Happens is_sealing tag) deliveries (suc (suc left)) w1 is_quiet new) where
+    abbrev old : State
+    old = it.before
+
+    abbrev number : ℕ
+    number = it.client
+
+    abbrev placed : Placed
+    placed = it.placed
+
+    abbrev begun_at : Moment
+    begun_at = it.at
+
+    abbrev draw : Draw
+    draw = it.draw
+
+    abbrev claims : Claims
+    claims = it.claims
+
+    abbrev entries : List Entry
+    entries = it.entries
+
+    abbrev now : Moment
+    now = deliveries.at
+
+    posts : IsPosted is_sealing tag deliveries count w1 it
+    posts = is_posted is_sealing tag deliveries count w1 it
 
     abbrev after : Placed
     after = record placed { client = posts.client }
@@ -111,10 +128,13 @@ module _ (is_sealing : Sealings) (tag : Tags) where
     nodes = record old.nodes { clients = slice_set old.nodes.clients number after }
 
     lawful : IsLawfulClient posts.client
-    lawful = lawful_asked is_sealing tag number placed posts.client old w1 here posts.nodes lawful_clients
+    lawful = lawful_after number placed posts.client old w1 it.ready.here posts.nodes lawful_clients
 
-    is : IsBegunAndMade is_sealing placed.client old.nodes.server now draw placed.at old.nodes.server_at entries posts.step posts.client
-    is = law placed.client posts.client old.nodes.server begun_at now draw placed.at old.nodes.server_at claims entries posts.step lawful goes may posts.fits posts.exchanges
+    abbrev post : StraightPost
+    post = record { begun = posts.client; server = old.nodes.server; at = placed.at; server_at = old.nodes.server_at; now = now; entries = entries }
+
+    is : IsBegunAndMade is_sealing post placed.client draw posts.step
+    is = law placed.client posts.client old.nodes.server begun_at now draw placed.at old.nodes.server_at claims entries posts.step lawful goes it.may posts.fits posts.exchanges
 
     alone : queue w1 ≡ from_to placed.at old.nodes.server_at (spelling is.message) ∷ []
     alone =
@@ -124,25 +144,26 @@ module _ (is_sealing : Sealings) (tag : Tags) where
 
     -- ---- it comes to the server, and its answer to the client
 
-    abbrev coming : (server_draw : Draw) (step : Step) (agreed : Server) → IsWhole server_draw → ServerHears is_sealing old.nodes.server now server_draw placed.at (spelling is.message) step agreed
+    abbrev coming : (server_draw : Draw) (step : Step) (agreed : Server) → IsWhole server_draw
+        → ServerHears is_sealing old.nodes.server (coming_from now placed.at server_draw (spelling is.message)) step agreed
         → IsAnsweredBack is_sealing now posts.client placed.at old.nodes.server_at step
     coming server_draw step agreed whole hears = record {
       answer = spelling (is.agreed server_draw step agreed whole hears).answer;
       out = (is.agreed server_draw step agreed whole hears).out;
-      silent = λ last client heard. ap (λ (s : Step). s.out) ((is.agreed server_draw step agreed whole hears).made last client heard).2.told;
+      silent = λ client_draw last client heard. ap (λ (s : Step). s.out) ((is.agreed server_draw step agreed whole hears).made client_draw last client heard).2.told;
     }
 
     there : slice_get nodes.clients number ≡ Some after
-    there = got_back old.nodes.clients number placed after here
+    there = got_back old.nodes.clients number placed after it.ready.here
 
-    round : IsRoundOfTwo is_sealing IsWhole now number after nodes (spelling is.message) coming w1 new is_quiet
-    round = round_of_two is_sealing IsWhole now number after nodes (spelling is.message) coming tag itself drawn left w1 new is_quiet sizes posts.nodes apart there alone rounds
+    round : IsRoundOfTwo is_sealing IsWhole deliveries number after nodes (spelling is.message) coming w1 new is_quiet
+    round = round_of_two is_sealing IsWhole deliveries number after nodes (spelling is.message) coming tag itself left w1 new is_quiet sizes posts.nodes apart there alone rounds
 
-    abbrev agreed : IsAgreedAndMade is_sealing posts.client now placed.at old.nodes.server_at entries round.serving round.server
+    abbrev agreed : IsAgreedAndMade is_sealing post round.serving round.server
     agreed = is.agreed round.draw round.serving round.server round.good round.served
 
     made : (held : Held) × IsHeld round.server now entries held × IsMade held round.taking round.client
-    made = agreed.made round.taking round.client round.taken
+    made = agreed.made round.client_draw round.taking round.client round.taken
 
     abbrev last : Placed
     last = record after { client = round.client }
@@ -166,17 +187,20 @@ module _ (is_sealing : Sealings) (tag : Tags) where
 
     same_way : (before : Placed) → slice_get old.nodes.clients number ≡ Some before → GoesTheSameWay before last
     same_way before stood =
-        let same : placed ≡ before = same_Some placed before (sym here ∙ stood) in
+        let same : placed ≡ before = same_Some placed before (sym it.ready.here ∙ stood) in
         let posting = exchanges_same placed.client begun_at draw posts.step posts.client posts.exchanges in
-        let taking = hears_same is_sealing posts.client now old.nodes.server_at (spelling agreed.answer) round.taking round.client round.taken in
+        let taking = hears_same is_sealing posts.client (coming_from now old.nodes.server_at round.client_draw (spelling agreed.answer)) round.taking round.client round.taken in
         subst (λ (p : Placed). GoesTheSameWay p last) same
         (record { at = refl; next_hop = taking.0 ∙ posting.0; origin = taking.1 ∙ posting.1 })
 
     module _ (notes : NotesExchange) (premises : KeepsOverExchange) where
-      notes_are : AreNotesOfExchange old.nodes.server.desk.key (item_spelling (claims_item claims)) draw round.draw posts.step.notes round.serving.notes round.taking.notes
+      abbrev draws : Draws
+      draws = record { client = draw; server = round.draw }
+
+      notes_are : AreNotesOfExchange old.nodes.server.desk.key (claims_text claims) draws posts.step.notes round.serving.notes round.taking.notes
       notes_are =
           notes placed.client posts.client old.nodes.server round.server begun_at now draw round.draw placed.at old.nodes.server_at claims entries is.message posts.step round.serving round.taking.notes
-          lawful goes may posts.exchanges is.out round.served (ap (λ (s : Step). s.notes) made.2.told)
+          lawful goes it.may posts.exchanges is.out round.served (ap (λ (s : Step). s.notes) made.2.told)
 
       pub made_straight : IsRound 2 w1 is_quiet new × HasMade old number now entries new × (AreMinted old claims → HasFreshDraws new.steps → KeepsThePremise old new)
       made_straight = (
@@ -198,9 +222,9 @@ module _ (is_sealing : Sealings) (tag : Tags) where
           steps = steps_are;
           learnt = ap (λ (s : Step). s.notes.result) made.2.told;
         },
-        exchange_goes_on premises old new all claims old.nodes.server.desk.key draw round.draw
+        exchange_goes_on premises old new all claims old.nodes.server.desk.key draws
             (by_client number false posts.step.notes) (by_server round.serving.notes) (by_client number false round.taking.notes) notes_are among
-            (still_minted is_sealing tag drawn now (suc (suc left)) old w1 is_quiet new (beginning begun_at draw number) happens rounds) steps_are,
+            (still_minted is_sealing tag deliveries (suc (suc left)) old w1 is_quiet new (beginning begun_at draw number) it.happens rounds) steps_are,
       )
 
     module _ (hears_no_other : HearsNoOther) where
@@ -209,11 +233,11 @@ module _ (is_sealing : Sealings) (tag : Tags) where
       unheard_of later id other before =
           ap (λ (s : Server). looked later placed.at id s.endpoint.seen) server_is
           ∙ hears_no_other placed.client posts.client old.nodes.server round.server begun_at now later draw round.draw placed.at old.nodes.server_at claims entries is.message posts.step round.serving id
-          lawful goes may posts.exchanges is.out round.served other before
+          lawful goes it.may posts.exchanges is.out round.served other before
 
       next_id_is : round.client.endpoint.next_id ≡ Some ((own_id draw placed.client.endpoint.next_id + 1) % 65536)
       next_id_is =
-          hears_id is_sealing posts.client now old.nodes.server_at (spelling agreed.answer) round.taking round.client round.taken
+          hears_id is_sealing posts.client (coming_from now old.nodes.server_at round.client_draw (spelling agreed.answer)) round.taking round.client round.taken
           ∙ exchanges_id placed.client begun_at draw posts.step posts.client (datagram placed.client.next_hop is.message) posts.exchanges is.out
 
       pub left_unheard : (standing : Placed) → slice_get new.nodes.clients number ≡ Some standing → LeavesUnheard old new draw placed standing

@@ -12,8 +12,9 @@ use Rattle.osc_run.specs.States.{ClientState, Minted, WorldState}
 use Rattle.osc_server.specs.State.{core as core_of_server}
 use Rattle.osc_client.specs.State.{core as core_of_client}
 use Rattle.osc_world.specs.Log.{LogState, IsKept, delivered, sent_by, steps_with, recorded}
-use Rattle.osc_world.specs.Nodes.{NodeStates, whose_step}
-use Rattle.osc_world.specs.Steps.{IsSkip, IsStep, OfNobody, OfServer, OfClient, OfProxy, Skips, Stays, Takes}
+use Rattle.osc_world.specs.Inner.Kinds.{IsSkip, IsStep, OfNobody, OfServer, OfClient, OfProxy, Skips, Stays}
+use Rattle.osc_world.specs.Nodes.{NodeStates, deed_of}
+use Rattle.osc_world.specs.Steps.{Takes}
 use Rattle.osc_world.specs.Worlds.{State, Happens, Happen, run_with, world_of}
 use Rattle.osc_world.specs.declared.event.Event.{Event}
 use Rattle.osc_world.specs.declared.log.Record.{Record}
@@ -74,7 +75,7 @@ pub happened : (is_sealing : Sealings) (tag : Tags) (self : State) (minted : Lis
     (log same later : LogState) (event : Event) (taken : Option Taken)
     → world_of minted first old log ≡ self
     → same.sent ≡ log.sent → same.steps ≡ log.steps → same.records ≡ log.records
-    → Takes is_sealing tag old (whose_step old log.sent event.what) same.sent event taken new
+    → Takes is_sealing tag old (deed_of old same.sent event) taken new
     → IsKept same event.what taken later
     → Happens is_sealing tag self event (world_of minted first new later)
 happened is_sealing tag self minted first old new log same later event taken is sent steps records takes kept =
@@ -82,7 +83,7 @@ happened is_sealing tag self minted first old new log same later event taken is 
     (record {
       taken = taken;
       nodes = new;
-      takes = subst (λ s. Takes is_sealing tag old (whose_step old log.sent event.what) s event taken new) sent takes;
+      takes = subst (λ s. Takes is_sealing tag old (deed_of old s event) taken new) sent takes;
       is = λ j. record {
         minted = minted;
         first = first;

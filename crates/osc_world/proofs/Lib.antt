@@ -3,6 +3,7 @@ pub mod Going
 pub mod Enrolling
 pub mod Sending
 pub mod Taking
+pub mod Deeds
 pub mod Apart
 mod Waiting
 mod Rest

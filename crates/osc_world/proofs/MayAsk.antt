@@ -10,10 +10,10 @@ use Rattle.osc_message.specs.Endpoint.{own_id}
 use Rattle.osc_context.specs.Nonce.{greatest_number}
 use Rattle.osc_window.specs.Window.{IsFresh}
 use Rattle.osc_authz.specs.Contexts.{IsLive}
-use Rattle.osc_authz.specs.Held.{Held}
+use Rattle.osc_rounds.specs.Asked.{OpenedRequest}
 use Rattle.osc_rounds.specs.Ready.{MayAsk}
 use Rattle.osc_scope.specs.Entries.{Entry}
-use Rattle.osc_world.specs.Ready.{GoesTheSameWay, HasAnswered, HasMade, IsReady, IsRound, LeavesUnheard}
+use Rattle.osc_world.specs.Ready.{ClientRound, GoesTheSameWay, HasAnswered, HasMade, IsReady, IsRound, LeavesUnheard}
 use Rattle.osc_world.specs.Ready as ready_as
 use Rattle.osc_world.specs.Worlds.{State}
 use Rattle.osc_world.specs.declared.nodes.Placed.{Placed}
@@ -35,17 +35,17 @@ may_ask old new client now later entries made live = record {
 }
 
 -- what a round of two deliveries leaves is ready for another straight one
-ready_again : (begun old new : State) (quiet : Bool) (client : ℕ) (before placed : Placed) (later : Moment) (draw next first : Draw)
+ready_again : (begun old new : State) (quiet : Bool) (client : ℕ) (before placed : Placed) (draw : Draw) (next : ClientRound)
     → IsRound 2 begun quiet new → slice_get new.nodes.clients client ≡ Some placed → GoesTheSameWay before placed → new.nodes.server_at ≡ old.nodes.server_at
     → before.client.origin ≡ None → before.client.next_hop ≡ old.nodes.server_at
     → LeavesUnheard old new draw before placed
-    → looked later before.at ((own_id draw before.client.endpoint.next_id + 1) % 65536) old.nodes.server.endpoint.seen ≡ None
-    → IsReady new client placed later next first 2
-ready_again begun old new quiet client before placed later draw next first round is_there way server_at direct next_hop leaves unheard =
+    → looked next.at before.at ((own_id draw before.client.endpoint.next_id + 1) % 65536) old.nodes.server.endpoint.seen ≡ None
+    → IsReady new client placed next 2
+ready_again begun old new quiet client before placed draw next round is_there way server_at direct next_hop leaves unheard =
     let round_id : ℕ = own_id draw before.client.endpoint.next_id in
     let next_id : ℕ = (round_id + 1) % 65536 in
-    let id_is : own_id next placed.client.endpoint.next_id ≡ next_id = ap (own_id next) leaves.next_id in
-    let at_new : looked later before.at next_id new.nodes.server.endpoint.seen ≡ None = leaves.unheard later next_id (next_differs round_id) unheard in
+    let id_is : own_id next.draw placed.client.endpoint.next_id ≡ next_id = ap (own_id next.draw) leaves.next_id in
+    let at_new : looked next.at before.at next_id new.nodes.server.endpoint.seen ≡ None = leaves.unheard next.at next_id (next_differs round_id) unheard in
     record {
       still = round.still;
       here = is_there;
@@ -53,43 +53,43 @@ ready_again begun old new quiet client before placed later draw next first round
           (record {
             direct = way.origin ∙ direct;
             next_hop = way.next_hop ∙ next_hop ∙ sym server_at;
-            unheard = ap (λ (id : ℕ). looked later placed.at id new.nodes.server.endpoint.seen) id_is
-                ∙ ap (λ (at : Peer). looked later at next_id new.nodes.server.endpoint.seen) way.at
+            unheard = ap (λ (id : ℕ). looked next.at placed.at id new.nodes.server.endpoint.seen) id_is
+                ∙ ap (λ (at : Peer). looked next.at at next_id new.nodes.server.endpoint.seen) way.at
                 ∙ at_new;
           });
     }
 
-pub ready_to_ask : (begun old new : State) (quiet : Bool) (client : ℕ) (before : Placed) (now later : Moment) (draw next first : Draw) (entries : List Entry)
-    (made : HasMade old client now entries new)
+pub ready_to_ask : (begun old new : State) (quiet : Bool) (client : ℕ) (before : Placed) (now : Moment) (draw : Draw) (entries : List Entry)
+    (made : HasMade old client now entries new) (next : ClientRound)
     → IsRound 2 begun quiet new → slice_get old.nodes.clients client ≡ Some before
     → before.client.origin ≡ None → before.client.next_hop ≡ old.nodes.server_at
     → LeavesUnheard old new draw before made.placed
-    → looked later before.at ((own_id draw before.client.endpoint.next_id + 1) % 65536) old.nodes.server.endpoint.seen ≡ None
-    → IsReady new client made.placed later next first 2
-ready_to_ask begun old new quiet client before now later draw next first entries made round here direct next_hop leaves unheard =
-    ready_again begun old new quiet client before made.placed later draw next first round made.is_there (made.way before here) made.server_at direct next_hop leaves unheard
+    → looked next.at before.at ((own_id draw before.client.endpoint.next_id + 1) % 65536) old.nodes.server.endpoint.seen ≡ None
+    → IsReady new client made.placed next 2
+ready_to_ask begun old new quiet client before now draw entries made next round here direct next_hop leaves unheard =
+    ready_again begun old new quiet client before made.placed draw next round made.is_there (made.way before here) made.server_at direct next_hop leaves unheard
 
 -- ---- behind an answered one
 
-pub may_ask_again : (old new : State) (client : ℕ) (text : List ℕ) (now later : Moment) (held : Held) (number : ℕ) (answered : HasAnswered old client text now held number new)
-    → IsLive later answered.after → number + 1 ≤ greatest_number → IsFresh held.window (number + 1)
-    → MayAsk answered.placed.client new.nodes.server later (record { name = held.name; next = number + 1 }) answered.after
-may_ask_again old new client text now later held number answered live few fresh = record {
+pub may_ask_again : (old new : State) (client : ℕ) (now later : Moment) (request : OpenedRequest) (answered : HasAnswered old client now request new)
+    → IsLive later answered.after → request.number + 1 ≤ greatest_number → IsFresh request.held.window (request.number + 1)
+    → MayAsk answered.placed.client new.nodes.server later (record { name = request.held.name; next = request.number + 1 }) answered.after
+may_ask_again old new client now later request answered live few fresh = record {
   idle = answered.idle;
   has = answered.at_client;
   here = answered.at_server.here;
   one_name = answered.at_server.name;
   live = live;
   number = few;
-  fresh = answered.at_server.fresh (number + 1) (omega arith) fresh;
+  fresh = answered.at_server.fresh (request.number + 1) (omega arith) fresh;
 }
 
-pub ready_to_ask_again : (asked old new : State) (quiet : Bool) (client : ℕ) (text : List ℕ) (before : Placed) (now later : Moment) (draw next first : Draw) (held : Held) (number : ℕ)
-    (answered : HasAnswered old client text now held number new)
+pub ready_to_ask_again : (asked old new : State) (quiet : Bool) (client : ℕ) (before : Placed) (now : Moment) (draw : Draw) (request : OpenedRequest)
+    (answered : HasAnswered old client now request new) (next : ClientRound)
     → IsRound 2 asked quiet new → slice_get old.nodes.clients client ≡ Some before
     → before.client.origin ≡ None → before.client.next_hop ≡ old.nodes.server_at
     → LeavesUnheard old new draw before answered.placed
-    → looked later before.at ((own_id draw before.client.endpoint.next_id + 1) % 65536) old.nodes.server.endpoint.seen ≡ None
-    → IsReady new client answered.placed later next first 2
-ready_to_ask_again asked old new quiet client text before now later draw next first held number answered round here direct next_hop leaves unheard =
-    ready_again asked old new quiet client before answered.placed later draw next first round answered.is_there (answered.way before here) answered.server_at direct next_hop leaves unheard
+    → looked next.at before.at ((own_id draw before.client.endpoint.next_id + 1) % 65536) old.nodes.server.endpoint.seen ≡ None
+    → IsReady new client answered.placed next 2
+ready_to_ask_again asked old new quiet client before now draw request answered next round here direct next_hop leaves unheard =
+    ready_again asked old new quiet client before answered.placed draw next round answered.is_there (answered.way before here) answered.server_at direct next_hop leaves unheard

@@ -1,6 +1,6 @@
 -- An exchange is begun: what waits then, and what stands.
-use Rattle.std.proofs.Common.{◌≡◌, ◌∙◌, ap, subst, refl, ℕ, false, List, [], ◌∷◌, ◌++◌, map, Option, Some, None}
-use Rattle.std.specs.Prelude.{◌≢◌, slice_get, slice_set}
+use Rattle.std.proofs.Common.{◌≡◌, ◌∙◌, ap, refl, ℕ, false, List, [], ◌∷◌, ◌++◌, map, Option, Some, None}
+use Rattle.std.specs.Prelude.{◌≢◌, slice_set}
 use Rattle.osc_model.specs.declared.node.Draw.{Draw}
 use Rattle.osc_model.specs.declared.node.Moment.{Moment}
 use Rattle.osc_model.specs.declared.step.ClientResult.TheVariants as result
@@ -12,52 +12,46 @@ use Rattle.osc_client.specs.Sending.{Exchanges, begins, busy, post_by}
 use Rattle.osc_client.specs.Sending as sending
 use Rattle.osc_client.specs.State.{State as Client}
 use Rattle.osc_world.specs.Log.{sent_by, sent_from, steps_with}
+use Rattle.osc_world.specs.Nodes.{Begin}
 use Rattle.osc_world.specs.Queue.{queue}
-use Rattle.osc_world.specs.Quiet.{waiting_first}
-use Rattle.osc_world.specs.Ready.{IsNotRefused, beginning}
-use Rattle.osc_world.specs.Steps.{ClientTakes, TakesOf}
-use Rattle.osc_world.specs.Worlds.{Happens, State}
-use Rattle.osc_world.specs.declared.event.Event.{Event}
+use Rattle.osc_world.specs.Quiet.{Deliveries}
+use Rattle.osc_world.specs.Ready.{BegunExchange, beginning}
+use Rattle.osc_world.specs.Steps.{ClientDoes}
+use Rattle.osc_world.specs.Worlds.{State}
 use Rattle.osc_world.specs.declared.log.SentDatagram.{SentDatagram}
 use Rattle.osc_world.specs.declared.nodes.Placed.{Placed}
 use Rattle.osc_world.specs.declared.nodes.Taken.{Taken}
 use Rattle.osc_world.proofs.Deliveries.{at_rest, sent_behind}
+use Rattle.osc_world.proofs.Taking.{ItTakes, it_takes}
 
--- the client's step, and what is so behind it
-pub record IsPosted (begun_at : Moment) (draw : Draw) (number : ℕ) (placed : Placed) (old begun : State) : Type 0 where
-  pub step : Step
-  pub client : Client
-  pub exchanges : Exchanges placed.client begun_at draw step client
-  pub steps : begun.steps ≡ by_client number false step.notes ∷ old.steps
-  pub nodes : begun.nodes ≡ record old.nodes { clients = slice_set old.nodes.clients number (record placed { client = client }) }
-  pub waits : queue begun ≡ map (sent_from placed.at) step.out
-  pub fits : step.notes.result ≢ Some (result.Refused 14)
+module _ (is_sealing : Sealings) (tag : Tags) (deliveries : Deliveries) (count : ℕ) (begun : State) (it : BegunExchange is_sealing tag deliveries count begun) where
+  -- the client's step, and what is so behind it
+  pub record IsPosted : Type 0 where
+    pub step : Step
+    pub client : Client
+    pub exchanges : Exchanges it.placed.client it.at it.draw step client
+    pub steps : begun.steps ≡ by_client it.client false step.notes ∷ it.before.steps
+    pub nodes : begun.nodes ≡ record it.before.nodes { clients = slice_set it.before.nodes.clients it.client (record it.placed { client = client }) }
+    pub waits : queue begun ≡ map (sent_from it.placed.at) step.out
+    pub fits : step.notes.result ≢ Some (result.Refused 14)
 
-module _ (is_sealing : Sealings) (tag : Tags) (begun_at : Moment) (draw : Draw) (number : ℕ) (placed : Placed) (old begun : State)
-    (still : waiting_first old ≡ None)
-    (here : slice_get old.nodes.clients number ≡ Some placed)
-    (happens : Happens is_sealing tag old (beginning begun_at draw number) begun)
-    (fits : IsNotRefused 14 old begun) where
-  abbrev event : Event
-  event = beginning begun_at draw number
+  takes : ItTakes (ClientDoes is_sealing tag (Begin it.at it.draw)) false it.before.nodes it.client it.happens.taken it.happens.nodes it.placed
+  takes = it_takes (ClientDoes is_sealing tag (Begin it.at it.draw)) false it.before.nodes it.client it.happens.taken it.happens.nodes it.placed it.ready.here it.happens.takes
 
-  takes : ClientTakes is_sealing tag old.nodes number placed old.sent event happens.taken happens.nodes
-  takes = subst (λ (o : Option Placed). TakesOf is_sealing tag old.nodes number o old.sent event happens.taken happens.nodes) here happens.takes
+  steps_are : begun.steps ≡ by_client it.client false takes.step.notes ∷ it.before.steps
+  steps_are = ap (λ (w : State). w.steps) it.happens.is ∙ ap (λ (t : Option Taken). steps_with t it.before.steps) takes.taken_is
 
-  steps_are : begun.steps ≡ by_client number false takes.step.notes ∷ old.steps
-  steps_are = ap (λ (w : State). w.steps) happens.is ∙ ap (λ (t : Option Taken). steps_with t old.steps) takes.taken_is
-
-  pub is_posted : IsPosted begun_at draw number placed old begun
+  pub is_posted : IsPosted
   is_posted = record {
     step = takes.step;
     client = takes.client;
-    exchanges = takes.does.exchanges;
+    exchanges = takes.it_does.exchanges;
     steps = steps_are;
-    nodes = ap (λ (w : State). w.nodes) happens.is ∙ takes.is;
-    waits = sent_behind is_sealing tag old begun event happens refl
-        ∙ ap (λ (all : List SentDatagram). all ++ sent_by happens.taken) (at_rest old still)
+    nodes = ap (λ (w : State). w.nodes) it.happens.is ∙ takes.is;
+    waits = sent_behind is_sealing tag it.before begun (beginning it.at it.draw it.client) it.happens refl
+        ∙ ap (λ (all : List SentDatagram). all ++ sent_by it.happens.taken) (at_rest it.before it.ready.still)
         ∙ ap (λ (t : Option Taken). sent_by t) takes.taken_is;
-    fits = fits (by_client number false takes.step.notes) steps_are;
+    fits = it.fits (by_client it.client false takes.step.notes) steps_are;
   }
 
 -- the post goes out in one datagram

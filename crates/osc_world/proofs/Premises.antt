@@ -1,13 +1,10 @@
 -- What is assumed of a run goes on over the three steps of a round.
 use Rattle.std.proofs.Common.{◌≡◌, ◌∙◌, sym, ap, subst, refl, ℕ, List, [], ◌∷◌, Option, Some, None, inr}
 use Rattle.osc_model.specs.StepNotes.{StepNotes, quiet}
-use Rattle.osc_model.specs.declared.node.Draw.{Draw}
-use Rattle.osc_model.specs.declared.node.Moment.{Moment}
-use Rattle.osc_model.specs.declared.request.Request.{Request}
 use Rattle.osc_model.specs.declared.step.Note.{Note}
 use Rattle.osc_model.specs.declared.step.Step.{Step}
 use Rattle.osc_protect.specs.Ciphers.{Sealings, Tags}
-use Rattle.osc_client.specs.Sending.{Asks, asks, hindered}
+use Rattle.osc_client.specs.Sending.{Asked, Asks, asks, hindered}
 use Rattle.osc_client.specs.State.{State as Client}
 use Rattle.osc_rounds.specs.RoundNotes.{AreAmongQuiet}
 use Rattle.osc_run.specs.Notes.{Noted}
@@ -30,13 +27,13 @@ pub fresh_as : (new : State) (steps : List Noted) → new.steps ≡ steps → Ha
 fresh_as new steps is fresh = subst HasFreshDraws is fresh
 
 -- what asks and seals notes nothing else
-pub asks_notes : (is_sealing : Sealings) (tag : Tags) (client asked : Client) (now : Moment) (request : Request) (draw : Draw) (step : Step) (note : Note)
-    → Asks is_sealing tag client now request draw step asked → step.notes.seals ≡ Some note → step.notes ≡ record quiet { seals = Some note }
-asks_notes is_sealing tag client asked now request draw step note (hindered number is refused) seals =
+pub asks_notes : (is_sealing : Sealings) (tag : Tags) (client after : Client) (asked : Asked) (step : Step) (note : Note)
+    → Asks is_sealing tag client asked step after → step.notes.seals ≡ Some note → step.notes ≡ record quiet { seals = Some note }
+asks_notes is_sealing tag client after asked step note (hindered number is refused) seals =
     let none : None ≡ Some note = sym (ap (λ (s : Step). s.notes.seals) refused.told) ∙ seals in absurd (wrong none)
   where
     wrong : None ≡ Some note → ⊥
     wrong e = cc
-asks_notes is_sealing tag client asked now request draw step note (asks context protected free made spelled told kept) seals =
+asks_notes is_sealing tag client after asked step note (asks context protected free made spelled told kept) seals =
     ap (λ (s : Step). s.notes) told
     ∙ ap (λ (o : Option Note). let n : StepNotes = record quiet { seals = o } in n) (sym (ap (λ (s : Step). s.notes.seals) told) ∙ seals)

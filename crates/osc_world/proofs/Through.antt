@@ -21,49 +21,50 @@ use Rattle.osc_rounds.specs.RoundNotes.{AreAmongQuiet}
 use Rattle.osc_world.specs.Log.{sent_from}
 use Rattle.osc_world.specs.Nodes.{NodeStates, StandApart}
 use Rattle.osc_world.specs.Queue.{IsHeardByClient, IsHeardByProxy, IsHeardByServer, queue}
-use Rattle.osc_world.specs.Quiet.{AreWhole, Rounds, waiting_first}
-use Rattle.osc_world.specs.Worlds.{State}
+use Rattle.osc_world.specs.Quiet.{AreWhole, Deliveries, Rounds, next_draw, waiting_first}
+use Rattle.osc_world.specs.Worlds.{Happens, State}
 use Rattle.osc_world.specs.declared.log.SentDatagram.{SentDatagram}
 use Rattle.osc_world.specs.declared.nodes.Placed.{Placed}
 use Rattle.osc_world.specs.declared.nodes.PlacedProxy.{PlacedProxy}
-use Rattle.osc_world.proofs.Deliveries.{client_hears, over, proxy_hears, server_hears, still}
+use Rattle.osc_world.proofs.Deliveries.{client_hears, delivery_of, over, proxy_hears, server_hears, still}
 use Rattle.osc_world.proofs.Rounds.{none_lost}
 use Rattle.osc_world.proofs.Slots.{got_back, set_same, set_twice}
-use Rattle.osc_world.proofs.Straight.{IsWhole, from_to}
+use Rattle.osc_world.proofs.Straight.{IsWhole, coming_from, from_to}
 
 -- ---- what each step sends, and what comes of it where that comes
 
--- `drawn` are the draws, and `first` is the number of the event at which the proxy hears what the client sent
-module _ (is_sealing : Sealings) (drawn : ℕ → Draw) (first : ℕ) (now : Moment) (at proxy_at server_at : Peer) where
+module _ (is_sealing : Sealings) (now : Moment) (at proxy_at server_at : Peer) where
   -- the client took the answer: one datagram goes to the proxy, which sends nothing
   pub record IsTaken (proxy : Proxy) (step : Step) : Type 0 where
     pub taken : List ℕ
     pub out : step.out ≡ record { to = proxy_at; bytes = taken } ∷ []
-    pub silent : (last : Step) (after : Proxy) → IsWhole (drawn (first + 5)) → ProxyHears proxy now (drawn (first + 5)) at taken last after → last.out ≡ []
+    pub silent : (draw : Draw) (last : Step) (after : Proxy) → ProxyHears proxy (coming_from now at draw taken) last after → last.out ≡ []
 
   -- the proxy sends one datagram back to the client
   pub record IsSentBack (client : Client) (proxy : Proxy) (step : Step) : Type 0 where
     pub answer : List ℕ
     pub out : step.out ≡ record { to = at; bytes = answer } ∷ []
-    pub taken : (next : Step) (after : Client) → ClientHears is_sealing client now proxy_at answer next after → IsTaken proxy next
+    pub taken : (draw : Draw) (next : Step) (after : Client) → ClientHears is_sealing client (coming_from now proxy_at draw answer) next after → IsTaken proxy next
 
   -- the server sends one datagram back to the proxy
   pub record IsServed (client : Client) (proxy : Proxy) (step : Step) : Type 0 where
     pub reply : List ℕ
     pub out : step.out ≡ record { to = proxy_at; bytes = reply } ∷ []
-    pub back : (next : Step) (after : Proxy) → IsWhole (drawn (first + 3)) → ProxyHears proxy now (drawn (first + 3)) server_at reply next after → IsSentBack client after next
+    pub back : (draw : Draw) (next : Step) (after : Proxy) → ProxyHears proxy (coming_from now server_at draw reply) next after → IsSentBack client after next
 
   -- the client sends nothing at the acknowledgement, and the server hears what was forwarded
   pub record IsAcknowledged (client : Client) (server : Server) (proxy : Proxy) (forwarded : List ℕ) (step : Step) : Type 0 where
     pub silent : step.out ≡ []
-    pub served : (next : Step) (after : Server) → IsWhole (drawn (first + 2)) → ServerHears is_sealing server now (drawn (first + 2)) proxy_at forwarded next after → IsServed client proxy next
+    pub served : (draw : Draw) (next : Step) (after : Server) → IsWhole draw → ServerHears is_sealing server (coming_from now proxy_at draw forwarded) next after
+        → IsServed client proxy next
 
   -- the proxy acknowledges what came, and forwards it to the server
   pub record IsForwarded (client : Client) (server : Server) (proxy : Proxy) (step : Step) : Type 0 where
     pub acknowledgement : List ℕ
     pub forwarded : List ℕ
     pub out : step.out ≡ record { to = at; bytes = acknowledgement } ∷ record { to = server_at; bytes = forwarded } ∷ []
-    pub acknowledged : (next : Step) (after : Client) → ClientHears is_sealing client now proxy_at acknowledgement next after → IsAcknowledged after server proxy forwarded next
+    pub acknowledged : (draw : Draw) (next : Step) (after : Client) → ClientHears is_sealing client (coming_from now proxy_at draw acknowledgement) next after
+        → IsAcknowledged after server proxy forwarded next
 
 -- ---- one delivery, among these nodes
 
@@ -91,13 +92,13 @@ begins_with route =
     ∙ ap (λ (all : List PlacedProxy). record route.nodes { clients = slice_set route.nodes.clients route.number route.placed; proxies = all })
     (sym (set_same route.nodes.proxies route.proxy_number route.proxy route.proxy_there))
 
-module _ (is_sealing : Sealings) (tag : Tags) (drawn : ℕ → Draw) (now : Moment) (route : Route) (new : State) (is_quiet : Bool) where
+module _ (is_sealing : Sealings) (tag : Tags) (deliveries : Deliveries) (route : Route) (new : State) (is_quiet : Bool) where
   -- how far the round has come: the nodes, what waits, and how many deliveries are left
   pub record Stage (left : ℕ) (world : State) (server : Server) (client : Client) (proxy : Proxy) (waiting : List SentDatagram) : Type 0 where
     pub nodes : world.nodes ≡ nodes_of route server client proxy
     pub apart : StandApart world.nodes
     pub waits : queue world ≡ waiting
-    pub rest : Rounds is_sealing tag drawn now left world is_quiet new
+    pub rest : Rounds (Happens is_sealing tag) deliveries left world is_quiet new
 
   pub at_stage : (left : ℕ) (world : State) (server : Server) (client : Client) (proxy : Proxy) (waiting more : List SentDatagram) → waiting ≡ more → Stage left world server client proxy waiting
       → Stage left world server client proxy more
@@ -108,7 +109,7 @@ module _ (is_sealing : Sealings) (tag : Tags) (drawn : ℕ → Draw) (now : Mome
     pub next : State
     pub step : Step
     pub after : Proxy
-    pub hears : ProxyHears proxy now (drawn (length world.records)) from bytes step after
+    pub hears : ProxyHears proxy (coming_from deliveries.at from (next_draw deliveries world) bytes) step after
     pub stage : Stage left next server client after (later ++ map (sent_from route.proxy.at) step.out)
     pub steps : next.steps ≡ by_proxy route.proxy_number step.notes ∷ world.steps
     pub records : length next.records ≡ length world.records + 1
@@ -118,7 +119,7 @@ module _ (is_sealing : Sealings) (tag : Tags) (drawn : ℕ → Draw) (now : Mome
     pub next : State
     pub step : Step
     pub after : Client
-    pub hears : ClientHears is_sealing client now from bytes step after
+    pub hears : ClientHears is_sealing client (coming_from deliveries.at from (next_draw deliveries world) bytes) step after
     pub stage : Stage left next server after proxy (later ++ map (sent_from route.placed.at) step.out)
     pub steps : next.steps ≡ by_client route.number false step.notes ∷ world.steps
     pub records : length next.records ≡ length world.records + 1
@@ -128,7 +129,7 @@ module _ (is_sealing : Sealings) (tag : Tags) (drawn : ℕ → Draw) (now : Mome
     pub next : State
     pub step : Step
     pub after : Server
-    pub hears : ServerHears is_sealing server now (drawn (length world.records)) from bytes step after
+    pub hears : ServerHears is_sealing server (coming_from deliveries.at from (next_draw deliveries world) bytes) step after
     pub stage : Stage left next after client proxy (later ++ map (sent_from route.nodes.server_at) step.out)
     pub steps : next.steps ≡ by_server step.notes ∷ world.steps
     pub records : length next.records ≡ length world.records + 1
@@ -140,11 +141,11 @@ module _ (is_sealing : Sealings) (tag : Tags) (drawn : ℕ → Draw) (now : Mome
         ap (λ (n : NodeStates). slice_get n.proxies route.proxy_number) stage.nodes
         ∙ got_back route.nodes.proxies route.proxy_number route.proxy (record route.proxy { proxy = proxy }) route.proxy_there in
         by
-        (proxy_hears is_sealing tag drawn now itself left world (from_to from route.proxy.at bytes) later is_quiet new stage.apart stage.waits stage.rest route.proxy_number
+        (proxy_hears is_sealing tag deliveries itself left world (from_to from route.proxy.at bytes) later is_quiet new stage.apart stage.waits stage.rest route.proxy_number
         (record route.proxy { proxy = proxy }) here refl)
       where
-        by : (next : State) × IsHeardByProxy now (drawn (length world.records)) route.proxy_number (record route.proxy { proxy = proxy }) world (from_to from route.proxy.at bytes) later next
-            × Rounds is_sealing tag drawn now left next is_quiet new → AtProxy left world server client proxy from bytes later
+        by : (next : State) × IsHeardByProxy route.proxy_number (record route.proxy { proxy = proxy }) (delivery_of deliveries world (from_to from route.proxy.at bytes) later) world next
+            × Rounds (Happens is_sealing tag) deliveries left next is_quiet new → AtProxy left world server client proxy from bytes later
         by it = record {
           next = it.0;
           step = it.1.step;
@@ -155,12 +156,12 @@ module _ (is_sealing : Sealings) (tag : Tags) (drawn : ℕ → Draw) (now : Mome
                 ∙ ap (λ (n : NodeStates). record n { proxies = slice_set n.proxies route.proxy_number (record route.proxy { proxy = it.1.proxy }) }) stage.nodes
                 ∙ ap (λ (all : List PlacedProxy). record (nodes_of route server client proxy) { proxies = all })
                 (set_twice route.nodes.proxies route.proxy_number (record route.proxy { proxy = proxy }) (record route.proxy { proxy = it.1.proxy }));
-            apart = it.1.apart;
-            waits = it.1.waits;
+            apart = it.1.kept.apart;
+            waits = it.1.kept.waits;
             rest = it.2;
           };
-          steps = it.1.steps;
-          records = it.1.records;
+          steps = it.1.kept.steps;
+          records = it.1.kept.records;
         }
 
     pub at_client : Stage (suc left) world server client proxy (from_to from route.placed.at bytes ∷ later) → AtClient left world server client proxy from bytes later
@@ -169,11 +170,11 @@ module _ (is_sealing : Sealings) (tag : Tags) (drawn : ℕ → Draw) (now : Mome
         ap (λ (n : NodeStates). slice_get n.clients route.number) stage.nodes
         ∙ got_back route.nodes.clients route.number route.placed (record route.placed { client = client }) route.there in
         by
-        (client_hears is_sealing tag drawn now itself left world (from_to from route.placed.at bytes) later is_quiet new stage.apart stage.waits stage.rest route.number
+        (client_hears is_sealing tag deliveries itself left world (from_to from route.placed.at bytes) later is_quiet new stage.apart stage.waits stage.rest route.number
         (record route.placed { client = client }) here refl)
       where
-        by : (next : State) × IsHeardByClient is_sealing now route.number (record route.placed { client = client }) world (from_to from route.placed.at bytes) later next
-            × Rounds is_sealing tag drawn now left next is_quiet new → AtClient left world server client proxy from bytes later
+        by : (next : State) × IsHeardByClient is_sealing route.number (record route.placed { client = client }) (delivery_of deliveries world (from_to from route.placed.at bytes) later) world next
+            × Rounds (Happens is_sealing tag) deliveries left next is_quiet new → AtClient left world server client proxy from bytes later
         by it = record {
           next = it.0;
           step = it.1.step;
@@ -184,70 +185,80 @@ module _ (is_sealing : Sealings) (tag : Tags) (drawn : ℕ → Draw) (now : Mome
                 ∙ ap (λ (n : NodeStates). record n { clients = slice_set n.clients route.number (record route.placed { client = it.1.client }) }) stage.nodes
                 ∙ ap (λ (all : List Placed). record (nodes_of route server client proxy) { clients = all })
                 (set_twice route.nodes.clients route.number (record route.placed { client = client }) (record route.placed { client = it.1.client }));
-            apart = it.1.apart;
-            waits = it.1.waits;
+            apart = it.1.kept.apart;
+            waits = it.1.kept.waits;
             rest = it.2;
           };
-          steps = it.1.steps;
-          records = it.1.records;
+          steps = it.1.kept.steps;
+          records = it.1.kept.records;
         }
 
     pub at_server : Stage (suc left) world server client proxy (from_to from route.nodes.server_at bytes ∷ later) → AtServer left world server client proxy from bytes later
     at_server stage =
         by
-        (server_hears is_sealing tag drawn now itself left world (from_to from route.nodes.server_at bytes) later is_quiet new stage.apart stage.waits stage.rest
+        (server_hears is_sealing tag deliveries itself left world (from_to from route.nodes.server_at bytes) later is_quiet new stage.apart stage.waits stage.rest
         (sym (ap (λ (n : NodeStates). n.server_at) stage.nodes)))
       where
-        by : (next : State) × IsHeardByServer is_sealing now (drawn (length world.records)) world (from_to from route.nodes.server_at bytes) later next
-            × Rounds is_sealing tag drawn now left next is_quiet new → AtServer left world server client proxy from bytes later
+        by : (next : State) × IsHeardByServer is_sealing (delivery_of deliveries world (from_to from route.nodes.server_at bytes) later) world next
+            × Rounds (Happens is_sealing tag) deliveries left next is_quiet new → AtServer left world server client proxy from bytes later
         by it = record {
           next = it.0;
           step = it.1.step;
           after = it.1.server;
-          hears = subst (λ (n : NodeStates). ServerHears is_sealing n.server now (drawn (length world.records)) from bytes it.1.step it.1.server) stage.nodes it.1.hears;
+          hears = subst (λ (n : NodeStates). ServerHears is_sealing n.server (coming_from deliveries.at from (next_draw deliveries world) bytes) it.1.step it.1.server) stage.nodes it.1.hears;
           stage = record {
             nodes = it.1.nodes ∙ ap (λ (n : NodeStates). record n { server = it.1.server }) stage.nodes;
-            apart = it.1.apart;
-            waits = it.1.waits ∙ ap (λ (n : NodeStates). later ++ map (sent_from n.server_at) it.1.step.out) stage.nodes;
+            apart = it.1.kept.apart;
+            waits = it.1.kept.waits ∙ ap (λ (n : NodeStates). later ++ map (sent_from n.server_at) it.1.step.out) stage.nodes;
             rest = it.2;
           };
-          steps = it.1.steps;
-          records = it.1.records;
+          steps = it.1.kept.steps;
+          records = it.1.kept.records;
         }
 
 -- ---- the round
 
-module _ (is_sealing : Sealings) (drawn : ℕ → Draw) (first : ℕ) (now : Moment) (route : Route) (bytes : List ℕ)
-    (law : (step : Step) (after : Proxy) → IsWhole (drawn first) → ProxyHears route.proxy.proxy now (drawn first) route.placed.at bytes step after
-    → IsForwarded is_sealing drawn first now route.placed.at route.proxy.at route.nodes.server_at route.placed.client route.nodes.server after step) where
+module _ (is_sealing : Sealings) (deliveries : Deliveries) (begun : State) (route : Route) (bytes : List ℕ)
+    (law : (step : Step) (after : Proxy) → IsWhole (next_draw deliveries begun)
+    → ProxyHears route.proxy.proxy (coming_from deliveries.at route.placed.at (next_draw deliveries begun) bytes) step after
+    → IsForwarded is_sealing deliveries.at route.placed.at route.proxy.at route.nodes.server_at route.placed.client route.nodes.server after step) where
   -- the six steps, and what is left of them
-  pub record IsThrough (begun new : State) (is_quiet : Bool) : Type 0 where
-    pub whole_1 : IsWhole (drawn first)
+  pub record IsThrough (new : State) (is_quiet : Bool) : Type 0 where
+    pub whole_1 : IsWhole (next_draw deliveries begun)
     pub step_1 : Step
     pub proxy_1 : Proxy
-    pub hears_1 : ProxyHears route.proxy.proxy now (drawn first) route.placed.at bytes step_1 proxy_1
+    pub hears_1 : ProxyHears route.proxy.proxy (coming_from deliveries.at route.placed.at (next_draw deliveries begun) bytes) step_1 proxy_1
+    pub draw_2 : Draw
     pub step_2 : Step
     pub client_2 : Client
-    pub hears_2 : ClientHears is_sealing route.placed.client now route.proxy.at (law step_1 proxy_1 whole_1 hears_1).acknowledgement step_2 client_2
-    pub whole_3 : IsWhole (drawn (first + 2))
+    pub hears_2 : ClientHears is_sealing route.placed.client (coming_from deliveries.at route.proxy.at draw_2 (law step_1 proxy_1 whole_1 hears_1).acknowledgement) step_2 client_2
+    pub draw_3 : Draw
+    pub whole_3 : IsWhole draw_3
     pub step_3 : Step
     pub server_3 : Server
-    pub hears_3 : ServerHears is_sealing route.nodes.server now (drawn (first + 2)) route.proxy.at (law step_1 proxy_1 whole_1 hears_1).forwarded step_3 server_3
-    pub whole_4 : IsWhole (drawn (first + 3))
+    pub hears_3 : ServerHears is_sealing route.nodes.server (coming_from deliveries.at route.proxy.at draw_3 (law step_1 proxy_1 whole_1 hears_1).forwarded) step_3 server_3
+    pub draw_4 : Draw
     pub step_4 : Step
     pub proxy_4 : Proxy
-    pub hears_4 : ProxyHears proxy_1 now (drawn (first + 3)) route.nodes.server_at
-        (((law step_1 proxy_1 whole_1 hears_1).acknowledged step_2 client_2 hears_2).served step_3 server_3 whole_3 hears_3).reply step_4 proxy_4
+    pub hears_4 : ProxyHears proxy_1
+        (coming_from deliveries.at route.nodes.server_at draw_4
+        (((law step_1 proxy_1 whole_1 hears_1).acknowledged draw_2 step_2 client_2 hears_2).served draw_3 step_3 server_3 whole_3 hears_3).reply)
+        step_4 proxy_4
+    pub draw_5 : Draw
     pub step_5 : Step
     pub client_5 : Client
-    pub hears_5 : ClientHears is_sealing client_2 now route.proxy.at
-        ((((law step_1 proxy_1 whole_1 hears_1).acknowledged step_2 client_2 hears_2).served step_3 server_3 whole_3 hears_3).back step_4 proxy_4 whole_4 hears_4).answer step_5 client_5
-    pub whole_6 : IsWhole (drawn (first + 5))
+    pub hears_5 : ClientHears is_sealing client_2
+        (coming_from deliveries.at route.proxy.at draw_5
+        ((((law step_1 proxy_1 whole_1 hears_1).acknowledged draw_2 step_2 client_2 hears_2).served draw_3 step_3 server_3 whole_3 hears_3).back
+        draw_4 step_4 proxy_4 hears_4).answer)
+        step_5 client_5
+    pub draw_6 : Draw
     pub step_6 : Step
     pub proxy_6 : Proxy
-    pub hears_6 : ProxyHears proxy_4 now (drawn (first + 5)) route.placed.at
-        (((((law step_1 proxy_1 whole_1 hears_1).acknowledged step_2 client_2 hears_2).served step_3 server_3 whole_3 hears_3).back step_4 proxy_4 whole_4 hears_4).taken
-        step_5 client_5 hears_5).taken
+    pub hears_6 : ProxyHears proxy_4
+        (coming_from deliveries.at route.placed.at draw_6
+        (((((law step_1 proxy_1 whole_1 hears_1).acknowledged draw_2 step_2 client_2 hears_2).served draw_3 step_3 server_3 whole_3 hears_3).back
+        draw_4 step_4 proxy_4 hears_4).taken draw_5 step_5 client_5 hears_5).taken)
         step_6 proxy_6
     pub nodes_are : new.nodes ≡ nodes_of route server_3 client_5 proxy_6
     pub steps : new.steps
@@ -258,145 +269,130 @@ module _ (is_sealing : Sealings) (drawn : ℕ → Draw) (first : ℕ) (now : Mom
         ∷ by_client route.number false step_2.notes
         ∷ by_proxy route.proxy_number step_1.notes
         ∷ begun.steps
-    pub deliveries : length new.records ≡ length begun.records + 6
+    pub count : length new.records ≡ length begun.records + 6
     pub quiet : is_quiet ≡ true
     pub still : waiting_first new ≡ None
 
-  module _ (tag : Tags) (itself : (a : Peer) → same_peer a a ≡ true) (left : ℕ) (begun new : State) (is_quiet : Bool)
-      (first_is : first ≡ length begun.records)
-      (sizes : AreWhole drawn begun new)
+  module _ (tag : Tags) (itself : (a : Peer) → same_peer a a ≡ true) (left : ℕ) (new : State) (is_quiet : Bool)
+      (sizes : AreWhole deliveries.drawn begun new)
       (nodes_is : begun.nodes ≡ route.nodes)
       (apart : StandApart begun.nodes)
       (alone : queue begun ≡ from_to route.placed.at route.proxy.at bytes ∷ [])
-      (rounds : Rounds is_sealing tag drawn now (suc (suc (suc (suc (suc (suc left)))))) begun is_quiet new) where
+      (rounds : Rounds (Happens is_sealing tag) deliveries (suc (suc (suc (suc (suc (suc left)))))) begun is_quiet new) where
     -- the draw of a delivery in it
-    whole_at : (event : ℕ) (world next : State) (more : ℕ) → length world.records ≡ event → first ≤ event → length next.records ≡ length world.records + 1
-        → Rounds is_sealing tag drawn now more next is_quiet new → IsWhole (drawn event)
-    whole_at event world next more here since one rest = sizes event (omega (arith, first_is, since)) (omega (arith, here, one, none_lost is_sealing tag drawn now more next is_quiet new rest))
+    whole_at : (world next : State) (more : ℕ) → length begun.records ≤ length world.records → length next.records ≡ length world.records + 1
+        → Rounds (Happens is_sealing tag) deliveries more next is_quiet new → IsWhole (next_draw deliveries world)
+    whole_at world next more since one rest = sizes (length world.records) since (omega (arith, one, none_lost is_sealing tag deliveries more next is_quiet new rest))
 
     -- to the proxy
 
-    stage_0 : Stage is_sealing tag drawn now route new is_quiet (suc (suc (suc (suc (suc (suc left)))))) begun route.nodes.server route.placed.client route.proxy.proxy
+    stage_0 : Stage is_sealing tag deliveries route new is_quiet (suc (suc (suc (suc (suc (suc left)))))) begun route.nodes.server route.placed.client route.proxy.proxy
         (from_to route.placed.at route.proxy.at bytes ∷ [])
     stage_0 = record { nodes = nodes_is ∙ begins_with route; apart = apart; waits = alone; rest = rounds }
 
-    w1 : AtProxy is_sealing tag drawn now route new is_quiet (suc (suc (suc (suc (suc left))))) begun route.nodes.server route.placed.client route.proxy.proxy route.placed.at bytes []
-    w1 = at_proxy is_sealing tag drawn now route new is_quiet itself (suc (suc (suc (suc (suc left))))) begun route.nodes.server route.placed.client route.proxy.proxy route.placed.at bytes [] stage_0
+    w1 : AtProxy is_sealing tag deliveries route new is_quiet (suc (suc (suc (suc (suc left))))) begun route.nodes.server route.placed.client route.proxy.proxy route.placed.at bytes []
+    w1 = at_proxy is_sealing tag deliveries route new is_quiet itself (suc (suc (suc (suc (suc left))))) begun route.nodes.server route.placed.client route.proxy.proxy route.placed.at bytes [] stage_0
 
-    whole_1 : IsWhole (drawn first)
-    whole_1 = whole_at first begun w1.next (suc (suc (suc (suc (suc left))))) (sym first_is) (omega arith) w1.records w1.stage.rest
+    whole_1 : IsWhole (next_draw deliveries begun)
+    whole_1 = whole_at begun w1.next (suc (suc (suc (suc (suc left))))) (omega arith) w1.records w1.stage.rest
 
-    hears_1 : ProxyHears route.proxy.proxy now (drawn first) route.placed.at bytes w1.step w1.after
-    hears_1 = subst (λ (n : ℕ). ProxyHears route.proxy.proxy now (drawn n) route.placed.at bytes w1.step w1.after) (sym first_is) w1.hears
-
-    abbrev forwards : IsForwarded is_sealing drawn first now route.placed.at route.proxy.at route.nodes.server_at route.placed.client route.nodes.server w1.after w1.step
-    forwards = law w1.step w1.after whole_1 hears_1
+    abbrev forwards : IsForwarded is_sealing deliveries.at route.placed.at route.proxy.at route.nodes.server_at route.placed.client route.nodes.server w1.after w1.step
+    forwards = law w1.step w1.after whole_1 w1.hears
 
     abbrev behind : List SentDatagram
     behind = from_to route.proxy.at route.nodes.server_at forwards.forwarded ∷ []
 
     -- its acknowledgement to the client
 
-    stage_1 : Stage is_sealing tag drawn now route new is_quiet (suc (suc (suc (suc (suc left))))) w1.next route.nodes.server route.placed.client w1.after
+    stage_1 : Stage is_sealing tag deliveries route new is_quiet (suc (suc (suc (suc (suc left))))) w1.next route.nodes.server route.placed.client w1.after
         (from_to route.proxy.at route.placed.at forwards.acknowledgement ∷ behind)
     stage_1 =
-        at_stage is_sealing tag drawn now route new is_quiet (suc (suc (suc (suc (suc left))))) w1.next route.nodes.server route.placed.client w1.after
+        at_stage is_sealing tag deliveries route new is_quiet (suc (suc (suc (suc (suc left))))) w1.next route.nodes.server route.placed.client w1.after
         (map (sent_from route.proxy.at) w1.step.out) (from_to route.proxy.at route.placed.at forwards.acknowledgement ∷ behind)
         (ap (λ (out : List Datagram). map (sent_from route.proxy.at) out) forwards.out) w1.stage
 
-    w2 : AtClient is_sealing tag drawn now route new is_quiet (suc (suc (suc (suc left)))) w1.next route.nodes.server route.placed.client w1.after route.proxy.at forwards.acknowledgement behind
-    w2 =
-        at_client is_sealing tag drawn now route new is_quiet itself (suc (suc (suc (suc left)))) w1.next route.nodes.server route.placed.client w1.after route.proxy.at forwards.acknowledgement behind
-        stage_1
+    w2 : AtClient is_sealing tag deliveries route new is_quiet (suc (suc (suc (suc left)))) w1.next route.nodes.server route.placed.client w1.after route.proxy.at forwards.acknowledgement behind
+    w2 = at_client is_sealing tag deliveries route new is_quiet itself (suc (suc (suc (suc left)))) w1.next route.nodes.server route.placed.client w1.after route.proxy.at forwards.acknowledgement behind stage_1
 
-    abbrev acknowledged : IsAcknowledged is_sealing drawn first now route.placed.at route.proxy.at route.nodes.server_at w2.after route.nodes.server w1.after forwards.forwarded w2.step
-    acknowledged = forwards.acknowledged w2.step w2.after w2.hears
+    abbrev draw_2 : Draw
+    draw_2 = next_draw deliveries w1.next
+
+    abbrev acknowledged : IsAcknowledged is_sealing deliveries.at route.placed.at route.proxy.at route.nodes.server_at w2.after route.nodes.server w1.after forwards.forwarded w2.step
+    acknowledged = forwards.acknowledged draw_2 w2.step w2.after w2.hears
 
     -- what it forwarded to the server
 
-    stage_2 : Stage is_sealing tag drawn now route new is_quiet (suc (suc (suc (suc left)))) w2.next route.nodes.server w2.after w1.after behind
+    stage_2 : Stage is_sealing tag deliveries route new is_quiet (suc (suc (suc (suc left)))) w2.next route.nodes.server w2.after w1.after behind
     stage_2 =
-        at_stage is_sealing tag drawn now route new is_quiet (suc (suc (suc (suc left)))) w2.next route.nodes.server w2.after w1.after
+        at_stage is_sealing tag deliveries route new is_quiet (suc (suc (suc (suc left)))) w2.next route.nodes.server w2.after w1.after
         (behind ++ map (sent_from route.placed.at) w2.step.out) behind
         (ap (λ (out : List Datagram). behind ++ map (sent_from route.placed.at) out) acknowledged.silent) w2.stage
 
-    w3 : AtServer is_sealing tag drawn now route new is_quiet (suc (suc (suc left))) w2.next route.nodes.server w2.after w1.after route.proxy.at forwards.forwarded []
-    w3 = at_server is_sealing tag drawn now route new is_quiet itself (suc (suc (suc left))) w2.next route.nodes.server w2.after w1.after route.proxy.at forwards.forwarded [] stage_2
+    w3 : AtServer is_sealing tag deliveries route new is_quiet (suc (suc (suc left))) w2.next route.nodes.server w2.after w1.after route.proxy.at forwards.forwarded []
+    w3 = at_server is_sealing tag deliveries route new is_quiet itself (suc (suc (suc left))) w2.next route.nodes.server w2.after w1.after route.proxy.at forwards.forwarded [] stage_2
 
-    event_3 : length w2.next.records ≡ first + 2
-    event_3 = omega (arith, first_is, w1.records, w2.records)
+    abbrev draw_3 : Draw
+    draw_3 = next_draw deliveries w2.next
 
-    whole_3 : IsWhole (drawn (first + 2))
-    whole_3 = whole_at (first + 2) w2.next w3.next (suc (suc (suc left))) event_3 (omega arith) w3.records w3.stage.rest
+    whole_3 : IsWhole draw_3
+    whole_3 = whole_at w2.next w3.next (suc (suc (suc left))) (omega (arith, w1.records, w2.records)) w3.records w3.stage.rest
 
-    hears_3 : ServerHears is_sealing route.nodes.server now (drawn (first + 2)) route.proxy.at forwards.forwarded w3.step w3.after
-    hears_3 = subst (λ (n : ℕ). ServerHears is_sealing route.nodes.server now (drawn n) route.proxy.at forwards.forwarded w3.step w3.after) event_3 w3.hears
-
-    abbrev served : IsServed is_sealing drawn first now route.placed.at route.proxy.at route.nodes.server_at w2.after w1.after w3.step
-    served = acknowledged.served w3.step w3.after whole_3 hears_3
+    abbrev served : IsServed is_sealing deliveries.at route.placed.at route.proxy.at route.nodes.server_at w2.after w1.after w3.step
+    served = acknowledged.served draw_3 w3.step w3.after whole_3 w3.hears
 
     -- its answer to the proxy
 
-    stage_3 : Stage is_sealing tag drawn now route new is_quiet (suc (suc (suc left))) w3.next w3.after w2.after w1.after (from_to route.nodes.server_at route.proxy.at served.reply ∷ [])
+    stage_3 : Stage is_sealing tag deliveries route new is_quiet (suc (suc (suc left))) w3.next w3.after w2.after w1.after (from_to route.nodes.server_at route.proxy.at served.reply ∷ [])
     stage_3 =
-        at_stage is_sealing tag drawn now route new is_quiet (suc (suc (suc left))) w3.next w3.after w2.after w1.after
+        at_stage is_sealing tag deliveries route new is_quiet (suc (suc (suc left))) w3.next w3.after w2.after w1.after
         (map (sent_from route.nodes.server_at) w3.step.out) (from_to route.nodes.server_at route.proxy.at served.reply ∷ [])
         (ap (λ (out : List Datagram). map (sent_from route.nodes.server_at) out) served.out) w3.stage
 
-    w4 : AtProxy is_sealing tag drawn now route new is_quiet (suc (suc left)) w3.next w3.after w2.after w1.after route.nodes.server_at served.reply []
-    w4 = at_proxy is_sealing tag drawn now route new is_quiet itself (suc (suc left)) w3.next w3.after w2.after w1.after route.nodes.server_at served.reply [] stage_3
+    w4 : AtProxy is_sealing tag deliveries route new is_quiet (suc (suc left)) w3.next w3.after w2.after w1.after route.nodes.server_at served.reply []
+    w4 = at_proxy is_sealing tag deliveries route new is_quiet itself (suc (suc left)) w3.next w3.after w2.after w1.after route.nodes.server_at served.reply [] stage_3
 
-    event_4 : length w3.next.records ≡ first + 3
-    event_4 = omega (arith, event_3, w3.records)
+    abbrev draw_4 : Draw
+    draw_4 = next_draw deliveries w3.next
 
-    whole_4 : IsWhole (drawn (first + 3))
-    whole_4 = whole_at (first + 3) w3.next w4.next (suc (suc left)) event_4 (omega arith) w4.records w4.stage.rest
-
-    hears_4 : ProxyHears w1.after now (drawn (first + 3)) route.nodes.server_at served.reply w4.step w4.after
-    hears_4 = subst (λ (n : ℕ). ProxyHears w1.after now (drawn n) route.nodes.server_at served.reply w4.step w4.after) event_4 w4.hears
-
-    abbrev back : IsSentBack is_sealing drawn first now route.placed.at route.proxy.at route.nodes.server_at w2.after w4.after w4.step
-    back = served.back w4.step w4.after whole_4 hears_4
+    abbrev back : IsSentBack is_sealing deliveries.at route.placed.at route.proxy.at route.nodes.server_at w2.after w4.after w4.step
+    back = served.back draw_4 w4.step w4.after w4.hears
 
     -- and back to the client
 
-    stage_4 : Stage is_sealing tag drawn now route new is_quiet (suc (suc left)) w4.next w3.after w2.after w4.after (from_to route.proxy.at route.placed.at back.answer ∷ [])
+    stage_4 : Stage is_sealing tag deliveries route new is_quiet (suc (suc left)) w4.next w3.after w2.after w4.after (from_to route.proxy.at route.placed.at back.answer ∷ [])
     stage_4 =
-        at_stage is_sealing tag drawn now route new is_quiet (suc (suc left)) w4.next w3.after w2.after w4.after
+        at_stage is_sealing tag deliveries route new is_quiet (suc (suc left)) w4.next w3.after w2.after w4.after
         (map (sent_from route.proxy.at) w4.step.out) (from_to route.proxy.at route.placed.at back.answer ∷ [])
         (ap (λ (out : List Datagram). map (sent_from route.proxy.at) out) back.out) w4.stage
 
-    w5 : AtClient is_sealing tag drawn now route new is_quiet (suc left) w4.next w3.after w2.after w4.after route.proxy.at back.answer []
-    w5 = at_client is_sealing tag drawn now route new is_quiet itself (suc left) w4.next w3.after w2.after w4.after route.proxy.at back.answer [] stage_4
+    w5 : AtClient is_sealing tag deliveries route new is_quiet (suc left) w4.next w3.after w2.after w4.after route.proxy.at back.answer []
+    w5 = at_client is_sealing tag deliveries route new is_quiet itself (suc left) w4.next w3.after w2.after w4.after route.proxy.at back.answer [] stage_4
 
-    abbrev taken : IsTaken is_sealing drawn first now route.placed.at route.proxy.at route.nodes.server_at w4.after w5.step
-    taken = back.taken w5.step w5.after w5.hears
+    abbrev draw_5 : Draw
+    draw_5 = next_draw deliveries w4.next
+
+    abbrev taken : IsTaken is_sealing deliveries.at route.placed.at route.proxy.at route.nodes.server_at w4.after w5.step
+    taken = back.taken draw_5 w5.step w5.after w5.hears
 
     -- whose acknowledgement ends it at the proxy
 
-    stage_5 : Stage is_sealing tag drawn now route new is_quiet (suc left) w5.next w3.after w5.after w4.after (from_to route.placed.at route.proxy.at taken.taken ∷ [])
+    stage_5 : Stage is_sealing tag deliveries route new is_quiet (suc left) w5.next w3.after w5.after w4.after (from_to route.placed.at route.proxy.at taken.taken ∷ [])
     stage_5 =
-        at_stage is_sealing tag drawn now route new is_quiet (suc left) w5.next w3.after w5.after w4.after
+        at_stage is_sealing tag deliveries route new is_quiet (suc left) w5.next w3.after w5.after w4.after
         (map (sent_from route.placed.at) w5.step.out) (from_to route.placed.at route.proxy.at taken.taken ∷ [])
         (ap (λ (out : List Datagram). map (sent_from route.placed.at) out) taken.out) w5.stage
 
-    w6 : AtProxy is_sealing tag drawn now route new is_quiet left w5.next w3.after w5.after w4.after route.placed.at taken.taken []
-    w6 = at_proxy is_sealing tag drawn now route new is_quiet itself left w5.next w3.after w5.after w4.after route.placed.at taken.taken [] stage_5
+    w6 : AtProxy is_sealing tag deliveries route new is_quiet left w5.next w3.after w5.after w4.after route.placed.at taken.taken []
+    w6 = at_proxy is_sealing tag deliveries route new is_quiet itself left w5.next w3.after w5.after w4.after route.placed.at taken.taken [] stage_5
 
-    event_6 : length w5.next.records ≡ first + 5
-    event_6 = omega (arith, event_4, w4.records, w5.records)
-
-    whole_6 : IsWhole (drawn (first + 5))
-    whole_6 = whole_at (first + 5) w5.next w6.next left event_6 (omega arith) w6.records w6.stage.rest
-
-    hears_6 : ProxyHears w4.after now (drawn (first + 5)) route.placed.at taken.taken w6.step w6.after
-    hears_6 = subst (λ (n : ℕ). ProxyHears w4.after now (drawn n) route.placed.at taken.taken w6.step w6.after) event_6 w6.hears
+    abbrev draw_6 : Draw
+    draw_6 = next_draw deliveries w5.next
 
     none_6 : queue w6.next ≡ []
-    none_6 = w6.stage.waits ∙ ap (λ (out : List Datagram). map (sent_from route.proxy.at) out) (taken.silent w6.step w6.after whole_6 hears_6)
+    none_6 = w6.stage.waits ∙ ap (λ (out : List Datagram). map (sent_from route.proxy.at) out) (taken.silent draw_6 w6.step w6.after w6.hears)
 
     ends : (is_quiet ≡ true) × (new ≡ w6.next)
-    ends = over is_sealing tag drawn now left w6.next is_quiet new none_6 w6.stage.rest
+    ends = over is_sealing tag deliveries left w6.next is_quiet new none_6 w6.stage.rest
 
     steps_6 : w6.next.steps
         ≡ by_proxy route.proxy_number w6.step.notes
@@ -408,50 +404,53 @@ module _ (is_sealing : Sealings) (drawn : ℕ → Draw) (first : ℕ) (now : Mom
         ∷ begun.steps
     steps_6 = cc (w1.steps, w2.steps, w3.steps, w4.steps, w5.steps, w6.steps)
 
-    pub through : IsThrough begun new is_quiet
+    pub through : IsThrough new is_quiet
     through = record {
       whole_1 = whole_1;
       step_1 = w1.step;
       proxy_1 = w1.after;
-      hears_1 = hears_1;
+      hears_1 = w1.hears;
+      draw_2 = draw_2;
       step_2 = w2.step;
       client_2 = w2.after;
       hears_2 = w2.hears;
+      draw_3 = draw_3;
       whole_3 = whole_3;
       step_3 = w3.step;
       server_3 = w3.after;
-      hears_3 = hears_3;
-      whole_4 = whole_4;
+      hears_3 = w3.hears;
+      draw_4 = draw_4;
       step_4 = w4.step;
       proxy_4 = w4.after;
-      hears_4 = hears_4;
+      hears_4 = w4.hears;
+      draw_5 = draw_5;
       step_5 = w5.step;
       client_5 = w5.after;
       hears_5 = w5.hears;
-      whole_6 = whole_6;
+      draw_6 = draw_6;
       step_6 = w6.step;
       proxy_6 = w6.after;
-      hears_6 = hears_6;
+      hears_6 = w6.hears;
       nodes_are = ap (λ (w : State). w.nodes) ends.1 ∙ w6.stage.nodes;
       steps = ap (λ (w : State). w.steps) ends.1 ∙ steps_6;
-      deliveries = ap (λ (w : State). length w.records) ends.1 ∙ omega (arith, w1.records, w2.records, w3.records, w4.records, w5.records, w6.records);
+      count = ap (λ (w : State). length w.records) ends.1 ∙ omega (arith, w1.records, w2.records, w3.records, w4.records, w5.records, w6.records);
       quiet = ends.0;
       still = still new (ap queue ends.1 ∙ none_6);
     }
 
 -- the draw of the first delivery has 32 bytes, once something waits for the proxy
-pub first_is_whole : (is_sealing : Sealings) (tag : Tags) (drawn : ℕ → Draw) (now : Moment) (itself : (a : Peer) → same_peer a a ≡ true) (route : Route)
+pub first_is_whole : (is_sealing : Sealings) (tag : Tags) (deliveries : Deliveries) (itself : (a : Peer) → same_peer a a ≡ true) (route : Route)
     (bytes : List ℕ) (left : ℕ) (begun new : State) (is_quiet : Bool)
-    → AreWhole drawn begun new → begun.nodes ≡ route.nodes → StandApart begun.nodes → queue begun ≡ from_to route.placed.at route.proxy.at bytes ∷ []
-    → Rounds is_sealing tag drawn now (suc left) begun is_quiet new → IsWhole (drawn (length begun.records))
-first_is_whole is_sealing tag drawn now itself route bytes left begun new is_quiet sizes nodes_is apart alone rounds =
+    → AreWhole deliveries.drawn begun new → begun.nodes ≡ route.nodes → StandApart begun.nodes → queue begun ≡ from_to route.placed.at route.proxy.at bytes ∷ []
+    → Rounds (Happens is_sealing tag) deliveries (suc left) begun is_quiet new → IsWhole (next_draw deliveries begun)
+first_is_whole is_sealing tag deliveries itself route bytes left begun new is_quiet sizes nodes_is apart alone rounds =
     by
-    (proxy_hears is_sealing tag drawn now itself left begun (from_to route.placed.at route.proxy.at bytes) [] is_quiet new apart alone rounds route.proxy_number route.proxy
+    (proxy_hears is_sealing tag deliveries itself left begun (from_to route.placed.at route.proxy.at bytes) [] is_quiet new apart alone rounds route.proxy_number route.proxy
     (ap (λ (n : NodeStates). slice_get n.proxies route.proxy_number) nodes_is ∙ route.proxy_there) refl)
   where
-    by : (next : State) × IsHeardByProxy now (drawn (length begun.records)) route.proxy_number route.proxy begun (from_to route.placed.at route.proxy.at bytes) [] next
-        × Rounds is_sealing tag drawn now left next is_quiet new → IsWhole (drawn (length begun.records))
-    by it = sizes (length begun.records) (omega arith) (omega (arith, it.1.records, none_lost is_sealing tag drawn now left it.0 is_quiet new it.2))
+    by : (next : State) × IsHeardByProxy route.proxy_number route.proxy (delivery_of deliveries begun (from_to route.placed.at route.proxy.at bytes) []) begun next
+        × Rounds (Happens is_sealing tag) deliveries left next is_quiet new → IsWhole (next_draw deliveries begun)
+    by it = sizes (length begun.records) (omega arith) (omega (arith, it.1.kept.records, none_lost is_sealing tag deliveries left it.0 is_quiet new it.2))
 
 -- ---- what the seven steps note: the round's six, and the client's before it
 

@@ -1,18 +1,18 @@
 -- A client that hears something, begins an exchange or asks, reaches its server the same way; and its next message ID.
 use Rattle.std.proofs.Common.{◌≡◌, ◌∙◌, sym, ap, refl, ℕ, ◌+◌, ◌%◌, Bool, true, false, List, [], ◌∷◌, Some}
+use Rattle.osc_model.specs.Arrival.{Arrival}
 use Rattle.osc_model.specs.declared.node.Draw.{Draw}
 use Rattle.osc_model.specs.declared.node.Moment.{Moment}
-use Rattle.osc_model.specs.declared.node.Peer.{Peer}
-use Rattle.osc_model.specs.declared.request.Request.{Request}
 use Rattle.osc_model.specs.declared.step.Datagram.{Datagram}
 use Rattle.osc_model.specs.declared.step.Step.{Step}
-use Rattle.osc_coap.specs.declared.kind.Kind.{Kind}
-use Rattle.osc_message.specs.Endpoint.{own_id}
+use Rattle.osc_message.specs.Endpoint.{EndpointState, own_id, settled}
 use Rattle.osc_message.specs.Heard.{heard}
+use Rattle.osc_message.specs.declared.handling.Handling.TheVariants as handling
+use Rattle.osc_message.specs.declared.heard.Heard.TheVariants as heard_as
 use Rattle.osc_protect.specs.Ciphers.{Sealings, Tags}
 use Rattle.osc_client.specs.Case.{case_of, is_ended}
 use Rattle.osc_client.specs.Hearing.{Hears}
-use Rattle.osc_client.specs.Sending.{Asks, Exchanges, asks, begins, busy, hindered}
+use Rattle.osc_client.specs.Sending.{Asked, Asks, Exchanges, asks, begins, busy, hindered}
 use Rattle.osc_client.specs.Sending as sending
 use Rattle.osc_client.specs.State.{State as Client}
 use Rattle.osc_client.specs.Table.{Answers, Settles}
@@ -25,49 +25,51 @@ SameWay old new = (new.next_hop ≡ old.next_hop) × (new.origin ≡ old.origin)
 pub same_way : (old new other : Client) → new ≡ other → SameWay old other → SameWay old new
 same_way old new other is same = (ap (λ (c : Client). c.next_hop) is ∙ same.0, ap (λ (c : Client). c.origin) is ∙ same.1)
 
-settled_same : (ended : Bool) (old : Client) (now : Moment) (from : Peer) (kind : Kind) (id : ℕ) (step : Step) (new : Client)
-    → Settles ended old now from kind id step new → SameWay old new
-settled_same false old now from kind id step new it = same_way old new _ it.1 (refl, refl)
-settled_same true old now from kind id step new it = same_way old new _ it.1 (refl, refl)
+settled_same : (ended : Bool) (old : Client) (endpoint : EndpointState) (step : Step) (new : Client) → Settles ended old endpoint step new → SameWay old new
+settled_same false old endpoint step new it = same_way old new _ it.1 (refl, refl)
+settled_same true old endpoint step new it = same_way old new _ it.1 (refl, refl)
 
 -- what is settled takes no message ID
-settled_id : (ended : Bool) (old : Client) (now : Moment) (from : Peer) (kind : Kind) (id : ℕ) (step : Step) (new : Client)
-    → Settles ended old now from kind id step new → new.endpoint.next_id ≡ old.endpoint.next_id
-settled_id false old now from kind id step new it = ap (λ (c : Client). c.endpoint.next_id) it.1
-settled_id true old now from kind id step new it = ap (λ (c : Client). c.endpoint.next_id) it.1
+settled_id : (ended : Bool) (old : Client) (endpoint : EndpointState) (step : Step) (new : Client) → Settles ended old endpoint step new
+    → new.endpoint.next_id ≡ endpoint.next_id
+settled_id false old endpoint step new it = ap (λ (c : Client). c.endpoint.next_id) it.1
+settled_id true old endpoint step new it = ap (λ (c : Client). c.endpoint.next_id) it.1
 
 module _ (is_sealing : Sealings) where
-  answers_id : (case : Case) (old : Client) (now : Moment) (from : Peer) (step : Step) (new : Client)
-      → Answers is_sealing old now from case step new → new.endpoint.next_id ≡ old.endpoint.next_id
-  answers_id Ignored old now from step new it = ap (λ (c : Client). c.endpoint.next_id) it.1
-  answers_id (Reset id) old now from step new it = ap (λ (c : Client). c.endpoint.next_id) it.1
-  answers_id (Repeated id) old now from step new it = ap (λ (c : Client). c.endpoint.next_id) it.1
-  answers_id (Empty kind id) old now from step new it = settled_id (is_ended old.next_hop from kind id old.waiting) old now from kind id step new it
-  answers_id (Refused message) old now from step new it = ap (λ (c : Client). c.endpoint.next_id) it.1
-  answers_id (Rejected message) old now from step new it = ap (λ (c : Client). c.endpoint.next_id) it.1
-  answers_id (Dropped message) old now from step new it = ap (λ (c : Client). c.endpoint.next_id) it.1
-  answers_id (Counted message) old now from step new it = ap (λ (c : Client). c.endpoint.next_id) it.kept
+  answers_id : (case : Case) (old : Client) (came : Arrival (List ℕ)) (step : Step) (new : Client)
+      → Answers is_sealing old came case step new → new.endpoint.next_id ≡ old.endpoint.next_id
+  answers_id Ignored old came step new it = ap (λ (c : Client). c.endpoint.next_id) it.1
+  answers_id (Reset id) old came step new it = ap (λ (c : Client). c.endpoint.next_id) it.1
+  answers_id (Repeated id) old came step new it = ap (λ (c : Client). c.endpoint.next_id) it.1
+  answers_id (Empty kind id) old came step new it =
+      settled_id (is_ended old.next_hop came.from kind id old.waiting) old
+      (settled old.endpoint came.at came.from (heard_as.Empty kind id) handling.Dropped) step new it
+  answers_id (Refused message) old came step new it = ap (λ (c : Client). c.endpoint.next_id) it.1
+  answers_id (Rejected message) old came step new it = ap (λ (c : Client). c.endpoint.next_id) it.1
+  answers_id (Dropped message) old came step new it = ap (λ (c : Client). c.endpoint.next_id) it.1
+  answers_id (Counted message) old came step new it = ap (λ (c : Client). c.endpoint.next_id) it.kept
 
-  pub hears_id : (old : Client) (now : Moment) (from : Peer) (bytes : List ℕ) (step : Step) (new : Client)
-      → Hears is_sealing old now from bytes step new → new.endpoint.next_id ≡ old.endpoint.next_id
-  hears_id old now from bytes step new hears =
-      answers_id (case_of old.next_hop from old.waiting (heard old.endpoint.seen now from hears.received)) old now from step new hears.answers
+  pub hears_id : (old : Client) (came : Arrival (List ℕ)) (step : Step) (new : Client)
+      → Hears is_sealing old came step new → new.endpoint.next_id ≡ old.endpoint.next_id
+  hears_id old came step new hears =
+      answers_id (case_of old.next_hop came.from old.waiting (heard old.endpoint.seen came.at came.from hears.received)) old came step new hears.answers
 
-  answers_same : (case : Case) (old : Client) (now : Moment) (from : Peer) (step : Step) (new : Client)
-      → Answers is_sealing old now from case step new → SameWay old new
-  answers_same Ignored old now from step new it = same_way old new _ it.1 (refl, refl)
-  answers_same (Reset id) old now from step new it = same_way old new _ it.1 (refl, refl)
-  answers_same (Repeated id) old now from step new it = same_way old new _ it.1 (refl, refl)
-  answers_same (Empty kind id) old now from step new it = settled_same (is_ended old.next_hop from kind id old.waiting) old now from kind id step new it
-  answers_same (Refused message) old now from step new it = same_way old new _ it.1 (refl, refl)
-  answers_same (Rejected message) old now from step new it = same_way old new _ it.1 (refl, refl)
-  answers_same (Dropped message) old now from step new it = same_way old new _ it.1 (refl, refl)
-  answers_same (Counted message) old now from step new it = same_way old new _ it.kept (refl, refl)
+  answers_same : (case : Case) (old : Client) (came : Arrival (List ℕ)) (step : Step) (new : Client)
+      → Answers is_sealing old came case step new → SameWay old new
+  answers_same Ignored old came step new it = same_way old new _ it.1 (refl, refl)
+  answers_same (Reset id) old came step new it = same_way old new _ it.1 (refl, refl)
+  answers_same (Repeated id) old came step new it = same_way old new _ it.1 (refl, refl)
+  answers_same (Empty kind id) old came step new it =
+      settled_same (is_ended old.next_hop came.from kind id old.waiting) old
+      (settled old.endpoint came.at came.from (heard_as.Empty kind id) handling.Dropped) step new it
+  answers_same (Refused message) old came step new it = same_way old new _ it.1 (refl, refl)
+  answers_same (Rejected message) old came step new it = same_way old new _ it.1 (refl, refl)
+  answers_same (Dropped message) old came step new it = same_way old new _ it.1 (refl, refl)
+  answers_same (Counted message) old came step new it = same_way old new _ it.kept (refl, refl)
 
-  pub hears_same : (old : Client) (now : Moment) (from : Peer) (bytes : List ℕ) (step : Step) (new : Client)
-      → Hears is_sealing old now from bytes step new → SameWay old new
-  hears_same old now from bytes step new hears =
-      answers_same (case_of old.next_hop from old.waiting (heard old.endpoint.seen now from hears.received)) old now from step new hears.answers
+  pub hears_same : (old : Client) (came : Arrival (List ℕ)) (step : Step) (new : Client) → Hears is_sealing old came step new → SameWay old new
+  hears_same old came step new hears =
+      answers_same (case_of old.next_hop came.from old.waiting (heard old.endpoint.seen came.at came.from hears.received)) old came step new hears.answers
 
 no_datagram : (one : Datagram) → [] ≡ one ∷ [] → ⊥
 no_datagram one e = cc
@@ -87,11 +89,11 @@ exchanges_same old now draw step new (begins idle short spelled told kept) = sam
 
 -- and so with a request
 module _ (is_sealing : Sealings) (tag : Tags) where
-  pub asks_id : (old : Client) (now : Moment) (request : Request) (draw : Draw) (step : Step) (new : Client) (one : Datagram) → Asks is_sealing tag old now request draw step new
-      → step.out ≡ one ∷ [] → new.endpoint.next_id ≡ Some ((own_id draw old.endpoint.next_id + 1) % 65536)
-  asks_id old now request draw step new one (hindered number hinders refused) out = absurd (no_datagram one (sym (ap (λ (s : Step). s.out) refused.told) ∙ out))
-  asks_id old now request draw step new one (asks made protected free is spells told kept) out = ap (λ (c : Client). c.endpoint.next_id) kept
+  pub asks_id : (old : Client) (asked : Asked) (step : Step) (new : Client) (one : Datagram) → Asks is_sealing tag old asked step new
+      → step.out ≡ one ∷ [] → new.endpoint.next_id ≡ Some ((own_id asked.draw old.endpoint.next_id + 1) % 65536)
+  asks_id old asked step new one (hindered number hinders refused) out = absurd (no_datagram one (sym (ap (λ (s : Step). s.out) refused.told) ∙ out))
+  asks_id old asked step new one (asks made protected free is spells told kept) out = ap (λ (c : Client). c.endpoint.next_id) kept
 
-  pub asks_same : (old : Client) (now : Moment) (request : Request) (draw : Draw) (step : Step) (new : Client) → Asks is_sealing tag old now request draw step new → SameWay old new
-  asks_same old now request draw step new (hindered number hinders refused) = same_way old new _ refused.kept (refl, refl)
-  asks_same old now request draw step new (asks made protected free is spells told kept) = same_way old new _ kept (refl, refl)
+  pub asks_same : (old : Client) (asked : Asked) (step : Step) (new : Client) → Asks is_sealing tag old asked step new → SameWay old new
+  asks_same old asked step new (hindered number hinders refused) = same_way old new _ refused.kept (refl, refl)
+  asks_same old asked step new (asks made protected free is spells told kept) = same_way old new _ kept (refl, refl)

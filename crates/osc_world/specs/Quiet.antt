@@ -2,8 +2,7 @@
 use Rattle.std.specs.Prelude.{◌≡◌, ◌≤◌, ◌<◌, ℕ, zero, suc, Bool, true, List, length, Option, Some, None, is_none, position}
 use Rattle.osc_model.specs.declared.node.Draw.{Draw}
 use Rattle.osc_model.specs.declared.node.Moment.{Moment}
-use Rattle.osc_protect.specs.Ciphers.{Sealings, Tags}
-use Rattle.osc_world.specs.Worlds.{State, Happens}
+use Rattle.osc_world.specs.Worlds.{State}
 use Rattle.osc_world.specs.declared.event.Event.{Event}
 use Rattle.osc_world.specs.declared.event.What.TheVariants.{Deliver}
 
@@ -15,19 +14,28 @@ waiting_first world = position (λ datagram. datagram.waits) world.sent
 abbrev pub delivery : Moment → Draw → ℕ → Event
 delivery now draw datagram = record { moment = now; draw = draw; what = Deliver datagram }
 
+-- how a quiet round goes: with the draw of each event, by the event's number, and at this moment
+pub record Deliveries : Type 0 where
+  pub drawn : ℕ → Draw
+  pub at : Moment
+
+-- what is drawn at the next event of a world
+abbrev pub next_draw : Deliveries → State → Draw
+next_draw deliveries world = deliveries.drawn (length world.records)
+
 -- each draw of an event between these worlds has 32 bytes
 abbrev pub AreWhole : (ℕ → Draw) → State → State → Type 0
 AreWhole drawn old new = (event : ℕ) → length old.records ≤ event → event < length new.records → length (drawn event).0 ≡ 32
 
--- `is_sealing algorithm` is the relation of the algorithm's cipher, and `tag algorithm` how long its tag is
-module _ (is_sealing : Sealings) (tag : Tags) where
-  -- nothing waits, and all is quiet; or the first that waits is delivered, and so on from there
-  abbrev pub OneMore : (State → Type 0) → Moment → Draw → State → Option ℕ → Bool → State → Type 0
-  OneMore later now draw old None quiet new = (quiet ≡ true) × (new ≡ old)
-  OneMore later now draw old (Some datagram) quiet new = (next : State) × Happens is_sealing tag old (delivery now draw datagram) next × later next
+-- nothing waits, and all is quiet; or it goes on with the first that waits
+abbrev pub OneMore : (ℕ → Type 0) → State → Option ℕ → Bool → State → Type 0
+OneMore goes_on old None quiet new = (quiet ≡ true) × (new ≡ old)
+OneMore goes_on old (Some datagram) quiet new = goes_on datagram
 
-  -- A quiet round of so many deliveries at most; then it is quiet, or something waits still.
-  abbrev pub Rounds : (ℕ → Draw) → Moment → ℕ → State → Bool → State → Type 0
-  Rounds drawn now zero old quiet new = (quiet ≡ is_none (waiting_first old)) × (new ≡ old)
-  Rounds drawn now (suc left) old quiet new =
-      OneMore (λ next. Rounds drawn now left next quiet new) now (drawn (length old.records)) old (waiting_first old) quiet new
+-- A quiet round of so many deliveries at most, each of which happens so; then it is quiet, or something waits still.
+abbrev pub Rounds : (State → Event → State → Type 0) → Deliveries → ℕ → State → Bool → State → Type 0
+Rounds happens deliveries zero old quiet new = (quiet ≡ is_none (waiting_first old)) × (new ≡ old)
+Rounds happens deliveries (suc left) old quiet new =
+    OneMore
+    (λ datagram. (next : State) × happens old (delivery deliveries.at (next_draw deliveries old) datagram) next × Rounds happens deliveries left next quiet new)
+    old (waiting_first old) quiet new

@@ -1,11 +1,10 @@
 -- Quiet rounds that end well: what comes of an exchange, and of a request, where nothing is lost.
-use Rattle.std.specs.Prelude.{◌≡◌, ◌≢◌, ◌≤◌, ◌<◌, ◌+◌, ◌%◌, ℕ, Bool, true, false, length, List, [], ◌∷◌, ◌++◌, Some, None, slice_get, ◌==◌}
+use Rattle.std.specs.Prelude.{◌≡◌, ◌≢◌, ◌≤◌, ◌<◌, ◌+◌, ◌%◌, ℕ, Bool, true, false, length, List, [], ◌∷◌, ◌++◌, Some, None, slice_get}
 use Rattle.osc_model.specs.Apply.{apply_read}
 use Rattle.osc_model.specs.StepNotes.{StepNotes}
 use Rattle.osc_model.specs.declared.node.Draw.{Draw}
 use Rattle.osc_model.specs.declared.node.Moment.{Moment}
 use Rattle.osc_model.specs.declared.reply.Reply.{Reply}
-use Rattle.osc_model.specs.declared.request.Request.{Request}
 use Rattle.osc_model.specs.declared.step.ClientResult.TheVariants as result
 use Rattle.osc_cbor.specs.Spelling.{spelling}
 use Rattle.osc_dedup.specs.Table.{looked}
@@ -21,15 +20,17 @@ use Rattle.osc_run.specs.Premise.{HasFreshDraws, IsMinted, Premise}
 use Rattle.osc_run.specs.ServerKinds.{Replies as AppliesTo}
 use Rattle.osc_run.specs.Texts.{read_request}
 use Rattle.osc_rounds.specs.AskRound.{asked_text}
+use Rattle.osc_rounds.specs.Asked.{OpenedRequest}
 use Rattle.osc_rounds.specs.ExchangeRound.{IsHeld}
-use Rattle.osc_rounds.specs.Ready.{IsStraight, IsThrough, MayAsk, MayExchange}
+use Rattle.osc_rounds.specs.Ready.{Hops, IsStraight, IsThrough, MayAsk, MayExchange}
 use Rattle.osc_rounds.specs.RoundNotes.{AreAmongQuiet}
 use Rattle.osc_server.specs.State.{State as Server}
+use Rattle.osc_client.specs.Sending.{Asked}
 use Rattle.osc_scope.specs.Entries.{Entry}
 use Rattle.osc_token.specs.Token.{claims_item}
 use Rattle.osc_token.specs.declared.claims.Claims.{Claims}
 use Rattle.osc_protect.specs.Ciphers.{Sealings, Tags}
-use Rattle.osc_world.specs.Quiet.{waiting_first}
+use Rattle.osc_world.specs.Quiet.{Deliveries, next_draw, waiting_first}
 use Rattle.osc_world.specs.Worlds.{Happens, State}
 use Rattle.osc_world.specs.declared.event.Event.{Event}
 use Rattle.osc_world.specs.declared.event.What.TheVariants.{Ask, Exchange}
@@ -38,21 +39,37 @@ use Rattle.osc_world.specs.declared.nodes.PlacedProxy.{PlacedProxy}
 
 -- ---- before and after
 
--- How a client's round goes, in so many deliveries: straight to the server, or through a proxy, which takes the first of them with this
--- draw (RFC 7252 section 5.7.2).
-pub data Way (world : State) (placed : Placed) (now : Moment) (draw first : Draw) (deliveries : ℕ) : Type 0 where
-  straight : deliveries ≡ 2 → IsStraight placed.client world.nodes.server now draw placed.at world.nodes.server_at
-      → Way world placed now draw first deliveries
+-- when the deliveries of a client's round go, and with which draws: what the client draws for what it sends, and what is drawn at the
+-- first delivery of it
+pub record ClientRound : Type 0 where
+  pub at : Moment
+  pub draw : Draw
+  pub first : Draw
+
+-- the round of what a client sent last with this draw, in a world that has come so far
+abbrev pub round_of : Deliveries → Draw → State → ClientRound
+round_of deliveries draw sent = record { at = deliveries.at; draw = draw; first = next_draw deliveries sent }
+
+-- the hops through this proxy
+abbrev pub hops_through : PlacedProxy → State → Placed → ClientRound → Hops
+hops_through proxy world placed round =
+    record { at = placed.at; proxy_at = proxy.at; server_at = world.nodes.server_at; now = round.at; proxy_draw = round.first }
+
+-- How a client's round goes, in so many deliveries: straight to the server, or through a proxy, which takes the first of them (RFC 7252
+-- section 5.7.2).
+pub data Way (world : State) (placed : Placed) (round : ClientRound) (deliveries : ℕ) : Type 0 where
+  straight : deliveries ≡ 2 → IsStraight placed.client world.nodes.server round.at round.draw placed.at world.nodes.server_at
+      → Way world placed round deliveries
   through : deliveries ≡ 6 → (number : ℕ) (proxy : PlacedProxy) → slice_get world.nodes.proxies number ≡ Some proxy
-      → IsThrough placed.client proxy.proxy world.nodes.server now draw first placed.at proxy.at world.nodes.server_at
-      → Way world placed now draw first deliveries
+      → IsThrough placed.client proxy.proxy world.nodes.server round.draw (hops_through proxy world placed round)
+      → Way world placed round deliveries
 
 -- The world is ready for a client's round: no datagram waits, this is the client of this number, and where it stands, and the round goes
 -- this way.
-pub record IsReady (world : State) (client : ℕ) (placed : Placed) (now : Moment) (draw first : Draw) (deliveries : ℕ) : Type 0 where
+pub record IsReady (world : State) (client : ℕ) (placed : Placed) (round : ClientRound) (deliveries : ℕ) : Type 0 where
   pub still : waiting_first world ≡ None
   pub here : slice_get world.nodes.clients client ≡ Some placed
-  pub way : Way world placed now draw first deliveries
+  pub way : Way world placed round deliveries
 
 -- so many datagrams were delivered, and none waits
 pub record IsRound (deliveries : ℕ) (begun : State) (is_quiet : Bool) (new : State) : Type 0 where
@@ -112,9 +129,9 @@ pub record HasMade (old : State) (client : ℕ) (now : Moment) (entries : List E
 
 -- ---- a request
 
--- a client's request, at this moment
-abbrev pub asking : Moment → Draw → ℕ → Request → Event
-asking now draw client request = record { moment = now; draw = draw; what = Ask client request }
+-- a client's request
+abbrev pub asking : ℕ → Asked → Event
+asking client asked = record { moment = asked.at; draw = asked.draw; what = Ask client asked.request }
 
 -- The server still holds the context under which it accepted a number: with the name, the scope and the time that it had; and of the
 -- numbers behind the accepted one each that was fresh is fresh.
@@ -130,11 +147,13 @@ pub record HoldsStill (server : Server) (held : Held) (number : ℕ) (after : He
 -- plaintext is the one that was asked, the reply with the tree behind it is what the machine makes of the tree before, under the
 -- context's scope, or 5.00 for want of memory and the tree as it was, and that reply is what the client learnt. Both still have their
 -- contexts, the client's with the next number; and the client waits for nothing more.
-pub record HasAnswered (old : State) (client : ℕ) (asked_text : List ℕ) (now : Moment) (held : Held) (number : ℕ) (new : State) : Type 0 where
+pub record HasAnswered (old : State) (client : ℕ) (now : Moment) (request : OpenedRequest) (new : State) : Type 0 where
   pub reply : Reply
-  pub applied : AppliesTo old.nodes.server.tree (apply_read old.nodes.server.tree held.scope (read_request asked_text)) reply new.nodes.server.tree
+  pub applied : AppliesTo old.nodes.server.tree (apply_read old.nodes.server.tree request.held.scope (read_request request.text)) reply new.nodes.server.tree
   pub entry : history new.steps
-      ≡ history old.steps ++ (record { context = held.name; number = number; plaintext = asked_text; moment = now; reply = reply }) ∷ []
+      ≡ history old.steps
+      ++ (record { context = request.held.name; number = request.number; plaintext = request.text; moment = now; reply = reply })
+      ∷ []
   pub asked : StepNotes
   pub served : StepNotes
   pub answered : StepNotes
@@ -143,37 +162,67 @@ pub record HasAnswered (old : State) (client : ℕ) (asked_text : List ℕ) (now
   pub steps : new.steps ≡ all ++ old.steps
   pub learnt : answered.result ≡ Some (result.Answer reply)
   pub after : Held
-  pub at_server : HoldsStill new.nodes.server held number after
+  pub at_server : HoldsStill new.nodes.server request.held request.number after
   pub placed : Placed
   pub is_there : slice_get new.nodes.clients client ≡ Some placed
-  pub at_client : placed.client.context ≡ Some (record { name = held.name; next = number + 1 })
+  pub at_client : placed.client.context ≡ Some (record { name = request.held.name; next = request.number + 1 })
   pub idle : placed.client.waiting ≡ None
   pub way : (before : Placed) → slice_get old.nodes.clients client ≡ Some before → GoesTheSameWay before placed
   pub server_at : new.nodes.server_at ≡ old.nodes.server_at
 
 -- ---- what a quiet round behind them comes to
 
+-- what a quiet round ends with: whether nothing waits any more, and the world
+pub record QuietEnd : Type 0 where
+  pub is_quiet : Bool
+  pub world : State
+
 -- `is_sealing algorithm` is the relation of the algorithm's cipher, and `tag algorithm` how long its tag is
 module _ (is_sealing : Sealings) (tag : Tags) where
-  -- The exchange that a client began last makes a context, where the world was ready for it, its token is welcome at the server, and the
-  -- post wasn't refused as too long (14). What is assumed goes on, if the token was minted and the nonces that were drawn are fresh.
-  abbrev pub MakesWhatWasBegun : (ℕ → Draw) → Moment → ℕ → State → Bool → State → Type 0
-  MakesWhatWasBegun drawn now limit begun is_quiet new =
-      (before : State) (begun_at : Moment) (draw : Draw) (client deliveries : ℕ) (placed : Placed) (claims : Claims) (entries : List Entry)
-      → deliveries ≤ limit → IsReady before client placed now draw (drawn (length begun.records)) deliveries
-      → MayExchange is_sealing placed.client before.nodes.server now claims entries
-      → Happens is_sealing tag before (beginning begun_at draw client) begun → IsNotRefused 14 before begun
-      → IsRound deliveries begun is_quiet new × HasMade before client now entries new
-      × (AreMinted before claims → HasFreshDraws new.steps → KeepsThePremise before new)
+  -- A client began an exchange last: the world before was ready for it, its token was welcome at the server, and the post wasn't refused
+  -- as too long (14).
+  pub record BegunExchange (deliveries : Deliveries) (count : ℕ) (begun : State) : Type 0 where
+    pub before : State
+    pub client : ℕ
+    pub placed : Placed
+    pub at : Moment
+    pub draw : Draw
+    pub claims : Claims
+    pub entries : List Entry
+    pub ready : IsReady before client placed (round_of deliveries draw begun) count
+    pub may : MayExchange is_sealing placed.client before.nodes.server deliveries.at claims entries
+    pub happens : Happens is_sealing tag before (beginning at draw client) begun
+    pub fits : IsNotRefused 14 before begun
 
-  -- What a client asked last is answered, where the world was ready for it, client and server had a context of one name, live at the
-  -- server, the number was fresh, and the request wasn't refused as too long (14); and what is assumed goes on.
-  abbrev pub AnswersWhatWasAsked : (ℕ → Draw) → Moment → ℕ → State → Bool → State → Type 0
-  AnswersWhatWasAsked drawn now limit asked is_quiet new =
-      (before : State) (asked_at : Moment) (draw : Draw) (client deliveries : ℕ) (request : Request) (placed : Placed) (context : ClientContextState) (held : Held)
-      → deliveries ≤ limit → IsReady before client placed now draw (drawn (length asked.records)) deliveries
-      → MayAsk placed.client before.nodes.server now context held
-      → (request.code.0 == 0) ≡ false
-      → Happens is_sealing tag before (asking asked_at draw client request) asked → IsNotRefused 14 before asked
-      → IsRound deliveries asked is_quiet new × HasAnswered before client (asked_text placed.client draw request) now held context.next new
-      × KeepsThePremise before new
+  -- The exchange that a client began last makes a context. What is assumed goes on, if the token was minted and the nonces that were
+  -- drawn are fresh.
+  abbrev pub MakesWhatWasBegun : Deliveries → ℕ → State → QuietEnd → Type 0
+  MakesWhatWasBegun deliveries limit begun end =
+      (count : ℕ) (it : BegunExchange deliveries count begun) → count ≤ limit
+      → IsRound count begun end.is_quiet end.world × HasMade it.before it.client deliveries.at it.entries end.world
+      × (AreMinted it.before it.claims → HasFreshDraws end.world.steps → KeepsThePremise it.before end.world)
+
+  -- A client asked a request last: the world before was ready for it, client and server had a context of one name, live at the server,
+  -- the number was fresh, and the request wasn't refused as too long (14).
+  pub record AskedRequest (deliveries : Deliveries) (count : ℕ) (asked : State) : Type 0 where
+    pub before : State
+    pub client : ℕ
+    pub placed : Placed
+    pub what : Asked
+    pub context : ClientContextState
+    pub held : Held
+    pub ready : IsReady before client placed (round_of deliveries what.draw asked) count
+    pub may : MayAsk placed.client before.nodes.server deliveries.at context held
+    pub code : 0 < what.request.code.0
+    pub happens : Happens is_sealing tag before (asking client what) asked
+    pub fits : IsNotRefused 14 before asked
+
+  -- What a client asked last is answered; and what is assumed goes on.
+  abbrev pub AnswersWhatWasAsked : Deliveries → ℕ → State → QuietEnd → Type 0
+  AnswersWhatWasAsked deliveries limit asked end =
+      (count : ℕ) (it : AskedRequest deliveries count asked) → count ≤ limit
+      → IsRound count asked end.is_quiet end.world
+      × HasAnswered it.before it.client deliveries.at
+      (record { held = it.held; number = it.context.next; text = asked_text it.placed.client it.what.draw it.what.request })
+      end.world
+      × KeepsThePremise it.before end.world

@@ -18,22 +18,6 @@ use Rattle.osc_world.specs.declared.nodes.Placed.{Placed}
 use Rattle.osc_world.specs.declared.nodes.PlacedProxy.{PlacedProxy}
 use Rattle.osc_world.specs.declared.nodes.Taken.{Taken}
 
--- ---- how many datagrams a step sends at most
-
-abbrev pub most_of : Option Placed → ℕ
-most_of None = 0
-most_of (Some placed) = of_client.most_sent placed.client
-
-abbrev pub most_of_placed : Option PlacedProxy → ℕ
-most_of_placed None = 0
-most_of_placed (Some placed) = of_proxy.most_sent placed.proxy
-
-abbrev pub most_sent : NodeStates → Deed → ℕ
-most_sent nodes Nothing = 0
-most_sent nodes (OfServer task) = 1
-most_sent nodes (OfClient number task) = most_of (slice_get nodes.clients number)
-most_sent nodes (OfProxy number task) = most_of_placed (slice_get nodes.proxies number)
-
 -- ---- what a node does
 
 -- it starts again, as this, and nothing else

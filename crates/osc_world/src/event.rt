@@ -1,8 +1,5 @@
 //! What may happen.
 
-ghost use Rattle.std.specs.Prelude.{◌≡◌};
-ghost use Rattle.osc_world.specs.Steps.{is_lie};
-
 use osc_model::{Bytes, Draw, Moment, Peer, Request};
 use osc_run::Actor;
 
@@ -44,18 +41,6 @@ pub enum What {
         to: Peer,
         bytes: Bytes,
     },
-}
-
-impl What {
-    /// Whether a client's holder seals what it likes.
-    pub(crate) fn is_lie(&self) -> bool
-        ensures { result ≡ is_lie self.now }
-    {
-        match self {
-            What::Lie { .. } => true,
-            _ => false,
-        }
-    }
 }
 
 /// An event: what happens, when, and with which random bytes.

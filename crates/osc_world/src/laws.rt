@@ -1,14 +1,11 @@
 //! Laws of the definitions. These functions do nothing: whoever calls one has its clauses for a proof.
-ghost use Rattle.std.specs.Prelude.{◌≡◌, ◌≤◌, ◌==◌, ◌∷◌, ◌++◌, ℕ, suc, Bool, List, [], None, Some, false, true, length, slice_get, ◌<◌, ◌+◌, ◌%◌, ◌^◌};
+ghost use Rattle.std.specs.Prelude.{◌≡◌, ◌≤◌, ◌∷◌, ◌++◌, ℕ, suc, Bool, List, [], None, Some, true, length, slice_get, ◌<◌, ◌+◌, ◌%◌, ◌^◌};
 ghost use Rattle.osc_model.specs.Grant.{HasBegun, IsNotOver};
 ghost use Rattle.osc_model.specs.declared.node.Draw.{Draw as AnyDraw};
 ghost use Rattle.osc_model.specs.declared.node.Moment.{Moment as AnyMoment};
 ghost use Rattle.osc_model.specs.declared.node.Peer.{Peer as AnyPeer};
-ghost use Rattle.osc_model.specs.declared.request.Request.{Request as AnyRequest};
 ghost use Rattle.osc_cbor.specs.Spelling.{spelling};
-ghost use Rattle.osc_authz.specs.Begun.{ClientContextState};
 ghost use Rattle.osc_authz.specs.Contexts.{IsLive};
-ghost use Rattle.osc_authz.specs.Held.{Held};
 ghost use Rattle.osc_context.specs.Nonce.{greatest_number};
 ghost use Rattle.osc_window.specs.Window.{IsFresh};
 ghost use Rattle.osc_client.specs.Way.{HostAndPort};
@@ -16,9 +13,10 @@ ghost use Rattle.osc_dedup.specs.Table.{looked};
 ghost use Rattle.osc_message.specs.Endpoint.{own_id};
 ghost use Rattle.osc_proxy.specs.Targets.{peer_of};
 ghost use Rattle.osc_proxy.specs.declared.targets.Target.{Target as AnyTarget};
-ghost use Rattle.osc_rounds.specs.AskRound.{IsLawfulServer, asked_text};
+ghost use Rattle.osc_rounds.specs.AskRound.{IsLawfulServer};
+ghost use Rattle.osc_rounds.specs.Asked.{OpenedRequest};
 ghost use Rattle.osc_rounds.specs.Ready.{MayAsk, MayExchange};
-ghost use Rattle.osc_run.specs.Premise.{HasFreshDraws, HasOwnSecrets, IsMinted, Premise};
+ghost use Rattle.osc_run.specs.Premise.{HasOwnSecrets, IsMinted, Premise};
 ghost use Rattle.osc_scope.specs.Entries.{Entry};
 ghost use Rattle.osc_token.specs.Minted.{HasLawfulParts};
 ghost use Rattle.osc_token.specs.Token.{claims_item};
@@ -27,8 +25,8 @@ ghost use Rattle.osc_world.specs.Lawful.{AreLawfulClients, AreLawfulProxies};
 ghost use Rattle.osc_world.specs.Log.{delivered, sent_by};
 ghost use Rattle.osc_world.specs.Nodes.{NodeStates, StandApart, node_at};
 ghost use Rattle.osc_world.specs.Queue.{IsHeardByClient, IsHeardByProxy, IsHeardByServer, queue};
-ghost use Rattle.osc_world.specs.Quiet.{AreWhole, Rounds, waiting_first};
-ghost use Rattle.osc_world.specs.Ready.{AreMinted, HasAnswered, HasMade, IsNotRefused, IsReady, IsRound, KeepsThePremise, LeavesUnheard, asking, beginning};
+ghost use Rattle.osc_world.specs.Quiet.{AreWhole, Deliveries, Rounds, next_draw, waiting_first};
+ghost use Rattle.osc_world.specs.Ready.{AnswersWhatWasAsked, AskedRequest, BegunExchange, ClientRound, HasAnswered, HasMade, IsReady, IsRound, LeavesUnheard, MakesWhatWasBegun};
 ghost use Rattle.osc_world.specs.Worlds.{Happens, State};
 ghost use Rattle.osc_world.specs.declared.event.Event.{Event as AnyEvent};
 ghost use Rattle.osc_world.specs.declared.log.SentDatagram.{SentDatagram as AnySent};
@@ -67,25 +65,28 @@ pub fn a_round_delivers<A: Ciphers>()
     ensures still { (world : State) → queue world ≡ [] → waiting_first world ≡ None }
     ensures sent { (old new : State) (event : AnyEvent) (happens : Happens A.is_sealing A.TAG old event new)
         → delivered event.what old.sent ≡ old.sent → queue new ≡ queue old ++ sent_by happens.taken }
-    ensures over { (drawn : ℕ → AnyDraw) (now : AnyMoment) (limit : ℕ) (old new : State) (quiet : Bool)
-        → queue old ≡ [] → Rounds A.is_sealing A.TAG drawn now limit old quiet new → (quiet ≡ true) × (new ≡ old) }
-    ensures server { (drawn : ℕ → AnyDraw) (now : AnyMoment) (left : ℕ) (first : AnySent) (later : List AnySent) (old new : State) (quiet : Bool)
+    ensures over { (deliveries : Deliveries) (limit : ℕ) (old new : State) (quiet : Bool)
+        → queue old ≡ [] → Rounds (Happens A.is_sealing A.TAG) deliveries limit old quiet new → (quiet ≡ true) × (new ≡ old) }
+    ensures server { (deliveries : Deliveries) (left : ℕ) (first : AnySent) (later : List AnySent) (old new : State) (quiet : Bool)
         → StandApart old.nodes → queue old ≡ first ∷ later → first.to ≡ old.nodes.server_at
-        → Rounds A.is_sealing A.TAG drawn now (suc left) old quiet new
-        → (next : State) × IsHeardByServer A.is_sealing now (drawn (length old.records)) old first later next
-        × Rounds A.is_sealing A.TAG drawn now left next quiet new }
-    ensures client { (drawn : ℕ → AnyDraw) (now : AnyMoment) (left : ℕ) (first : AnySent) (later : List AnySent) (old new : State) (quiet : Bool)
+        → Rounds (Happens A.is_sealing A.TAG) deliveries (suc left) old quiet new
+        → (next : State)
+        × IsHeardByServer A.is_sealing (record { at = deliveries.at; draw = next_draw deliveries old; first = first; later = later }) old next
+        × Rounds (Happens A.is_sealing A.TAG) deliveries left next quiet new }
+    ensures client { (deliveries : Deliveries) (left : ℕ) (first : AnySent) (later : List AnySent) (old new : State) (quiet : Bool)
         (number : ℕ) (placed : AnyPlaced)
         → StandApart old.nodes → queue old ≡ first ∷ later → slice_get old.nodes.clients number ≡ Some placed → first.to ≡ placed.at
-        → Rounds A.is_sealing A.TAG drawn now (suc left) old quiet new
-        → (next : State) × IsHeardByClient A.is_sealing now number placed old first later next
-        × Rounds A.is_sealing A.TAG drawn now left next quiet new }
-    ensures proxy { (drawn : ℕ → AnyDraw) (now : AnyMoment) (left : ℕ) (first : AnySent) (later : List AnySent) (old new : State) (quiet : Bool)
+        → Rounds (Happens A.is_sealing A.TAG) deliveries (suc left) old quiet new
+        → (next : State)
+        × IsHeardByClient A.is_sealing number placed (record { at = deliveries.at; draw = next_draw deliveries old; first = first; later = later }) old next
+        × Rounds (Happens A.is_sealing A.TAG) deliveries left next quiet new }
+    ensures proxy { (deliveries : Deliveries) (left : ℕ) (first : AnySent) (later : List AnySent) (old new : State) (quiet : Bool)
         (number : ℕ) (placed : AnyPlacedProxy)
         → StandApart old.nodes → queue old ≡ first ∷ later → slice_get old.nodes.proxies number ≡ Some placed → first.to ≡ placed.at
-        → Rounds A.is_sealing A.TAG drawn now (suc left) old quiet new
-        → (next : State) × IsHeardByProxy now (drawn (length old.records)) number placed old first later next
-        × Rounds A.is_sealing A.TAG drawn now left next quiet new }
+        → Rounds (Happens A.is_sealing A.TAG) deliveries (suc left) old quiet new
+        → (next : State)
+        × IsHeardByProxy number placed (record { at = deliveries.at; draw = next_draw deliveries old; first = first; later = later }) old next
+        × Rounds (Happens A.is_sealing A.TAG) deliveries left next quiet new }
 {
     one_peer();
 }
@@ -95,24 +96,16 @@ pub fn a_round_delivers<A: Ciphers>()
 /// told that it is made; and nothing waits. What is assumed of a run goes on, if the token is one that the world began with and the nonces
 /// that were drawn are fresh. Straight, the server hears one message ID of the client's alone.
 pub fn an_exchanged_round<A: Ciphers>()
-    ensures made { (drawn : ℕ → AnyDraw) (begun_at now : AnyMoment) (draw : AnyDraw) (client deliveries : ℕ) (placed : AnyPlaced) (claims : AnyClaims)
-        (entries : List Entry) (old begun new : State) (limit : ℕ) (quiet : Bool)
-        → AreWhole drawn begun new → StandApart begun.nodes → AreLawfulProxies begun.nodes.proxies
+    ensures made { (deliveries : Deliveries) (limit : ℕ) (begun new : State) (quiet : Bool)
+        → AreWhole deliveries.drawn begun new → StandApart begun.nodes → AreLawfulProxies begun.nodes.proxies
         → AreLawfulClients begun.nodes.clients
-        → deliveries ≤ limit → IsReady old client placed now draw (drawn (length begun.records)) deliveries
-        → MayExchange A.is_sealing placed.client old.nodes.server now claims entries
-        → Happens A.is_sealing A.TAG old (beginning begun_at draw client) begun → IsNotRefused 14 old begun
-        → Rounds A.is_sealing A.TAG drawn now limit begun quiet new
-        → IsRound deliveries begun quiet new × HasMade old client now entries new
-        × (AreMinted old claims → HasFreshDraws new.steps → KeepsThePremise old new) }
-    ensures straight { (drawn : ℕ → AnyDraw) (begun_at now : AnyMoment) (draw : AnyDraw) (client : ℕ) (placed after : AnyPlaced) (claims : AnyClaims)
-        (entries : List Entry) (old begun new : State) (limit : ℕ) (quiet : Bool)
-        → AreWhole drawn begun new → StandApart begun.nodes → AreLawfulClients begun.nodes.clients
-        → 2 ≤ limit → IsReady old client placed now draw (drawn (length begun.records)) 2
-        → MayExchange A.is_sealing placed.client old.nodes.server now claims entries
-        → Happens A.is_sealing A.TAG old (beginning begun_at draw client) begun → IsNotRefused 14 old begun
-        → Rounds A.is_sealing A.TAG drawn now limit begun quiet new
-        → slice_get new.nodes.clients client ≡ Some after → LeavesUnheard old new draw placed after }
+        → Rounds (Happens A.is_sealing A.TAG) deliveries limit begun quiet new
+        → MakesWhatWasBegun A.is_sealing A.TAG deliveries limit begun (record { is_quiet = quiet; world = new }) }
+    ensures straight { (deliveries : Deliveries) (limit : ℕ) (begun new : State) (quiet : Bool) (it : BegunExchange A.is_sealing A.TAG deliveries 2 begun)
+        (after : AnyPlaced)
+        → AreWhole deliveries.drawn begun new → StandApart begun.nodes → AreLawfulClients begun.nodes.clients
+        → 2 ≤ limit → Rounds (Happens A.is_sealing A.TAG) deliveries limit begun quiet new
+        → slice_get new.nodes.clients it.client ≡ Some after → LeavesUnheard it.before new it.draw it.placed after }
 {
     one_peer();
     an_exchange_is_made::<A>();
@@ -126,26 +119,16 @@ pub fn an_exchanged_round<A: Ciphers>()
 /// of memory and the tree as before; the client's answer is that reply; and nothing waits. What is assumed of a run goes on. Straight, the
 /// server hears one message ID of the client's alone.
 pub fn an_asked_round<A: Ciphers>()
-    ensures answered { (drawn : ℕ → AnyDraw) (asked_at now : AnyMoment) (draw : AnyDraw) (client deliveries : ℕ) (request : AnyRequest) (placed : AnyPlaced)
-        (context : ClientContextState) (held : Held) (old asked new : State) (limit : ℕ) (quiet : Bool)
-        → AreWhole drawn asked new → StandApart asked.nodes → IsLawfulServer asked.nodes.server → AreLawfulProxies asked.nodes.proxies
+    ensures answered { (deliveries : Deliveries) (limit : ℕ) (asked new : State) (quiet : Bool)
+        → AreWhole deliveries.drawn asked new → StandApart asked.nodes → IsLawfulServer asked.nodes.server → AreLawfulProxies asked.nodes.proxies
         → AreLawfulClients asked.nodes.clients
-        → deliveries ≤ limit → IsReady old client placed now draw (drawn (length asked.records)) deliveries
-        → MayAsk placed.client old.nodes.server now context held
-        → (request.code.0 == 0) ≡ false
-        → Happens A.is_sealing A.TAG old (asking asked_at draw client request) asked → IsNotRefused 14 old asked
-        → Rounds A.is_sealing A.TAG drawn now limit asked quiet new
-        → IsRound deliveries asked quiet new × HasAnswered old client (asked_text placed.client draw request) now held context.next new
-        × KeepsThePremise old new }
-    ensures straight { (drawn : ℕ → AnyDraw) (asked_at now : AnyMoment) (draw : AnyDraw) (client : ℕ) (request : AnyRequest) (placed after : AnyPlaced)
-        (context : ClientContextState) (held : Held) (old asked new : State) (limit : ℕ) (quiet : Bool)
+        → Rounds (Happens A.is_sealing A.TAG) deliveries limit asked quiet new
+        → AnswersWhatWasAsked A.is_sealing A.TAG deliveries limit asked (record { is_quiet = quiet; world = new }) }
+    ensures straight { (deliveries : Deliveries) (limit : ℕ) (asked new : State) (quiet : Bool) (it : AskedRequest A.is_sealing A.TAG deliveries 2 asked)
+        (after : AnyPlaced)
         → StandApart asked.nodes → IsLawfulServer asked.nodes.server → AreLawfulClients asked.nodes.clients
-        → 2 ≤ limit → IsReady old client placed now draw (drawn (length asked.records)) 2
-        → MayAsk placed.client old.nodes.server now context held
-        → (request.code.0 == 0) ≡ false
-        → Happens A.is_sealing A.TAG old (asking asked_at draw client request) asked → IsNotRefused 14 old asked
-        → Rounds A.is_sealing A.TAG drawn now limit asked quiet new
-        → slice_get new.nodes.clients client ≡ Some after → LeavesUnheard old new draw placed after }
+        → 2 ≤ limit → Rounds (Happens A.is_sealing A.TAG) deliveries limit asked quiet new
+        → slice_get new.nodes.clients it.client ≡ Some after → LeavesUnheard it.before new it.what.draw it.placed after }
 {
     one_peer();
     numbers_taken();
@@ -160,30 +143,30 @@ pub fn after_an_exchange_one_may_ask()
     ensures may_ask { (old new : State) (client : ℕ) (now later : AnyMoment) (entries : List Entry) (made : HasMade old client now entries new)
         → IsLive later made.held
         → MayAsk made.placed.client new.nodes.server later (record { name = made.held.name; next = 0 }) made.held }
-    ensures straight { (begun old new : State) (quiet : Bool) (client : ℕ) (before : AnyPlaced) (now later : AnyMoment) (draw next first : AnyDraw) (entries : List Entry)
-        (made : HasMade old client now entries new)
+    ensures straight { (begun old new : State) (quiet : Bool) (client : ℕ) (before : AnyPlaced) (now : AnyMoment) (draw : AnyDraw) (entries : List Entry)
+        (made : HasMade old client now entries new) (next : ClientRound)
         → IsRound 2 begun quiet new → slice_get old.nodes.clients client ≡ Some before
         → before.client.origin ≡ None → before.client.next_hop ≡ old.nodes.server_at
         → LeavesUnheard old new draw before made.placed
-        → looked later before.at ((own_id draw before.client.endpoint.next_id + 1) % 65536) old.nodes.server.endpoint.seen ≡ None
-        → IsReady new client made.placed later next first 2 }
+        → looked next.at before.at ((own_id draw before.client.endpoint.next_id + 1) % 65536) old.nodes.server.endpoint.seen ≡ None
+        → IsReady new client made.placed next 2 }
 {}
 
 /// Behind an answered round the client may ask again, under its next number, at any moment at which the context is live, if that number is
 /// one that may be taken, and was fresh. Where the way is straight, the world is ready for it, if the server had noted no message from there
 /// of the ID behind that of the request.
 pub fn after_an_answer_one_may_ask()
-    ensures may_ask { (old new : State) (client : ℕ) (text : List ℕ) (now later : AnyMoment) (held : Held) (number : ℕ)
-        (answered : HasAnswered old client text now held number new)
-        → IsLive later answered.after → number + 1 ≤ greatest_number → IsFresh held.window (number + 1)
-        → MayAsk answered.placed.client new.nodes.server later (record { name = held.name; next = number + 1 }) answered.after }
-    ensures straight { (asked old new : State) (quiet : Bool) (client : ℕ) (text : List ℕ) (before : AnyPlaced) (now later : AnyMoment) (draw next first : AnyDraw)
-        (held : Held) (number : ℕ) (answered : HasAnswered old client text now held number new)
+    ensures may_ask { (old new : State) (client : ℕ) (now later : AnyMoment) (request : OpenedRequest)
+        (answered : HasAnswered old client now request new)
+        → IsLive later answered.after → request.number + 1 ≤ greatest_number → IsFresh request.held.window (request.number + 1)
+        → MayAsk answered.placed.client new.nodes.server later (record { name = request.held.name; next = request.number + 1 }) answered.after }
+    ensures straight { (asked old new : State) (quiet : Bool) (client : ℕ) (before : AnyPlaced) (now : AnyMoment) (draw : AnyDraw) (request : OpenedRequest)
+        (answered : HasAnswered old client now request new) (next : ClientRound)
         → IsRound 2 asked quiet new → slice_get old.nodes.clients client ≡ Some before
         → before.client.origin ≡ None → before.client.next_hop ≡ old.nodes.server_at
         → LeavesUnheard old new draw before answered.placed
-        → looked later before.at ((own_id draw before.client.endpoint.next_id + 1) % 65536) old.nodes.server.endpoint.seen ≡ None
-        → IsReady new client answered.placed later next first 2 }
+        → looked next.at before.at ((own_id draw before.client.endpoint.next_id + 1) % 65536) old.nodes.server.endpoint.seen ≡ None
+        → IsReady new client answered.placed next 2 }
 {}
 
 /// The claims of a client are minted once it is enrolled; what is minted stays so, whoever is enrolled behind it and whatever happens.
@@ -206,14 +189,14 @@ pub fn where_a_world_begins<A: Ciphers>()
         → HasBegun holder.claims.not_before now → IsNotOver holder.claims.expires now
         → length holder.iv ≡ 13 → length enrols.placed.client.desk.token < 2 ^ 64
         → MayExchange A.is_sealing enrols.placed.client (begun start).nodes.server now holder.claims enrols.enrolled.entries }
-    ensures straight { (before after start : Beginning) (holder : AnyHolder) (now : AnyMoment) (draw first : AnyDraw) (enrols : Enrols A.is_sealing before holder after)
+    ensures straight { (before after start : Beginning) (holder : AnyHolder) (round : ClientRound) (enrols : Enrols A.is_sealing before holder after)
         → slice_get start.clients (length before.clients) ≡ Some enrols.placed
         → holder.way.origin ≡ None → holder.way.next_hop ≡ start.server_at
-        → IsReady (begun start) (length before.clients) enrols.placed now draw first 2 }
-    ensures through { (before after start : Beginning) (holder : AnyHolder) (now : AnyMoment) (draw first : AnyDraw) (enrols : Enrols A.is_sealing before holder after)
+        → IsReady (begun start) (length before.clients) enrols.placed round 2 }
+    ensures through { (before after start : Beginning) (holder : AnyHolder) (round : ClientRound) (enrols : Enrols A.is_sealing before holder after)
         (origin : HostAndPort) (number : ℕ) (at : AnyPeer) (targets : List AnyTarget)
         → slice_get start.clients (length before.clients) ≡ Some enrols.placed
         → holder.way.origin ≡ Some origin → holder.way.next_hop ≡ at
         → slice_get start.proxies number ≡ Some (new_proxy at targets) → peer_of targets origin.host origin.port ≡ Some start.server_at
-        → IsReady (begun start) (length before.clients) enrols.placed now draw first 6 }
+        → IsReady (begun start) (length before.clients) enrols.placed round 6 }
 {}

@@ -6,6 +6,7 @@ mod draws;
 mod error;
 mod event;
 mod isolation;
+mod jobs;
 pub mod laws;
 mod log;
 mod nodes;

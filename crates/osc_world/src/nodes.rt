@@ -1,25 +1,22 @@
 //! The nodes of a world, and the step that one of them takes at an event.
-ghost use Rattle.std.specs.Prelude.{◌≡◌, ◌≤◌, [], IfOk, OnErr, false, true, length, option_map, position, slice_get};
-ghost use Rattle.osc_model.specs.Step.{sends};
-ghost use Rattle.osc_client.specs.State.{core as core_of_client};
-ghost use Rattle.osc_run.specs.ClientKinds.{ClientStep};
-ghost use Rattle.osc_run.specs.ProxyKinds.{ProxyStep};
-ghost use Rattle.osc_run.specs.ServerKinds.{ServerStep};
-ghost use Rattle.osc_server.specs.State.{core as core_of_server};
+ghost use Rattle.std.specs.Prelude.{◌≡◌, ◌≤◌, IfOk, OnErr, length, option_map, position, slice_get};
+ghost use Rattle.osc_proxy.specs.State.{restarted as proxy_again};
+ghost use Rattle.osc_proxy.specs.Steps.{IsStep as IsProxyStep};
+ghost use Rattle.osc_rounds.specs.AskRound.{IsLawfulServer};
+ghost use Rattle.osc_server.specs.Steps.{IsStep as IsServerStep, again as server_again};
+ghost use Rattle.osc_world.specs.Inner.Kinds.{IsSkip, IsStep};
+ghost use Rattle.osc_world.specs.Inner.Tasks.{MayBeDone, client_task_of, most_of, most_of_placed, most_sent, task_of, whose_step};
 ghost use Rattle.osc_world.specs.Lawful.{AreLawfulClients, AreLawfulProxies};
 ghost use Rattle.osc_world.specs.Log.{sent_by};
-ghost use Rattle.osc_world.specs.Nodes.{client_at, found, node_at, node_of, proxy_at, skipped, whose_step};
-ghost use Rattle.osc_rounds.specs.AskRound.{IsLawfulServer};
-ghost use Rattle.osc_server.specs.Hearing.{Hears as ServerHears};
-ghost use Rattle.osc_client.specs.Hearing.{Hears as ClientHears, Ticks as ClientTicks};
-ghost use Rattle.osc_proxy.specs.Hearing.{Hears as ProxyHears};
-ghost use Rattle.osc_world.specs.Steps.{AsksFor, ClientDoes, ClientGets, IsStep, ProxyDoes, ProxyGets, ServerDoes, ServerGets, ServerTakes, Takes, TakesOf, TakesOfProxy, IsSkip, LiesAt, is_lie, most_of, most_of_placed, most_of_proxy, most_sent, one_or};
+ghost use Rattle.osc_world.specs.Nodes.{client_at, deed_by, deed_of, found, node_at, node_of, proxy_at, skipped};
+ghost use Rattle.osc_world.specs.Steps.{ClientDoes, ClientTakes, Does, ProxyTakes, ServerTakes, Takes, is_lie};
 
 use crate::event::{Event, What};
+use crate::jobs::{ClientJob, Job, client_does, does, lies, most_by};
 use crate::log::SentDatagram;
 use osc_client::Client;
 use osc_context::NUMBER_LIMIT;
-use osc_model::{Datagrams, Draw, Moment, Peer, Request, Step};
+use osc_model::{Datagrams, Peer};
 use osc_protect::Ciphers;
 use osc_proxy::Proxy;
 use osc_run::{Actor, Noted};
@@ -114,13 +111,6 @@ impl Model for Nodes {
     ghost view = { λ n. record { server_at = n.server_at; server = n.server; clients = n.clients.items; proxies = n.proxies.items } };
 }
 
-/// A step that does nothing; takes no memory.
-fn idle(alloc: Global) -> Step
-    ensures { result ≡ sends [] }
-{
-    Step::sending(Datagrams::new(alloc))
-}
-
 /// The number of the first client that stands there.
 fn client_at(clients: &[Placed], at: Peer) -> Option<usize>
     ensures { result ≡ client_at clients.now at }
@@ -155,192 +145,6 @@ fn node_of(node: Actor) -> Whose
         Actor::Client(number) => Whose::Client(number),
         Actor::Proxy(number) => Whose::Proxy(number),
     }
-}
-
-/// What the server does at an event that is its own.
-fn server_does<A: Ciphers>(
-    alloc: Global,
-    server: &mut Server,
-    event: &Event,
-    sent: &[SentDatagram],
-) -> Result<Step, AllocError>
-    ensures does { IfOk result (λ step. ServerDoes A.is_sealing A.TAG server.old event.now.moment event.now.draw sent.now event.now.what step server.new) }
-    ensures kind { IfOk result (λ step. ServerStep (core_of_server server.old) event.now.moment step.notes (core_of_server server.new)) }
-    ensures few { IfOk result (λ step. length step.out ≤ 1) }
-    ensures err { OnErr result (server.new ≡ server.old) }
-{
-    match &event.what {
-        What::Exchange { .. } => Ok(idle(alloc)),
-        What::Ask { .. } => Ok(idle(alloc)),
-        What::Lie { .. } => Ok(idle(alloc)),
-        What::Tick { .. } => Ok(server.on_tick(alloc, event.moment)),
-        What::Restart { .. } => {
-            server.restart();
-            Ok(idle(alloc))
-        }
-        What::Deliver { datagram } => {
-            server_gets::<A>(
-                alloc,
-                server,
-                event.moment,
-                &event.draw,
-                sent.get(*datagram),
-            )
-        }
-        What::Inject { from, bytes, .. } => {
-            server_hears::<A>(
-                alloc,
-                server,
-                event.moment,
-                &event.draw,
-                *from,
-                bytes.as_slice(),
-            )
-        }
-    }
-}
-
-/// A datagram that was sent comes to the server.
-fn server_gets<A: Ciphers>(
-    alloc: Global,
-    server: &mut Server,
-    now: Moment,
-    draw: &Draw,
-    datagram: Option<&SentDatagram>,
-) -> Result<Step, AllocError>
-    ensures gets { IfOk result (λ step. ServerGets A.is_sealing A.TAG server.old now draw.now (option_map (λ d. d.now) datagram.entry) step server.new) }
-    ensures kind { IfOk result (λ step. ServerStep (core_of_server server.old) now step.notes (core_of_server server.new)) }
-    ensures few { IfOk result (λ step. length step.out ≤ 1) }
-    ensures err { OnErr result (server.new ≡ server.old) }
-{
-    match datagram {
-        Some(sent) => {
-            server_hears::<A>(alloc, server, now, draw, sent.from, sent.bytes.as_slice())
-        }
-        None => Ok(idle(alloc)),
-    }
-}
-
-/// These bytes come to the server from this address.
-fn server_hears<A: Ciphers>(
-    alloc: Global,
-    server: &mut Server,
-    now: Moment,
-    draw: &Draw,
-    from: Peer,
-    bytes: &[u8],
-) -> Result<Step, AllocError>
-    ensures hears { IfOk result (λ step. ServerHears A.is_sealing server.old now draw.now from bytes.now step server.new) }
-    ensures kind { IfOk result (λ step. ServerStep (core_of_server server.old) now step.notes (core_of_server server.new)) }
-    ensures few { IfOk result (λ step. length step.out ≤ 1) }
-    ensures err { OnErr result (server.new ≡ server.old) }
-{
-    server.on_datagram::<A>(alloc, now, from, bytes, draw)
-}
-
-/// What a client does at an event that is its own.
-fn client_does<A: Ciphers>(
-    alloc: Global,
-    client: &mut Client,
-    event: &Event,
-    sent: &[SentDatagram],
-) -> Result<Step, AllocError>
-    ensures does { IfOk result (λ step. ClientDoes A.is_sealing A.TAG client.old event.now.moment event.now.draw sent.now event.now.what step client.new) }
-    ensures kind { IfOk result (λ step. ClientStep (is_lie event.now.what) (core_of_client client.old) step.notes (core_of_client client.new)) }
-    ensures few { IfOk result (λ step. length step.out ≤ one_or (length client.old.endpoint.sending)) }
-    ensures err { OnErr result (client.new ≡ client.old) }
-{
-    match &event.what {
-        What::Exchange { .. } => client.exchange(alloc, event.moment, &event.draw),
-        What::Ask { request, .. } => client_asks::<A>(alloc, client, event, request),
-        What::Lie { number, text, .. } => {
-            client_lies::<A>(alloc, client, *number, text.as_slice(), &event.draw)
-        }
-        What::Tick { .. } => Ok(client.on_tick(alloc, event.moment)),
-        What::Restart { .. } => {
-            client.restart();
-            Ok(idle(alloc))
-        }
-        What::Deliver { datagram } => {
-            client_gets::<A>(alloc, client, event.moment, sent.get(*datagram))
-        }
-        What::Inject { from, bytes, .. } => {
-            client_hears::<A>(alloc, client, event.moment, *from, bytes.as_slice())
-        }
-    }
-}
-
-/// What a proxy does at an event that is its own.
-fn proxy_does(
-    alloc: Global,
-    proxy: &mut Proxy,
-    event: &Event,
-    sent: &[SentDatagram],
-) -> Result<Step, AllocError>
-    ensures does { IfOk result (λ step. ProxyDoes proxy.old event.now.moment event.now.draw sent.now event.now.what step proxy.new) }
-    ensures silent { IfOk result (λ step. ProxyStep step.notes) }
-    ensures few { IfOk result (λ step. length step.out ≤ most_of_proxy proxy.old) }
-    ensures err { OnErr result (proxy.new ≡ proxy.old) }
-{
-    match &event.what {
-        What::Exchange { .. } => Ok(idle(alloc)),
-        What::Ask { .. } => Ok(idle(alloc)),
-        What::Lie { .. } => Ok(idle(alloc)),
-        What::Tick { .. } => Ok(proxy.on_tick(alloc, event.moment, &event.draw)),
-        What::Restart { .. } => {
-            proxy.restart();
-            Ok(idle(alloc))
-        }
-        What::Deliver { datagram } => {
-            proxy_gets(alloc, proxy, event.moment, &event.draw, sent.get(*datagram))
-        }
-        What::Inject { from, bytes, .. } => {
-            proxy_hears(
-                alloc,
-                proxy,
-                event.moment,
-                &event.draw,
-                *from,
-                bytes.as_slice(),
-            )
-        }
-    }
-}
-
-/// A datagram that was sent comes to the proxy.
-fn proxy_gets(
-    alloc: Global,
-    proxy: &mut Proxy,
-    now: Moment,
-    draw: &Draw,
-    datagram: Option<&SentDatagram>,
-) -> Result<Step, AllocError>
-    ensures gets { IfOk result (λ step. ProxyGets proxy.old now draw.now (option_map (λ d. d.now) datagram.entry) step proxy.new) }
-    ensures silent { IfOk result (λ step. ProxyStep step.notes) }
-    ensures few { IfOk result (λ step. length step.out ≤ 2) }
-    ensures err { OnErr result (proxy.new ≡ proxy.old) }
-{
-    match datagram {
-        Some(sent) => proxy_hears(alloc, proxy, now, draw, sent.from, sent.bytes.as_slice()),
-        None => Ok(idle(alloc)),
-    }
-}
-
-/// These bytes come to the proxy from this address.
-fn proxy_hears(
-    alloc: Global,
-    proxy: &mut Proxy,
-    now: Moment,
-    draw: &Draw,
-    from: Peer,
-    bytes: &[u8],
-) -> Result<Step, AllocError>
-    ensures hears { IfOk result (λ step. ProxyHears proxy.old now draw.now from bytes.now step proxy.new) }
-    ensures silent { IfOk result (λ step. ProxyStep step.notes) }
-    ensures few { IfOk result (λ step. length step.out ≤ 2) }
-    ensures err { OnErr result (proxy.new ≡ proxy.old) }
-{
-    proxy.on_datagram(alloc, now, from, bytes, draw)
 }
 
 /// For proofs: what is true of each client. Looks at each, and changes nothing.
@@ -438,13 +242,10 @@ impl Nodes {
         ensures { result ≡ whose_step self.now sent.now what.now }
     {
         match what {
-            What::Exchange { client } => Whose::Client(*client),
-            What::Ask { client, request } if request.code.0 > 0 => Whose::Client(*client),
-            What::Ask { .. } => Whose::Nobody,
-            What::Lie { client, number, .. } if *number <= NUMBER_LIMIT => Whose::Client(*client),
-            What::Lie { .. } => Whose::Nobody,
-            What::Tick { node } => node_of(*node),
-            What::Restart { node } => node_of(*node),
+            What::Exchange { client } | What::Ask { client, .. } | What::Lie { client, .. } => {
+                Whose::Client(*client)
+            }
+            What::Tick { node } | What::Restart { node } => node_of(*node),
             What::Deliver { datagram } => match sent.get(*datagram) {
                 Some(sent) => self.at(sent.to),
                 None => Whose::Nobody,
@@ -453,19 +254,25 @@ impl Nodes {
         }
     }
 
-    /// How many datagrams a step of this node sends at most. For more than there are numbers no memory is enough.
-    pub fn most_sent(&self, whose: Whose) -> Result<usize, AllocError>
+    /// How many datagrams this node sends at most in its next step. For more than there are numbers no memory is enough.
+    pub fn most_sent<A: Ciphers>(&self, whose: Whose) -> Result<usize, AllocError>
         ensures { IfOk result (λ most. most ≡ most_sent self.now whose) }
     {
         match whose {
-            Whose::Server => Ok(1),
-            Whose::Client(number) => Ok(most_of(self.clients.get(number))),
-            Whose::Proxy(number) => most_of_placed(self.proxies.get(number)),
+            Whose::Server => most_by::<A, Server>(&self.server),
+            Whose::Client(number) => match self.clients.get(number) {
+                Some(placed) => most_by::<A, Client>(&placed.client),
+                None => Ok(0),
+            },
+            Whose::Proxy(number) => match self.proxies.get(number) {
+                Some(placed) => most_by::<A, Proxy>(&placed.proxy),
+                None => Ok(0),
+            },
             Whose::Nobody => Ok(0),
         }
     }
 
-    /// The step of the node whose step it is. Without memory an `AllocError`; then nothing has changed.
+    /// What the event comes to is done by the node whose step it is. Without memory an `AllocError`; then nothing has changed.
     pub fn take<A: Ciphers>(
         &mut self,
         alloc: Global,
@@ -473,16 +280,51 @@ impl Nodes {
         event: &Event,
         sent: &[SentDatagram],
     ) -> Result<Option<Taken>, AllocError>
-        ensures takes { IfOk result (λ taken. Takes A.is_sealing A.TAG self.old whose sent.now event.now taken self.new) }
+        requires { whose ≡ whose_step self.old sent.now event.now.what }
+        ensures takes { IfOk result (λ taken. Takes A.is_sealing A.TAG self.old (deed_of self.old sent.now event.now) taken self.new) }
         ensures step { IfOk result (λ taken. IsStep event.now.moment self.old taken self.new) }
         ensures few { IfOk result (λ taken. length (sent_by taken) ≤ most_sent self.old whose) }
         ensures err { OnErr result (self.new ≡ self.old) }
     {
-        match whose {
-            Whose::Server => self.server_takes::<A>(alloc, event, sent),
-            Whose::Client(number) => self.client_takes::<A>(alloc, number, event, sent),
-            Whose::Proxy(number) => self.proxy_takes(alloc, number, event, sent),
-            Whose::Nobody => Ok(None),
+        match &event.what {
+            What::Exchange { client } => {
+                self.client_takes::<A>(alloc, *client, event, ClientJob::Begin)
+            }
+            What::Ask { client, request } if request.code.0 > 0 => {
+                self.client_takes::<A>(alloc, *client, event, ClientJob::Ask(request))
+            }
+            What::Ask { .. } => Ok(None),
+            What::Lie {
+                client,
+                number,
+                text,
+            } if *number <= NUMBER_LIMIT => {
+                let lie = ClientJob::TellLie {
+                    number: *number,
+                    text: text.as_slice(),
+                };
+                self.client_takes::<A>(alloc, *client, event, lie)
+            }
+            What::Lie { .. } => Ok(None),
+            What::Tick { .. } => self.one_takes::<A>(alloc, whose, event, Job::Tick),
+            What::Restart { .. } => self.one_takes::<A>(alloc, whose, event, Job::StartAgain),
+            What::Deliver { datagram } => match sent.get(*datagram) {
+                Some(sent) => {
+                    let hear = Job::Hear {
+                        from: sent.from,
+                        bytes: sent.bytes.as_slice(),
+                    };
+                    self.one_takes::<A>(alloc, whose, event, hear)
+                }
+                None => Ok(None),
+            },
+            What::Inject { from, bytes, .. } => {
+                let hear = Job::Hear {
+                    from: *from,
+                    bytes: bytes.as_slice(),
+                };
+                self.one_takes::<A>(alloc, whose, event, hear)
+            }
         }
     }
 
@@ -498,19 +340,42 @@ impl Nodes {
         placed.client.skip_to(number);
     }
 
-    /// The server's step.
+    /// This node does it, if it is there.
+    fn one_takes<A: Ciphers>(
+        &mut self,
+        alloc: Global,
+        whose: Whose,
+        event: &Event,
+        job: Job<'_>,
+    ) -> Result<Option<Taken>, AllocError>
+        ensures takes { IfOk result (λ taken. Takes A.is_sealing A.TAG self.old (deed_by whose (task_of event.now job.entry)) taken self.new) }
+        ensures step { IfOk result (λ taken. IsStep event.now.moment self.old taken self.new) }
+        ensures few { IfOk result (λ taken. length (sent_by taken) ≤ most_sent self.old whose) }
+        ensures err { OnErr result (self.new ≡ self.old) }
+    {
+        match whose {
+            Whose::Server => self.server_takes::<A>(alloc, event, job),
+            Whose::Client(number) => {
+                self.client_takes::<A>(alloc, number, event, ClientJob::Do(job))
+            }
+            Whose::Proxy(number) => self.proxy_takes::<A>(alloc, number, event, job),
+            Whose::Nobody => Ok(None),
+        }
+    }
+
+    /// The server does it.
     fn server_takes<A: Ciphers>(
         &mut self,
         alloc: Global,
         event: &Event,
-        sent: &[SentDatagram],
+        job: Job<'_>,
     ) -> Result<Option<Taken>, AllocError>
-        ensures takes { IfOk result (λ taken. ServerTakes A.is_sealing A.TAG self.old sent.now event.now taken self.new) }
+        ensures takes { IfOk result (λ taken. ServerTakes (Does (IsServerStep A.is_sealing) server_again (task_of event.now job.entry)) self.old taken self.new) }
         ensures step { IfOk result (λ taken. IsStep event.now.moment self.old taken self.new) }
         ensures few { IfOk result (λ taken. length (sent_by taken) ≤ 1) }
         ensures err { OnErr result (self.new ≡ self.old) }
     {
-        let step = server_does::<A>(alloc, &mut self.server, event, sent)?;
+        let step = does::<A, Server>(alloc, &mut self.server, event, job)?;
         Ok(Some(Taken {
             at: self.server_at,
             noted: Noted::by_server(step.notes),
@@ -518,15 +383,17 @@ impl Nodes {
         }))
     }
 
-    /// The step of the client of this number, if there is one.
+    /// The client of this number does it, if it is there.
     fn client_takes<A: Ciphers>(
         &mut self,
         alloc: Global,
         number: usize,
         event: &Event,
-        sent: &[SentDatagram],
+        job: ClientJob<'_>,
     ) -> Result<Option<Taken>, AllocError>
-        ensures takes { IfOk result (λ taken. TakesOf A.is_sealing A.TAG self.old number (slice_get self.old.clients number) sent.now event.now taken self.new) }
+        requires { MayBeDone job }
+        ensures takes { IfOk result (λ taken. ClientTakes (ClientDoes A.is_sealing A.TAG (client_task_of event.now job.entry))
+            (is_lie (client_task_of event.now job.entry)) self.old number taken self.new) }
         ensures step { IfOk result (λ taken. IsStep event.now.moment self.old taken self.new) }
         ensures few { IfOk result (λ taken. length (sent_by taken) ≤ most_of (slice_get self.old.clients number)) }
         ensures err { OnErr result (self.new ≡ self.old) }
@@ -534,23 +401,23 @@ impl Nodes {
         let Some(placed) = self.clients.get_mut(number) else {
             return Ok(None);
         };
-        let step = client_does::<A>(alloc, &mut placed.client, event, sent)?;
+        let step = client_does::<A>(alloc, &mut placed.client, event, job)?;
         Ok(Some(Taken {
             at: placed.at,
-            noted: Noted::by_client(number, event.what.is_lie(), step.notes),
+            noted: Noted::by_client(number, lies(job), step.notes),
             out: step.out,
         }))
     }
 
-    /// The step of the proxy of this number, if there is one.
-    fn proxy_takes(
+    /// The proxy of this number does it, if it is there.
+    fn proxy_takes<A: Ciphers>(
         &mut self,
         alloc: Global,
         number: usize,
         event: &Event,
-        sent: &[SentDatagram],
+        job: Job<'_>,
     ) -> Result<Option<Taken>, AllocError>
-        ensures takes { IfOk result (λ taken. TakesOfProxy self.old number (slice_get self.old.proxies number) sent.now event.now taken self.new) }
+        ensures takes { IfOk result (λ taken. ProxyTakes (Does IsProxyStep proxy_again (task_of event.now job.entry)) self.old number taken self.new) }
         ensures step { IfOk result (λ taken. IsStep event.now.moment self.old taken self.new) }
         ensures few { IfOk result (λ taken. length (sent_by taken) ≤ most_of_placed (slice_get self.old.proxies number)) }
         ensures err { OnErr result (self.new ≡ self.old) }
@@ -558,120 +425,11 @@ impl Nodes {
         let Some(placed) = self.proxies.get_mut(number) else {
             return Ok(None);
         };
-        let step = proxy_does(alloc, &mut placed.proxy, event, sent)?;
+        let step = does::<A, Proxy>(alloc, &mut placed.proxy, event, job)?;
         Ok(Some(Taken {
             at: placed.at,
             noted: Noted::by_proxy(number, step.notes),
             out: step.out,
         }))
     }
-}
-
-/// How many datagrams a step of this client sends at most.
-fn most_of(placed: Option<&Placed>) -> usize
-    ensures { result ≡ most_of (option_map (λ p. p.now) placed.entry) }
-{
-    match placed {
-        Some(placed) => one_or(placed.client.open_messages()),
-        None => 0,
-    }
-}
-
-/// How many a step of this proxy sends at most.
-fn most_of_placed(placed: Option<&PlacedProxy>) -> Result<usize, AllocError>
-    ensures { IfOk result (λ most. most ≡ most_of_placed (option_map (λ p. p.now) placed.entry)) }
-{
-    match placed {
-        Some(placed) => most_of_proxy(&placed.proxy),
-        None => Ok(0),
-    }
-}
-
-/// Two, and one for each message and each exchange that is open.
-fn most_of_proxy(proxy: &Proxy) -> Result<usize, AllocError>
-    ensures { IfOk result (λ most. most ≡ most_of_proxy proxy.now) }
-{
-    let open = proxy
-        .open_messages()
-        .checked_add(proxy.open_exchanges())
-        .ok_or(AllocError)?;
-    open.checked_add(2).ok_or(AllocError)
-}
-
-/// One, or one for each message that is open.
-fn one_or(open_messages: usize) -> usize
-    ensures { result ≡ one_or open_messages }
-{
-    if open_messages == 0 { 1 } else { open_messages }
-}
-
-/// The client is to send this request; one with the code 0.00 is none.
-fn client_asks<A: Ciphers>(
-    alloc: Global,
-    client: &mut Client,
-    event: &Event,
-    request: &Request,
-) -> Result<Step, AllocError>
-    ensures asks { IfOk result (λ step. AsksFor A.is_sealing A.TAG client.old event.now.moment event.now.draw request.now step client.new) }
-    ensures kind { IfOk result (λ step. ClientStep false (core_of_client client.old) step.notes (core_of_client client.new)) }
-    ensures few { IfOk result (λ step. length step.out ≤ 1) }
-    ensures err { OnErr result (client.new ≡ client.old) }
-{
-    if request.code.0 == 0 {
-        return Ok(idle(alloc));
-    }
-    client.ask::<A>(alloc, event.moment, request, &event.draw)
-}
-
-/// A datagram that was sent comes to the client.
-fn client_gets<A: Ciphers>(
-    alloc: Global,
-    client: &mut Client,
-    now: Moment,
-    datagram: Option<&SentDatagram>,
-) -> Result<Step, AllocError>
-    ensures gets { IfOk result (λ step. ClientGets A.is_sealing A.TAG client.old now (option_map (λ d. d.now) datagram.entry) step client.new) }
-    ensures kind { IfOk result (λ step. ClientStep false (core_of_client client.old) step.notes (core_of_client client.new)) }
-    ensures few { IfOk result (λ step. length step.out ≤ 1) }
-    ensures err { OnErr result (client.new ≡ client.old) }
-{
-    match datagram {
-        Some(sent) => { client_hears::<A>(alloc, client, now, sent.from, sent.bytes.as_slice()) }
-        None => Ok(idle(alloc)),
-    }
-}
-
-/// These bytes come to the client from this address.
-fn client_hears<A: Ciphers>(
-    alloc: Global,
-    client: &mut Client,
-    now: Moment,
-    from: Peer,
-    bytes: &[u8],
-) -> Result<Step, AllocError>
-    ensures hears { IfOk result (λ step. ClientHears A.is_sealing client.old now from bytes.now step client.new) }
-    ensures kind { IfOk result (λ step. ClientStep false (core_of_client client.old) step.notes (core_of_client client.new)) }
-    ensures few { IfOk result (λ step. length step.out ≤ 1) }
-    ensures err { OnErr result (client.new ≡ client.old) }
-{
-    client.on_datagram::<A>(alloc, now, from, bytes)
-}
-
-/// The client's holder seals this text at this number; one that none may have is none.
-fn client_lies<A: Ciphers>(
-    alloc: Global,
-    client: &mut Client,
-    number: u64,
-    text: &[u8],
-    draw: &Draw,
-) -> Result<Step, AllocError>
-    ensures lies { IfOk result (λ step. LiesAt A.is_sealing A.TAG client.old number text.now draw.now step client.new) }
-    ensures kind { IfOk result (λ step. ClientStep true (core_of_client client.old) step.notes (core_of_client client.new)) }
-    ensures few { IfOk result (λ step. length step.out ≤ 1) }
-    ensures same { client.new ≡ client.old }
-{
-    if number > NUMBER_LIMIT {
-        return Ok(idle(alloc));
-    }
-    client.lie::<A>(alloc, number, text, draw)
 }

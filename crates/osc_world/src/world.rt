@@ -116,7 +116,7 @@ impl World {
         ensures err { OnErr result (self.new ≡ self.old) }
     {
         let whose = self.nodes.whose(self.log.sent(), &event.what);
-        self.log.reserve(self.nodes.most_sent(whose)?)?;
+        self.log.reserve(self.nodes.most_sent::<A>(whose)?)?;
         let taken = self.nodes.take::<A>(alloc, whose, event, self.log.sent())?;
         self.log.keep(&event.what, taken);
         Ok(())
@@ -174,10 +174,13 @@ impl World {
         draws: &D,
         limit: usize,
     ) -> Result<bool, AllocError>
-        ensures rounds { IfOk result (λ quiet. Rounds A.is_sealing A.TAG (D.drawn draws.now) now limit self.old quiet self.new) }
-        ensures stopped { OnErr result ((some : ℕ) × (some < limit) × Rounds A.is_sealing A.TAG (D.drawn draws.now) now some self.old false self.new) }
-        ensures begun { IfOk result (λ quiet. MakesWhatWasBegun A.is_sealing A.TAG (D.drawn draws.now) now limit self.old quiet self.new) }
-        ensures asked { IfOk result (λ quiet. AnswersWhatWasAsked A.is_sealing A.TAG (D.drawn draws.now) now limit self.old quiet self.new) }
+        ensures rounds { IfOk result (λ quiet. Rounds (Happens A.is_sealing A.TAG) (record { drawn = D.drawn draws.now; at = now }) limit self.old quiet self.new) }
+        ensures stopped { OnErr result ((some : ℕ) × (some < limit)
+            × Rounds (Happens A.is_sealing A.TAG) (record { drawn = D.drawn draws.now; at = now }) some self.old false self.new) }
+        ensures begun { IfOk result (λ quiet. MakesWhatWasBegun A.is_sealing A.TAG (record { drawn = D.drawn draws.now; at = now }) limit self.old
+            (record { is_quiet = quiet; world = self.new })) }
+        ensures asked { IfOk result (λ quiet. AnswersWhatWasAsked A.is_sealing A.TAG (record { drawn = D.drawn draws.now; at = now }) limit self.old
+            (record { is_quiet = quiet; world = self.new })) }
         ensures reached { IsReached (run_of self.new) }
         ensures apart { StandApart self.new.nodes }
         ensures one_history { HasOneHistory self.new }
@@ -215,8 +218,9 @@ impl World {
         draws: &D,
         limit: usize,
     ) -> Result<bool, AllocError>
-        ensures rounds { IfOk result (λ quiet. Rounds A.is_sealing A.TAG (D.drawn draws.now) now limit self.old quiet self.new) }
-        ensures stopped { OnErr result ((some : ℕ) × (some < limit) × Rounds A.is_sealing A.TAG (D.drawn draws.now) now some self.old false self.new) }
+        ensures rounds { IfOk result (λ quiet. Rounds (Happens A.is_sealing A.TAG) (record { drawn = D.drawn draws.now; at = now }) limit self.old quiet self.new) }
+        ensures stopped { OnErr result ((some : ℕ) × (some < limit)
+            × Rounds (Happens A.is_sealing A.TAG) (record { drawn = D.drawn draws.now; at = now }) some self.old false self.new) }
         ensures whole { OnOk result (AreWhole (D.drawn draws.now) self.old self.new) }
     {
         for _ in 0..limit {

@@ -9,4 +9,4 @@ returns-clause-kind c =
     let n = c.self.inside in
     let found : slice_get n.clients.items c.args.client ≡ Some c.in-Some.placed.now =
     slice_get_read n.clients.items (length n.clients.items) c.args.client _ refl (search rules) c.in-Some.ensures.value in
-    client_skipped c.args.self.now n.server_at n.server n.clients.items n.proxies.items c.args.client c.in-Some.placed.now c.skip_to.new.self c.self.view_is found c.skip_to.ensures.kind
+    client_skipped c.args.self.now n.server_at n.server n.clients.items n.proxies.items c.args.client c.in-Some.placed.now c.self.view_is found c.skip_to.new.self c.skip_to.ensures.kind

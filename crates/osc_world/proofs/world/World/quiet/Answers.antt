@@ -1,9 +1,9 @@
 use Rattle.std.proofs.Common.{Bool, IfOk, OnOk, Result, Ok, Err, subst}
 use Rattle.osc_run.specs.Runs.{IsReached}
-use Rattle.osc_world.specs.Quiet.{Rounds}
+use Rattle.osc_world.specs.Quiet.{Deliveries, Rounds}
 use Rattle.osc_world.specs.Ready.{AnswersWhatWasAsked, MakesWhatWasBegun}
 use Rattle.osc_world.specs.Nodes.{StandApart}
-use Rattle.osc_world.specs.Worlds.{State, run_of}
+use Rattle.osc_world.specs.Worlds.{Happens, State, run_of}
 use Rattle.osc_world.proofs.world.World.quiet.Goals as goal
 
 pub returns-clause-one_history : goal.returns-clause-one_history
@@ -22,28 +22,26 @@ both (Err e) P Q f p x = tt
 
 pub returns-clause-begun : goal.returns-clause-begun
 returns-clause-begun g c =
-    let drawn = g.D.Draws.drawn c.args.draws.now in
+    let deliveries : Deliveries = record { drawn = g.D.Draws.drawn c.args.draws.now; at = c.args.now } in
     let old = c.args.self.now in
     let new = c.rounds-done.new.self in
     both c.rounds-done.result
-    (λ (quiet : Bool). Rounds g.A.Ciphers.is_sealing g.A.Ciphers.TAG drawn c.args.now c.args.limit old quiet new)
-    (λ (quiet : Bool). MakesWhatWasBegun g.A.Ciphers.is_sealing g.A.Ciphers.TAG drawn c.args.now c.args.limit old quiet new)
-    (λ quiet rounds whole before begun_at draw client deliveries placed claims entries enough ready may happens fits.
-    c.an_exchanged_round.ensures.made drawn begun_at c.args.now draw client deliveries placed claims entries before old new c.args.limit quiet
-    whole c.is_lawful.ensures.apart c.is_lawful.ensures.proxies c.is_lawful.ensures.clients enough ready may happens fits rounds)
+    (λ (quiet : Bool). Rounds (Happens g.A.Ciphers.is_sealing g.A.Ciphers.TAG) deliveries c.args.limit old quiet new)
+    (λ (quiet : Bool). MakesWhatWasBegun g.A.Ciphers.is_sealing g.A.Ciphers.TAG deliveries c.args.limit old (record { is_quiet = quiet; world = new }))
+    (λ quiet rounds whole. c.an_exchanged_round.ensures.made deliveries c.args.limit old new quiet
+    whole c.is_lawful.ensures.apart c.is_lawful.ensures.proxies c.is_lawful.ensures.clients rounds)
     c.rounds-done.ensures.rounds c.rounds-done.ensures.whole
 
 pub returns-clause-asked : goal.returns-clause-asked
 returns-clause-asked g c =
-    let drawn = g.D.Draws.drawn c.args.draws.now in
+    let deliveries : Deliveries = record { drawn = g.D.Draws.drawn c.args.draws.now; at = c.args.now } in
     let old = c.args.self.now in
     let new = c.rounds-done.new.self in
     both c.rounds-done.result
-    (λ (quiet : Bool). Rounds g.A.Ciphers.is_sealing g.A.Ciphers.TAG drawn c.args.now c.args.limit old quiet new)
-    (λ (quiet : Bool). AnswersWhatWasAsked g.A.Ciphers.is_sealing g.A.Ciphers.TAG drawn c.args.now c.args.limit old quiet new)
-    (λ quiet rounds whole before asked_at draw client deliveries request placed context held enough ready may code happens fits.
-    c.an_asked_round.ensures.answered drawn asked_at c.args.now draw client deliveries request placed context held before old new c.args.limit quiet
-    whole c.is_lawful.ensures.apart c.is_lawful.ensures.server c.is_lawful.ensures.proxies c.is_lawful.ensures.clients enough ready may code happens fits rounds)
+    (λ (quiet : Bool). Rounds (Happens g.A.Ciphers.is_sealing g.A.Ciphers.TAG) deliveries c.args.limit old quiet new)
+    (λ (quiet : Bool). AnswersWhatWasAsked g.A.Ciphers.is_sealing g.A.Ciphers.TAG deliveries c.args.limit old (record { is_quiet = quiet; world = new }))
+    (λ quiet rounds whole. c.an_asked_round.ensures.answered deliveries c.args.limit old new quiet
+    whole c.is_lawful.ensures.apart c.is_lawful.ensures.server c.is_lawful.ensures.proxies c.is_lawful.ensures.clients rounds)
     c.rounds-done.ensures.rounds c.rounds-done.ensures.whole
 
 pub returns-clause-reached : goal.returns-clause-reached
