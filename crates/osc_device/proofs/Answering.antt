@@ -2,10 +2,10 @@
 -- their server.
 use Rattle.std.proofs.Common.{◌≡◌, ◌≢◌, ◌∙◌, ap, sym, subst, ℕ, List, [], ◌∷◌, length, Option, Some, None}
 use Rattle.std.specs.Option.{IsSome}
+use Rattle.osc_model.specs.Arrival.{read_as}
 use Rattle.osc_model.specs.declared.node.Draw.{Draw}
 use Rattle.osc_model.specs.declared.node.Moment.{Moment}
 use Rattle.osc_model.specs.declared.node.Peer.{Peer}
-use Rattle.osc_model.specs.declared.request.Request.{Request}
 use Rattle.osc_model.specs.declared.step.ClientResult.TheVariants as result
 use Rattle.osc_model.specs.declared.step.Datagram.{Datagram}
 use Rattle.osc_model.specs.declared.step.Step.{Step}
@@ -18,15 +18,15 @@ use Rattle.osc_authz.specs.Begun.{ClientContextState}
 use Rattle.osc_authz.specs.Held.{Held}
 use Rattle.osc_client.specs.Hearing.{Begins, Hears as ClientHears, Requests}
 use Rattle.osc_client.specs.Lawful.{IsLawfulClient}
-use Rattle.osc_client.specs.Sending.{Asks, Exchanges}
+use Rattle.osc_client.specs.Sending.{Asked, Asks, Exchanges}
 use Rattle.osc_client.specs.State.{State as Client}
 use Rattle.osc_server.specs.Hearing.{Hears as ServerHears}
 use Rattle.osc_server.specs.State.{State as Server}
-use Rattle.osc_rounds.specs.AskRound.{IsAskedAndAnswered, IsLawfulServer, IsServedAndAnswered, asked_text}
-use Rattle.osc_rounds.specs.ExchangeRound.{IsAgreedAndMade, IsBegunAndMade}
+use Rattle.osc_rounds.specs.AskRound.{IsAskedAndAnswered, IsLawfulServer, IsServedAndAnswered, StraightRequest, asked_text}
+use Rattle.osc_rounds.specs.ExchangeRound.{IsAgreedAndMade, IsBegunAndMade, StraightPost}
 use Rattle.osc_rounds.specs.Ready.{IsStraight, MayAsk, MayExchange}
 use Rattle.osc_device.specs.Answered.{IsAnswered, IsOpen, IsReady, IsWhole, MayOpen}
-use Rattle.osc_device.specs.Carrying.{Carries, ComesBack, Reaches}
+use Rattle.osc_device.specs.Carrying.{Carries, ComesBack, Reaches, at_device, at_server}
 use Rattle.osc_device.specs.State.{State, own_address, server_address}
 use Rattle.osc_device.specs.declared.round.Round.{Round}
 
@@ -41,33 +41,49 @@ one_step : (o : Option Step) (a b : Step) → o ≡ Some a → o ≡ Some b → 
 one_step o a b e f = cc
 
 module _ (is_sealing : Sealings) (tag : Tags)
-    (law : (client asked : Client) (server : Server) (asked_at now : Moment) (draw : Draw) (request : Request) (at server_at : Peer)
+    (law : (client asked : Client) (server : Server) (asks : Asked) (now : Moment) (at server_at : Peer)
     (context : ClientContextState) (held : Held) (first : Step)
     → IsLawfulServer server → IsLawfulClient asked
-    → IsStraight client server now draw at server_at → MayAsk client server now context held
+    → IsStraight client server now asks.draw at server_at → MayAsk client server now context held
     → first.notes.result ≢ Some (result.Refused 14)
-    → Asks is_sealing tag client asked_at request draw first asked
-    → IsAskedAndAnswered is_sealing client server now draw request at server_at held context.next first asked)
-    (old new : State) (now : Moment) (draw server_draw : Draw) (request : Request) (context : ClientContextState) (held : Held) (asked : Client) (round : Round)
+    → Asks is_sealing tag client asks first asked
+    → IsAskedAndAnswered is_sealing
+    (record { asked = asked; server = server; at = at; server_at = server_at; now = now; held = held; number = context.next; text = asked_text client asks.draw asks.request })
+    client asks.draw first)
+    (old new : State) (asks : Asked) (server_draw : Draw) (context : ClientContextState) (held : Held) (asked : Client) (round : Round)
     (straight : (old.own.origin ≡ None) × (old.own.next_hop ≡ server_address)) (lawful : IsLawfulServer old.server) (lawful_own : IsLawfulClient asked)
-    (ready : IsReady old now draw context held) (whole : IsWhole round)
-    (requests : Requests is_sealing tag old.own now request draw round.begun asked) where
-  abbrev text : List ℕ
-  text = asked_text old.own draw request
+    (ready : IsReady old asks.at asks.draw context held) (whole : IsWhole round)
+    (requests : Requests is_sealing tag old.own asks round.begun asked) where
+  abbrev now : Moment
+  now = asks.at
 
-  is : IsAskedAndAnswered is_sealing old.own old.server now draw request own_address server_address held context.next round.begun asked
+  abbrev way : StraightRequest
+  way = record {
+    asked = asked;
+    server = old.server;
+    at = own_address;
+    server_at = server_address;
+    now = now;
+    held = held;
+    number = context.next;
+    text = asked_text old.own asks.draw asks.request;
+  }
+
+  is : IsAskedAndAnswered is_sealing way old.own asks.draw round.begun
   is =
-      law old.own asked old.server now now draw request own_address server_address context held round.begun lawful lawful_own
+      law old.own asked old.server asks now own_address server_address context held round.begun lawful lawful_own
       (record { direct = straight.0; next_hop = straight.1; unheard = ready.unheard }) ready.may_ask whole.fits requests.asks
 
   -- the answer comes back
-  back : (second : Step) → round.served ≡ Some second → IsServedAndAnswered is_sealing asked old.server now own_address server_address held context.next text second new.server
-      → ComesBack is_sealing asked now round.served round.learnt new.own → IsAnswered old now draw request held context.next round new
+  back : (second : Step) → round.served ≡ Some second → IsServedAndAnswered is_sealing way second new.server
+      → ComesBack is_sealing asked now round.served round.learnt new.own → IsAnswered old asks held context.next round new
   back second served it (ComesBack.lost nothing lost) = absurd (nothing_there round.learnt whole.learnt lost.0)
-  back second served it (ComesBack.heard answer one third some only learnt hears kind) =
+  back second served it (ComesBack.heard answer one third some only learnt steps) =
       let same : answer ≡ second = one_step round.served answer second some served in
       let bytes : one.bytes ≡ spelling it.answer = one_bytes second.out one (datagram own_address it.answer) (sym (ap (λ (s : Step). s.out) same) ∙ only) it.out in
-      let answered = it.answered third new.own (subst (λ (bs : List ℕ). ClientHears is_sealing asked now server_address bs third new.own) bytes hears) in
+      let answered =
+      it.answered server_draw third new.own
+      (subst (λ (bs : List ℕ). ClientHears is_sealing asked (at_device now server_draw bs) third new.own) bytes (steps server_draw).makes) in
       record {
         reply = it.reply;
         applied = it.applied;
@@ -80,16 +96,17 @@ module _ (is_sealing : Sealings) (tag : Tags)
         idle = answered.waiting;
       }
 
-  there : Reaches is_sealing old.server now server_draw round.begun.out round.served new.server → ComesBack is_sealing asked now round.served round.learnt new.own
-      → IsAnswered old now draw request held context.next round new
+  there : Reaches is_sealing old.server (at_server now server_draw round.begun.out) round.served new.server
+      → ComesBack is_sealing asked now round.served round.learnt new.own → IsAnswered old asks held context.next round new
   there (Reaches.lost nothing lost) comes = absurd (nothing_there round.served whole.served lost.0)
-  there (Reaches.heard one second only served hears kind) comes =
+  there (Reaches.heard one second only served step) comes =
       let bytes : one.bytes ≡ spelling is.message = one_bytes round.begun.out one (datagram old.own.next_hop is.message) only is.out in
       back second served
-      (is.served server_draw second new.server (subst (λ (bs : List ℕ). ServerHears is_sealing old.server now server_draw own_address bs second new.server) bytes hears))
+      (is.served server_draw second new.server
+      (subst (λ (bs : List ℕ). ServerHears is_sealing old.server (read_as (at_server now server_draw round.begun.out) bs) second new.server) bytes step.makes))
       comes
 
-  pub is_answered : Carries is_sealing old.server asked now server_draw round new → IsAnswered old now draw request held context.next round new
+  pub is_answered : Carries is_sealing (record old { own = asked }) now server_draw round new → IsAnswered old asks held context.next round new
   is_answered carries = there carries.reaches carries.comes_back
 
 module _ (is_sealing : Sealings)
@@ -97,33 +114,39 @@ module _ (is_sealing : Sealings)
     → IsLawfulClient begun → IsStraight client server now draw at server_at → MayExchange is_sealing client server now claims entries
     → first.notes.result ≢ Some (result.Refused 14)
     → Exchanges client asked_at draw first begun
-    → IsBegunAndMade is_sealing client server now draw at server_at entries first begun)
+    → IsBegunAndMade is_sealing (record { begun = begun; server = server; at = at; server_at = server_at; now = now; entries = entries }) client draw first)
     (old new : State) (now : Moment) (draw server_draw : Draw) (claims : Claims) (entries : List Entry) (begun : Client) (round : Round)
     (straight : (old.own.origin ≡ None) × (old.own.next_hop ≡ server_address)) (lawful_own : IsLawfulClient begun)
     (may : MayOpen is_sealing old now draw claims entries) (whole : IsWhole round) (size : length server_draw.0 ≡ 32)
     (begins : Begins old.own now draw round.begun begun) where
-  is_begun : IsBegunAndMade is_sealing old.own old.server now draw own_address server_address entries round.begun begun
+  abbrev post : StraightPost
+  post = record { begun = begun; server = old.server; at = own_address; server_at = server_address; now = now; entries = entries }
+
+  is_begun : IsBegunAndMade is_sealing post old.own draw round.begun
   is_begun =
       law old.own begun old.server now now draw own_address server_address claims entries round.begun lawful_own
       (record { direct = straight.0; next_hop = straight.1; unheard = may.unheard }) may.may_exchange whole.fits begins.exchanges
 
-  made_back : (second : Step) → round.served ≡ Some second → IsAgreedAndMade is_sealing begun now own_address server_address entries second new.server
+  made_back : (second : Step) → round.served ≡ Some second → IsAgreedAndMade is_sealing post second new.server
       → ComesBack is_sealing begun now round.served round.learnt new.own → IsOpen now entries new
   made_back second served it (ComesBack.lost nothing lost) = absurd (nothing_there round.learnt whole.learnt lost.0)
-  made_back second served it (ComesBack.heard answer one third some only learnt hears kind) =
+  made_back second served it (ComesBack.heard answer one third some only learnt steps) =
       let same : answer ≡ second = one_step round.served answer second some served in
       let bytes : one.bytes ≡ spelling it.answer = one_bytes second.out one (datagram own_address it.answer) (sym (ap (λ (s : Step). s.out) same) ∙ only) it.out in
-      let made = it.made third new.own (subst (λ (bs : List ℕ). ClientHears is_sealing begun now server_address bs third new.own) bytes hears) in
+      let made =
+      it.made server_draw third new.own
+      (subst (λ (bs : List ℕ). ClientHears is_sealing begun (at_device now server_draw bs) third new.own) bytes (steps server_draw).makes) in
       record { held = made.0; is_held = made.1; context = made.2.context; idle = made.2.waiting }
 
-  posted : Reaches is_sealing old.server now server_draw round.begun.out round.served new.server → ComesBack is_sealing begun now round.served round.learnt new.own
-      → IsOpen now entries new
+  posted : Reaches is_sealing old.server (at_server now server_draw round.begun.out) round.served new.server
+      → ComesBack is_sealing begun now round.served round.learnt new.own → IsOpen now entries new
   posted (Reaches.lost nothing lost) comes = absurd (nothing_there round.served whole.served lost.0)
-  posted (Reaches.heard one second only served hears kind) comes =
+  posted (Reaches.heard one second only served step) comes =
       let bytes : one.bytes ≡ spelling is_begun.message = one_bytes round.begun.out one (datagram old.own.next_hop is_begun.message) only is_begun.out in
       made_back second served
-      (is_begun.agreed server_draw second new.server size (subst (λ (bs : List ℕ). ServerHears is_sealing old.server now server_draw own_address bs second new.server) bytes hears))
+      (is_begun.agreed server_draw second new.server size
+      (subst (λ (bs : List ℕ). ServerHears is_sealing old.server (read_as (at_server now server_draw round.begun.out) bs) second new.server) bytes step.makes))
       comes
 
-  pub is_open : Carries is_sealing old.server begun now server_draw round new → IsOpen now entries new
+  pub is_open : Carries is_sealing (record old { own = begun }) now server_draw round new → IsOpen now entries new
   is_open carries = posted carries.reaches carries.comes_back

@@ -3,10 +3,10 @@ use Rattle.std.proofs.Common.{◌≡◌, ◌∙◌, ap, sym, subst, ℕ, ◌≤�
 use Rattle.std.specs.Prelude.{IfOk, OnErr}
 use Rattle.std.specs.Result.{result_ok}
 use Rattle.std.specs.declared.alloc.AllocError.{AllocError}
+use Rattle.osc_model.specs.Arrival.{Arrival, read_as}
 use Rattle.osc_model.specs.StepNotes.{StepNotes}
 use Rattle.osc_model.specs.declared.node.Draw.{Draw}
 use Rattle.osc_model.specs.declared.node.Moment.{Moment}
-use Rattle.osc_model.specs.declared.request.Request.{Request}
 use Rattle.osc_model.specs.declared.step.Datagram.{Datagram}
 use Rattle.osc_model.specs.declared.step.Step.{Step}
 use Rattle.osc_protect.specs.Ciphers.{Sealings, Tags}
@@ -16,13 +16,13 @@ use Rattle.osc_run.specs.ClientKinds.{ClientStep}
 use Rattle.osc_run.specs.States.{ClientState}
 use Rattle.osc_run.specs.ServerKinds.{ServerStep}
 use Rattle.osc_client.specs.Hearing.{Hears as ClientHears, Ticks}
-use Rattle.osc_client.specs.Sending.{Asks, Exchanges, OfEachPost, PostFits, TicksBy, is_over}
+use Rattle.osc_client.specs.Sending.{Asked, Asks, Exchanges, OfEachPost, PostFits, TicksBy, is_over}
 use Rattle.osc_client.specs.State.{State as Client, core as client_core}
 use Rattle.osc_client.specs.Way.{HostAndPort}
 use Rattle.osc_server.specs.Hearing.{Hears as ServerHears}
 use Rattle.osc_server.specs.State.{State as Server, core as server_core}
-use Rattle.osc_device.specs.Carrying.{ClientTakesMemory, ComesBack, Reaches, ServerTakesMemory}
-use Rattle.osc_device.specs.State.{own_address, server_address}
+use Rattle.osc_device.specs.Carrying.{ClientTakesMemory, ComesBack, Reaches, ServerTakesMemory, at_device}
+use Rattle.osc_device.specs.State.{server_address}
 use Rattle.osc_world.proofs.Way.{hears_same}
 
 -- a list of one
@@ -55,10 +55,10 @@ begun_straight old now draw step new (Exchanges.too_long idle long refused) stra
 begun_straight old now draw step new (Exchanges.begins idle fits spells told kept) straight = subst IsStraight (sym kept) straight
 
 module _ (is_sealing : Sealings) (tag : Tags) where
-  pub asked_straight : (old : Client) (now : Moment) (request : Request) (draw : Draw) (step : Step) (new : Client)
-      → Asks is_sealing tag old now request draw step new → IsStraight old → IsStraight new
-  asked_straight old now request draw step new (Asks.hindered number hinders refused) straight = subst IsStraight (sym refused.kept) straight
-  asked_straight old now request draw step new (Asks.asks context protected free is spells told kept) straight = subst IsStraight (sym kept) straight
+  pub asked_straight : (old : Client) (asked : Asked) (step : Step) (new : Client)
+      → Asks is_sealing tag old asked step new → IsStraight old → IsStraight new
+  asked_straight old asked step new (Asks.hindered number hinders refused) straight = subst IsStraight (sym refused.kept) straight
+  asked_straight old asked step new (Asks.asks context protected free is spells told kept) straight = subst IsStraight (sym kept) straight
 
 -- what was granted stays
 desk_kept : (notes : StepNotes) (old new : ClientState) → ClientStep false old notes new → new.desk ≡ old.desk
@@ -80,26 +80,33 @@ still_fits old new desk origin fits =
 -- ---- the ways
 
 module _ (is_sealing : Sealings) where
-  pub reaches : (inside old new : Server) (now : Moment) (draw : Draw) (out : List Datagram) (one : Datagram) (bytes : List ℕ) (result : Result Step AllocError) (step : Option Step)
-      → inside ≡ old → out ≡ one ∷ [] → bytes ≡ one.bytes
-      → IfOk result (λ s. ServerHears is_sealing inside now draw own_address bytes s new) → IfOk result (λ s. ServerStep (server_core inside) now s.notes (server_core new))
-      → OnErr result (new ≡ inside) → OnErr result (ServerTakesMemory inside now bytes) → step ≡ result_ok result
-      → Reaches is_sealing old now draw out step new
-  reaches inside old new now draw out one bytes (Ok s) step e only b heard kind kept memory is =
-      subst (λ (o : Server). Reaches is_sealing o now draw out step new) e
-      (Reaches.heard one s only is (subst (λ (bs : List ℕ). ServerHears is_sealing inside now draw own_address bs s new) b heard) kind)
-  reaches inside old new now draw out one bytes (Err error) step e only b heard kind kept memory is =
-      subst (λ (o : Server). Reaches is_sealing o now draw out step new) e
-      (Reaches.lost (λ other its. subst (λ (bs : List ℕ). ServerTakesMemory inside now bs) (b ∙ ap (λ (d : Datagram). d.bytes) (one_datagram out one other only its)) memory) (is, kept))
+  pub reaches : (inside old new : Server) (sent : Arrival (List Datagram)) (one : Datagram) (bytes : List ℕ) (result : Result Step AllocError) (step : Option Step)
+      → inside ≡ old → sent.what ≡ one ∷ [] → bytes ≡ one.bytes
+      → IfOk result (λ s. ServerHears is_sealing inside (read_as sent bytes) s new) → IfOk result (λ s. ServerStep (server_core inside) sent.at s.notes (server_core new))
+      → OnErr result (new ≡ inside) → OnErr result (ServerTakesMemory inside (read_as sent bytes)) → step ≡ result_ok result
+      → Reaches is_sealing old sent step new
+  reaches inside old new sent one bytes (Ok s) step e only b heard kind kept memory is =
+      subst (λ (o : Server). Reaches is_sealing o sent step new) e
+      (Reaches.heard one s only is
+      (record { makes = subst (λ (bs : List ℕ). ServerHears is_sealing inside (read_as sent bs) s new) b heard; kind = kind }))
+  reaches inside old new sent one bytes (Err error) step e only b heard kind kept memory is =
+      subst (λ (o : Server). Reaches is_sealing o sent step new) e
+      (Reaches.lost (λ other its. subst (λ (bs : List ℕ). ServerTakesMemory inside (read_as sent bs))
+      (b ∙ ap (λ (d : Datagram). d.bytes) (one_datagram sent.what one other only its)) memory) (is, kept))
+
+  -- these bytes come to the device, whatever is drawn
+  abbrev pub HearsWhatever : Client → Moment → List ℕ → Step → Client → Type 0
+  HearsWhatever old now bytes step new = (draw : Draw) → ClientHears is_sealing old (at_device now draw bytes) step new
 
   pub comes_back : (inside old new : Client) (now : Moment) (served : Option Step) (answer : Step) (one : Datagram) (bytes : List ℕ) (result : Result Step AllocError) (step : Option Step)
       → inside ≡ old → served ≡ Some answer → answer.out ≡ one ∷ [] → bytes ≡ one.bytes
-      → IfOk result (λ s. ClientHears is_sealing inside now server_address bytes s new) → IfOk result (λ s. ClientStep false (client_core inside) s.notes (client_core new))
+      → IfOk result (λ s. HearsWhatever inside now bytes s new) → IfOk result (λ s. ClientStep false (client_core inside) s.notes (client_core new))
       → OnErr result (new ≡ inside) → OnErr result (ClientTakesMemory inside now bytes) → step ≡ result_ok result
       → ComesBack is_sealing old now served step new
   comes_back inside old new now served answer one bytes (Ok s) step e some only b heard kind kept memory is =
       subst (λ (o : Client). ComesBack is_sealing o now served step new) e
-      (ComesBack.heard answer one s some only is (subst (λ (bs : List ℕ). ClientHears is_sealing inside now server_address bs s new) b heard) kind)
+      (ComesBack.heard answer one s some only is
+      (λ draw. record { makes = subst (λ (bs : List ℕ). ClientHears is_sealing inside (at_device now draw bs) s new) b (heard draw); kind = kind }))
   comes_back inside old new now served answer one bytes (Err error) step e some only b heard kind kept memory is =
       subst (λ (o : Client). ComesBack is_sealing o now served step new) e
       (ComesBack.lost (λ its other there sent.
@@ -109,9 +116,10 @@ module _ (is_sealing : Sealings) where
 
   -- and what it hears changes neither
   pub still_straight : (old new : Client) (now : Moment) (bytes : List ℕ) (result : Result Step AllocError)
-      → IfOk result (λ s. ClientHears is_sealing old now server_address bytes s new) → IfOk result (λ s. ClientStep false (client_core old) s.notes (client_core new))
+      → IfOk result (λ s. HearsWhatever old now bytes s new) → IfOk result (λ s. ClientStep false (client_core old) s.notes (client_core new))
       → OnErr result (new ≡ old) → IsStraight old → IsStraight new
   still_straight old new now bytes (Ok s) heard kind kept straight =
-      let same = hears_same is_sealing old now server_address bytes s new heard in
+      let nothing : Draw = record { 0 = [] } in
+      let same = hears_same is_sealing old (at_device now nothing bytes) s new (heard nothing) in
       (same.1 ∙ straight.0, same.0 ∙ straight.1, still_fits old new (desk_kept s.notes (client_core old) (client_core new) kind) same.1 straight.2)
   still_straight old new now bytes (Err error) heard kind kept straight = subst IsStraight (sym kept) straight

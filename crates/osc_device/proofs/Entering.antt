@@ -22,7 +22,6 @@ use Rattle.osc_run.specs.OneHistory.{IsReplyOfRequest, OneHistory}
 use Rattle.osc_run.specs.Premise.{Premise}
 use Rattle.osc_run.specs.Runs.{IsReached}
 use Rattle.osc_run.specs.States.{ClientState, Minted, WorldState}
-use Rattle.osc_server.specs.State.{State as Server}
 use Rattle.osc_device.specs.Carrying.{Carries, ComesBack}
 use Rattle.osc_device.specs.Runs.{IsIn, IsTold, noted, of_own, of_server}
 use Rattle.osc_device.specs.State.{State}
@@ -82,15 +81,15 @@ one_step : (o : Option Step) (a b : Step) → o ≡ Some a → o ≡ Some b → 
 one_step o a b e f = cc
 
 module _ (is_sealing : Sealings) (history : (w : WorldState) → IsReached w → Premise w.minted w.notes → OneHistory w) where
-  learnt : (number : ℕ) (rest : List Noted) (reply : Reply) (old new : Client) (now : Moment) (served told : Option Step) (step : Step)
+  learnt : (number : ℕ) (rest : List Noted) (reply : Reply) (old new : Client) (now : Moment) (draw : Draw) (served told : Option Step) (step : Step)
       → told ≡ Some step → step.notes.result ≡ Some (result.Answer reply)
       → ComesBack is_sealing old now served told new
       → (a : Acceptance) × (a.by ≡ number) × (a.reply ≡ reply) × In a (acceptances (of_own number told ++ rest))
-  learnt number rest reply old new now served told step some answer (ComesBack.lost nothing lost) = let none = sym lost.0 ∙ some in absurd cc
-  learnt number rest reply old new now served told step some answer (ComesBack.heard its one made there only is hears kind) =
+  learnt number rest reply old new now draw served told step some answer (ComesBack.lost nothing lost) = let none = sym lost.0 ∙ some in absurd cc
+  learnt number rest reply old new now draw served told step some answer (ComesBack.heard its one made there only is steps) =
       let same : made ≡ step = one_step told made step is some in
       let result_is = ap (λ (s : Step). s.notes.result) same ∙ answer in
-      let note = opened (client_core old) (client_core new) made.notes reply kind result_is in (
+      let note = opened (client_core old) (client_core new) made.notes reply (steps draw).kind result_is in (
         acceptance_of number reply note.0,
         refl,
         refl,
@@ -98,18 +97,18 @@ module _ (is_sealing : Sealings) (history : (w : WorldState) → IsReached w →
             (accepts number rest made.notes reply note.0 result_is note.1),
       )
 
-  pub of_an_entry : (number : ℕ) (v : WorldState) (server : Server) (old begun : Client) (now : Moment) (draw : Draw) (round : Round) (new : State) (reply : Reply)
-      → IsReached v → IsIn number (device server old) v
-      → ClientStep false (client_core old) round.begun.notes (client_core begun)
-      → Carries is_sealing server begun now draw round new
+  pub of_an_entry : (number : ℕ) (v : WorldState) (old : Client) (between : State) (now : Moment) (draw : Draw) (round : Round) (new : State) (reply : Reply)
+      → IsReached v → IsIn number (device between.server old) v
+      → ClientStep false (client_core old) round.begun.notes (client_core between.own)
+      → Carries is_sealing between now draw round new
       → IsTold round reply → Premise v.minted (noted number round ++ v.notes)
       → (a : Acceptance) × (a.by ≡ number) × (a.reply ≡ reply) × IsReplyOfRequest (noted number round ++ v.notes) a
-  of_an_entry number v server old begun now draw round new reply reached is_in kind carries told premise =
-      let goes = of_round is_sealing number v server old begun now draw round new reached is_in kind carries in
+  of_an_entry number v old between now draw round new reply reached is_in kind carries told premise =
+      let goes = of_round is_sealing number v old between now draw round new reached is_in kind carries in
       let notes = noted number round ++ v.notes in
       let held : Premise goes.w.minted goes.w.notes =
       subst (λ (ns : List Noted). Premise goes.w.minted ns) (sym goes.notes) (subst (λ (m : List Minted). Premise m notes) (sym goes.minted) premise) in
       let one = history goes.w goes.reached held in
-      let a = learnt number (of_server round.served ++ (of_own number (Some round.begun) ++ v.notes)) reply begun new.own now round.served round.learnt told.0 told.1 told.2 carries.comes_back in
+      let a = learnt number (of_server round.served ++ (of_own number (Some round.begun) ++ v.notes)) reply between.own new.own now draw round.served round.learnt told.0 told.1 told.2 carries.comes_back in
       let same : of_own number round.learnt ++ (of_server round.served ++ (of_own number (Some round.begun) ++ v.notes)) ≡ goes.w.notes = regrouped number round v.notes ∙ sym goes.notes in
       (a.0, a.1, a.2, subst (λ (ns : List Noted). IsReplyOfRequest ns a.0) goes.notes (one.answered a.0 (subst (λ (ns : List Noted). In a.0 (acceptances ns)) same a.3)))

@@ -4,20 +4,25 @@ use Rattle.std.specs.Prelude.{IfOk}
 use Rattle.std.specs.declared.alloc.AllocError.{AllocError}
 use Rattle.std.specs.Prelude.{slice_set}
 use Rattle.std.proofs.lemmas.List.{append_assoc}
+use Rattle.osc_model.specs.Arrival.{Arrival}
 use Rattle.osc_model.specs.StepNotes.{StepNotes}
 use Rattle.osc_model.specs.declared.node.Draw.{Draw}
 use Rattle.osc_model.specs.declared.node.Moment.{Moment}
+use Rattle.osc_model.specs.declared.step.Datagram.{Datagram}
 use Rattle.osc_model.specs.declared.step.Step.{Step}
 use Rattle.osc_protect.specs.Ciphers.{Sealings}
 use Rattle.osc_client.specs.State.{State as Client, core as client_core}
 use Rattle.osc_server.specs.State.{State as Server, core as server_core}
 use Rattle.osc_run.specs.ClientKinds.{ClientStep}
+use Rattle.osc_run.specs.Nodes.{Came}
 use Rattle.osc_run.specs.ServerKinds.{ServerStep}
+use Rattle.osc_server.specs.Hearing.{Hears as ServerHears}
+use Rattle.osc_server.specs.Steps.{IsStep as IsServerStep}
 use Rattle.osc_run.specs.Notes.{Noted, by_client, by_server}
 use Rattle.osc_run.specs.Runs.{IsReached, WorldStep}
 use Rattle.osc_run.specs.Runs as run
 use Rattle.osc_run.specs.States.{ClientState, ServerState, WorldState}
-use Rattle.osc_device.specs.Carrying.{Carries, ComesBack, Reaches}
+use Rattle.osc_device.specs.Carrying.{Carries, ComesBack, Reaches, at_server}
 use Rattle.osc_device.specs.Runs.{AllGoOn, GoesOn, IsIn, noted, of_own, of_server}
 use Rattle.osc_device.specs.State.{State}
 use Rattle.osc_device.specs.declared.round.Round.{Round}
@@ -91,35 +96,37 @@ then number steps later v middle last first second = record {
 -- ---- a round
 
 module _ (is_sealing : Sealings) where
-  reached_server : (number : ℕ) (v : WorldState) (old new : Server) (own : Client) (now : Moment) (draw : Draw) (begun : Step) (step : Option Step)
-      → Reaches is_sealing old now draw begun.out step new → IsReached v → IsIn number (device old own) v
+  reached_server : (number : ℕ) (v : WorldState) (old new : Server) (own : Client) (sent : Arrival (List Datagram)) (step : Option Step)
+      → Reaches is_sealing old sent step new → IsReached v → IsIn number (device old own) v
       → GoesOn number (of_server step) v (device new own)
-  reached_server number v old new own now draw begun step (Reaches.lost nothing lost) reached is_in =
+  reached_server number v old new own sent step (Reaches.lost nothing lost) reached is_in =
       subst (λ (s : Option Step). GoesOn number (of_server s) v (device new own)) (sym lost.0)
       (subst (λ (s : Server). GoesOn number [] v (device s own)) (sym lost.1) (of_nothing number v (device old own) reached is_in))
-  reached_server number v old new own now draw begun step (Reaches.heard one made only some hears kind) reached is_in =
+  reached_server number v old new own sent step (Reaches.heard one made only some is) reached is_in =
       subst (λ (s : Option Step). GoesOn number (of_server s) v (device new own)) (sym some)
-      (of_server_step number v old new own now made.notes reached is_in kind)
+      (of_server_step number v old new own sent.at made.notes reached is_in is.kind)
 
-  came_back : (number : ℕ) (v : WorldState) (server : Server) (old new : Client) (now : Moment) (served step : Option Step)
+  came_back : (number : ℕ) (v : WorldState) (server : Server) (old new : Client) (now : Moment) (draw : Draw) (served step : Option Step)
       → ComesBack is_sealing old now served step new → IsReached v → IsIn number (device server old) v
       → GoesOn number (of_own number step) v (device server new)
-  came_back number v server old new now served step (ComesBack.lost nothing lost) reached is_in =
+  came_back number v server old new now draw served step (ComesBack.lost nothing lost) reached is_in =
       subst (λ (s : Option Step). GoesOn number (of_own number s) v (device server new)) (sym lost.0)
       (subst (λ (c : Client). GoesOn number [] v (device server c)) (sym lost.1) (of_nothing number v (device server old) reached is_in))
-  came_back number v server old new now served step (ComesBack.heard answer one made some only told hears kind) reached is_in =
+  came_back number v server old new now draw served step (ComesBack.heard answer one made some only told steps) reached is_in =
       subst (λ (s : Option Step). GoesOn number (of_own number s) v (device server new)) (sym told)
-      (of_client_step number v server old new made.notes reached is_in kind)
+      (of_client_step number v server old new made.notes reached is_in (steps draw).kind)
 
-  pub of_round : (number : ℕ) (v : WorldState) (server : Server) (old begun : Client) (now : Moment) (draw : Draw) (round : Round) (new : State)
-      → IsReached v → IsIn number (device server old) v
-      → ClientStep false (client_core old) round.begun.notes (client_core begun)
-      → Carries is_sealing server begun now draw round new
+  pub of_round : (number : ℕ) (v : WorldState) (old : Client) (between : State) (now : Moment) (draw : Draw) (round : Round) (new : State)
+      → IsReached v → IsIn number (device between.server old) v
+      → ClientStep false (client_core old) round.begun.notes (client_core between.own)
+      → Carries is_sealing between now draw round new
       → GoesOn number (noted number round) v new
-  of_round number v server old begun now draw round new reached is_in kind carries =
+  of_round number v old between now draw round new reached is_in kind carries =
+      let server = between.server in
+      let begun = between.own in
       let first = of_client_step number v server old begun round.begun.notes reached is_in kind in
-      let second = reached_server number first.w server new.server begun now draw round.begun round.served carries.reaches first.reached first.is_in in
-      let third = came_back number second.w new.server begun new.own now round.served round.learnt carries.comes_back second.reached second.is_in in
+      let second = reached_server number first.w server new.server begun (at_server now draw round.begun.out) round.served carries.reaches first.reached first.is_in in
+      let third = came_back number second.w new.server begun new.own now draw round.served round.learnt carries.comes_back second.reached second.is_in in
       then number (of_own number (Some round.begun)) (of_own number round.learnt ++ of_server round.served) v (device server begun) new first
       (then number (of_server round.served) (of_own number round.learnt) first.w (device new.server begun) new second third)
 
@@ -135,3 +142,12 @@ pub heard_by_all : HeardLaw → (old : State) (inside new : Server) (own : Clien
 heard_by_all law old inside new own now (Ok step) is kind =
     subst (λ (o : State). AllGoOn o (λ number. by_server step.notes ∷ []) (device new own)) is (law (device inside own) (device new own) now step.notes kind refl)
 heard_by_all law old inside new own now (Err error) is kind = tt
+
+-- what a server did is a step
+pub stepped : (is_sealing : Sealings) (old : State) (inside new : Server) (own : Client) (came : Arrival (List ℕ)) (result : Result Step AllocError)
+    → device inside own ≡ old → IfOk result (λ step. ServerHears is_sealing inside came step new)
+    → IfOk result (λ step. ServerStep (server_core inside) came.at step.notes (server_core new))
+    → IfOk result (λ step. IsServerStep is_sealing old.server (Came came) step new)
+stepped is_sealing old inside new own came (Ok step) is hears kind =
+    subst (λ (o : State). IsServerStep is_sealing o.server (Came came) step new) is (record { makes = hears; kind = kind })
+stepped is_sealing old inside new own came (Err error) is hears kind = tt

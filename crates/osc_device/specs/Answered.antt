@@ -17,6 +17,7 @@ use Rattle.osc_token.specs.declared.claims.Claims.{Claims}
 use Rattle.osc_protect.specs.Ciphers.{Sealings}
 use Rattle.osc_authz.specs.Begun.{ClientContextState}
 use Rattle.osc_authz.specs.Held.{Held}
+use Rattle.osc_client.specs.Sending.{Asked}
 use Rattle.osc_run.specs.ServerKinds.{Replies as AppliesTo}
 use Rattle.osc_run.specs.Texts.{read_request}
 use Rattle.osc_server.specs.Table.{notes_of_request}
@@ -40,21 +41,22 @@ pub record IsWhole (round : Round) : Type 0 where
 
 -- It is served as one entry: its plaintext is applied to the resources under the scope of the device's token, or is answered by 5.00 where the
 -- resources lack memory; the device learns that reply, and waits for nothing.
-pub record IsAnswered (old : State) (now : Moment) (draw : Draw) (request : Request) (held : Held) (number : ℕ) (round : Round) (new : State) : Type 0 where
+pub record IsAnswered (old : State) (asked : Asked) (held : Held) (number : ℕ) (round : Round) (new : State) : Type 0 where
   pub reply : Reply
-  pub applied : AppliesTo old.server.tree (apply_read old.server.tree held.scope (read_request (asked_text old.own draw request))) reply new.server.tree
+  pub applied : AppliesTo old.server.tree (apply_read old.server.tree held.scope (read_request (asked_text old.own asked.draw asked.request))) reply new.server.tree
   pub second : Step
   pub served : round.served ≡ Some second
-  pub entry : second.notes ≡ notes_of_request now held number (asked_text old.own draw request) reply
+  pub entry : second.notes ≡ notes_of_request asked.at held number (asked_text old.own asked.draw asked.request) reply
   pub third : Step
   pub learnt : round.learnt ≡ Some third
   pub told : third.notes.result ≡ Some (result.Answer reply)
   pub idle : new.own.waiting ≡ None
 
 -- wherever it may ask, and no step wants memory
-abbrev pub IsAnsweredWhereReady : State → Moment → Draw → Request → Round → State → Type 0
-IsAnsweredWhereReady old now draw request round new =
-    (context : ClientContextState) (held : Held) → IsReady old now draw context held → IsWhole round → IsAnswered old now draw request held context.next round new
+abbrev pub IsAnsweredWhereReady : State → Asked → Round → State → Type 0
+IsAnsweredWhereReady old asked round new =
+    (context : ClientContextState) (held : Held) → IsReady old asked.at asked.draw context held → IsWhole round
+    → IsAnswered old asked held context.next round new
 
 -- a request of this method on this path, with a payload, its format, and no other option
 abbrev pub own_request : Method → List ℕ → Option ℕ → List ℕ → Request

@@ -2,15 +2,18 @@
 ghost use Rattle.std.specs.Prelude.{◌≡◌, ◌≢◌, ◌∷◌, ◌<◌, ◌≤◌, ◌↔◌, true, false, [], List, None, Some, length, IfErr, IfNone, IfOk, IfSome, OnErr};
 ghost use Rattle.osc_scope.specs.Entries.{Entry, IsScope};
 ghost use Rattle.osc_token.specs.declared.claims.Claims.{Claims as AnyClaims};
-ghost use Rattle.osc_client.specs.Hearing.{Begins, Requests, Ticks};
+ghost use Rattle.osc_client.specs.Hearing.{Begins};
 ghost use Rattle.osc_client.specs.Sending.{PostFits, acts_at, restarted};
 ghost use Rattle.osc_client.specs.State.{State as Own, core as own_core};
+ghost use Rattle.osc_client.specs.Steps.{IsStep as IsOwnStep};
 ghost use Rattle.osc_run.specs.ClientKinds.{ClientStep};
+ghost use Rattle.osc_run.specs.Nodes.{Came, Due};
 ghost use Rattle.osc_run.specs.Notes.{by_server};
 ghost use Rattle.osc_run.specs.ServerKinds.{ServerStep};
-ghost use Rattle.osc_server.specs.Hearing.{Hears};
 ghost use Rattle.osc_server.specs.State.{core};
+ghost use Rattle.osc_server.specs.Steps.{IsStep};
 ghost use Rattle.osc_model.specs.StepNotes.{quiet};
+ghost use Rattle.osc_model.specs.declared.node.Draw.{Draw as AnyDraw};
 ghost use Rattle.osc_model.specs.declared.node.Moment.{Moment as AnyMoment};
 ghost use Rattle.osc_message.specs.Endpoint.{after_tick, fresh};
 ghost use Rattle.osc_authz.specs.Begun.{ClientContextState};
@@ -20,7 +23,7 @@ ghost use Rattle.osc_model.specs.declared.step.ClientResult.TheVariants as resul
 ghost use Rattle.osc_model.specs.declared.code.Method.TheVariants.{Delete, Get, Post, Put};
 ghost use Rattle.osc_device.specs.Answered.{IsAnsweredWhereReady, IsOpen, IsWhole, MayOpen, own_request as own_request_of};
 ghost use Rattle.osc_device.specs.Begun.{IsBegun, IsGranted, IsNoDevice, own_claims};
-ghost use Rattle.osc_device.specs.Carrying.{AsksItsServer, Carries, ComesBack, Reaches};
+ghost use Rattle.osc_device.specs.Carrying.{AsksItsServer, Carries, ComesBack, Reaches, at_server};
 ghost use Rattle.osc_device.specs.Runs.{AllGoOn, IsOfAnEntry, noted, restarts};
 ghost use Rattle.osc_device.specs.State.{server_address};
 
@@ -172,8 +175,8 @@ impl Device {
         bytes: &[u8],
         draw: &Draw,
     ) -> Result<Step, AllocError>
-        ensures heard { IfOk result (λ step. Hears A.is_sealing self.old.server now draw.now from bytes.now step self.new.server) }
-        ensures kind { IfOk result (λ step. ServerStep (core self.old.server) now step.notes (core self.new.server)) }
+        ensures step { IfOk result (λ step.
+            IsStep A.is_sealing self.old.server (Came (record { at = now; from = from; draw = draw.now; what = bytes.now })) step self.new.server) }
         ensures own { self.new.own ≡ self.old.own }
         ensures run { IfOk result (λ step. AllGoOn self.old (λ number. by_server step.notes ∷ []) self.new) }
         ensures err { OnErr result (self.new ≡ self.old) }
@@ -186,9 +189,9 @@ impl Device {
     /// and nobody acknowledged goes to the server again. Memory is taken for that alone: without it that is lost, as on the way, and what is
     /// over ends all the same.
     pub fn on_tick<A: Ciphers>(&mut self, alloc: Global, now: Moment, server_draw: &Draw) -> Round
-        ensures ticked { (ticked : Own) × Ticks self.old.own now result.begun ticked
-            × ClientStep false (own_core self.old.own) result.begun.notes (own_core ticked)
-            × Carries A.is_sealing (record self.old.server { endpoint = after_tick now self.old.server.endpoint }) ticked now server_draw.now result self.new }
+        ensures ticked { (ticked : Own) × ((draw : AnyDraw) → IsOwnStep A.is_sealing self.old.own (Due now draw) result.begun ticked)
+            × Carries A.is_sealing (record { server = record self.old.server { endpoint = after_tick now self.old.server.endpoint }; own = ticked })
+            now server_draw.now result self.new }
         ensures run { AllGoOn self.old (λ number. noted number result) self.new }
         ensures entry { IsOfAnEntry self.old result }
     {
@@ -231,8 +234,9 @@ impl Device {
         server_draw: &Draw,
     ) -> Result<Round, AllocError>
         requires { 0 < request.now.code.0 }
-        ensures asked { IfOk result (λ round. AsksItsServer A.is_sealing A.TAG self.old now draw.now server_draw.now request.now round self.new) }
-        ensures answered { IfOk result (λ round. IsAnsweredWhereReady self.old now draw.now request.now round self.new) }
+        ensures asked { IfOk result (λ round. AsksItsServer A.is_sealing A.TAG self.old
+            (record { at = now; draw = draw.now; server_draw = server_draw.now; request = request.now }) round self.new) }
+        ensures answered { IfOk result (λ round. IsAnsweredWhereReady self.old (record { at = now; draw = draw.now; request = request.now }) round self.new) }
         ensures run { IfOk result (λ round. AllGoOn self.old (λ number. noted number round) self.new) }
         ensures entry { IfOk result (λ round. IsOfAnEntry self.old round) }
         ensures err { OnErr result (self.new ≡ self.old) }
@@ -257,8 +261,9 @@ impl Device {
         draw: &Draw,
         server_draw: &Draw,
     ) -> Result<Round, AllocError>
-        ensures asked { IfOk result (λ round. AsksItsServer A.is_sealing A.TAG self.old now draw.now server_draw.now (own_request_of Put path format payload) round self.new) }
-        ensures answered { IfOk result (λ round. IsAnsweredWhereReady self.old now draw.now (own_request_of Put path format payload) round self.new) }
+        ensures asked { IfOk result (λ round. AsksItsServer A.is_sealing A.TAG self.old
+            (record { at = now; draw = draw.now; server_draw = server_draw.now; request = own_request_of Put path format payload }) round self.new) }
+        ensures answered { IfOk result (λ round. IsAnsweredWhereReady self.old (record { at = now; draw = draw.now; request = own_request_of Put path format payload }) round self.new) }
         ensures run { IfOk result (λ round. AllGoOn self.old (λ number. noted number round) self.new) }
         ensures entry { IfOk result (λ round. IsOfAnEntry self.old round) }
         ensures err { OnErr result (self.new ≡ self.old) }
@@ -278,8 +283,9 @@ impl Device {
         draw: &Draw,
         server_draw: &Draw,
     ) -> Result<Round, AllocError>
-        ensures asked { IfOk result (λ round. AsksItsServer A.is_sealing A.TAG self.old now draw.now server_draw.now (own_request_of Post path format payload) round self.new) }
-        ensures answered { IfOk result (λ round. IsAnsweredWhereReady self.old now draw.now (own_request_of Post path format payload) round self.new) }
+        ensures asked { IfOk result (λ round. AsksItsServer A.is_sealing A.TAG self.old
+            (record { at = now; draw = draw.now; server_draw = server_draw.now; request = own_request_of Post path format payload }) round self.new) }
+        ensures answered { IfOk result (λ round. IsAnsweredWhereReady self.old (record { at = now; draw = draw.now; request = own_request_of Post path format payload }) round self.new) }
         ensures run { IfOk result (λ round. AllGoOn self.old (λ number. noted number round) self.new) }
         ensures entry { IfOk result (λ round. IsOfAnEntry self.old round) }
         ensures err { OnErr result (self.new ≡ self.old) }
@@ -297,8 +303,9 @@ impl Device {
         draw: &Draw,
         server_draw: &Draw,
     ) -> Result<Round, AllocError>
-        ensures asked { IfOk result (λ round. AsksItsServer A.is_sealing A.TAG self.old now draw.now server_draw.now (own_request_of Delete path None []) round self.new) }
-        ensures answered { IfOk result (λ round. IsAnsweredWhereReady self.old now draw.now (own_request_of Delete path None []) round self.new) }
+        ensures asked { IfOk result (λ round. AsksItsServer A.is_sealing A.TAG self.old
+            (record { at = now; draw = draw.now; server_draw = server_draw.now; request = own_request_of Delete path None [] }) round self.new) }
+        ensures answered { IfOk result (λ round. IsAnsweredWhereReady self.old (record { at = now; draw = draw.now; request = own_request_of Delete path None [] }) round self.new) }
         ensures run { IfOk result (λ round. AllGoOn self.old (λ number. noted number round) self.new) }
         ensures entry { IfOk result (λ round. IsOfAnEntry self.old round) }
         ensures err { OnErr result (self.new ≡ self.old) }
@@ -316,8 +323,9 @@ impl Device {
         draw: &Draw,
         server_draw: &Draw,
     ) -> Result<Round, AllocError>
-        ensures asked { IfOk result (λ round. AsksItsServer A.is_sealing A.TAG self.old now draw.now server_draw.now (own_request_of Get path None []) round self.new) }
-        ensures answered { IfOk result (λ round. IsAnsweredWhereReady self.old now draw.now (own_request_of Get path None []) round self.new) }
+        ensures asked { IfOk result (λ round. AsksItsServer A.is_sealing A.TAG self.old
+            (record { at = now; draw = draw.now; server_draw = server_draw.now; request = own_request_of Get path None [] }) round self.new) }
+        ensures answered { IfOk result (λ round. IsAnsweredWhereReady self.old (record { at = now; draw = draw.now; request = own_request_of Get path None [] }) round self.new) }
         ensures run { IfOk result (λ round. AllGoOn self.old (λ number. noted number round) self.new) }
         ensures entry { IfOk result (λ round. IsOfAnEntry self.old round) }
         ensures err { OnErr result (self.new ≡ self.old) }
@@ -337,7 +345,7 @@ impl Device {
     ) -> Result<Round, AllocError>
         ensures begun { IfOk result (λ round. (begun : Own) × Begins self.old.own now draw.now round.begun begun
             × ClientStep false (own_core self.old.own) round.begun.notes (own_core begun)
-            × Carries A.is_sealing self.old.server begun now server_draw.now round self.new) }
+            × Carries A.is_sealing (record self.old { own = begun }) now server_draw.now round self.new) }
         // Where it may, and no step wants memory.
         ensures made { IfOk result (λ round. (claims : AnyClaims) (entries : List Entry)
             → MayOpen A.is_sealing self.old now draw.now claims entries → IsWhole round → IsOpen now entries self.new) }
@@ -363,7 +371,7 @@ impl Device {
         begun: Step,
         server_draw: &Draw,
     ) -> Round
-        ensures carries { Carries A.is_sealing self.old.server self.old.own now server_draw.now result self.new }
+        ensures carries { Carries A.is_sealing self.old now server_draw.now result self.new }
         ensures begun { result.begun ≡ begun }
     {
         let served = self.served::<A>(alloc, now, &begun, server_draw);
@@ -383,7 +391,7 @@ impl Device {
         begun: &Step,
         server_draw: &Draw,
     ) -> Option<Step>
-        ensures served { Reaches A.is_sealing self.old.server now server_draw.now begun.now.out result self.new.server }
+        ensures served { Reaches A.is_sealing self.old.server (at_server now server_draw.now begun.now.out) result self.new.server }
         ensures own { self.new.own ≡ self.old.own }
     {
         match begun.out.as_slice() {

@@ -4,7 +4,6 @@ ghost use Rattle.std.specs.Prelude.{◌≡◌, ◌∷◌, ◌<◌, ◌^◌, [], 
 ghost use Rattle.osc_model.specs.declared.node.Draw.{Draw as AnyDraw};
 ghost use Rattle.osc_model.specs.declared.node.Moment.{Moment as AnyMoment};
 ghost use Rattle.osc_model.specs.StepNotes.{StepNotes, quiet};
-ghost use Rattle.osc_model.specs.declared.request.Request.{Request as AnyRequest};
 ghost use Rattle.osc_scope.specs.Entries.{Entry};
 ghost use Rattle.osc_token.specs.Minted.{HasLawfulParts};
 ghost use Rattle.osc_token.specs.declared.claims.Claims.{Claims as AnyClaims};
@@ -13,7 +12,7 @@ ghost use Rattle.osc_authz.specs.Begun.{ClientContextState};
 ghost use Rattle.osc_authz.specs.Held.{Held};
 ghost use Rattle.osc_client.specs.Hearing.{Begins, Requests};
 ghost use Rattle.osc_client.specs.Lawful.{IsLawfulClient};
-ghost use Rattle.osc_client.specs.Sending.{restarted};
+ghost use Rattle.osc_client.specs.Sending.{Asked};
 ghost use Rattle.osc_client.specs.State.{State as Own, core as own_core};
 ghost use Rattle.osc_rounds.specs.AskRound.{IsLawfulServer};
 ghost use Rattle.osc_run.specs.ClientKinds.{ClientStep};
@@ -21,7 +20,7 @@ ghost use Rattle.osc_run.specs.Notes.{by_server};
 ghost use Rattle.osc_run.specs.Runs.{IsReached};
 ghost use Rattle.osc_run.specs.ServerKinds.{ServerStep};
 ghost use Rattle.osc_run.specs.States.{ClientState, Minted, WorldState};
-ghost use Rattle.osc_server.specs.State.{State as AnyServer, core as server_core};
+ghost use Rattle.osc_server.specs.State.{core as server_core};
 ghost use Rattle.osc_device.specs.Answered.{IsAnswered, IsOpen, IsReady, IsWhole, MayOpen};
 ghost use Rattle.osc_device.specs.Begun.{IsBegun, IsGranted, own_claims};
 ghost use Rattle.osc_device.specs.Carrying.{Carries};
@@ -36,13 +35,12 @@ use osc_protect::Ciphers;
 /// A request of a device that may ask, which isn't too long for a datagram, and for whose steps there is memory: it is served as one entry, and
 /// the device learns its reply.
 pub fn a_request_is_answered<A: Ciphers>()
-    ensures { (old new : State) (now : AnyMoment) (draw server_draw : AnyDraw) (request : AnyRequest) (context : ClientContextState) (held : Held)
-        (asked : Own) (round : AnyRound)
+    ensures { (old new : State) (asks : Asked) (server_draw : AnyDraw) (context : ClientContextState) (held : Held) (asked : Own) (round : AnyRound)
         → (old.own.origin ≡ None) × (old.own.next_hop ≡ server_address) → IsLawfulServer old.server → IsLawfulClient asked
-        → IsReady old now draw context held → IsWhole round
-        → Requests A.is_sealing A.TAG old.own now request draw round.begun asked
-        → Carries A.is_sealing old.server asked now server_draw round new
-        → IsAnswered old now draw request held context.next round new }
+        → IsReady old asks.at asks.draw context held → IsWhole round
+        → Requests A.is_sealing A.TAG old.own asks round.begun asked
+        → Carries A.is_sealing (record old { own = asked }) asks.at server_draw round new
+        → IsAnswered old asks held context.next round new }
 {
     osc_rounds::laws::a_request_is_answered::<A>();
 }
@@ -54,7 +52,7 @@ pub fn a_context_is_made<A: Ciphers>()
         → (old.own.origin ≡ None) × (old.own.next_hop ≡ server_address) → IsLawfulClient begun
         → MayOpen A.is_sealing old now draw claims entries → IsWhole round → length server_draw.0 ≡ 32
         → Begins old.own now draw round.begun begun
-        → Carries A.is_sealing old.server begun now server_draw round new
+        → Carries A.is_sealing (record old { own = begun }) now server_draw round new
         → IsOpen now entries new }
 {
     osc_rounds::laws::an_exchange_is_made::<A>();
@@ -82,10 +80,10 @@ pub fn a_run_begins<A: Ciphers>()
 /// What a device does is a part of each run that it is in, whoever else holds a token of its server and whatever comes from them: its round is
 /// up to three steps, one of its own, one of its server's, and one of its own again.
 pub fn runs_go_on<A: Ciphers>()
-    ensures { (old new : State) (begun : Own) (server : AnyServer) (now : AnyMoment) (draw : AnyDraw) (round : AnyRound)
-        → ClientStep false (own_core old.own) round.begun.notes (own_core begun)
-        → server_core server ≡ server_core old.server
-        → Carries A.is_sealing server begun now draw round new
+    ensures { (old between new : State) (now : AnyMoment) (server_draw : AnyDraw) (round : AnyRound)
+        → ClientStep false (own_core old.own) round.begun.notes (own_core between.own)
+        → server_core between.server ≡ server_core old.server
+        → Carries A.is_sealing between now server_draw round new
         → AllGoOn old (λ number. noted number round) new }
 {}
 
@@ -104,10 +102,10 @@ pub fn runs_go_on_alone()
 /// where no two grants name a common path, owners and device are answered as if each were alone.
 pub fn runs_keep_their_promises<A: Ciphers>()
     ensures promises { (w : WorldState) → IsReached w → KeepsItsPromises w }
-    ensures entered { (old new : State) (begun : Own) (server : AnyServer) (now : AnyMoment) (draw : AnyDraw) (round : AnyRound)
-        → ClientStep false (own_core old.own) round.begun.notes (own_core begun)
-        → server_core server ≡ server_core old.server
-        → Carries A.is_sealing server begun now draw round new
+    ensures entered { (old between new : State) (now : AnyMoment) (server_draw : AnyDraw) (round : AnyRound)
+        → ClientStep false (own_core old.own) round.begun.notes (own_core between.own)
+        → server_core between.server ≡ server_core old.server
+        → Carries A.is_sealing between now server_draw round new
         → IsOfAnEntry old round }
 {
     osc_run::laws::one_history();

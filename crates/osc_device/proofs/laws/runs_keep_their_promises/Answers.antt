@@ -7,6 +7,6 @@ pub returns-clause-promises : goal.returns-clause-promises
 returns-clause-promises g c = λ w reached. record { one_history = c.one_history.ensures w reached; own_answers = c.own_answers.ensures w reached }
 
 pub returns-clause-entered : goal.returns-clause-entered
-returns-clause-entered g c = λ old new begun server now draw round kind same carries number v reply reached is_in told premise.
-    of_an_entry g.A.Ciphers.is_sealing c.one_history.ensures number v server old.own begun now draw round new reply reached
+returns-clause-entered g c = λ old between new now draw round kind same carries number v reply reached is_in told premise.
+    of_an_entry g.A.Ciphers.is_sealing c.one_history.ensures number v old.own between now draw round new reply reached
     (record { server = subst (λ (s : ServerState). v.server ≡ s) (sym same) is_in.server; own = is_in.own }) kind carries told premise

@@ -1,12 +1,14 @@
-use Rattle.std.proofs.Common.{false, ◌∙◌, ap, refl, sym, subst}
-use Rattle.osc_client.specs.Hearing.{Ticks}
-use Rattle.osc_client.specs.State.{State as Client, core}
+use Rattle.std.proofs.Common.{◌∙◌, ap, refl, sym, subst}
+use Rattle.osc_client.specs.State.{State as Client}
+use Rattle.osc_client.specs.Steps.{IsStep}
 use Rattle.osc_message.specs.Endpoint.{after_tick}
+use Rattle.osc_model.specs.declared.node.Draw.{Draw}
 use Rattle.osc_model.specs.declared.step.Step.{Step}
-use Rattle.osc_run.specs.ClientKinds.{ClientStep}
+use Rattle.osc_run.specs.Nodes.{Due}
 use Rattle.osc_server.specs.State.{State as Server}
 use Rattle.osc_device.specs.Carrying.{Carries}
 use Rattle.osc_device.proofs.Carried.{ticked_straight}
+use Rattle.osc_device.proofs.Going.{device}
 use Rattle.osc_device.proofs.device.Device.on_tick.Goals as goal
 
 pub returns-clause-ticked : goal.returns-clause-ticked
@@ -14,27 +16,28 @@ returns-clause-ticked g c =
     let own = ap (λ d. d.own) c.self.view_is in
     let server = ap (λ d. d.server) c.self.view_is in
     let after : Server → Server = λ s. record s { endpoint = after_tick c.args.now s.endpoint } in
-    let gone = c.on_tick-let_go.ensures.ticked.kept ∙ ap after server in (
+    let gone = c.on_tick-let_go.ensures.ticked.kept ∙ ap after server in
+    let is : (draw : Draw) → IsStep g.A.Ciphers.is_sealing c.self.inside.own.client (Due c.args.now draw) c.on_tick-begun.result c.on_tick-begun.new.self =
+    λ draw. record { makes = c.on_tick-begun.ensures.ticked; kind = c.on_tick-begun.ensures.kind } in (
       c.on_tick-begun.new.self,
-      subst (λ (begun : Step). Ticks c.args.self.now.own c.args.now begun c.on_tick-begun.new.self) (sym c.carry.ensures.begun)
-          (subst (λ (old : Client). Ticks old c.args.now c.on_tick-begun.result c.on_tick-begun.new.self) own c.on_tick-begun.ensures.ticked),
-      subst (λ (begun : Step). ClientStep false (core c.args.self.now.own) begun.notes (core c.on_tick-begun.new.self)) (sym c.carry.ensures.begun)
-          (subst (λ (old : Client). ClientStep false (core old) c.on_tick-begun.result.notes (core c.on_tick-begun.new.self)) own c.on_tick-begun.ensures.kind),
-      subst (λ (old : Server). Carries g.A.Ciphers.is_sealing old c.on_tick-begun.new.self c.args.now c.args.server_draw.now c.carry.result c.carry.new.self) gone c.carry.ensures.carries,
+      λ draw. subst (λ (begun : Step). IsStep g.A.Ciphers.is_sealing c.args.self.now.own (Due c.args.now draw) begun c.on_tick-begun.new.self) (sym c.carry.ensures.begun)
+          (subst (λ (old : Client). IsStep g.A.Ciphers.is_sealing old (Due c.args.now draw) c.on_tick-begun.result c.on_tick-begun.new.self) own (is draw)),
+      subst (λ (old : Server). Carries g.A.Ciphers.is_sealing (device old c.on_tick-begun.new.self) c.args.now c.args.server_draw.now c.carry.result c.carry.new.self) gone c.carry.ensures.carries,
     )
 
 pub returns-clause-run : goal.returns-clause-run
 returns-clause-run g c =
     let ticked = returns-clause-ticked g c in
-    c.runs_go_on.ensures c.args.self.now c.carry.new.self ticked.0 (record c.args.self.now.server { endpoint = after_tick c.args.now c.args.self.now.server.endpoint })
-    c.args.now c.args.server_draw.now c.carry.result ticked.2 refl ticked.3
+    let between = device (record c.args.self.now.server { endpoint = after_tick c.args.now c.args.self.now.server.endpoint }) ticked.0 in
+    c.runs_go_on.ensures c.args.self.now between c.carry.new.self
+    c.args.now c.args.server_draw.now c.carry.result (ticked.1 c.args.server_draw.now).kind refl ticked.2
 
 pub returns-clause-entry : goal.returns-clause-entry
 returns-clause-entry g c =
     let ticked = returns-clause-ticked g c in
-    c.runs_keep_their_promises.ensures.entered c.args.self.now c.carry.new.self ticked.0
-    (record c.args.self.now.server { endpoint = after_tick c.args.now c.args.self.now.server.endpoint })
-    c.args.now c.args.server_draw.now c.carry.result ticked.2 refl ticked.3
+    let between = device (record c.args.self.now.server { endpoint = after_tick c.args.now c.args.self.now.server.endpoint }) ticked.0 in
+    c.runs_keep_their_promises.ensures.entered c.args.self.now between c.carry.new.self
+    c.args.now c.args.server_draw.now c.carry.result (ticked.1 c.args.server_draw.now).kind refl ticked.2
 
 pub invariant_of-self : goal.invariant_of-self
 invariant_of-self g c =

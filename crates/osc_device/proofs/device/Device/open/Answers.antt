@@ -8,6 +8,7 @@ use Rattle.osc_device.specs.Carrying.{Carries}
 use Rattle.osc_model.specs.declared.step.ClientResult.TheVariants.{Refused}
 use Rattle.osc_device.proofs.Granted.{never_too_long}
 use Rattle.osc_device.proofs.Carried.{begun_straight}
+use Rattle.osc_device.proofs.Going.{device}
 use Rattle.osc_device.proofs.device.Device.open.Goals as goal
 
 pub returns-clause-begun : goal.returns-clause-begun
@@ -19,7 +20,7 @@ returns-clause-begun g c =
           (subst (λ (old : Client). Begins old c.args.now c.args.draw.now c.in_ok-begun.begun c.exchange.new.self) own c.in_ok-begun.ensures.begun),
       subst (λ (begun : Step). ClientStep false (core c.args.self.now.own) begun.notes (core c.exchange.new.self)) (sym c.carry.ensures.begun)
           (subst (λ (old : Client). ClientStep false (core old) c.in_ok-begun.begun.notes (core c.exchange.new.self)) own c.in_ok-begun.ensures.kind),
-      subst (λ (old : Server). Carries g.A.Ciphers.is_sealing old c.exchange.new.self c.args.now c.args.server_draw.now c.carry.result c.carry.new.self) server c.carry.ensures.carries,
+      subst (λ (old : Server). Carries g.A.Ciphers.is_sealing (device old c.exchange.new.self) c.args.now c.args.server_draw.now c.carry.result c.carry.new.self) server c.carry.ensures.carries,
     )
 
 pub returns-clause-made : goal.returns-clause-made
@@ -31,12 +32,12 @@ returns-clause-made g c = λ claims entries may whole.
     c.has_lawful_parts.ensures may whole c.is_drawn.ensures
     (subst (λ (begun : Step). Begins c.args.self.now.own c.args.now c.args.draw.now begun c.exchange.new.self) (sym c.carry.ensures.begun)
     (subst (λ (old : Client). Begins old c.args.now c.args.draw.now c.in_ok-begun.begun c.exchange.new.self) own c.in_ok-begun.ensures.begun))
-    (subst (λ (old : Server). Carries g.A.Ciphers.is_sealing old c.exchange.new.self c.args.now c.args.server_draw.now c.carry.result c.carry.new.self) server c.carry.ensures.carries)
+    (subst (λ (old : Server). Carries g.A.Ciphers.is_sealing (device old c.exchange.new.self) c.args.now c.args.server_draw.now c.carry.result c.carry.new.self) server c.carry.ensures.carries)
 
 pub returns-clause-run : goal.returns-clause-run
 returns-clause-run g c =
     let begun = returns-clause-begun g c in
-    c.runs_go_on.ensures c.args.self.now c.carry.new.self begun.0 c.args.self.now.server c.args.now c.args.server_draw.now c.carry.result begun.2 refl begun.3
+    c.runs_go_on.ensures c.args.self.now (device c.args.self.now.server begun.0) c.carry.new.self c.args.now c.args.server_draw.now c.carry.result begun.2 refl begun.3
 
 pub returns-clause-fits : goal.returns-clause-fits
 returns-clause-fits g c =
