@@ -16,9 +16,9 @@ module _ {A : Type 0} {old new : Option A} {number : ℤ} {held lent after : A} 
 
   pub tells : (before code : ℕ) (Does : A → Told → A → Type 0) (told : Told)
       → Some held ≡ old → lent ≡ held → number ≡ pos (number_of told.outcome) → new ≡ Some after → code ≡ told.code → Does lent told after
-      → Tells old before number new code Does
+      → Tells old before (record { number = number; code = code }) new Does
   tells before code Does told was is_lent is now coded does =
-      subst (λ (o : Option A). Tells o before number new code Does) was (after, told, now, is, coded, subst (λ (h : A). Does h told after) is_lent does)
+      subst (λ (o : Option A). Tells o before (record { number = number; code = code }) new Does) was (after, told, now, is, coded, subst (λ (h : A). Does h told after) is_lent does)
 
 -- ---- calls that make something
 

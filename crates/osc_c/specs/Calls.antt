@@ -22,8 +22,14 @@ Looks old number new Does =
 abbrev pub Makes : {A : Type 0} → Option A → ℤ → Option A → (A → Type 0) → (Outcome → Type 0) → Type 0
 Makes {A} old number new Is IsWhyNot = ((node : A) × (number ≡ pos 0) × (new ≡ Some node) × Is node) ⊎ (Answers number IsWhyNot × (new ≡ old))
 
--- The same of a call that tells a code, too, where something is held.
-abbrev pub Tells : {A : Type 0} → Option A → ℕ → ℤ → Option A → ℕ → (A → Told → A → Type 0) → Type 0
-Tells {A} old before number new code Does =
-    MatchOption old ((number ≡ pos 33) × (new ≡ None) × (code ≡ before))
-    (λ held. (after : A) × (told : Told) × (new ≡ Some after) × (number ≡ pos (number_of told.outcome)) × (code ≡ told.code) × Does held told after)
+-- what a call answers that tells a code, too: the number, and the code that is told then
+pub record NumberAndCode : Type 0 where
+  pub number : ℤ
+  pub code : ℕ
+
+-- The same of a call that tells a code, too, where something is held. Where nothing is, the code is as before.
+abbrev pub Tells : {A : Type 0} → Option A → ℕ → NumberAndCode → Option A → (A → Told → A → Type 0) → Type 0
+Tells {A} old before answer new Does =
+    MatchOption old ((answer.number ≡ pos 33) × (new ≡ None) × (answer.code ≡ before))
+    (λ held. (after : A) × (told : Told) × (new ≡ Some after) × (answer.number ≡ pos (number_of told.outcome)) × (answer.code ≡ told.code)
+    × Does held told after)

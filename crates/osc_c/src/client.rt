@@ -4,6 +4,7 @@ ghost use Rattle.std.specs.declared.option.Option.TheVariants.{None};
 ghost use Rattle.osc_client.specs.Sending.{restarted};
 ghost use Rattle.osc_calls.specs.Client.{AskedBy, BegunBy, HeardBy, IsNewClient, TellsContext, TellsDeadline, TickedBy};
 ghost use Rattle.osc_calls.specs.Arguments.{IsUnfit};
+ghost use Rattle.osc_calls.specs.Given.{GivenGrant as Given};
 ghost use Rattle.osc_calls.specs.Granted.{IsNoClient};
 ghost use Rattle.osc_calls.specs.Last.{HandsOut, nothing};
 ghost use Rattle.osc_calls.specs.Plain.{draw_of, peer_of};
@@ -13,7 +14,9 @@ ghost use Rattle.osc_c.specs.Calls.{Calls, Looks, Makes};
 ghost use Rattle.osc_c.specs.Ciphers.{sealing, tags};
 
 use crate::client_handle::ClientHandle;
-use osc_calls::{ClientNode, Outcome, PlainDraw, PlainOptions, PlainPeer, PlainResult};
+use osc_calls::{
+    ClientNode, GivenGrant, GivenRequest, Outcome, PlainDraw, PlainOptions, PlainPeer, PlainResult,
+};
 use osc_ccm::Ccm;
 use std::alloc::Global;
 
@@ -35,10 +38,19 @@ pub extern "C" fn osc_client_new(
     has_context: u8,
     algorithm: u8,
 ) -> i32
-    ensures { Makes client.old.held result client.new.held (λ node. IsNewClient (peer_of next_hop.now) host.now port token.now secret.now salt.now context.now has_context algorithm node) (IsUnfit (IsNoClient host.now secret.now salt.now context.now has_context algorithm)) }
+    ensures { let given : Given = record {
+      next_hop = peer_of next_hop.now;
+      host = host.now;
+      port = port;
+      token = token.now;
+      secret = secret.now;
+      salt = salt.now;
+      context = context.now;
+      has_context = has_context;
+      algorithm = algorithm;
+    } in Makes client.old.held result client.new.held (λ node. IsNewClient given node) (IsUnfit (IsNoClient given)) }
 {
-    let made = ClientNode::new(
-        alloc,
+    let given = GivenGrant {
         next_hop,
         host,
         port,
@@ -48,8 +60,8 @@ pub extern "C" fn osc_client_new(
         context,
         has_context,
         algorithm,
-    );
-    match made {
+    };
+    match ClientNode::new(alloc, &given) {
         Ok(node) => match Box::new(alloc, node) {
             Ok(node) => {
                 *client = ClientHandle::holding(node);
@@ -99,14 +111,21 @@ pub extern "C" fn osc_client_ask(
     payload: &[u8],
     draw: &PlainDraw,
 ) -> i32
-    ensures { Calls client.old.held result client.new.held (λ old outcome new. AskedBy sealing tags old now method path.now options.now payload.now (draw_of draw.now) outcome new) }
+    ensures { Calls client.old.held result client.new.held (λ old outcome new. AskedBy sealing tags old
+        (record { ms = now; method = method; path = path.now; options = options.now; payload = payload.now; draw = draw_of draw.now }) outcome new) }
 {
     match client.take(alloc) {
         None => Outcome::Nothing.number(),
         Some(mut node) => {
-            let outcome = node.ask::<(Ccm<8>, Ccm<16>)>(
-                alloc, now, method, path, options, payload, draw,
-            );
+            let given = GivenRequest {
+                ms: now,
+                method,
+                path,
+                options,
+                payload,
+                draw,
+            };
+            let outcome = node.ask::<(Ccm<8>, Ccm<16>)>(alloc, &given);
             *client = ClientHandle::holding(node);
             outcome.number()
         }
@@ -124,7 +143,8 @@ pub extern "C" fn osc_client_on_datagram(
     from: &PlainPeer,
     bytes: &[u8],
 ) -> i32
-    ensures { Calls client.old.held result client.new.held (λ old outcome new. HeardBy sealing old now (peer_of from.now) bytes.now outcome new) }
+    ensures { Calls client.old.held result client.new.held (λ old outcome new.
+        HeardBy sealing old (record { ms = now; from = peer_of from.now; bytes = bytes.now }) outcome new) }
 {
     match client.take(alloc) {
         None => Outcome::Nothing.number(),

@@ -2,6 +2,7 @@
 ghost use Rattle.std.specs.Prelude.{◌≡◌};
 ghost use Rattle.std.specs.declared.option.Option.TheVariants.{None};
 ghost use Rattle.osc_calls.specs.Device.{HeardBy, Restarts, TellsDeadline, TickedBy};
+ghost use Rattle.osc_calls.specs.Given.{GivenDevice as Given};
 ghost use Rattle.osc_calls.specs.Last.{HandsOut};
 ghost use Rattle.osc_calls.specs.Making.{IsNewDevice, IsNoNewDevice};
 ghost use Rattle.osc_calls.specs.Plain.{draw_of, peer_of};
@@ -29,7 +30,8 @@ pub extern "C" fn osc_device_new(
     own: &[u8],
     draw: &PlainDraw,
 ) -> i32
-    ensures { Makes device.old.held result device.new.held (λ node. IsNewDevice sealing key.now.bytes audience.now free.now own.now draw.now.bytes node) (IsNoNewDevice key.now.bytes audience.now free.now own.now draw.now.bytes) }
+    ensures { let given : Given = record { key = key.now.bytes; audience = audience.now; free = free.now; own = own.now; draw = draw.now.bytes } in
+        Makes device.old.held result device.new.held (λ node. IsNewDevice sealing given node) (IsNoNewDevice given) }
 {
     let made = DeviceNode::new::<(Ccm<8>, Ccm<16>)>(alloc, key, audience, free, own, draw);
     match made {
@@ -56,7 +58,8 @@ pub extern "C" fn osc_device_on_datagram(
     bytes: &[u8],
     draw: &PlainDraw,
 ) -> i32
-    ensures { Calls device.old.held result device.new.held (λ old outcome new. HeardBy sealing old now (draw_of draw.now) (peer_of from.now) bytes.now outcome new) }
+    ensures { Calls device.old.held result device.new.held (λ old outcome new.
+        HeardBy sealing old (record { ms = now; from = peer_of from.now; bytes = bytes.now }) (draw_of draw.now) outcome new) }
 {
     match device.take(alloc) {
         None => Outcome::Nothing.number(),

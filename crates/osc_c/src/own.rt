@@ -7,7 +7,7 @@ ghost use Rattle.osc_c.specs.Calls.{Tells};
 ghost use Rattle.osc_c.specs.Ciphers.{sealing, tags};
 
 use crate::device_handle::DeviceHandle;
-use osc_calls::{Outcome, PlainDraws, Told};
+use osc_calls::{GivenValue, Outcome, PlainDraws, Told};
 use osc_ccm::Ccm;
 use std::alloc::Global;
 
@@ -32,7 +32,8 @@ pub extern "C" fn osc_device_open(
     draws: &PlainDraws,
     code: &mut u8,
 ) -> i32
-    ensures tells { Tells device.old.held code.old result device.new.held code.new (λ old told new. OpensBy sealing old now draws.now told new) }
+    ensures tells { Tells device.old.held code.old (record { number = result; code = code.new }) device.new.held
+        (λ old told new. OpensBy sealing old now draws.now told new) }
     ensures fits { result ≢ pos 14 }
 {
     match device.take(alloc) {
@@ -59,12 +60,20 @@ pub extern "C" fn osc_device_put(
     draws: &PlainDraws,
     code: &mut u8,
 ) -> i32
-    ensures { Tells device.old.held code.old result device.new.held code.new (λ old told new. AsksBy sealing tags Put old now path.now format payload.now draws.now told new) }
+    ensures { Tells device.old.held code.old (record { number = result; code = code.new }) device.new.held (λ old told new. AsksBy sealing tags old
+        (record { method = Put; value = record { ms = now; path = path.now; format = format; payload = payload.now; draws = draws.now } }) told new) }
 {
     match device.take(alloc) {
         None => Outcome::Nothing.number(),
         Some(mut node) => {
-            let told = node.put::<(Ccm<8>, Ccm<16>)>(alloc, now, path, format, payload, draws);
+            let given = GivenValue {
+                ms: now,
+                path,
+                format,
+                payload,
+                draws,
+            };
+            let told = node.put::<(Ccm<8>, Ccm<16>)>(alloc, &given);
             *device = DeviceHandle::holding(node);
             answer(told, code)
         }
@@ -83,12 +92,20 @@ pub extern "C" fn osc_device_append(
     draws: &PlainDraws,
     code: &mut u8,
 ) -> i32
-    ensures { Tells device.old.held code.old result device.new.held code.new (λ old told new. AsksBy sealing tags Post old now path.now format payload.now draws.now told new) }
+    ensures { Tells device.old.held code.old (record { number = result; code = code.new }) device.new.held (λ old told new. AsksBy sealing tags old
+        (record { method = Post; value = record { ms = now; path = path.now; format = format; payload = payload.now; draws = draws.now } }) told new) }
 {
     match device.take(alloc) {
         None => Outcome::Nothing.number(),
         Some(mut node) => {
-            let told = node.append::<(Ccm<8>, Ccm<16>)>(alloc, now, path, format, payload, draws);
+            let given = GivenValue {
+                ms: now,
+                path,
+                format,
+                payload,
+                draws,
+            };
+            let told = node.append::<(Ccm<8>, Ccm<16>)>(alloc, &given);
             *device = DeviceHandle::holding(node);
             answer(told, code)
         }
@@ -105,7 +122,8 @@ pub extern "C" fn osc_device_remove(
     draws: &PlainDraws,
     code: &mut u8,
 ) -> i32
-    ensures { Tells device.old.held code.old result device.new.held code.new (λ old told new. RemovesBy sealing tags old now path.now draws.now told new) }
+    ensures { Tells device.old.held code.old (record { number = result; code = code.new }) device.new.held
+        (λ old told new. RemovesBy sealing tags old (record { ms = now; path = path.now; draws = draws.now }) told new) }
 {
     match device.take(alloc) {
         None => Outcome::Nothing.number(),

@@ -65,7 +65,8 @@ pub extern "C" fn osc_proxy_on_datagram(
     bytes: &[u8],
     draw: &PlainDraw,
 ) -> i32
-    ensures { Calls proxy.old.held result proxy.new.held (λ old outcome new. HeardBy old now (draw_of draw.now) (peer_of from.now) bytes.now outcome new) }
+    ensures { Calls proxy.old.held result proxy.new.held (λ old outcome new.
+        HeardBy old (record { ms = now; from = peer_of from.now; bytes = bytes.now }) (draw_of draw.now) outcome new) }
 {
     match proxy.take(alloc) {
         None => Outcome::Nothing.number(),

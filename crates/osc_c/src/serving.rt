@@ -21,7 +21,8 @@ pub extern "C" fn osc_device_get(
     payload: &mut [u8],
     value: &mut PlainValue,
 ) -> i32
-    ensures { Looks device.old.held result device.new.held (λ node outcome. TellsValueAt node path.now payload.old value.old outcome payload.new value.new) }
+    ensures { Looks device.old.held result device.new.held (λ node outcome.
+        TellsValueAt node path.now (record { payload = payload.old; value = value.old }) outcome (record { payload = payload.new; value = value.new })) }
 {
     match device.take(alloc) {
         None => Outcome::Nothing.number(),

@@ -3,7 +3,7 @@ ghost use Rattle.osc_c.specs.Calls.{Answers};
 ghost use Rattle.osc_c.specs.Minting.{MintsBy};
 ghost use Rattle.osc_c.specs.Ciphers.{short_tag};
 
-use osc_calls::{PlainIv, PlainKey, claims, mint};
+use osc_calls::{GivenClaims, PlainIv, PlainKey, claims, mint};
 use osc_ccm::Ccm;
 use std::alloc::Global;
 
@@ -28,10 +28,21 @@ pub extern "C" fn osc_token_mint(
     token: &mut [u8],
     length: &mut usize,
 ) -> i32
-    ensures { Answers result (λ outcome. MintsBy short_tag key.now.bytes iv.now.bytes audience.now id.now secret.now context.now has_context scope.now not_before expires algorithm token.old length.old outcome token.new length.new) }
+    ensures { Answers result (λ outcome. MintsBy short_tag (record { key = key.now.bytes; iv = iv.now.bytes })
+        (record {
+          audience = audience.now;
+          id = id.now;
+          secret = secret.now;
+          context = context.now;
+          has_context = has_context;
+          scope = scope.now;
+          not_before = not_before;
+          expires = expires;
+          algorithm = algorithm;
+        })
+        (record { bytes = token.old; size = length.old }) outcome (record { bytes = token.new; size = length.new })) }
 {
-    let claims = claims(
-        alloc,
+    let given = GivenClaims {
         audience,
         id,
         secret,
@@ -41,8 +52,8 @@ pub extern "C" fn osc_token_mint(
         not_before,
         expires,
         algorithm,
-    );
-    match claims {
+    };
+    match claims(alloc, &given) {
         Ok(claims) => mint::<Ccm<8>>(alloc, claims, key, iv, token, length).number(),
         Err(outcome) => outcome.number(),
     }

@@ -1,18 +1,18 @@
 -- Where nothing was begun, nothing has changed.
 use Rattle.std.proofs.Common.{◌≡◌, ◌≢◌, ◌∙◌, ◌==◌, ℕ, inl, inr, ap, refl, subst, sym, List, [], ◌∷◌, Option, None, Some, if◌then◌else◌}
 use Rattle.std.proofs.lemmas.Bool.{cases_Bool, eqb-true}
+use Rattle.osc_model.specs.Arrival.{Arrival}
 use Rattle.osc_model.specs.declared.node.Draw.{Draw}
 use Rattle.osc_model.specs.declared.node.Moment.{Moment}
-use Rattle.osc_model.specs.declared.request.Request.{Request}
 use Rattle.osc_model.specs.declared.step.ClientResult.{ClientResult}
 use Rattle.osc_model.specs.declared.step.ClientResult.TheVariants.{Made, Answer, Unverified, TimedOut, Refused}
 use Rattle.osc_model.specs.declared.step.Datagram.{Datagram}
 use Rattle.osc_model.specs.declared.step.Step.{Step}
 use Rattle.osc_protect.specs.Ciphers.{Sealings, Tags}
-use Rattle.osc_client.specs.Sending.{Asks, Exchanges, IsRefused}
+use Rattle.osc_client.specs.Sending.{Asked, Asks, Exchanges, IsRefused}
 use Rattle.osc_client.specs.State.{State as Own}
 use Rattle.osc_server.specs.State.{State as Server}
-use Rattle.osc_device.specs.Carrying.{AsksItsServer, Carries, ComesBack, Reaches}
+use Rattle.osc_device.specs.Carrying.{AskedOfServer, AsksItsServer, Carries, ComesBack, Reaches, asked_by, at_server}
 use Rattle.osc_device.specs.State.{State}
 use Rattle.osc_device.specs.declared.round.Round.{Round}
 use Rattle.osc_calls.specs.Last.{LastStep, nothing}
@@ -69,40 +69,40 @@ never_too_long round told is_told fits is =
 -- ---- then nothing is carried
 
 module _ (is_sealing : Sealings) where
-  stays : (old : Server) (now : Moment) (draw : Draw) (out : List Datagram) (step : Option Step) (new : Server) → out ≡ []
-      → Reaches is_sealing old now draw out step new → (step ≡ None) × (new ≡ old)
-  stays old now draw out step new none (Reaches.lost why is) = is
-  stays old now draw out step new none (Reaches.heard one made is_one is hears kind) = let wrong : [] ≡ one ∷ [] = sym none ∙ is_one in absurd cc
+  stays : (old : Server) (sent : Arrival (List Datagram)) (step : Option Step) (new : Server) → sent.what ≡ []
+      → Reaches is_sealing old sent step new → (step ≡ None) × (new ≡ old)
+  stays old sent step new none (Reaches.lost why is) = is
+  stays old sent step new none (Reaches.heard one made is_one is does) = let wrong : [] ≡ one ∷ [] = sym none ∙ is_one in absurd cc
 
   stays_own : (old : Own) (now : Moment) (served step : Option Step) (new : Own) → served ≡ None → ComesBack is_sealing old now served step new → new ≡ old
   stays_own old now served step new none (ComesBack.lost why is) = is.1
-  stays_own old now served step new none (ComesBack.heard answer one made is_served is_one is hears kind) = let wrong : None ≡ Some answer = sym none ∙ is_served in absurd cc
+  stays_own old now served step new none (ComesBack.heard answer one made is_served is_one is does) = let wrong : None ≡ Some answer = sym none ∙ is_served in absurd cc
 
   carried : (old : State) (own : Own) (now : Moment) (draw : Draw) (round : Round) (new : State) → round.begun.out ≡ [] → own ≡ old.own
-      → Carries is_sealing old.server own now draw round new → new ≡ old
+      → Carries is_sealing (record old { own = own }) now draw round new → new ≡ old
   carried old own now draw round new none same carries =
-      let server = stays old.server now draw round.begun.out round.served new.server none carries.reaches in
+      let server = stays old.server (at_server now draw round.begun.out) round.served new.server none carries.reaches in
       let owns = stays_own own now round.served round.learnt new.own server.0 carries.comes_back ∙ same in
       (λ i. record { server = server.1 i; own = owns i })
 
   module _ (old : State) (now : Moment) (round : Round) (new : State) (number : ℕ) where
-    refused_own : (asked : Own) → IsRefused number old.own round.begun asked → (draw : Draw) → Carries is_sealing old.server asked now draw round new → new ≡ old
-    refused_own asked it draw carries = carried old asked now draw round new (ap (λ (s : Step). s.out) it.told) it.kept carries
+    refused_own : (own : Own) → IsRefused number old.own round.begun own → (draw : Draw) → Carries is_sealing (record old { own = own }) now draw round new → new ≡ old
+    refused_own own it draw carries = carried old own now draw round new (ap (λ (s : Step). s.out) it.told) it.kept carries
 
-  asks_kept : (tag : Tags) (old : State) (now : Moment) (draw server_draw : Draw) (request : Request) (round : Round) (new : State) (number : ℕ)
-      → round.begun.notes.result ≡ Some (Refused number) → (asked : Own) → Asks is_sealing tag old.own now request draw round.begun asked
-      → Carries is_sealing old.server asked now server_draw round new → new ≡ old
-  asks_kept tag old now draw server_draw request round new number told asked (Asks.hindered n why refused) carries = refused_own old now round new n asked refused server_draw carries
-  asks_kept tag old now draw server_draw request round new number told asked (Asks.asks context protected free protects spells step opened) carries =
+  asks_kept : (tag : Tags) (old : State) (asked : Asked) (draw : Draw) (round : Round) (new : State) (number : ℕ)
+      → round.begun.notes.result ≡ Some (Refused number) → (own : Own) → Asks is_sealing tag old.own asked round.begun own
+      → Carries is_sealing (record old { own = own }) asked.at draw round new → new ≡ old
+  asks_kept tag old asked draw round new number told own (Asks.hindered n why refused) carries = refused_own old asked.at round new n own refused draw carries
+  asks_kept tag old asked draw round new number told own (Asks.asks context protected free protects spells step opened) carries =
       let none = sym (ap (λ (s : Step). s.notes.result) step) ∙ told in absurd cc
 
-  pub asked_kept : (tag : Tags) (old : State) (now : Moment) (draw server_draw : Draw) (request : Request) (round : Round) (new : State) (number : ℕ)
-      → round.begun.notes.result ≡ Some (Refused number) → AsksItsServer is_sealing tag old now draw server_draw request round new → new ≡ old
-  asked_kept tag old now draw server_draw request round new number told it = asks_kept tag old now draw server_draw request round new number told it.asked it.requests.asks it.carries
+  pub asked_kept : (tag : Tags) (old : State) (asked : AskedOfServer) (round : Round) (new : State) (number : ℕ)
+      → round.begun.notes.result ≡ Some (Refused number) → AsksItsServer is_sealing tag old asked round new → new ≡ old
+  asked_kept tag old asked round new number told it = asks_kept tag old (asked_by asked) asked.server_draw round new number told it.own it.requests.asks it.carries
 
   pub begun_kept : (old : State) (now : Moment) (draw server_draw : Draw) (round : Round) (new : State) (number : ℕ)
       → round.begun.notes.result ≡ Some (Refused number) → (begun : Own) → Exchanges old.own now draw round.begun begun
-      → Carries is_sealing old.server begun now server_draw round new → new ≡ old
+      → Carries is_sealing (record old { own = begun }) now server_draw round new → new ≡ old
   begun_kept old now draw server_draw round new number told begun (Exchanges.busy why refused) carries = refused_own old now round new 17 begun refused server_draw carries
   begun_kept old now draw server_draw round new number told begun (Exchanges.too_long why long refused) carries = refused_own old now round new 14 begun refused server_draw carries
   begun_kept old now draw server_draw round new number told begun (Exchanges.begins idle fits spells step opened) carries =

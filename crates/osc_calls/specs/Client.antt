@@ -8,16 +8,18 @@ use Rattle.osc_model.specs.declared.step.Step.{Step}
 use Rattle.osc_message.specs.Endpoint.{fresh}
 use Rattle.osc_authz.specs.declared.granted.ClientDesk.{ClientDesk}
 use Rattle.osc_protect.specs.Ciphers.{Sealings, Tags}
-use Rattle.osc_client.specs.Hearing.{Begins, Hears, Requests, Ticks}
-use Rattle.osc_client.specs.Sending.{acts_at}
+use Rattle.osc_client.specs.Hearing.{Begins, Requests, Ticks}
+use Rattle.osc_client.specs.Sending.{Asked, acts_at}
 use Rattle.osc_client.specs.State.{State, core}
+use Rattle.osc_client.specs.Steps.{IsStep}
 use Rattle.osc_run.specs.ClientKinds.{ClientStep}
+use Rattle.osc_run.specs.Nodes.{Came}
 use Rattle.osc_client.specs.declared.way.Way.{Way}
 use Rattle.osc_calls.specs.Arguments.{IsUnfit, Tells}
 use Rattle.osc_calls.specs.Calls.{At, DoneAt, Ends}
+use Rattle.osc_calls.specs.Given.{GivenDatagram, GivenGrant, GivenRequest}
 use Rattle.osc_calls.specs.Granted.{IsDesk, IsLawfulGrant, IsWay, id_context_of, origin_of}
 use Rattle.osc_calls.specs.Requests.{AreOptions, IsNoRequest, IsRequest}
-use Rattle.osc_calls.specs.declared.plain.PlainOptions.{PlainOptions}
 use Rattle.osc_model.specs.Algorithm.{algorithm_number}
 use Rattle.osc_model.specs.declared.algorithm.Algorithm.{Algorithm}
 use Rattle.osc_calls.specs.Last.{nothing, since}
@@ -33,50 +35,56 @@ IsFresh desk way node = node ≡ record {
 }
 
 -- It was granted this, and has done nothing. Its way and its input material are such as can be, and the flag is 0 or 1.
-pub record IsNewClient (next_hop : Peer) (host : List ℕ) (port : ℕ) (token secret salt context : List ℕ) (has_context algorithm : ℕ) (node : ClientNode) : Type 0 where
+pub record IsNewClient (given : GivenGrant) (node : ClientNode) : Type 0 where
   pub desk : ClientDesk
   pub alg : Algorithm
-  pub is_desk : IsDesk token secret salt (id_context_of has_context context) alg desk
-  pub is_alg : algorithm ≡ algorithm_number alg
-  pub is_flag : has_context ≤ 1
-  pub is_way : IsWay host
-  pub is_lawful : IsLawfulGrant secret salt (id_context_of has_context context)
-  pub fresh : IsFresh desk (record { next_hop = next_hop; origin = origin_of host port }) node
+  pub is_desk : IsDesk given.token given.secret given.salt (id_context_of given.has_context given.context) alg desk
+  pub is_alg : given.algorithm ≡ algorithm_number alg
+  pub is_flag : given.has_context ≤ 1
+  pub is_way : IsWay given.host
+  pub is_lawful : IsLawfulGrant given.secret given.salt (id_context_of given.has_context given.context)
+  pub fresh : IsFresh desk (record { next_hop = given.next_hop; origin = origin_of given.host given.port }) node
 
--- the client makes a step of this kind, as a holder does that keeps the rules, and it is the last one
+-- the client makes such a step, and it is the last one
 abbrev pub Makes : ClientNode → (State → Step → State → Type 0) → ClientNode → Type 0
-Makes old Does new =
-    (step : Step) × Does old.client step new.client × (new.last ≡ since step) × ClientStep false (core old.client) step.notes (core new.client)
+Makes old Does new = (step : Step) × Does old.client step new.client × (new.last ≡ since step)
+
+-- a step of a run, as of a holder that keeps the rules
+abbrev pub IsOfRun : State → Step → State → Type 0
+IsOfRun old step new = ClientStep false (core old) step.notes (core new)
 
 abbrev pub BegunAt : ClientNode → Moment → Draw → ClientNode → Type 0
-BegunAt old now draw new = Makes old (λ s step t. Begins s now draw step t) new
+BegunAt old now draw new = Makes old (λ s step t. Begins s now draw step t × IsOfRun s step t) new
 
 abbrev pub BegunBy : ClientNode → ℕ → Draw → Outcome → ClientNode → Type 0
 BegunBy old ms draw outcome new = At ms old outcome new (λ now. BegunAt old now draw new)
 
 abbrev pub TickedAt : ClientNode → Moment → ClientNode → Type 0
-TickedAt old now new = Makes old (λ s step t. Ticks s now step t) new
+TickedAt old now new = Makes old (λ s step t. Ticks s now step t × IsOfRun s step t) new
 
 abbrev pub TickedBy : ClientNode → ℕ → Outcome → ClientNode → Type 0
 TickedBy old ms outcome new = DoneAt ms old outcome new (λ now. TickedAt old now new)
 
 -- `is_sealing algorithm` is the relation of the algorithm's cipher
 module _ (is_sealing : Sealings) where
-  abbrev pub AskedAt : Tags → ClientNode → Moment → Request → Draw → ClientNode → Type 0
-  AskedAt tag old now request draw new = Makes old (λ s step t. Requests is_sealing tag s now request draw step t) new
+  abbrev pub AskedAt : Tags → ClientNode → Asked → ClientNode → Type 0
+  AskedAt tag old asked new = Makes old (λ s step t. Requests is_sealing tag s asked step t × IsOfRun s step t) new
 
   -- A request of these numbers and bytes is asked, or there was no memory for the step; or it is none, or there was no memory for it.
-  abbrev pub AskedBy : Tags → ClientNode → ℕ → ℕ → List ℕ → PlainOptions → List ℕ → Draw → Outcome → ClientNode → Type 0
-  AskedBy tag old ms method path options payload draw outcome new =
-      ((now : Moment) × (request : Request) × (now.ms ≡ ms) × IsRequest method path options payload request
-      × Ends old outcome new (AskedAt tag old now request draw new) × (0 < request.code.0) × (method ≤ 4) × AreOptions options)
-      ⊎ (IsUnfit (¬ (ms < 2 ^ 63) ⊎ IsNoRequest method path options) outcome × (new ≡ old))
+  abbrev pub AskedBy : Tags → ClientNode → GivenRequest → Outcome → ClientNode → Type 0
+  AskedBy tag old given outcome new =
+      ((now : Moment) × (request : Request) × (now.ms ≡ given.ms) × IsRequest given.method given.path given.options given.payload request
+      × Ends old outcome new (AskedAt tag old (record { at = now; draw = given.draw; request = request }) new)
+      × (0 < request.code.0) × (given.method ≤ 4) × AreOptions given.options)
+      ⊎ (IsUnfit (¬ (given.ms < 2 ^ 63) ⊎ IsNoRequest given.method given.path given.options) outcome × (new ≡ old))
 
+  -- it hears this, whatever is drawn
   abbrev pub HeardAt : ClientNode → Moment → Peer → List ℕ → ClientNode → Type 0
-  HeardAt old now from bytes new = Makes old (λ s step t. Hears is_sealing s now from bytes step t) new
+  HeardAt old now from bytes new =
+      Makes old (λ s step t. (draw : Draw) → IsStep is_sealing s (Came (record { at = now; from = from; draw = draw; what = bytes })) step t) new
 
-  abbrev pub HeardBy : ClientNode → ℕ → Peer → List ℕ → Outcome → ClientNode → Type 0
-  HeardBy old ms from bytes outcome new = At ms old outcome new (λ now. HeardAt old now from bytes new)
+  abbrev pub HeardBy : ClientNode → GivenDatagram → Outcome → ClientNode → Type 0
+  HeardBy old given outcome new = At given.ms old outcome new (λ now. HeardAt old now given.from given.bytes new)
 
 -- the first moment is told at which a tick does anything, if one does
 abbrev pub TellsDeadline : ClientNode → ℕ → Outcome → ℕ → Type 0

@@ -1,21 +1,24 @@
 -- A device by calls.
 use Rattle.std.specs.Prelude.{◌≡◌, ℕ, ◌⊎◌, Bool, true, false, bytes_eq, ◌↔◌, ◌≤◌, List, [], ◌∷◌}
+use Rattle.osc_model.specs.Arrival.{Arrival}
 use Rattle.osc_model.specs.declared.node.Draw.{Draw}
 use Rattle.osc_model.specs.declared.node.Moment.{Moment}
 use Rattle.osc_model.specs.declared.node.Peer.{Peer}
 use Rattle.osc_model.specs.declared.step.Step.{Step}
 use Rattle.osc_message.specs.Endpoint.{after_tick, fresh}
 use Rattle.osc_protect.specs.Ciphers.{Sealings}
-use Rattle.osc_client.specs.Hearing.{Ticks}
 use Rattle.osc_client.specs.Sending.{acts_at, restarted}
 use Rattle.osc_client.specs.State.{State as Own}
-use Rattle.osc_server.specs.Hearing.{Hears}
+use Rattle.osc_client.specs.Steps.{IsStep as IsOwnStep}
+use Rattle.osc_server.specs.Steps.{IsStep}
 use Rattle.osc_device.specs.Carrying.{Carries}
 use Rattle.osc_device.specs.Runs.{AllGoOn, IsOfAnEntry, noted, restarts}
 use Rattle.osc_device.specs.State.{State}
+use Rattle.osc_run.specs.Nodes.{Came, Due}
 use Rattle.osc_run.specs.Notes.{by_server}
 use Rattle.osc_device.specs.declared.round.Round.{Round}
 use Rattle.osc_calls.specs.Calls.{At, DoneAt, Stays}
+use Rattle.osc_calls.specs.Given.{GivenDatagram, came_at}
 use Rattle.osc_calls.specs.Last.{nothing, since, since_tick}
 use Rattle.osc_calls.specs.declared.device.DeviceNode.{DeviceNode}
 use Rattle.osc_calls.specs.declared.outcome.Outcome.{Outcome}
@@ -36,31 +39,33 @@ Restarts old new = (new ≡ record { device = restarted_device old.device; last 
 abbrev pub is_nowhere : Peer → Bool
 is_nowhere from = bytes_eq from.address (0 ∷ 0 ∷ 0 ∷ 0 ∷ [])
 
+-- so, unless it came from nowhere: then nothing changes
+abbrev pub UnlessNowhere : Bool → DeviceNode → Outcome → DeviceNode → Type 0 → Type 0
+UnlessNowhere true old outcome new Does = Stays BadArgument old outcome new
+UnlessNowhere false old outcome new Does = Does
+
 -- `is_sealing algorithm` is the relation of the algorithm's cipher
 module _ (is_sealing : Sealings) where
   -- The server hears these bytes, and its step is the last one; the device itself isn't changed by it. Each run goes on by that step.
-  pub record HeardAt (old : DeviceNode) (now : Moment) (draw : Draw) (from : Peer) (bytes : List ℕ) (new : DeviceNode) : Type 0 where
+  pub record HeardAt (old : DeviceNode) (came : Arrival (List ℕ)) (new : DeviceNode) : Type 0 where
     pub step : Step
-    pub hears : Hears is_sealing old.device.server now draw from bytes step new.device.server
+    pub is_step : IsStep is_sealing old.device.server (Came came) step new.device.server
     pub own : new.device.own ≡ old.device.own
     pub last : new.last ≡ since step
     pub run : AllGoOn old.device (λ number. by_server step.notes ∷ []) new.device
 
-  -- by whether they come from nowhere: then nothing changes
-  abbrev pub HeardFrom : Bool → DeviceNode → ℕ → Draw → Peer → List ℕ → Outcome → DeviceNode → Type 0
-  HeardFrom true old ms draw from bytes outcome new = Stays BadArgument old outcome new
-  HeardFrom false old ms draw from bytes outcome new = At ms old outcome new (λ now. HeardAt old now draw from bytes new)
-
-  abbrev pub HeardBy : DeviceNode → ℕ → Draw → Peer → List ℕ → Outcome → DeviceNode → Type 0
-  HeardBy old ms draw from bytes outcome new = HeardFrom (is_nowhere from) old ms draw from bytes outcome new
+  abbrev pub HeardBy : DeviceNode → GivenDatagram → Draw → Outcome → DeviceNode → Type 0
+  HeardBy old given draw outcome new =
+      UnlessNowhere (is_nowhere given.from) old outcome new (At given.ms old outcome new (λ now. HeardAt old (came_at given now draw) new))
 
   -- The device itself ticks, what it sends is carried to its server and back, and nothing goes to others; what it learns is kept to be told. Each
   -- run goes on by these steps, and a reply that it learns is that of an entry of the history.
-  pub record TickedAt (old : DeviceNode) (now : Moment) (draw : Draw) (new : DeviceNode) : Type 0 where
+  pub record TickedAt (old : DeviceNode) (now : Moment) (server_draw : Draw) (new : DeviceNode) : Type 0 where
     pub round : Round
     pub ticked : Own
-    pub ticks : Ticks old.device.own now round.begun ticked
-    pub carries : Carries is_sealing (record old.device.server { endpoint = after_tick now old.device.server.endpoint }) ticked now draw round new.device
+    pub ticks : (draw : Draw) → IsOwnStep is_sealing old.device.own (Due now draw) round.begun ticked
+    pub carries : Carries is_sealing (record { server = record old.device.server { endpoint = after_tick now old.device.server.endpoint }; own = ticked })
+        now server_draw round new.device
     pub last : new.last ≡ since_tick round
     pub run : AllGoOn old.device (λ number. noted number round) new.device
     pub entry : IsOfAnEntry old.device round

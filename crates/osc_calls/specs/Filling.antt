@@ -9,3 +9,8 @@ written bytes room = if nat_le (length bytes) (length room) then bytes ++ drop (
 -- whether there was room for these bytes
 abbrev pub if_fits : List ℕ → List ℕ → Outcome
 if_fits bytes room = if nat_le (length bytes) (length room) then Done else TooShort
+
+-- a caller's room for bytes, and how many it is told that there are
+pub record Room : Type 0 where
+  pub bytes : List ℕ
+  pub size : ℕ

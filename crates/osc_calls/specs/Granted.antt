@@ -6,6 +6,7 @@ use Rattle.osc_model.specs.declared.algorithm.Algorithm.{Algorithm}
 use Rattle.osc_authz.specs.Granted.{IsSecret, IsShort}
 use Rattle.osc_authz.specs.declared.granted.ClientDesk.{ClientDesk}
 use Rattle.osc_client.specs.Way.{HostAndPort, IsHost}
+use Rattle.osc_calls.specs.Given.{GivenGrant}
 
 -- it is no algorithm's number
 abbrev pub IsNoAlgorithm : ℕ → Type 0
@@ -32,6 +33,7 @@ abbrev pub IsWay : List ℕ → Type 0
 IsWay host = (host ≡ []) ⊎ IsHost host
 
 -- why there is no client for these numbers and bytes
-abbrev pub IsNoClient : List ℕ → List ℕ → List ℕ → List ℕ → ℕ → ℕ → Type 0
-IsNoClient host secret salt context has_context algorithm =
-    IsNoAlgorithm algorithm ⊎ ¬ (IsWay host) ⊎ (1 < has_context) ⊎ ¬ (IsLawfulGrant secret salt (id_context_of has_context context))
+abbrev pub IsNoClient : GivenGrant → Type 0
+IsNoClient given =
+    IsNoAlgorithm given.algorithm ⊎ ¬ (IsWay given.host) ⊎ (1 < given.has_context)
+    ⊎ ¬ (IsLawfulGrant given.secret given.salt (id_context_of given.has_context given.context))

@@ -1,6 +1,7 @@
 -- Definitions that the contracts cite.
 pub mod Outcome
 pub mod Plain
+pub mod Given
 pub mod Arguments
 pub mod Filling
 pub mod Last

@@ -14,6 +14,7 @@ use Rattle.osc_device.specs.declared.own_token.OwnToken.{OwnToken}
 use Rattle.osc_device.specs.declared.own_token.ServerParts.{ServerParts}
 use Rattle.osc_world.specs.declared.error.EnrollError.TheVariants as enroll
 use Rattle.osc_calls.specs.Arguments.{IsUnfit}
+use Rattle.osc_calls.specs.Given.{GivenDevice}
 use Rattle.osc_calls.specs.Last.{nothing}
 use Rattle.osc_calls.specs.Tokens.{IsNoScope, IsNoScopeText, IsScopeOf}
 use Rattle.osc_calls.specs.declared.device.DeviceNode.{DeviceNode}
@@ -57,20 +58,20 @@ unmade_as (Token enroll.TooLong) = TooLong
 unmade_as device.TooLong = TooLong
 unmade_as other = BadArgument
 
-abbrev pub IsNoNewDevice : List ℕ → List ℕ → List ℕ → List ℕ → List ℕ → Outcome → Type 0
-IsNoNewDevice key audience free own draw outcome =
-    IsNoServer audience free outcome ⊎ IsNoScope own outcome
-    ⊎ ((parts : ServerParts) × (token : OwnToken) × (error : NewError) × AreParts key audience free parts × IsOwnToken own draw token
-    × IsNoDevice parts token error × (outcome ≡ unmade_as error))
+abbrev pub IsNoNewDevice : GivenDevice → Outcome → Type 0
+IsNoNewDevice given outcome =
+    IsNoServer given.audience given.free outcome ⊎ IsNoScope given.own outcome
+    ⊎ ((parts : ServerParts) × (token : OwnToken) × (error : NewError) × AreParts given.key given.audience given.free parts
+    × IsOwnToken given.own given.draw token × IsNoDevice parts token error × (outcome ≡ unmade_as error))
 
 -- `is_sealing algorithm` is the relation of the algorithm's cipher
 module _ (is_sealing : Sealings) where
   -- It begins with these parts and this token, which counts at its server, and has made no step.
-  pub record IsNewDevice (key audience free own draw : List ℕ) (node : DeviceNode) : Type 0 where
+  pub record IsNewDevice (given : GivenDevice) (node : DeviceNode) : Type 0 where
     pub parts : ServerParts
     pub token : OwnToken
-    pub are_parts : AreParts key audience free parts
-    pub is_token : IsOwnToken own draw token
+    pub are_parts : AreParts given.key given.audience given.free parts
+    pub is_token : IsOwnToken given.own given.draw token
     pub begun : IsBegun is_sealing parts token node.device
     pub granted : (entries : List Entry) × IsScope token.scope entries × IsGranted is_sealing node.device (own_claims parts token) entries
     pub last : node.last ≡ nothing

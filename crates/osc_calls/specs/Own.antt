@@ -1,9 +1,10 @@
 -- What a device does at its own server, by calls.
-use Rattle.std.specs.Prelude.{◌≡◌, ℕ, ◌<◌, ◌^◌, ◌⊎◌, Bool, true, false, if◌then◌else◌, ℤ, List, [], Option, Some, None, ⊤}
+use Rattle.std.specs.Prelude.{◌≡◌, ℕ, ◌<◌, ◌^◌, ◌⊎◌, Bool, true, false, if◌then◌else◌, [], Option, Some, None, ⊤}
 use Rattle.osc_model.specs.Path.{IsPath}
 use Rattle.osc_model.specs.declared.code.Method.{Method}
 use Rattle.osc_model.specs.declared.code.Method.TheVariants.{Delete}
 use Rattle.osc_model.specs.declared.node.Moment.{Moment}
+use Rattle.osc_model.specs.declared.request.Request.{Request}
 use Rattle.osc_model.specs.declared.step.ClientResult.{ClientResult}
 use Rattle.osc_model.specs.declared.step.ClientResult.TheVariants.{Refused}
 use Rattle.osc_client.specs.Hearing.{Begins}
@@ -12,10 +13,11 @@ use Rattle.osc_protect.specs.Ciphers.{Sealings, Tags}
 use Rattle.osc_scope.specs.Entries.{Entry}
 use Rattle.osc_token.specs.declared.claims.Claims.{Claims}
 use Rattle.osc_device.specs.Answered.{IsAnsweredWhereReady, IsOpen, IsWhole, MayOpen, own_request}
-use Rattle.osc_device.specs.Carrying.{AsksItsServer, Carries}
+use Rattle.osc_device.specs.Carrying.{AskedOfServer, AsksItsServer, Carries, asked_by}
 use Rattle.osc_device.specs.Runs.{AllGoOn, IsOfAnEntry, noted}
 use Rattle.osc_device.specs.declared.round.Round.{Round}
 use Rattle.osc_calls.specs.Arguments.{IsFormat, IsNoFormat, IsUnfit}
+use Rattle.osc_calls.specs.Given.{GivenPath, GivenValue}
 use Rattle.osc_calls.specs.Last.{LastStep, nothing}
 use Rattle.osc_calls.specs.Plain.{draw_of}
 use Rattle.osc_calls.specs.Told.{bare, told_of}
@@ -51,8 +53,21 @@ ComesTo old told new Does =
     ⊎ ((told ≡ bare outcome.NoMemory) × (new ≡ old))
 
 -- it is no moment, no path, or no format
-abbrev pub IsNoValue : ℕ → List ℕ → ℤ → Type 0
-IsNoValue ms path format = ¬ (ms < 2 ^ 63) ⊎ ¬ (IsPath path) ⊎ IsNoFormat format
+abbrev pub IsNoValue : GivenValue → Type 0
+IsNoValue given = ¬ (given.ms < 2 ^ 63) ⊎ ¬ (IsPath given.path) ⊎ IsNoFormat given.format
+
+-- a value, which is put at its path, or appended to what is there
+pub record Writing : Type 0 where
+  pub method : Method
+  pub value : GivenValue
+
+-- the request that says so, with this format
+abbrev pub request_of : Writing → Option ℕ → Request
+request_of writing format = own_request writing.method writing.value.path format writing.value.payload
+
+-- what the device asks of its server at this moment, with these draws
+abbrev pub asked_for : PlainDraws → Moment → Request → AskedOfServer
+asked_for draws now request = record { at = now; draw = draw_of draws.own; server_draw = draw_of draws.server; request = request }
 
 -- an argument is out of its range, for this reason, or there was no memory for them: nothing changes
 abbrev pub IsRejected : Type 0 → DeviceNode → Told → DeviceNode → Type 0
@@ -65,7 +80,7 @@ module _ (is_sealing : Sealings) where
   abbrev pub Opens : DeviceNode → Moment → PlainDraws → Round → DeviceNode → Type 0
   Opens old now draws round new =
       ((begun : Own) × Begins old.device.own now (draw_of draws.own) round.begun begun
-      × Carries is_sealing old.device.server begun now (draw_of draws.server) round new.device)
+      × Carries is_sealing (record old.device { own = begun }) now (draw_of draws.server) round new.device)
       × ((claims : Claims) (entries : List Entry) → MayOpen is_sealing old.device now (draw_of draws.own) claims entries → IsWhole round
       → IsOpen now entries new.device)
       × AllGoOn old.device (λ number. noted number round) new.device
@@ -77,20 +92,21 @@ module _ (is_sealing : Sealings) where
   module _ (tag : Tags) where
     -- The device asks its server so; where it may, and no step wants memory, it is answered. Each run goes on by these steps, and a reply that
     -- it learns is that of an entry of the history.
-    abbrev pub Asks : Method → DeviceNode → Moment → List ℕ → Option ℕ → List ℕ → PlainDraws → Round → DeviceNode → Type 0
-    Asks method old now path format payload draws round new =
-        AsksItsServer is_sealing tag old.device now (draw_of draws.own) (draw_of draws.server) (own_request method path format payload) round new.device
-        × IsAnsweredWhereReady old.device now (draw_of draws.own) (own_request method path format payload) round new.device
+    abbrev pub Asks : DeviceNode → AskedOfServer → Round → DeviceNode → Type 0
+    Asks old asked round new =
+        AsksItsServer is_sealing tag old.device asked round new.device
+        × IsAnsweredWhereReady old.device (asked_by asked) round new.device
         × AllGoOn old.device (λ number. noted number round) new.device
         × IsOfAnEntry old.device round
 
-    abbrev pub AsksBy : Method → DeviceNode → ℕ → List ℕ → ℤ → List ℕ → PlainDraws → Told → DeviceNode → Type 0
-    AsksBy method old ms path number payload draws told new =
-        ((now : Moment) × (format : Option ℕ) × (now.ms ≡ ms) × IsFormat number format
-        × ComesTo old told new (λ round. Asks method old now path format payload draws round new))
-        ⊎ IsRejected (IsNoValue ms path number) old told new
+    abbrev pub AsksBy : DeviceNode → Writing → Told → DeviceNode → Type 0
+    AsksBy old writing told new =
+        ((now : Moment) × (format : Option ℕ) × (now.ms ≡ writing.value.ms) × IsFormat writing.value.format format
+        × ComesTo old told new (λ round. Asks old (asked_for writing.value.draws now (request_of writing format)) round new))
+        ⊎ IsRejected (IsNoValue writing.value) old told new
 
-    abbrev pub RemovesBy : DeviceNode → ℕ → List ℕ → PlainDraws → Told → DeviceNode → Type 0
-    RemovesBy old ms path draws told new =
-        ((now : Moment) × (now.ms ≡ ms) × ComesTo old told new (λ round. Asks Delete old now path None [] draws round new))
-        ⊎ IsRejected (¬ (ms < 2 ^ 63) ⊎ ¬ (IsPath path)) old told new
+    abbrev pub RemovesBy : DeviceNode → GivenPath → Told → DeviceNode → Type 0
+    RemovesBy old given told new =
+        ((now : Moment) × (now.ms ≡ given.ms)
+        × ComesTo old told new (λ round. Asks old (asked_for given.draws now (own_request Delete given.path None [])) round new))
+        ⊎ IsRejected (¬ (given.ms < 2 ^ 63) ⊎ ¬ (IsPath given.path)) old told new

@@ -1,8 +1,8 @@
 -- A proxy by calls.
 use Rattle.std.specs.Prelude.{◌≡◌, ℕ, ◌⊎◌, true, false, ◌↔◌, ◌≤◌, List, [], ◌∷◌, ◌++◌}
+use Rattle.osc_model.specs.Arrival.{Arrival}
 use Rattle.osc_model.specs.declared.node.Draw.{Draw}
 use Rattle.osc_model.specs.declared.node.Moment.{Moment}
-use Rattle.osc_model.specs.declared.node.Peer.{Peer}
 use Rattle.osc_model.specs.declared.step.Step.{Step}
 use Rattle.osc_message.specs.Endpoint.{fresh}
 use Rattle.osc_client.specs.Way.{IsHost}
@@ -12,6 +12,7 @@ use Rattle.osc_proxy.specs.State.{State, restarted}
 use Rattle.osc_proxy.specs.Ticks.{Ticks, acts}
 use Rattle.osc_proxy.specs.declared.targets.Target.{Target}
 use Rattle.osc_calls.specs.Calls.{At, Stays}
+use Rattle.osc_calls.specs.Given.{GivenDatagram, came_at}
 use Rattle.osc_calls.specs.Last.{since}
 use Rattle.osc_calls.specs.declared.outcome.Outcome.{Outcome}
 use Rattle.osc_calls.specs.declared.outcome.Outcome.TheVariants.{BadArgument, Done, NoMemory, NotNow, Nothing}
@@ -46,11 +47,11 @@ AddsTarget target old outcome new =
 abbrev pub Makes : ProxyNode → (State → Step → State → Type 0) → ProxyNode → Type 0
 Makes old Does new = (step : Step) × Does (proxy_of old.forwarding) step (proxy_of new.forwarding) × IsRunning new.forwarding × (new.last ≡ since step)
 
-abbrev pub HeardAt : ProxyNode → Moment → Draw → Peer → List ℕ → ProxyNode → Type 0
-HeardAt old now draw from bytes new = Makes old (λ s step t. Hears s now draw from bytes step t) new
+abbrev pub HeardAt : ProxyNode → Arrival (List ℕ) → ProxyNode → Type 0
+HeardAt old came new = Makes old (λ s step t. Hears s came step t) new
 
-abbrev pub HeardBy : ProxyNode → ℕ → Draw → Peer → List ℕ → Outcome → ProxyNode → Type 0
-HeardBy old ms draw from bytes outcome new = At ms old outcome new (λ now. HeardAt old now draw from bytes new)
+abbrev pub HeardBy : ProxyNode → GivenDatagram → Draw → Outcome → ProxyNode → Type 0
+HeardBy old given draw outcome new = At given.ms old outcome new (λ now. HeardAt old (came_at given now draw) new)
 
 abbrev pub TickedAt : ProxyNode → Moment → Draw → ProxyNode → Type 0
 TickedAt old now draw new = Makes old (λ s step t. Ticks s now draw step t) new

@@ -12,8 +12,9 @@ use Rattle.osc_token.specs.Minted.{most_claims}
 use Rattle.osc_token.specs.Token.{algorithm_header, claims_item, token_object}
 use Rattle.osc_token.specs.declared.claims.Claims.{Claims}
 use Rattle.osc_calls.specs.Arguments.{IsUnfit}
-use Rattle.osc_calls.specs.Filling.{if_fits, written}
-use Rattle.osc_calls.specs.Granted.{IsNoAlgorithm}
+use Rattle.osc_calls.specs.Filling.{Room, if_fits, written}
+use Rattle.osc_calls.specs.Given.{GivenClaims}
+use Rattle.osc_calls.specs.Granted.{IsNoAlgorithm, id_context_of}
 use Rattle.osc_calls.specs.declared.outcome.Outcome.{Outcome}
 use Rattle.osc_calls.specs.declared.outcome.Outcome.TheVariants.{BadScope, NoMemory, TooLong}
 
@@ -36,10 +37,11 @@ abbrev pub HaveNoLengths : List ℕ → List ℕ → List ℕ → Type 0
 HaveNoLengths id secret context = (64 < length id) ⊎ (length secret < 1) ⊎ (64 < length secret) ⊎ (64 < length context)
 
 -- why these numbers and bytes are no claims
-abbrev pub IsNoClaims : List ℕ → List ℕ → List ℕ → List ℕ → ℕ → List ℕ → ℕ → Outcome → Type 0
-IsNoClaims audience id secret context has_context scope algorithm outcome =
-    IsUnfit (HaveNoLengths id secret context ⊎ IsNoAlgorithm algorithm ⊎ (1 < has_context) ⊎ ¬ (IsUtf8 audience)) outcome
-    ⊎ ((outcome ≡ BadScope) × IsNoScopeText scope)
+abbrev pub IsNoClaims : GivenClaims → Outcome → Type 0
+IsNoClaims given outcome =
+    IsUnfit
+    (HaveNoLengths given.id given.secret given.context ⊎ IsNoAlgorithm given.algorithm ⊎ (1 < given.has_context) ⊎ ¬ (IsUtf8 given.audience)) outcome
+    ⊎ ((outcome ≡ BadScope) × IsNoScopeText given.scope)
 
 -- why no token of these claims is minted: they are too long, or there was no memory
 abbrev pub IsUnminted : Claims → Outcome → Type 0
@@ -49,22 +51,30 @@ abbrev pub date_of : ℕ → Option ℕ
 date_of seconds = if seconds == 0 then None else Some seconds
 
 -- claims of these numbers and bytes, without a salt
-abbrev pub AreClaims : List ℕ → List ℕ → List ℕ → Option (List ℕ) → List ℕ → ℕ → ℕ → ℕ → Claims → Type 0
-AreClaims audience id secret context scope not_before expires algorithm claims =
-    (claims.audience ≡ audience) × (claims.not_before ≡ date_of not_before) × (claims.expires ≡ date_of expires) × IsScopeOf scope claims.scope
-    × (claims.material.id ≡ id) × (claims.material.secret ≡ secret) × (claims.material.salt ≡ []) × (claims.material.id_context ≡ context)
-    × (algorithm ≡ algorithm_number claims.material.alg)
+abbrev pub AreClaims : GivenClaims → Claims → Type 0
+AreClaims given claims =
+    (claims.audience ≡ given.audience) × (claims.not_before ≡ date_of given.not_before) × (claims.expires ≡ date_of given.expires)
+    × IsScopeOf given.scope claims.scope
+    × (claims.material.id ≡ given.id) × (claims.material.secret ≡ given.secret) × (claims.material.salt ≡ [])
+    × (claims.material.id_context ≡ id_context_of given.has_context given.context)
+    × (given.algorithm ≡ algorithm_number claims.material.alg)
+
+-- under which a token is sealed
+pub record KeyAndIv : Type 0 where
+  pub key : List ℕ
+  pub iv : List ℕ
 
 -- `is_sealing` is the relation of the cipher
 module _ (is_sealing : Sealing) where
   -- the token of these claims, sealed under this key and IV
-  abbrev pub IsMinted : List ℕ → List ℕ → Claims → List ℕ → Type 0
-  IsMinted key iv claims token = (ciphertext : List ℕ)
-      × is_sealing key iv (enc_structure algorithm_header []) (spelling (claims_item claims)) ciphertext
-      × (token ≡ spelling (object_item (token_object iv ciphertext)))
+  abbrev pub IsMinted : KeyAndIv → Claims → List ℕ → Type 0
+  IsMinted under claims token = (ciphertext : List ℕ)
+      × is_sealing under.key under.iv (enc_structure algorithm_header []) (spelling (claims_item claims)) ciphertext
+      × (token ≡ spelling (object_item (token_object under.iv ciphertext)))
 
   -- The token is written where there is room, and how many bytes it has is told; or there is none, and nothing is written.
-  abbrev pub Mints : List ℕ → List ℕ → Claims → List ℕ → ℕ → Outcome → List ℕ → ℕ → Type 0
-  Mints key iv claims room size outcome filled told =
-      ((token : List ℕ) × IsMinted key iv claims token × (outcome ≡ if_fits token room) × (filled ≡ written token room) × (told ≡ length token))
-      ⊎ (IsUnminted claims outcome × (filled ≡ room) × (told ≡ size))
+  abbrev pub Mints : KeyAndIv → Claims → Room → Outcome → Room → Type 0
+  Mints under claims room outcome filled =
+      ((token : List ℕ) × IsMinted under claims token × (outcome ≡ if_fits token room.bytes) × (filled.bytes ≡ written token room.bytes)
+      × (filled.size ≡ length token))
+      ⊎ (IsUnminted claims outcome × (filled.bytes ≡ room.bytes) × (filled.size ≡ room.size))

@@ -10,17 +10,26 @@ use Rattle.osc_calls.specs.declared.outcome.Outcome.{Outcome}
 use Rattle.osc_calls.specs.declared.outcome.Outcome.TheVariants.{Nothing}
 use Rattle.osc_calls.specs.declared.plain.PlainValue.{PlainValue}
 
-abbrev pub HasValue : Resource → List ℕ → Outcome → List ℕ → PlainValue → Type 0
-HasValue resource room outcome filled new =
-    (outcome ≡ if_fits resource.payload room) × (filled ≡ written resource.payload room)
-    × (new ≡ record { format = format_number resource.format; length = length resource.payload })
+-- a caller's room for a payload, and what it is told of it
+pub record ValueRoom : Type 0 where
+  pub payload : List ℕ
+  pub value : PlainValue
 
-abbrev pub TellsValue : Option Resource → List ℕ → PlainValue → Outcome → List ℕ → PlainValue → Type 0
-TellsValue found room old outcome filled new =
-    MatchOption found ((outcome ≡ Nothing) × (filled ≡ room) × (new ≡ old)) (λ resource. HasValue resource room outcome filled new)
+abbrev pub HasValue : Resource → ValueRoom → Outcome → ValueRoom → Type 0
+HasValue resource room outcome filled =
+    (outcome ≡ if_fits resource.payload room.payload) × (filled.payload ≡ written resource.payload room.payload)
+    × (filled.value ≡ record { format = format_number resource.format; length = length resource.payload })
+
+-- nothing is told
+abbrev pub TellsNoValue : ValueRoom → ValueRoom → Type 0
+TellsNoValue room filled = (filled.payload ≡ room.payload) × (filled.value ≡ room.value)
+
+abbrev pub TellsValue : Option Resource → ValueRoom → Outcome → ValueRoom → Type 0
+TellsValue found room outcome filled =
+    MatchOption found ((outcome ≡ Nothing) × TellsNoValue room filled) (λ resource. HasValue resource room outcome filled)
 
 -- What stands there is told; or the text is no path, or there was no memory for it.
-abbrev pub TellsValueAt : DeviceNode → List ℕ → List ℕ → PlainValue → Outcome → List ℕ → PlainValue → Type 0
-TellsValueAt node path room old outcome filled new =
-    TellsValue (map.get node.device.server.tree path) room old outcome filled new
-    ⊎ (IsUnfit (¬ (IsPath path)) outcome × (filled ≡ room) × (new ≡ old))
+abbrev pub TellsValueAt : DeviceNode → List ℕ → ValueRoom → Outcome → ValueRoom → Type 0
+TellsValueAt node path room outcome filled =
+    TellsValue (map.get node.device.server.tree path) room outcome filled
+    ⊎ (IsUnfit (¬ (IsPath path)) outcome × TellsNoValue room filled)

@@ -21,6 +21,82 @@ use osc_client::{Client, Way};
 use osc_model::{Moment, Request};
 use osc_protect::Ciphers;
 use std::alloc::{AllocError, Global};
+use std::marker::Model;
+
+/// What a client was granted, and the way to its server, as numbers and bytes.
+#[derive(Drop)]
+pub struct GivenGrant<'a> {
+    /// To whom it sends.
+    pub next_hop: &'a PlainPeer,
+    /// The server's host, where that is a proxy; else empty.
+    pub host: &'a [u8],
+    /// The server's port, where that is a proxy.
+    pub port: u16,
+    /// The token.
+    pub token: &'a [u8],
+    /// The master secret: 1 to 64 bytes.
+    pub secret: &'a [u8],
+    /// The master salt: 0 to 64 bytes.
+    pub salt: &'a [u8],
+    /// The id context: 0 to 64 bytes.
+    pub context: &'a [u8],
+    /// 1: the id context is there; 0: it isn't.
+    pub has_context: u8,
+    /// The number of the algorithm.
+    pub algorithm: u8,
+}
+
+impl<'a> Model for GivenGrant<'a> {
+    ghost use Rattle.osc_calls.specs.Given.{GivenGrant as Given};
+    ghost use Rattle.osc_calls.specs.Plain.{peer_of};
+
+    ghost Value = { Given };
+
+    ghost view = { λ g. record {
+        next_hop = peer_of g.next_hop.now;
+        host = g.host.now;
+        port = g.port;
+        token = g.token.now;
+        secret = g.secret.now;
+        salt = g.salt.now;
+        context = g.context.now;
+        has_context = g.has_context;
+        algorithm = g.algorithm;
+    } };
+}
+
+/// What a client is to ask, as numbers and bytes.
+#[derive(Drop)]
+pub struct GivenRequest<'a> {
+    /// When, in ms.
+    pub ms: u64,
+    /// The number of the method: 1 GET, 2 POST, 3 PUT, 4 DELETE.
+    pub method: u8,
+    /// The text of the path.
+    pub path: &'a [u8],
+    /// The options beside it.
+    pub options: &'a PlainOptions,
+    /// The payload.
+    pub payload: &'a [u8],
+    /// The random bytes of the step.
+    pub draw: &'a PlainDraw,
+}
+
+impl<'a> Model for GivenRequest<'a> {
+    ghost use Rattle.osc_calls.specs.Given.{GivenRequest as Given};
+    ghost use Rattle.osc_calls.specs.Plain.{draw_of};
+
+    ghost Value = { Given };
+
+    ghost view = { λ g. record {
+        ms = g.ms;
+        method = g.method;
+        path = g.path.now;
+        options = g.options.now;
+        payload = g.payload.now;
+        draw = draw_of g.draw.now;
+    } };
+}
 
 /// A client, and the step that it made last.
 pub struct ClientNode {
@@ -48,48 +124,41 @@ impl ClientNode {
         })
     }
 
-    /// A client that was granted this token, with the input material that it has, and the algorithm of this number; it sends to this peer.
-    pub fn new(
-        alloc: Global,
-        next_hop: &PlainPeer,
-        host: &[u8],
-        port: u16,
-        token: &[u8],
-        secret: &[u8],
-        salt: &[u8],
-        context: &[u8],
-        has_context: u8,
-        algorithm: u8,
-    ) -> Result<ClientNode, Outcome>
-        ensures ok { IfOk result (λ node. IsNewClient (peer_of next_hop.now) host.now port token.now secret.now salt.now context.now has_context algorithm node) }
-        ensures err { IfErr result (IsUnfit (IsNoClient host.now secret.now salt.now context.now has_context algorithm)) }
+    /// A client that was granted this, and does it this way.
+    pub fn new(alloc: Global, given: &GivenGrant<'_>) -> Result<ClientNode, Outcome>
+        ensures ok { IfOk result (λ node. IsNewClient given.now node) }
+        ensures err { IfErr result (IsUnfit (IsNoClient given.now)) }
     {
-        let alg = granted::algorithm(algorithm)?;
-        let way = granted::way(alloc, next_hop, host, port)?;
-        let context = granted::id_context(alloc, has_context, context)?;
-        let desk = granted::desk(alloc, token, secret, salt, context, alg)?;
+        let alg = granted::algorithm(given.algorithm)?;
+        let way = granted::way(alloc, given.next_hop, given.host, given.port)?;
+        let context = granted::id_context(alloc, given.has_context, given.context)?;
+        let desk = granted::desk(
+            alloc,
+            given.token,
+            given.secret,
+            given.salt,
+            context,
+            alg,
+        )?;
         Ok(ClientNode::of(alloc, desk, way)?)
     }
 
     /// Asks for this under protection.
-    pub fn ask<A: Ciphers>(
-        &mut self,
-        alloc: Global,
-        now: u64,
-        method: u8,
-        path: &[u8],
-        options: &PlainOptions,
-        payload: &[u8],
-        draw: &PlainDraw,
-    ) -> Outcome
-        ensures { AskedBy A.is_sealing A.TAG self.old now method path.now options.now payload.now (draw_of draw.now) result self.new }
+    pub fn ask<A: Ciphers>(&mut self, alloc: Global, given: &GivenRequest<'_>) -> Outcome
+        ensures { AskedBy A.is_sealing A.TAG self.old given.now result self.new }
     {
-        let now = match moment(now) {
+        let now = match moment(given.ms) {
             Ok(now) => now,
             Err(outcome) => return outcome,
         };
-        match request(alloc, method, path, options, payload) {
-            Ok(request) => self.ask_at::<A>(alloc, now, &request, draw),
+        match request(
+            alloc,
+            given.method,
+            given.path,
+            given.options,
+            given.payload,
+        ) {
+            Ok(request) => self.ask_at::<A>(alloc, now, &request, given.draw),
             Err(outcome) => outcome,
         }
     }
@@ -136,7 +205,7 @@ impl ClientNode {
         draw: &PlainDraw,
     ) -> Outcome
         requires { 0 < request.now.code.0 }
-        ensures { Ends self.old result self.new (AskedAt A.is_sealing A.TAG self.old now request.now (draw_of draw.now) self.new) }
+        ensures { Ends self.old result self.new (AskedAt A.is_sealing A.TAG self.old (record { at = now; draw = draw_of draw.now; request = request.now }) self.new) }
     {
         match self.client.ask::<A>(alloc, now, request, &draw.draw()) {
             Ok(step) => {
@@ -155,7 +224,7 @@ impl ClientNode {
         from: &PlainPeer,
         bytes: &[u8],
     ) -> Outcome
-        ensures { HeardBy A.is_sealing self.old now (peer_of from.now) bytes.now result self.new }
+        ensures { HeardBy A.is_sealing self.old (record { ms = now; from = peer_of from.now; bytes = bytes.now }) result self.new }
     {
         match moment(now) {
             Ok(now) => self.hear::<A>(alloc, now, from, bytes),

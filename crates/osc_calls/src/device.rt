@@ -50,7 +50,7 @@ impl DeviceNode {
         bytes: &[u8],
         draw: &PlainDraw,
     ) -> Outcome
-        ensures { HeardBy A.is_sealing self.old now (draw_of draw.now) (peer_of from.now) bytes.now result self.new }
+        ensures { HeardBy A.is_sealing self.old (record { ms = now; from = peer_of from.now; bytes = bytes.now }) (draw_of draw.now) result self.new }
     {
         if is_nowhere(from) {
             return Outcome::BadArgument;
@@ -70,7 +70,8 @@ impl DeviceNode {
         bytes: &[u8],
         draw: &PlainDraw,
     ) -> Outcome
-        ensures { Ends self.old result self.new (HeardAt A.is_sealing self.old now (draw_of draw.now) (peer_of from.now) bytes.now self.new) }
+        ensures { Ends self.old result self.new
+            (HeardAt A.is_sealing self.old (record { at = now; from = peer_of from.now; draw = draw_of draw.now; what = bytes.now }) self.new) }
     {
         let draw = draw.draw();
         match self

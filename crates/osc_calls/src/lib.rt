@@ -19,11 +19,12 @@ mod serving;
 mod setting;
 mod tokens;
 
-pub use client::ClientNode;
+pub use client::{ClientNode, GivenGrant, GivenRequest};
 pub use device::DeviceNode;
 pub use filling::fill;
 pub use last::Last;
 pub use outcome::Outcome;
+pub use own::GivenValue;
 pub use plain::{
     PlainDraw, PlainDraws, PlainIv, PlainKey, PlainOptions, PlainPeer, PlainRefused, PlainResult,
     PlainServed, PlainValue,
@@ -31,4 +32,4 @@ pub use plain::{
 pub use proxy::{Forwarding, ProxyNode};
 pub use round::Told;
 pub use setting::Settings;
-pub use tokens::{claims, mint};
+pub use tokens::{GivenClaims, claims, mint};

@@ -130,8 +130,10 @@ impl DeviceNode {
         own: &[u8],
         draw: &PlainDraw,
     ) -> Result<DeviceNode, Outcome>
-        ensures ok { IfOk result (λ node. IsNewDevice A.is_sealing key.now.bytes audience.now free.now own.now draw.now.bytes node) }
-        ensures err { IfErr result (IsNoNewDevice key.now.bytes audience.now free.now own.now draw.now.bytes) }
+        ensures ok { IfOk result (λ node. IsNewDevice A.is_sealing
+            (record { key = key.now.bytes; audience = audience.now; free = free.now; own = own.now; draw = draw.now.bytes }) node) }
+        ensures err { IfErr result (IsNoNewDevice
+            (record { key = key.now.bytes; audience = audience.now; free = free.now; own = own.now; draw = draw.now.bytes })) }
     {
         let parts = parts(alloc, key, audience, free)?;
         let own = own_token(alloc, own, draw)?;

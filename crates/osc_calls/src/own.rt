@@ -2,7 +2,8 @@
 ghost use Rattle.std.specs.Prelude.{◌≡◌, ◌≢◌, [], IfErr, IfOk, None};
 ghost use Rattle.osc_model.specs.declared.code.Method.TheVariants.{Delete, Post, Put};
 ghost use Rattle.osc_calls.specs.Arguments.{IsFormat, IsUnfit};
-ghost use Rattle.osc_calls.specs.Own.{Asks, AsksBy, ComesTo, IsNoValue, Opens, OpensBy, RemovesBy, is_refused_by, last_after};
+ghost use Rattle.osc_device.specs.Answered.{own_request};
+ghost use Rattle.osc_calls.specs.Own.{Asks, AsksBy, ComesTo, IsNoValue, Opens, OpensBy, RemovesBy, asked_for, is_refused_by, last_after};
 ghost use Rattle.osc_calls.specs.Plain.{draw_of};
 ghost use Rattle.osc_calls.specs.Told.{told_of};
 ghost use Rattle.osc_calls.specs.declared.outcome.Outcome.TheVariants as outcome;
@@ -18,35 +19,53 @@ use osc_device::Round;
 use osc_model::{Bytes, ClientResult, Draw, Moment, Path};
 use osc_protect::Ciphers;
 use std::alloc::Global;
+use std::marker::Model;
 
-/// A value for a path.
+/// A value for a path, as numbers and bytes.
 #[derive(Drop)]
-struct GivenValue {
+pub struct GivenValue<'a> {
+    /// When, in ms.
+    pub ms: u64,
+    /// The text of the path.
+    pub path: &'a [u8],
+    /// The Content-Format, 0 to 65535, or -1 for none.
+    pub format: i32,
+    /// The payload.
+    pub payload: &'a [u8],
+    /// The draws of both steps.
+    pub draws: &'a PlainDraws,
+}
+
+impl<'a> Model for GivenValue<'a> {
+    ghost use Rattle.osc_calls.specs.Given.{GivenValue as Given};
+
+    ghost Value = { Given };
+
+    ghost view = { λ g. record { ms = g.ms; path = g.path.now; format = g.format; payload = g.payload.now; draws = g.draws.now } };
+}
+
+/// The same, as it was read.
+#[derive(Drop)]
+struct OwnValue {
     now: Moment,
     path: Path,
     format: Option<u16>,
     payload: Bytes,
 }
 
-/// A value of these numbers and bytes.
-fn given(
-    alloc: Global,
-    now: u64,
-    path: &[u8],
-    format: i32,
-    payload: &[u8],
-) -> Result<GivenValue, Outcome>
-    ensures ok { IfOk result (λ given. (given.now.ms ≡ now) × (given.path ≡ path.now) × IsFormat format given.format × (given.payload ≡ payload.now)) }
-    ensures err { IfErr result (IsUnfit (IsNoValue now path.now format)) }
+/// What is read of it.
+fn read(alloc: Global, given: &GivenValue<'_>) -> Result<OwnValue, Outcome>
+    ensures ok { IfOk result (λ own. (own.now.ms ≡ given.now.ms) × (own.path ≡ given.now.path) × IsFormat given.now.format own.format × (own.payload ≡ given.now.payload)) }
+    ensures err { IfErr result (IsUnfit (IsNoValue given.now)) }
 {
-    let now = moment(now)?;
-    let path = arguments::path(alloc, path)?;
-    let format = arguments::format(format)?;
-    Ok(GivenValue {
+    let now = moment(given.ms)?;
+    let path = arguments::path(alloc, given.path)?;
+    let format = arguments::format(given.format)?;
+    Ok(OwnValue {
         now,
         path,
         format,
-        payload: Bytes::from_slice(alloc, payload)?,
+        payload: Bytes::from_slice(alloc, given.payload)?,
     })
 }
 
@@ -82,34 +101,27 @@ impl DeviceNode {
     }
 
     /// Puts this value at the path.
-    pub fn put<A: Ciphers>(
-        &mut self,
-        alloc: Global,
-        now: u64,
-        path: &[u8],
-        format: i32,
-        payload: &[u8],
-        draws: &PlainDraws,
-    ) -> Told
-        ensures { AsksBy A.is_sealing A.TAG Put self.old now path.now format payload.now draws.now result self.new }
+    pub fn put<A: Ciphers>(&mut self, alloc: Global, given: &GivenValue<'_>) -> Told
+        ensures { AsksBy A.is_sealing A.TAG self.old (record { method = Put; value = given.now }) result self.new }
     {
-        match given(alloc, now, path, format, payload) {
-            Ok(given) => self.put_at::<A>(alloc, given, draws),
+        match read(alloc, given) {
+            Ok(value) => self.put_at::<A>(alloc, value, given.draws),
             Err(outcome) => bare(outcome),
         }
     }
 
-    fn put_at<A: Ciphers>(&mut self, alloc: Global, given: GivenValue, draws: &PlainDraws) -> Told
-        ensures { ComesTo self.old result self.new (λ round. Asks A.is_sealing A.TAG Put self.old given.now given.path given.format given.payload draws.now round self.new) }
+    fn put_at<A: Ciphers>(&mut self, alloc: Global, value: OwnValue, draws: &PlainDraws) -> Told
+        ensures { ComesTo self.old result self.new (λ round.
+            Asks A.is_sealing A.TAG self.old (asked_for draws.now value.now (own_request Put value.path value.format value.payload)) round self.new) }
     {
         let own = draws.own.bytes;
         let server = draws.server.bytes;
-        let GivenValue {
+        let OwnValue {
             now,
             path,
             format,
             payload,
-        } = given;
+        } = value;
         match self.device.put::<A>(alloc, now, path, format, payload, &Draw(own), &Draw(server)) {
             Ok(round) => keep(&mut self.last, round),
             Err(_) => bare(Outcome::NoMemory),
@@ -117,39 +129,27 @@ impl DeviceNode {
     }
 
     /// Appends this to the value at the path.
-    pub fn append<A: Ciphers>(
-        &mut self,
-        alloc: Global,
-        now: u64,
-        path: &[u8],
-        format: i32,
-        payload: &[u8],
-        draws: &PlainDraws,
-    ) -> Told
-        ensures { AsksBy A.is_sealing A.TAG Post self.old now path.now format payload.now draws.now result self.new }
+    pub fn append<A: Ciphers>(&mut self, alloc: Global, given: &GivenValue<'_>) -> Told
+        ensures { AsksBy A.is_sealing A.TAG self.old (record { method = Post; value = given.now }) result self.new }
     {
-        match given(alloc, now, path, format, payload) {
-            Ok(given) => self.append_at::<A>(alloc, given, draws),
+        match read(alloc, given) {
+            Ok(value) => self.append_at::<A>(alloc, value, given.draws),
             Err(outcome) => bare(outcome),
         }
     }
 
-    fn append_at<A: Ciphers>(
-        &mut self,
-        alloc: Global,
-        given: GivenValue,
-        draws: &PlainDraws,
-    ) -> Told
-        ensures { ComesTo self.old result self.new (λ round. Asks A.is_sealing A.TAG Post self.old given.now given.path given.format given.payload draws.now round self.new) }
+    fn append_at<A: Ciphers>(&mut self, alloc: Global, value: OwnValue, draws: &PlainDraws) -> Told
+        ensures { ComesTo self.old result self.new (λ round.
+            Asks A.is_sealing A.TAG self.old (asked_for draws.now value.now (own_request Post value.path value.format value.payload)) round self.new) }
     {
         let own = draws.own.bytes;
         let server = draws.server.bytes;
-        let GivenValue {
+        let OwnValue {
             now,
             path,
             format,
             payload,
-        } = given;
+        } = value;
         match self.device.append::<A>(
             alloc,
             now,
@@ -172,10 +172,14 @@ impl DeviceNode {
         path: &[u8],
         draws: &PlainDraws,
     ) -> Told
-        ensures { RemovesBy A.is_sealing A.TAG self.old now path.now draws.now result self.new }
+        ensures { RemovesBy A.is_sealing A.TAG self.old (record { ms = now; path = path.now; draws = draws.now }) result self.new }
     {
-        match given(alloc, now, path, -1, &[]) {
-            Ok(given) => self.remove_at::<A>(alloc, given, draws),
+        let now = match moment(now) {
+            Ok(now) => now,
+            Err(outcome) => return bare(outcome),
+        };
+        match arguments::path(alloc, path) {
+            Ok(path) => self.remove_at::<A>(alloc, now, path, draws),
             Err(outcome) => bare(outcome),
         }
     }
@@ -183,14 +187,15 @@ impl DeviceNode {
     fn remove_at<A: Ciphers>(
         &mut self,
         alloc: Global,
-        given: GivenValue,
+        now: Moment,
+        path: Path,
         draws: &PlainDraws,
     ) -> Told
-        ensures { ComesTo self.old result self.new (λ round. Asks A.is_sealing A.TAG Delete self.old given.now given.path None [] draws.now round self.new) }
+        ensures { ComesTo self.old result self.new (λ round.
+            Asks A.is_sealing A.TAG self.old (asked_for draws.now now (own_request Delete path None [])) round self.new) }
     {
         let own = draws.own.bytes;
         let server = draws.server.bytes;
-        let GivenValue { now, path, .. } = given;
         match self
             .device
             .remove::<A>(alloc, now, path, &Draw(own), &Draw(server))

@@ -74,7 +74,8 @@ impl Forwarding {
         bytes: &[u8],
         draw: &PlainDraw,
     ) -> Result<Step, AllocError>
-        ensures heard { IfOk result (λ step. Hears (proxy_of self.old) now (draw_of draw.now) from bytes.now step (proxy_of self.new)) }
+        ensures heard { IfOk result (λ step.
+            Hears (proxy_of self.old) (record { at = now; from = from; draw = draw_of draw.now; what = bytes.now }) step (proxy_of self.new)) }
         ensures runs { OnOk result (IsRunning self.new) }
         ensures err { OnErr result (self.new ≡ self.old) }
     {
@@ -152,7 +153,7 @@ impl ProxyNode {
         bytes: &[u8],
         draw: &PlainDraw,
     ) -> Outcome
-        ensures { HeardBy self.old now (draw_of draw.now) (peer_of from.now) bytes.now result self.new }
+        ensures { HeardBy self.old (record { ms = now; from = peer_of from.now; bytes = bytes.now }) (draw_of draw.now) result self.new }
     {
         match moment(now) {
             Ok(now) => self.hear(alloc, now, from, bytes, draw),
@@ -169,7 +170,8 @@ impl ProxyNode {
         bytes: &[u8],
         draw: &PlainDraw,
     ) -> Outcome
-        ensures { Ends self.old result self.new (HeardAt self.old now (draw_of draw.now) (peer_of from.now) bytes.now self.new) }
+        ensures { Ends self.old result self.new
+            (HeardAt self.old (record { at = now; from = peer_of from.now; draw = draw_of draw.now; what = bytes.now }) self.new) }
     {
         match self.forwarding.hear(alloc, now, from.peer(), bytes, draw) {
             Ok(step) => {

@@ -18,7 +18,7 @@ use std::alloc::Global;
 
 /// What stands at a path of these resources.
 fn tell_value(tree: &Tree, path: &Path, payload: &mut [u8], value: &mut PlainValue) -> Outcome
-    ensures { TellsValue (map.get tree.now path.now) payload.old value.old result payload.new value.new }
+    ensures { TellsValue (map.get tree.now path.now) (record { payload = payload.old; value = value.old }) result (record { payload = payload.new; value = value.new }) }
 {
     match tree.get(path) {
         Some(resource) => tell_resource(resource, payload, value),
@@ -28,7 +28,7 @@ fn tell_value(tree: &Tree, path: &Path, payload: &mut [u8], value: &mut PlainVal
 
 /// A resource: its payload, where there is room, and its numbers.
 fn tell_resource(resource: &Resource, payload: &mut [u8], value: &mut PlainValue) -> Outcome
-    ensures { HasValue resource.now payload.old result payload.new value.new }
+    ensures { HasValue resource.now (record { payload = payload.old; value = value.old }) result (record { payload = payload.new; value = value.new }) }
 {
     *value = PlainValue {
         format: format_number(resource.format),
@@ -205,7 +205,7 @@ impl DeviceNode {
         payload: &mut [u8],
         value: &mut PlainValue,
     ) -> Outcome
-        ensures { TellsValueAt self.now path.now payload.old value.old result payload.new value.new }
+        ensures { TellsValueAt self.now path.now (record { payload = payload.old; value = value.old }) result (record { payload = payload.new; value = value.new }) }
     {
         match arguments::path(alloc, path) {
             Ok(path) => {

@@ -2,7 +2,6 @@
 ghost use Rattle.std.specs.Prelude.{◌≡◌, ◌≤◌, [], IfErr, IfOk, OnOk};
 ghost use Rattle.std.specs.Str.{IsUtf8};
 ghost use Rattle.osc_calls.specs.Arguments.{IsUnfit};
-ghost use Rattle.osc_calls.specs.Granted.{id_context_of};
 ghost use Rattle.osc_calls.specs.Tokens.{AreClaims, HaveLengths, HaveNoLengths, IsMinted, IsNoClaims, IsNoScope, IsScopeOf, IsUnminted, Mints, date_of};
 ghost use Rattle.osc_calls.specs.declared.outcome.Outcome.TheVariants.{BadArgument};
 
@@ -15,6 +14,7 @@ use osc_model::{Algorithm, Bytes};
 use osc_scope::{ScopeError, text_to_cbor};
 use osc_token::{Audience, Claims, InputMaterial, MintError};
 use std::alloc::{AllocError, Global};
+use std::marker::Model;
 use std::str;
 
 /// The most bytes of a part of input material.
@@ -86,32 +86,62 @@ fn lengths(id: &[u8], secret: &[u8], context: &[u8]) -> Result<(), Outcome>
     Ok(())
 }
 
+/// What a token is to claim, as numbers and bytes.
+#[derive(Drop)]
+pub struct GivenClaims<'a> {
+    /// For whom it is, in UTF-8.
+    pub audience: &'a [u8],
+    /// By what it is named: 0 to 64 bytes.
+    pub id: &'a [u8],
+    /// The master secret: 1 to 64 bytes.
+    pub secret: &'a [u8],
+    /// The id context: 0 to 64 bytes.
+    pub context: &'a [u8],
+    /// 1: the id context is there; 0: it isn't.
+    pub has_context: u8,
+    /// The text of its scope.
+    pub scope: &'a [u8],
+    /// The first second at which it counts; 0 for none.
+    pub not_before: u64,
+    /// The second from which on it doesn't; 0 for none.
+    pub expires: u64,
+    /// The number of its algorithm.
+    pub algorithm: u8,
+}
+
+impl<'a> Model for GivenClaims<'a> {
+    ghost use Rattle.osc_calls.specs.Given.{GivenClaims as Given};
+
+    ghost Value = { Given };
+
+    ghost view = { λ g. record {
+        audience = g.audience.now;
+        id = g.id.now;
+        secret = g.secret.now;
+        context = g.context.now;
+        has_context = g.has_context;
+        scope = g.scope.now;
+        not_before = g.not_before;
+        expires = g.expires;
+        algorithm = g.algorithm;
+    } };
+}
+
 /// What a token is to claim.
-pub fn claims(
-    alloc: Global,
-    audience: &[u8],
-    id: &[u8],
-    secret: &[u8],
-    context: &[u8],
-    has_context: u8,
-    scope: &[u8],
-    not_before: u64,
-    expires: u64,
-    algorithm: u8,
-) -> Result<Claims, Outcome>
-    ensures ok { IfOk result (λ claims. AreClaims audience.now id.now secret.now (id_context_of has_context context.now) scope.now not_before expires algorithm claims) }
-    ensures lengths { OnOk result (HaveLengths id.now secret.now context.now × (has_context ≤ 1)) }
-    ensures err { IfErr result (IsNoClaims audience.now id.now secret.now context.now has_context scope.now algorithm) }
+pub fn claims(alloc: Global, given: &GivenClaims<'_>) -> Result<Claims, Outcome>
+    ensures ok { IfOk result (λ claims. AreClaims given.now claims) }
+    ensures lengths { OnOk result (HaveLengths given.now.id given.now.secret given.now.context × (given.now.has_context ≤ 1)) }
+    ensures err { IfErr result (IsNoClaims given.now) }
 {
-    lengths(id, secret, context)?;
-    let alg = granted::algorithm(algorithm)?;
-    let id_context = granted::id_context(alloc, has_context, context)?;
-    let material = material(alloc, id, secret, id_context, alg)?;
-    let scope = scope_bytes(alloc, scope)?;
+    lengths(given.id, given.secret, given.context)?;
+    let alg = granted::algorithm(given.algorithm)?;
+    let id_context = granted::id_context(alloc, given.has_context, given.context)?;
+    let material = material(alloc, given.id, given.secret, id_context, alg)?;
+    let scope = scope_bytes(alloc, given.scope)?;
     Ok(Claims {
-        audience: self::audience(alloc, audience)?,
-        not_before: date(not_before),
-        expires: date(expires),
+        audience: audience(alloc, given.audience)?,
+        not_before: date(given.not_before),
+        expires: date(given.expires),
         material,
         scope,
     })
@@ -124,7 +154,7 @@ fn minted<A: Aead>(
     key: &PlainKey,
     iv: &PlainIv,
 ) -> Result<Vec<u8>, Outcome>
-    ensures ok { IfOk result (λ token. IsMinted A.is_sealing key.now.bytes iv.now.bytes claims.now token.items) }
+    ensures ok { IfOk result (λ token. IsMinted A.is_sealing (record { key = key.now.bytes; iv = iv.now.bytes }) claims.now token.items) }
     ensures err { IfErr result (IsUnminted claims.now) }
 {
     let mut token = Vec::new(alloc);
@@ -144,7 +174,8 @@ pub fn mint<A: Aead>(
     room: &mut [u8],
     size: &mut usize,
 ) -> Outcome
-    ensures { Mints A.is_sealing key.now.bytes iv.now.bytes claims room.old size.old result room.new size.new }
+    ensures { Mints A.is_sealing (record { key = key.now.bytes; iv = iv.now.bytes }) claims
+        (record { bytes = room.old; size = size.old }) result (record { bytes = room.new; size = size.new }) }
 {
     match minted::<A>(alloc, &claims, key, iv) {
         Ok(token) => {

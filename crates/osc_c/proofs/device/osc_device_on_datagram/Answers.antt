@@ -8,4 +8,4 @@ use Rattle.osc_c.proofs.device.osc_device_on_datagram.Goals as goal
 
 pub returns-in-Some : goal.returns-in-Some
 returns-in-Some c =
-    calls (λ old outcome new. HeardBy sealing old c.args.now (draw_of c.args.draw.now) (peer_of c.args.from.now) c.args.bytes.now outcome new) c.on_datagram-outcome.result c.in-Some.ensures.taken c.deref_mut.ensures.value (search rules) c.holding.ensures c.on_datagram-outcome.ensures
+    calls (λ old outcome new. HeardBy sealing old (record { ms = c.args.now; from = peer_of c.args.from.now; bytes = c.args.bytes.now }) (draw_of c.args.draw.now) outcome new) c.on_datagram-outcome.result c.in-Some.ensures.taken c.deref_mut.ensures.value (search rules) c.holding.ensures c.on_datagram-outcome.ensures

@@ -2,13 +2,17 @@
 use Rattle.std.proofs.Common.{ℤ, rules, subst}
 use Rattle.std.proofs.Math.Facts.{to_z-of_z}
 use Rattle.osc_model.specs.declared.code.Method.TheVariants.{Put}
-use Rattle.osc_calls.specs.Own.{AsksBy}
+use Rattle.osc_calls.specs.Own.{AsksBy, Writing}
 use Rattle.osc_c.specs.Ciphers.{sealing, tags}
 use Rattle.osc_c.proofs.Calls.{tells}
 use Rattle.osc_c.proofs.own.osc_device_put.Goals as goal
 
 pub returns-in-Some : goal.returns-in-Some
 returns-in-Some c =
-    tells c.args.code.now c.answer.new.code (λ old told new. AsksBy sealing tags Put old c.args.now c.args.path.now c.args.format c.args.payload.now c.args.draws.now told new) c.put-told.result c.in-Some.ensures.taken c.deref_mut.ensures.value (search rules) c.holding.ensures c.answer.ensures.code
-    (subst (λ (format : ℤ). AsksBy sealing tags Put c.deref_mut.result.now c.args.now c.args.path.now format c.args.payload.now c.args.draws.now c.put-told.result c.put-told.new.self)
+    let with_format : ℤ → Writing = λ format. record {
+      method = Put;
+      value = record { ms = c.args.now; path = c.args.path.now; format = format; payload = c.args.payload.now; draws = c.args.draws.now };
+    } in
+    tells c.args.code.now c.answer.new.code (λ old told new. AsksBy sealing tags old (with_format c.args.format) told new) c.put-told.result c.in-Some.ensures.taken c.deref_mut.ensures.value (search rules) c.holding.ensures c.answer.ensures.code
+    (subst (λ (format : ℤ). AsksBy sealing tags c.deref_mut.result.now (with_format format) c.put-told.result c.put-told.new.self)
     (to_z-of_z c.ranges.format) c.put-told.ensures)

@@ -7,4 +7,4 @@ use Rattle.osc_c.proofs.own.osc_device_remove.Goals as goal
 
 pub returns-in-Some : goal.returns-in-Some
 returns-in-Some c =
-    tells c.args.code.now c.answer.new.code (λ old told new. RemovesBy sealing tags old c.args.now c.args.path.now c.args.draws.now told new) c.remove-told.result c.in-Some.ensures.taken c.deref_mut.ensures.value (search rules) c.holding.ensures c.answer.ensures.code c.remove-told.ensures
+    tells c.args.code.now c.answer.new.code (λ old told new. RemovesBy sealing tags old (record { ms = c.args.now; path = c.args.path.now; draws = c.args.draws.now }) told new) c.remove-told.result c.in-Some.ensures.taken c.deref_mut.ensures.value (search rules) c.holding.ensures c.answer.ensures.code c.remove-told.ensures

@@ -14,6 +14,6 @@ returns-clause-ok c =
       is_alg = c.in_ok-alg.ensures.ok;
       is_flag = c.in_ok-context.ensures.ok.1;
       is_way = c.in_ok-way.ensures.lawful;
-      is_lawful = subst (λ context. IsLawfulGrant c.args.secret.now c.args.salt.now context) c.in_ok-context.ensures.ok.0 c.in_ok-desk.ensures.lawful;
+      is_lawful = subst (λ context. IsLawfulGrant c.args.given.now.secret c.args.given.now.salt context) c.in_ok-context.ensures.ok.0 c.in_ok-desk.ensures.lawful;
       fresh = subst (λ way. IsFresh c.in_ok-desk.desk way c.in_ok-of.field-0) c.in_ok-way.ensures.ok c.in_ok-of.ensures;
     }

@@ -2,7 +2,7 @@
 use Rattle.std.proofs.Common.{inl}
 use Rattle.osc_model.specs.declared.code.Method.TheVariants.{Put}
 use Rattle.osc_device.specs.Answered.{own_request}
-use Rattle.osc_calls.specs.Plain.{draw_of}
+use Rattle.osc_calls.specs.Own.{asked_for}
 use Rattle.osc_calls.proofs.Refused.{asked_kept, kept}
 use Rattle.osc_calls.proofs.device.DeviceNode.put_at.Goals as goal
 
@@ -18,6 +18,6 @@ returns-in-Ok g c =
       c.keep.ensures.told,
       c.keep.ensures.kept,
       kept old new c.keep.new.last round c.keep.result c.keep.ensures.told c.keep.ensures.kept
-          (λ number told. asked_kept g.A.Ciphers.is_sealing g.A.Ciphers.TAG old.device c.args.given.now (draw_of c.args.draws.now.own) (draw_of c.args.draws.now.server)
-          (own_request Put c.args.given.path c.args.given.format c.args.given.payload) round new number told asked),
+          (λ number told. asked_kept g.A.Ciphers.is_sealing g.A.Ciphers.TAG old.device
+          (asked_for c.args.draws.now c.args.value.now (own_request Put c.args.value.path c.args.value.format c.args.value.payload)) round new number told asked),
     )

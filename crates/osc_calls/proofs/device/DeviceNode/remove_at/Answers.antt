@@ -2,7 +2,7 @@
 use Rattle.std.proofs.Common.{inl, [], None}
 use Rattle.osc_model.specs.declared.code.Method.TheVariants.{Delete}
 use Rattle.osc_device.specs.Answered.{own_request}
-use Rattle.osc_calls.specs.Plain.{draw_of}
+use Rattle.osc_calls.specs.Own.{asked_for}
 use Rattle.osc_calls.proofs.Refused.{asked_kept, kept}
 use Rattle.osc_calls.proofs.device.DeviceNode.remove_at.Goals as goal
 
@@ -18,6 +18,6 @@ returns-in-Ok g c =
       c.keep.ensures.told,
       c.keep.ensures.kept,
       kept old new c.keep.new.last round c.keep.result c.keep.ensures.told c.keep.ensures.kept
-          (λ number told. asked_kept g.A.Ciphers.is_sealing g.A.Ciphers.TAG old.device c.args.given.now (draw_of c.args.draws.now.own) (draw_of c.args.draws.now.server)
-          (own_request Delete c.args.given.path None []) round new number told asked),
+          (λ number told. asked_kept g.A.Ciphers.is_sealing g.A.Ciphers.TAG old.device
+          (asked_for c.args.draws.now c.args.now (own_request Delete c.args.path None [])) round new number told asked),
     )

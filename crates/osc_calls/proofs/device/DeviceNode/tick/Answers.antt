@@ -12,7 +12,9 @@ returns g c =
       round = c.on_tick-round.result;
       ticked = t.0;
       ticks = t.1;
-      carries = subst (λ draw. Carries g.A.Ciphers.is_sealing (record old { endpoint = after_tick c.args.now old.endpoint }) t.0 c.args.now draw c.on_tick-round.result c.on_tick-round.new.self) c.draw.ensures t.3;
+      carries = subst
+          (λ draw. Carries g.A.Ciphers.is_sealing (record { server = record old { endpoint = after_tick c.args.now old.endpoint }; own = t.0 }) c.args.now draw c.on_tick-round.result c.on_tick-round.new.self)
+          c.draw.ensures t.2;
       last = c.ticked.ensures;
       run = c.on_tick-round.ensures.run;
       entry = c.on_tick-round.ensures.entry;
