@@ -26,6 +26,7 @@ returns-clause-asked g c =
     }
 
 pub returns-clause-answered : goal.returns-clause-answered
+unfolding returns-clause-asked
 returns-clause-answered g c = λ context held ready whole.
     let asks = returns-clause-asked g c in
     let own = ap (λ d. d.own) c.self.view_is in
