@@ -1,8 +1,10 @@
 -- At the moment of these milliseconds, with this format.
-use Rattle.std.proofs.Common.{ℕ, List, inl, subst}
+use Rattle.std.proofs.Common.{ℕ, List, ap, inl, subst}
 use Rattle.osc_model.specs.declared.code.Method.TheVariants.{Post}
 use Rattle.osc_device.specs.Answered.{own_request}
+use Rattle.osc_calls.specs.Given.{GivenValue}
 use Rattle.osc_calls.specs.Own.{Asks, ComesTo, asked_for}
+use Rattle.osc_calls.specs.declared.plain.PlainDraws.{PlainDraws}
 use Rattle.osc_calls.proofs.device.DeviceNode.append.Goals as goal
 
 pub returns-in-Ok : goal.returns-in-Ok
@@ -20,5 +22,8 @@ returns-in-Ok g c =
           (λ round. Asks g.A.Ciphers.is_sealing g.A.Ciphers.TAG c.args.self.now (asked_for given.draws v.now (own_request Post path v.format given.payload)) round new)) is.1
           (subst (λ (payload : List ℕ). ComesTo c.args.self.now c.append_at.result new
           (λ round. Asks g.A.Ciphers.is_sealing g.A.Ciphers.TAG c.args.self.now (asked_for given.draws v.now (own_request Post v.path v.format payload)) round new)) is.3
-          c.append_at.ensures),
+          (subst (λ (draws : PlainDraws). ComesTo c.args.self.now c.append_at.result new
+          (λ round. Asks g.A.Ciphers.is_sealing g.A.Ciphers.TAG c.args.self.now (asked_for draws v.now (own_request Post v.path v.format v.payload)) round new))
+          (ap (λ (g : GivenValue). g.draws) c.given.view_is)
+          c.append_at.ensures)),
     )
