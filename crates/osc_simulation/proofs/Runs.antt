@@ -4,10 +4,8 @@ use Rattle.std.proofs.Math.Seq.{drop-cons, take-suc}
 use Rattle.std.specs.Io.KnownBytes.{Appends, Keeps}
 use Rattle.std.specs.Result.{IsErrAnd}
 use Rattle.osc_script.specs.declared.line.Line.{Line}
-use Rattle.osc_simulation.specs.Names.{Names}
-use Rattle.osc_simulation.specs.Simulation.{Prints, PrintsLine}
+use Rattle.osc_simulation.specs.Simulation.{Printing, Prints, PrintsLine}
 use Rattle.osc_simulation.specs.declared.stage.Stage.{Stage}
-use Rattle.osc_simulation.specs.declared.trace.TraceForm.{TraceForm}
 
 -- what is left at an item, and behind it
 pub drop_item : {A : Type 0} (xs : List A) (i : ℕ) (x : A) → i < length xs → x ≡ get_or xs i x → drop i xs ≡ x ∷ drop (i + 1) xs
@@ -20,24 +18,24 @@ one_further : (n k : ℕ) → n + suc k ≡ n + 1 + k
 one_further n k = omega arith
 
 -- one line more
-pub one_line_more : (form : TraceForm) (names : Names) (number : ℕ) (lines : List Line) (l : Line) (first between last : Stage) (text more : List ℕ)
-    → Prints form names number first lines text between → PrintsLine form names (number + length lines) between l more last
-    → Prints form names number first (lines ++ l ∷ []) (text ++ more) last
-one_line_more form names number [] l first between last text more so_far line = (
+pub one_line_more : (printing : Printing) (number : ℕ) (lines : List Line) (l : Line) (first between last : Stage) (text more : List ℕ)
+    → Prints printing number first lines text between → PrintsLine printing (number + length lines) between l more last
+    → Prints printing number first (lines ++ l ∷ []) (text ++ more) last
+one_line_more printing number [] l first between last text more so_far line = (
   more,
   [],
   last,
-  subst (λ n. PrintsLine form names n first l more last) (add-zero number) (subst (λ stage. PrintsLine form names (number + 0) stage l more last) so_far.1 line),
+  subst (λ n. PrintsLine printing n first l more last) (add-zero number) (subst (λ stage. PrintsLine printing (number + 0) stage l more last) so_far.1 line),
   (refl, refl),
   ap (λ printed. printed ++ more) so_far.0 ∙ sym (append-nil more),
 )
-one_line_more form names number (x ∷ xs) l first between last text more so_far line = (
+one_line_more printing number (x ∷ xs) l first between last text more so_far line = (
   so_far.0,
   so_far.1 ++ more,
   so_far.2,
   so_far.3,
-  one_line_more form names (number + 1) xs l so_far.2 between last so_far.1 more so_far.4
-      (subst (λ n. PrintsLine form names n between l more last) (one_further number (length xs)) line),
+  one_line_more printing (number + 1) xs l so_far.2 between last so_far.1 more so_far.4
+      (subst (λ n. PrintsLine printing n between l more last) (one_further number (length xs)) line),
   ap (λ printed. printed ++ more) so_far.5 ∙ append_assoc so_far.0 so_far.1 more,
 )
 

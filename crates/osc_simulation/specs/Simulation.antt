@@ -22,7 +22,6 @@ use Rattle.osc_world.specs.Starts.{Beginning, Enrols, begun, new_proxy}
 use Rattle.osc_world.specs.Worlds.{State, Happens}
 use Rattle.osc_world.specs.declared.event.What.{What}
 use Rattle.osc_world.specs.declared.start.Holder.{Holder}
-use Rattle.osc_model.specs.declared.algorithm.Algorithm.{Algorithm}
 use Rattle.osc_script.specs.Grants.{claims_of, iv_of, token_key}
 use Rattle.osc_script.specs.Node.{address_of, client_name}
 use Rattle.osc_script.specs.Script.{IsScript}
@@ -33,6 +32,7 @@ use Rattle.osc_script.specs.declared.node.Node.TheVariants.{Server, Client, Prox
 use Rattle.osc_script.specs.declared.read.ScriptError.{ScriptError}
 use Rattle.osc_script.specs.declared.read.ScriptError.TheVariants.{BadLine, OutOfMemory}
 use Rattle.osc_script.specs.declared.proxy_name.ProxyName.{ProxyName}
+use Rattle.osc_token.specs.declared.claims.Claims.{Claims}
 use Rattle.osc_simulation.specs.Draw.{drawn}
 use Rattle.osc_simulation.specs.Events.{datagram_number, what_of}
 use Rattle.osc_simulation.specs.Names.{Names, made, names_in, number_of}
@@ -89,18 +89,16 @@ abbrev pub way_by : Option ProxyName → Way
 way_by None = record { next_hop = address_of Server; origin = None }
 way_by (Some proxy) = record { next_hop = address_of (Proxy proxy); origin = Some server_origin }
 
--- a client that a line grants to, as the grant of this number, from 1: it stands at its address, and sends as the lines say
-abbrev pub holder_of : List Line → ℕ → ClientName → List ℕ → Option ℕ → Option ℕ → Algorithm → Holder
-holder_of lines number client scope not_before expires alg = record {
-  at = address_of (Client client);
-  way = way_by (proxy_of client lines);
-  claims = claims_of number scope not_before expires alg;
-  iv = iv_of number;
-}
+-- a client that a line grants these claims to, as the grant of this number, from 1: it stands at its address, and sends as the lines say
+abbrev pub holder_of : List Line → ℕ → ClientName → Claims → Holder
+holder_of lines number client claims =
+    record { at = address_of (Client client); way = way_by (proxy_of client lines); claims = claims; iv = iv_of number }
 
 -- a line of a script of these lines that grants enrolls its client
 abbrev pub Enrolled : List Line → Beginning → Line → Beginning → Type 0
-Enrolled all old (Grant client scope not_before expires alg) new = Enrols is_sealing old (holder_of all (length old.clients + 1) client scope not_before expires alg) new
+Enrolled all old (Grant client scope not_before expires alg) new =
+    let number = length old.clients + 1 in
+    Enrols is_sealing old (holder_of all number client (claims_of number scope not_before expires alg)) new
 Enrolled all old line new = new ≡ old
 
 abbrev pub AllEnrolled : List Line → Beginning → List Line → Beginning → Type 0
@@ -197,18 +195,23 @@ abbrev pub behind_number : Bool → ℕ → List ℕ → List ℕ
 behind_number false number text = text
 behind_number true number text = numbered number text
 
+-- how a trace is printed: its form, and the names of its script
+pub record Printing : Type 0 where
+  pub form : TraceForm
+  pub names : Names
+
 -- the line of this number prints the events that it brought, and that a quiet round was stopped
-abbrev pub PrintsLine : TraceForm → Names → ℕ → Stage → Line → List ℕ → Stage → Type 0
-PrintsLine form names number old line text new =
-    (quiet : Bool) × (events : List ℕ) × Does names old line quiet new
-    × PrintAllRecords form.bytes names.clients new.world (drop (length old.world.records) new.world.records) events
-    × (text ≡ behind_number form.lines number (events ++ quiet_text quiet))
+abbrev pub PrintsLine : Printing → ℕ → Stage → Line → List ℕ → Stage → Type 0
+PrintsLine printing number old line text new =
+    (quiet : Bool) × (events : List ℕ) × Does printing.names old line quiet new
+    × PrintAllRecords printing.form.bytes printing.names.clients new.world (drop (length old.world.records) new.world.records) events
+    × (text ≡ behind_number printing.form.lines number (events ++ quiet_text quiet))
 
 -- the lines one after another, of which the first has this number
-abbrev pub Prints : TraceForm → Names → ℕ → Stage → List Line → List ℕ → Stage → Type 0
-Prints form names number old [] text last = (text ≡ []) × (last ≡ old)
-Prints form names number old (line ∷ lines) text last =
-    (first rest : List ℕ) × (next : Stage) × PrintsLine form names number old line first next × Prints form names (number + 1) next lines rest last
+abbrev pub Prints : Printing → ℕ → Stage → List Line → List ℕ → Stage → Type 0
+Prints printing number old [] text last = (text ≡ []) × (last ≡ old)
+Prints printing number old (line ∷ lines) text last =
+    (first rest : List ℕ) × (next : Stage) × PrintsLine printing number old line first next × Prints printing (number + 1) next lines rest last
     × (text ≡ first ++ rest)
 
 -- the end lines of a world
@@ -229,7 +232,8 @@ only_text names world (Some client) = alone_text (client_name client) (alone_in 
 -- the trace of a script: what its events print, the end lines, and what the wanted client's entries are answered alone
 abbrev pub IsTrace : TraceForm → Option ClientName → List Line → List ℕ → Type 0
 IsTrace form only lines text =
-    (events end : List ℕ) × (first last : Stage) × Begins lines first.world × IsFirst first × Prints form (names_in lines) 1 first lines events last
+    (events end : List ℕ) × (first last : Stage) × Begins lines first.world × IsFirst first
+    × Prints (record { form = form; names = names_in lines }) 1 first lines events last
     × IsEnd last.world end × (text ≡ events ++ end ++ only_text (names_in lines) last.world only)
 
 -- what a script's text prints
@@ -244,15 +248,15 @@ untraced (BadLine n) = trace_error.BadLine n
 untraced OutOfMemory = trace_error.OutOfMemory
 
 -- What a run from this stage printed of its trace: what the lines before some place did, or that of all and the end lines.
-pub data IsFront (form : TraceForm) (names : Names) (first : Stage) (lines : List Line) (text : List ℕ) : Type 0 where
-  in_lines : (before after : List Line) (last : Stage) → lines ≡ before ++ after → Prints form names 1 first before text last → IsFront form names first lines text
-  at_end : (events end : List ℕ) (last : Stage) → Prints form names 1 first lines events last → IsEnd last.world end → text ≡ events ++ end
-      → IsFront form names first lines text
+pub data IsFront (printing : Printing) (first : Stage) (lines : List Line) (text : List ℕ) : Type 0 where
+  in_lines : (before after : List Line) (last : Stage) → lines ≡ before ++ after → Prints printing 1 first before text last → IsFront printing first lines text
+  at_end : (events end : List ℕ) (last : Stage) → Prints printing 1 first lines events last → IsEnd last.world end → text ≡ events ++ end
+      → IsFront printing first lines text
 
 -- What a trace of these lines printed that ends for want of memory: nothing, where there was none for the world, or a front.
 pub data IsCut (form : TraceForm) (lines : List Line) (text : List ℕ) : Type 0 where
   at_once : text ≡ [] → IsCut form lines text
-  later : (first : Stage) → Begins lines first.world → IsFirst first → IsFront form (names_in lines) first lines text → IsCut form lines text
+  later : (first : Stage) → Begins lines first.world → IsFirst first → IsFront (record { form = form; names = names_in lines }) first lines text → IsCut form lines text
 
 -- the same of a script's text, for whose lines there may have been none
 abbrev pub CutShort : TraceForm → List ℕ → List ℕ → Type 0

@@ -11,9 +11,9 @@ ghost use Rattle.osc_simulation.specs.Simulation as spec;
 ghost use Rattle.osc_simulation.specs.SetUp.{CanPut, CanPutAll};
 
 use crate::names::Names;
-use osc_ccm::Ccm;
 use osc_client::{Origin, Way};
 use osc_model::{Bytes, Method};
+use osc_protect::Suite;
 use osc_proxy::{Target, Targets};
 use osc_scope::Scope;
 use osc_script::laws::key_of_tokens;
@@ -271,7 +271,7 @@ fn holder(number: u8, client: ClientName, way: Way, claims: Claims) -> Holder
 fn admit(alloc: Global, start: &mut Start, holder: Holder) -> Result<(), AllocError>
     ensures { OnOk result (Enrols spec.is_sealing start.old holder start.new) }
 {
-    match start.enroll::<(Ccm<8>, Ccm<16>)>(alloc, holder) {
+    match start.enroll::<Suite>(alloc, holder) {
         Ok(()) => Ok(()),
         Err(_) => Err(AllocError),
     }

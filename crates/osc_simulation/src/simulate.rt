@@ -78,12 +78,12 @@ fn trace_from<W: Write>(
     only: Option<ClientName>,
     writer: &mut W,
 ) -> Result<(), TraceError>
-    ensures done { OnOk result ((printed end : List ℕ) × spec.Prints form names.now 1 stage.old lines.now printed stage.new
+    ensures done { OnOk result ((printed end : List ℕ) × spec.Prints (record { form = form; names = names.now }) 1 stage.old lines.now printed stage.new
         × spec.IsEnd stage.new.world end
         × Appends (W.contents writer.old) (W.contents writer.new) (printed ++ end ++ spec.only_text names.now stage.new.world only)) }
     ensures bad { (n : ℕ) → result ≢ Err (TraceError.BadLine n) }
     ensures cut { result ≡ Err TraceError.OutOfMemory
-        → (printed : List ℕ) × spec.IsFront form names.now stage.old lines.now printed × Appends (W.contents writer.old) (W.contents writer.new) printed }
+        → (printed : List ℕ) × spec.IsFront (record { form = form; names = names.now }) stage.old lines.now printed × Appends (W.contents writer.old) (W.contents writer.new) printed }
 {
     trace_events(alloc, stage, names, lines, form, writer)?;
     trace_end(alloc, stage.world(), writer)?;
@@ -99,11 +99,11 @@ fn trace_events<W: Write>(
     form: TraceForm,
     writer: &mut W,
 ) -> Result<(), TraceError>
-    ensures done { OnOk result ((printed : List ℕ) × spec.Prints form names.now 1 stage.old lines.now printed stage.new
+    ensures done { OnOk result ((printed : List ℕ) × spec.Prints (record { form = form; names = names.now }) 1 stage.old lines.now printed stage.new
         × Appends (W.contents writer.old) (W.contents writer.new) printed) }
     ensures bad { (n : ℕ) → result ≢ Err (TraceError.BadLine n) }
     ensures cut { result ≡ Err TraceError.OutOfMemory → (printed : List ℕ) × (before after : List AnyLine) × (last : AnyStage) × (lines.now ≡ before ++ after)
-        × spec.Prints form names.now 1 stage.old before printed last × Appends (W.contents writer.old) (W.contents writer.new) printed }
+        × spec.Prints (record { form = form; names = names.now }) 1 stage.old before printed last × Appends (W.contents writer.old) (W.contents writer.new) printed }
 {
     let mut number = 0;
     for line in lines {
@@ -137,7 +137,7 @@ fn line_text(
     line: &Line,
     form: TraceForm,
 ) -> Result<Vec<u8>, AllocError>
-    ensures { IfOk result (λ text. spec.PrintsLine form names.now number stage.old line.now text.items stage.new) }
+    ensures { IfOk result (λ text. spec.PrintsLine (record { form = form; names = names.now }) number stage.old line.now text.items stage.new) }
 {
     let before = count_events(stage);
     let quiet = stage.does(alloc, names, line)?;

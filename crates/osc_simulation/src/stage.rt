@@ -9,8 +9,8 @@ ghost use Rattle.osc_simulation.specs.Simulation as spec;
 use crate::draw::{DrawnBefore, ScriptDraws};
 use crate::happening::{datagram_number, what_of};
 use crate::names::{Names, number_of};
-use osc_ccm::Ccm;
 use osc_model::{Draw, Moment};
+use osc_protect::Suite;
 use osc_script::Line;
 use osc_world::{Draws, Event, What, World};
 use std::alloc::{AllocError, Global};
@@ -100,7 +100,7 @@ impl Stage {
     {
         let draws = ScriptDraws(self.draws);
         self.world
-            .quiet::<(Ccm<8>, Ccm<16>), ScriptDraws>(alloc, self.moment, &draws, QUIET_LIMIT)
+            .quiet::<Suite, ScriptDraws>(alloc, self.moment, &draws, QUIET_LIMIT)
     }
 
     // The event that the line is, if it is one.
@@ -122,7 +122,7 @@ impl Stage {
             draw: self.draw(),
             what,
         };
-        let happened = self.world.step::<(Ccm<8>, Ccm<16>)>(alloc, &event);
+        let happened = self.world.step::<Suite>(alloc, &event);
         drop(event);
         happened
     }

@@ -6,5 +6,5 @@ use Rattle.osc_simulation.proofs.simulate.trace_events.Given as goal
 -- the lines so far are counted, and what they print is written
 abbrev pub invariant-loop-line : goal.invariant-loop-line
 invariant-loop-line g l =
-    (l.number ≡ l.line-index) × ((printed : List ℕ) × Prints l.form l.names 1 l.initial.stage (take l.line-index l.lines) printed l.stage
+    (l.number ≡ l.line-index) × ((printed : List ℕ) × Prints (record { form = l.form; names = l.names }) 1 l.initial.stage (take l.line-index l.lines) printed l.stage
     × Appends (g.W.Write.contents l.initial.writer) (g.W.Write.contents l.writer) printed)

@@ -21,7 +21,7 @@ returns-clause-done g c =
         last,
         begins,
         c.first-stage.ensures.first,
-        subst (λ names. Prints c.args.form names 1 first lines t.0 last) c.in_ok-names.ensures t.2,
+        subst (λ names. Prints (record { form = c.args.form; names = names }) 1 first lines t.0 last) c.in_ok-names.ensures t.2,
         t.3,
         refl,
       ),
@@ -36,6 +36,6 @@ returns-clause-cut g c = λ cut.
     let begins = subst (λ world. Begins lines world) (sym c.first-stage.ensures.world) c.in_ok-world.ensures in
     let front = c.trace_from-traced.ensures.cut cut in (
       front.0,
-      later first begins c.first-stage.ensures.first (subst (λ names. IsFront c.args.form names first lines front.0) c.in_ok-names.ensures front.1),
+      later first begins c.first-stage.ensures.first (subst (λ names. IsFront (record { form = c.args.form; names = names }) first lines front.0) c.in_ok-names.ensures front.1),
       front.2,
     )
