@@ -6,6 +6,7 @@ use Rattle.std.proofs.lemmas.Option.{slice_get-map}
 use Rattle.osc_model.specs.Tree.{Tree}
 use Rattle.osc_model.specs.declared.step.Step.{Step}
 use Rattle.osc_run.specs.ClientKinds.{ClientStep}
+use Rattle.osc_run.specs.Nodes.{moment_of}
 use Rattle.osc_run.specs.Notes.{by_client}
 use Rattle.osc_run.specs.Runs.{IsReached, WorldStep, OfServer as ByTheServer, OfClient as ByTheClient}
 use Rattle.osc_run.specs.States.{ClientState, WorldState}
@@ -23,7 +24,7 @@ kind_of old step new (in_turn does) = does.steps.kind
 
 one_step : (first : Tree) (old new : Lab) → Goes old new → WorldStep (run_of first old) (run_of first new)
 one_step first old new (of_server turn) =
-    ByTheServer turn.now (core_of_server turn.server) turn.step.notes turn.steps.kind (ap (λ (lab : Lab). run_of first lab) turn.is)
+    ByTheServer (moment_of turn.cause) (core_of_server turn.server) turn.step.notes turn.steps.kind (ap (λ (lab : Lab). run_of first lab) turn.is)
 one_step first old new (of_client number placed step client took does) =
     ByTheClient number false (core placed.client) (core client) step.notes (slice_get-map core_of old.clients number ∙ ap (option_map core_of) took.there)
     (kind_of placed.client step client does)

@@ -9,8 +9,11 @@ use Rattle.std.specs.Option.{IfSome}
 use Rattle.std.specs.Prelude.{◌↔◌, IsErrAnd, IsSome, IsTrue, MatchOption, slice_get, slice_set, option_to_list}
 use Rattle.std.specs.Io.KnownBytes.{Appends}
 use Rattle.osc_client.specs.Hearing as hearing
+use Rattle.osc_client.specs.Sending.{acts_at}
 use Rattle.osc_client.specs.State.{State as Client, core}
+use Rattle.osc_client.specs.Steps.{IsStep as IsStepOfClient}
 use Rattle.osc_server.specs.State.{State as Server}
+use Rattle.osc_server.specs.Steps.{IsStep}
 use Rattle.osc_model.specs.StepNotes.{StepNotes}
 use Rattle.osc_model.specs.declared.request.Request.{Request}
 use Rattle.osc_model.specs.declared.step.Step.{Step}
@@ -18,6 +21,7 @@ use Rattle.osc_model.specs.declared.node.Draw.{Draw}
 use Rattle.osc_model.specs.declared.node.Moment.{Moment}
 use Rattle.osc_run.specs.ClientKinds.{ClientStep}
 use Rattle.osc_run.specs.History.{history}
+use Rattle.osc_run.specs.Nodes.{Cause}
 use Rattle.osc_run.specs.Premise.{Premise}
 use Rattle.osc_run.specs.Notes.{Kept, Noted, by_client, by_server}
 use Rattle.osc_run.specs.States.{Minted}
@@ -26,14 +30,15 @@ use Rattle.osc_script.specs.declared.client_name.ClientName.{ClientName}
 use Rattle.osc_script.specs.declared.line.Line.{Line}
 use Rattle.osc_script.specs.declared.line.Line.TheVariants.{Exchange, Ask}
 use Rattle.osc_world.specs.declared.nodes.Placed.{Placed}
+use Rattle.osc_turn.specs.Ports.{cause_of}
 use Rattle.osc_simulation.specs.Names.{granted, name_of_number}
 use Rattle.osc_simulation.specs.Simulation.{is_sealing, tag_of}
 use Rattle.osc_simulation.specs.Trace.{end_text}
-use Rattle.osc_turn.specs.Nodes.{ServerSteps}
-use Rattle.osc_turn.specs.Ports.{Arrival}
 use Rattle.osc_programs.specs.Ended.{IsFault}
-use Rattle.osc_programs.specs.Lab.{Lab, Learnt, learnt, learnt_by, all_told, Tells, Stops, IsUntold, Goes, Leads, stays, goes, of_server, of_client, ServerTurn, ClientTook, ClientDoes, by_line, in_turn, ClientTurn, DoesBy, DoesInTurn, Did, a_step, no_step, LineBegins, TellsLine, TellsLines, ComesOf, ClientTurns, WholeTurn, WholeTurns, Prints, StopsIn, client_of, is_waiting}
+use Rattle.osc_programs.specs.Inner.Telling.{Did, IsUntold, Observed, Stops, Tells, a_step, no_step}
+use Rattle.osc_programs.specs.Lab.{BreaksOff, EndsWith, Lab, Learnt, Rules, learnt, learnt_by, all_told, Goes, Leads, stays, goes, of_server, of_client, ServerTurn, ClientTook, ClientDoes, by_line, in_turn, ClientTurn, DoesBy, DoesInTurn, LineBegins, TellsLine, TellsLines, ComesOf, ClientTurns, WholeTurn, WholeTurns, Prints, client_of, is_waiting, rules_of}
 use Rattle.osc_programs.specs.Lab as lab
+use Rattle.osc_programs.specs.Turning.{Running, TakesTurn}
 use Rattle.osc_programs.specs.declared.ended.Ended.{Ended}
 use Rattle.osc_programs.specs.declared.ended.Ended.TheVariants.{Failed}
 use Rattle.osc_programs.proofs.Appended.{appends_more, appends_none}
@@ -136,7 +141,7 @@ leads_more first between last so_far (goes next _ further step) = goes next last
 
 -- what came of the lines, and the last lines behind it
 pub prints_by : (turns : ℕ) (lines : List Line) (first last : Lab) (a b c : Option (List ℕ))
-    → (text : List ℕ) × TellsLines (granted lines) turns first lines text last × Appends a b text
+    → (text : List ℕ) × TellsLines (rules_of turns lines) first lines text last × Appends a b text
     → (held : Bool) × (IsTrue held ↔ Premise last.minted last.steps) × Appends b c (end_text last.server.tree (length (history last.steps)) held)
     → (text : List ℕ) × Prints turns lines first text last × Appends a c text
 prints_by turns lines first last a b c told ends = (
@@ -155,9 +160,12 @@ does_exchange asked name old new now draw step is begins kind =
 
 -- by one that has it ask
 pub does_ask : (asked : Line) (name : ClientName) (request : Request) (old new : Client) (now : Moment) (draw : Draw) (step : Step) → asked ≡ Ask name request
-    → hearing.Requests is_sealing tag_of old now request draw step new → ClientStep false (core old) step.notes (core new) → DoesBy asked old step new
+    → hearing.Requests is_sealing tag_of old (record { at = now; draw = draw; request = request }) step new → ClientStep false (core old) step.notes (core new) → DoesBy asked old step new
 does_ask asked name request old new now draw step is asks kind =
     subst (λ (line : Line). DoesBy line old step new) (sym is) (record { now = now; draw = draw; begins = asks; kind = kind })
+
+abbrev pub seen : Client → List Noted → Observed
+seen client steps = record { client = client; steps = steps }
 
 abbrev pub at : List Minted → Server → List Placed → List Noted → Lab
 at minted server clients steps = record { minted = minted; server = server; clients = clients; steps = steps }
@@ -184,7 +192,7 @@ same_lab minted server clients before after number placed client there e f =
     ap (λ (all : List Placed). at minted server all after) (same_place clients number placed client there e) ∙ ap (λ (steps : List Noted). at minted server clients steps) f
 
 pub client_leads : (minted : List Minted) (server : Server) (clients : List Placed) (before after : List Noted) (number : ℕ) (placed : Placed) (client : Client)
-    → slice_get clients number ≡ Some placed → Did ClientDoes (Unit {0}) number placed.client before client after
+    → slice_get clients number ≡ Some placed → Did ClientDoes (Unit {0}) number (seen placed.client before) (seen client after)
     → Leads (at minted server clients before) (at minted server (with clients number placed client) after)
 client_leads minted server clients before after number placed client there (a_step step does e) =
     leads_by _ _ (of_client number placed step client (took minted server clients before after number placed step client there e) does)
@@ -192,14 +200,14 @@ client_leads minted server clients before after number placed client there (no_s
     leads_same _ _ (same_lab minted server clients before after number placed client there e f)
 
 pub client_took_turn : (minted : List Minted) (server : Server) (clients : List Placed) (before after : List Noted) (number : ℕ) (placed : Placed) (client : Client)
-    → slice_get clients number ≡ Some placed → Did DoesInTurn ⊥ number placed.client before client after
+    → slice_get clients number ≡ Some placed → Did DoesInTurn ⊥ number (seen placed.client before) (seen client after)
     → ClientTurn number (at minted server clients before) (at minted server (with clients number placed client) after)
 client_took_turn minted server clients before after number placed client there (a_step step does e) =
     lab.takes placed step client (took minted server clients before after number placed step client there e) does
 client_took_turn minted server clients before after number placed client there (no_step may e f) = absurd may
 
 pub client_began : (asked : Line) (minted : List Minted) (server : Server) (clients : List Placed) (before after : List Noted) (number : ℕ) (placed : Placed) (client : Client)
-    → slice_get clients number ≡ Some placed → Did (DoesBy asked) (lab.IsNoTask asked) number placed.client before client after
+    → slice_get clients number ≡ Some placed → Did (DoesBy asked) (lab.IsNoTask asked) number (seen placed.client before) (seen client after)
     → LineBegins asked number (at minted server clients before) (at minted server (with clients number placed client) after)
 client_began asked minted server clients before after number placed client there (a_step step does e) =
     lab.begins placed step client (took minted server clients before after number placed step client there e) does
@@ -219,17 +227,17 @@ stops_then ended clients before after a b c p u = record {
   tells = λ n. appends_as a c (all_told clients p.0 ++ []) _ (append-nil _) (appends_more a b c _ _ p.2 (u.1 n));
 }
 
-pub line_told : (clients : List ClientName) (turns : ℕ) (asked : Line) (number : ℕ) (old begun new : Lab) (taken : ℕ) (client : List ℕ) (waits : Bool) (a b c d : Option (List ℕ))
-    → LineBegins asked number old begun → Tells clients (learnt old.steps) (learnt begun.steps) a b
-    → WholeTurns begun taken new → taken ≤ turns → (is_waiting new.clients number ≡ true → taken ≡ turns) → Tells clients (learnt begun.steps) (learnt new.steps) b c
-    → client ≡ name_of_number clients number → waits ≡ is_waiting new.clients number → Appends c d (lab.open_text client waits)
-    → (text : List ℕ) × TellsLine clients turns asked number old text new × Appends a d text
-line_told clients turns asked number old begun new taken client waits a b c d did first took_all most patient then e f opens =
-    let all = tells_more clients _ _ _ a b c first then in (
-      all_told clients all.0 ++ lab.open_text (name_of_number clients number) (is_waiting new.clients number),
+pub line_told : (rules : Rules) (asked : Line) (number : ℕ) (old begun new : Lab) (taken : ℕ) (client : List ℕ) (waits : Bool) (a b c d : Option (List ℕ))
+    → LineBegins asked number old begun → Tells rules.clients (learnt old.steps) (learnt begun.steps) a b → WholeTurns begun taken new → taken ≤ rules.turns
+    → (is_waiting new.clients number ≡ true → taken ≡ rules.turns) → Tells rules.clients (learnt begun.steps) (learnt new.steps) b c
+    → client ≡ name_of_number rules.clients number → waits ≡ is_waiting new.clients number → Appends c d (lab.open_text client waits)
+    → (text : List ℕ) × TellsLine rules asked number old text new × Appends a d text
+line_told rules asked number old begun new taken client waits a b c d did first took_all most patient then e f opens =
+    let all = tells_more rules.clients _ _ _ a b c first then in (
+      all_told rules.clients all.0 ++ lab.open_text (name_of_number rules.clients number) (is_waiting new.clients number),
       record { begun = begun; begins = did; taken = taken; takes = took_all; most = most; patient = patient; more = all.0; learns = all.1; is = refl },
       appends_more a c d _ _ all.2
-          (appends_as c d (lab.open_text client waits) _ (ap (λ (name : List ℕ). lab.open_text name waits) e ∙ ap (λ (w : Bool). lab.open_text (name_of_number clients number) w) f) opens),
+          (appends_as c d (lab.open_text client waits) _ (ap (λ (name : List ℕ). lab.open_text name waits) e ∙ ap (λ (w : Bool). lab.open_text (name_of_number rules.clients number) w) f) opens),
     )
 
 -- ---- one after another
@@ -241,61 +249,75 @@ pub one_more_whole : (first between last : Lab) (n : ℕ) → WholeTurns first n
 one_more_whole first between last n so_far turn = subst (λ (k : ℕ). WholeTurns first k last) (sym (add-one n)) (lab.next_whole_turn n between last so_far turn)
 
 -- one line more
-pub one_more_line : (clients : List ClientName) (turns : ℕ) (first between last : Lab) (lines : List Line) (i : ℕ) (d next : Line) (a b c : Option (List ℕ))
+pub one_more_line : (rules : Rules) (first between last : Lab) (lines : List Line) (i : ℕ) (d next : Line) (a b c : Option (List ℕ))
     → i < length lines → next ≡ get_or lines i d
-    → (text : List ℕ) × TellsLines clients turns first (take i lines) text between × Appends a b text
-    → (text : List ℕ) × ComesOf clients turns next (client_of next) between text last × Appends b c text
-    → (text : List ℕ) × TellsLines clients turns first (take (i + 1) lines) text last × Appends a c text
-one_more_line clients turns first between last lines i d next a b c lt e p q =
+    → (text : List ℕ) × TellsLines rules first (take i lines) text between × Appends a b text
+    → (text : List ℕ) × ComesOf rules next (client_of next) between text last × Appends b c text
+    → (text : List ℕ) × TellsLines rules first (take (i + 1) lines) text last × Appends a c text
+one_more_line rules first between last lines i d next a b c lt e p q =
     let more = lab.next_line (take i lines) next p.0 q.0 between last p.1 q.1 in
     let same : take (i + 1) lines ≡ take i lines ++ next ∷ [] = rw (add-one i, take-suc lines i d lt, e) refl in (
       p.0 ++ q.0,
-      subst (λ (all : List Line). TellsLines clients turns first all (p.0 ++ q.0) last) (sym same) more,
+      subst (λ (all : List Line). TellsLines rules first all (p.0 ++ q.0) last) (sym same) more,
       appends_more a b c p.0 q.0 p.2 q.2,
     )
 
-pub all_lines : (clients : List ClientName) (turns : ℕ) (first last : Lab) (lines : List Line) (i : ℕ) (a b : Option (List ℕ)) → length lines ≤ i
-    → (text : List ℕ) × TellsLines clients turns first (take i lines) text last × Appends a b text
-    → (text : List ℕ) × TellsLines clients turns first lines text last × Appends a b text
-all_lines clients turns first last lines i a b le p =
-    (p.0, subst (λ (all : List Line). TellsLines clients turns first all p.0 last) (take_all i lines le) p.1, p.2)
+-- all of them
+pub all_lines : (turns : ℕ) (clients : List ClientName) (lines : List Line) (i : ℕ) (first last : Lab) (a b : Option (List ℕ)) → clients ≡ granted lines → length lines ≤ i
+    → (text : List ℕ) × TellsLines (record { clients = clients; turns = turns }) first (take i lines) text last × Appends a b text
+    → (text : List ℕ) × TellsLines (rules_of turns lines) first lines text last × Appends a b text
+all_lines turns clients lines i first last a b e le p = (
+  p.0,
+  subst (λ (names : List ClientName). TellsLines (record { clients = names; turns = turns }) first lines p.0 last) e
+      (subst (λ (all : List Line). TellsLines (record { clients = clients; turns = turns }) first all p.0 last) (take_all i lines le) p.1),
+  p.2,
+)
 
 -- in these lines it ends early
 pub stops_in : (ended : Ended) (turns : ℕ) (clients : List ClientName) (lines : List Line) (i : ℕ) (first between last : Lab) (a b c : Option (List ℕ))
-    → clients ≡ granted lines → (text : List ℕ) × TellsLines clients turns first (take i lines) text between × Appends a b text
-    → Leads between last → Stops ended clients (learnt between.steps) (learnt last.steps) b c → StopsIn ended turns lines first last a c
-stops_in ended turns clients lines i first between last a b c e p leads q = record {
-  fault = q.fault;
-  before = take i lines;
-  after = drop i lines;
-  whole = sym (take-append-drop i lines);
-  told = p.0;
-  between = between;
-  tells = subst (λ (names : List ClientName). TellsLines names turns first (take i lines) p.0 between) e p.1;
-  leads = leads;
-  more = q.more;
-  untold = q.untold;
-  learns = q.learns;
-  writes = λ n. subst (λ (names : List ClientName). Appends a c (p.0 ++ all_told names q.more)) e (appends_more a b c _ _ p.2 (q.tells n));
-}
+    → clients ≡ granted lines → (text : List ℕ) × TellsLines (record { clients = clients; turns = turns }) first (take i lines) text between × Appends a b text
+    → Leads between last → Stops ended clients (learnt between.steps) (learnt last.steps) b c → EndsWith (λ text. BreaksOff turns lines first text last) ended a c
+stops_in ended turns clients lines i first between last a b c e p leads q = (
+  q.fault,
+  p.0 ++ all_told (granted lines) q.more,
+  record {
+    before = take i lines;
+    after = drop i lines;
+    whole = sym (take-append-drop i lines);
+    told = p.0;
+    between = between;
+    tells = subst (λ (names : List ClientName). TellsLines (record { clients = names; turns = turns }) first (take i lines) p.0 between) e p.1;
+    leads = leads;
+    more = q.more;
+    untold = q.untold;
+    learns = q.learns;
+    is = refl;
+  },
+  λ n. subst (λ (names : List ClientName). Appends a c (p.0 ++ all_told names q.more)) e (appends_more a b c _ _ p.2 (q.tells n)),
+)
 
 -- the last lines can't be told
 pub stops_at_end : (ended : Ended) (turns : ℕ) (lines : List Line) (first last : Lab) (a b c : Option (List ℕ))
-    → (text : List ℕ) × TellsLines (granted lines) turns first lines text last × Appends a b text → IsUntold ended b c → StopsIn ended turns lines first last a c
-stops_at_end ended turns lines first last a b c p u = record {
-  fault = u.0;
-  before = lines;
-  after = [];
-  whole = sym (append-nil lines);
-  told = p.0;
-  between = last;
-  tells = p.1;
-  leads = stays;
-  more = [];
-  untold = None;
-  learns = sym (append-nil (learnt last.steps));
-  writes = λ n. appends_more a b c p.0 [] p.2 (u.1 n);
-}
+    → (text : List ℕ) × TellsLines (rules_of turns lines) first lines text last × Appends a b text → IsUntold ended b c
+    → EndsWith (λ text. BreaksOff turns lines first text last) ended a c
+stops_at_end ended turns lines first last a b c p u = (
+  u.0,
+  p.0 ++ [],
+  record {
+    before = lines;
+    after = [];
+    whole = sym (append-nil lines);
+    told = p.0;
+    between = last;
+    tells = p.1;
+    leads = stays;
+    more = [];
+    untold = None;
+    learns = sym (append-nil (learnt last.steps));
+    is = refl;
+  },
+  λ n. appends_more a b c p.0 [] p.2 (u.1 n),
+)
 
 -- ---- exits
 
@@ -331,33 +353,30 @@ pub server_stays : (minted : List Minted) (clients : List Placed) (before after 
 server_stays minted clients before after old new e f =
     leads_same _ _ (ap (λ (server : Server). at minted server clients after) e ∙ ap (λ (all : List Noted). at minted old clients all) f)
 
-pub server_took : (minted : List Minted) (clients : List Placed) (before after : List Noted) (old new : Server) (now : Moment) (draw : Draw) (came : Option Arrival) (step : Step)
-    → ServerSteps is_sealing old now draw came step new → after ≡ by_server step.notes ∷ before
-    → ServerTurn (at minted old clients before) (at minted new clients after)
-server_took minted clients before after old new now draw came step makes e = record {
-  now = now;
-  draw = draw;
-  came = came;
-  step = step;
-  server = new;
-  steps = makes;
-  is = ap (λ (all : List Noted). at minted new clients all) e;
-}
+pub server_took : (minted : List Minted) (clients : List Placed) (before after : List Noted) (old new : Server) (cause : Cause) (step : Step)
+    → IsStep is_sealing old cause step new → after ≡ by_server step.notes ∷ before → ServerTurn (at minted old clients before) (at minted new clients after)
+server_took minted clients before after old new cause step makes e =
+    record { cause = cause; step = step; server = new; steps = makes; is = ap (λ (all : List Noted). at minted new clients all) e }
 
 -- ---- what a client did
 
 pub began : (asked : Line) (number : ℕ) (begun : Option Step) (step : Step) (old new : Client) (before between after : List Noted) → begun ≡ Some step
     → MatchOption begun (lab.IsNoTask asked × (new ≡ old)) (λ step. DoesBy asked old step new)
-    → after ≡ by_client number false step.notes ∷ between → between ≡ before → Did (DoesBy asked) (lab.IsNoTask asked) number old before new after
+    → after ≡ by_client number false step.notes ∷ between → between ≡ before → Did (DoesBy asked) (lab.IsNoTask asked) number (seen old before) (seen new after)
 began asked number begun step old new before between after is does e f =
     a_step step (subst (λ (o : Option Step). MatchOption o (lab.IsNoTask asked × (new ≡ old)) (λ step. DoesBy asked old step new)) is does) (behind after between before _ e f)
 
-pub did_by_line : (asked : Line) (number : ℕ) (old new : Client) (before after : List Noted) → Did (DoesBy asked) (lab.IsNoTask asked) number old before new after
-    → Did ClientDoes (Unit {0}) number old before new after
+pub did_by_line : (asked : Line) (number : ℕ) (old new : Client) (before after : List Noted) → Did (DoesBy asked) (lab.IsNoTask asked) number (seen old before) (seen new after)
+    → Did ClientDoes (Unit {0}) number (seen old before) (seen new after)
 did_by_line asked number old new before after (a_step step does e) = a_step step (by_line asked does) e
 did_by_line asked number old new before after (no_step may e f) = no_step tt e f
 
-pub did_in_turn : (number : ℕ) (old new : Client) (before after : List Noted) → Did DoesInTurn ⊥ number old before new after → Did ClientDoes (Unit {0}) number old before new after
+-- in a turn it took a step
+pub turned : (old : Running Client) (step : Step) (new : Running Client) → TakesTurn acts_at (IsStepOfClient is_sealing) old step new → DoesInTurn old.node step new.node
+turned old step new turn = record { cause = cause_of turn.now turn.draw turn.came; steps = turn.steps }
+
+pub did_in_turn : (number : ℕ) (old new : Client) (before after : List Noted) → Did DoesInTurn ⊥ number (seen old before) (seen new after)
+    → Did ClientDoes (Unit {0}) number (seen old before) (seen new after)
 did_in_turn number old new before after (a_step step does e) = a_step step (in_turn does) e
 did_in_turn number old new before after (no_step may e f) = absurd may
 

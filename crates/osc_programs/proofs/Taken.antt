@@ -1,28 +1,28 @@
 -- What ports tell over several turns, and how programs end.
 use Rattle.std.proofs.Common.{◌≡◌, ◌≢◌, ◌⊎◌, inl, inr, ◌+◌, ◌<◌, ℕ, add-one, subst, Bool, true, false, List, [], ◌++◌, Option, None, Some, refl, ap, sym, ◌∙◌, append_assoc, append-nil}
-use Rattle.osc_model.specs.declared.node.Draw.{Draw}
 use Rattle.osc_model.specs.declared.node.Moment.{Moment}
 use Rattle.osc_model.specs.declared.request.Request.{Request}
 use Rattle.osc_model.specs.declared.step.Datagram.{Datagram}
 use Rattle.osc_model.specs.declared.step.Step.{Step}
 use Rattle.osc_programs.specs.Ended.{IsFault, NoSettings, EndsLab, EndsNode, EndsTurns, EndsTold, EndsClient, CannotLab, CannotTalk, CannotAsk}
+use Rattle.osc_run.specs.Nodes.{Cause}
 use Rattle.osc_supply.specs.Supply.{IsSeeded, SupplyState}
-use Rattle.osc_programs.specs.Turning.{GoesOn, Running, Runs, Turns}
+use Rattle.osc_programs.specs.Turning.{GoesOn, Running, Runs, Shown, Turns, and_then}
 use Rattle.osc_programs.specs.Turning as turning
 use Rattle.osc_programs.specs.declared.ended.Ended.{Ended}
 use Rattle.osc_programs.specs.declared.ended.Ended.TheVariants.{Done, BadCommandLine, BadLine, BadSettings, OutOfMemory, Failed, PortFailed, NotDone}
 use Rattle.osc_turn.specs.Pace.{CameIn, IsRefusedIn}
-use Rattle.osc_turn.specs.Ports.{Arrival, grown}
+use Rattle.osc_turn.specs.Ports.{Received, grown}
 use Rattle.osc_turn.specs.declared.error.TurnError.{TurnError}
 pub use Rattle.osc_programs.proofs.Reports.{tells_more, tells_none}
 
 -- where a tick is due, nothing came
-pub came_in : (due : Bool) (came : Option Arrival) (before after : Option (List (Option Arrival))) → CameIn due came before after → due ≡ true → came ≡ None
+pub came_in : (due : Bool) (came : Option Received) (before after : Option (List (Option Received))) → CameIn due came before after → due ≡ true → came ≡ None
 came_in true came before after c e = c.0
 came_in false came before after c e = absurd cc
 
 -- where a tick is due, nothing is refused
-pub not_due : (due : Bool) (error : TurnError) (before after : Option (List (Option Arrival))) (failures failures_after : ℕ) → IsRefusedIn due error before after failures failures_after → due ≡ false
+pub not_due : (due : Bool) (error : TurnError) (before after : Option (List (Option Received))) (failures failures_after : ℕ) → IsRefusedIn due error before after failures failures_after → due ≡ false
 not_due true error before after failures failures_after f = absurd f
 not_due false error before after failures failures_after f = refl
 
@@ -203,21 +203,21 @@ grown_more first between last some more e f = f ∙ ap (λ told. grown told more
     joined (Some items) = ap Some (append_assoc items some more)
 
 -- one turn more
-pub one_more : {N : Type 0} (acts : N → Moment → Bool) (is_step : N → Moment → Draw → Option Arrival → Step → N → Type 0) (n : ℕ) (first between last : Running N) (out more_out : List Datagram) (log text : List ℕ)
-    → Turns acts is_step n first out log between → GoesOn acts is_step between more_out text last → Turns acts is_step (n + 1) first (out ++ more_out) (log ++ text) last
-one_more acts is_step n first between last out more_out log text taken turn =
-    subst (λ (k : ℕ). Turns acts is_step k first (out ++ more_out) (log ++ text) last) (sym (add-one n)) (turning.more n first between last out more_out log text taken turn)
+pub one_more : {N : Type 0} (acts : N → Moment → Bool) (is_step : N → Cause → Step → N → Type 0) (n : ℕ) (first between last : Running N) (shown next : Shown)
+    → Turns acts is_step n first shown between → GoesOn acts is_step between next last → Turns acts is_step (n + 1) first (and_then shown next) last
+one_more acts is_step n first between last shown next taken turn =
+    subst (λ (k : ℕ). Turns acts is_step k first (and_then shown next) last) (sym (add-one n)) (turning.more n first between last shown next taken turn)
 
 -- who ended well took all turns
-pub runs : {N : Type 0} (acts : N → Moment → Bool) (is_step : N → Moment → Draw → Option Arrival → Step → N → Type 0) (turns taken : ℕ) (old new : N) (start : SupplyState) (out : List Datagram) (log : List ℕ) (last : Running N) (ended : Ended)
-    → IsSeeded start → Turns acts is_step taken (record { node = old; busy = None; supply = start }) out log last → new ≡ last.node
+pub runs : {N : Type 0} (acts : N → Moment → Bool) (is_step : N → Cause → Step → N → Type 0) (turns taken : ℕ) (old new : N) (start : SupplyState) (out : List Datagram) (log : List ℕ) (last : Running N) (ended : Ended)
+    → IsSeeded start → Turns acts is_step taken (record { node = old; busy = None; supply = start }) (record { sent = out; text = log }) last → new ≡ last.node
     → ((ended ≡ Done) × (taken ≡ turns)) ⊎ ((ended ≢ Done) × (taken < turns)) → ended ≡ Done → Runs acts is_step turns log old new
 runs acts is_step turns taken old new start out log last ended seeded all is_last (inl done) e = record {
   start = start;
   seeded = seeded;
   sent = out;
   last = last;
-  takes = subst (λ (n : ℕ). Turns acts is_step n (record { node = old; busy = None; supply = start }) out log last) done.1 all;
+  takes = subst (λ (n : ℕ). Turns acts is_step n (record { node = old; busy = None; supply = start }) (record { sent = out; text = log }) last) done.1 all;
   ends = is_last;
 }
 runs acts is_step turns taken old new start out log last ended seeded all is_last (inr other) e = absurd (other.0 e)

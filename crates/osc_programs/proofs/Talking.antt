@@ -4,11 +4,13 @@ use Rattle.std.specs.Option.{IfSome}
 use Rattle.osc_model.specs.declared.step.ClientResult.{ClientResult}
 use Rattle.osc_model.specs.declared.step.Datagram.{Datagram}
 use Rattle.osc_model.specs.declared.step.Step.{Step}
+use Rattle.osc_client.specs.Sending.{acts_at}
 use Rattle.osc_client.specs.State.{State as Client}
+use Rattle.osc_client.specs.Steps.{IsStep}
 use Rattle.osc_model.specs.declared.request.Request.{Request}
 use Rattle.osc_model.specs.declared.step.ClientResult.TheVariants.{Made, Answer, Unverified, TimedOut, Refused}
-use Rattle.osc_turn.specs.Nodes.{client_acts}
-use Rattle.osc_programs.specs.Conversation.{GoesOn, GoesOnBy, Requests, Waits, client_steps, told, still, turns}
+use Rattle.osc_simulation.specs.Simulation.{is_sealing}
+use Rattle.osc_programs.specs.Conversation.{GoesOn, GoesOnBy, Requests, Upshot, Waits, after_sending, at_once, told, still, turns}
 use Rattle.osc_programs.specs.Turning.{Running, TakesTurn}
 use Rattle.osc_programs.specs.declared.asking.Outcome.{Outcome}
 use Rattle.osc_programs.specs.declared.asking.Outcome.TheVariants.{Told, Open}
@@ -17,53 +19,60 @@ pub some_more : {X : Type 0} (o : Option X) (P Q : X → Type 0) → ((x : X) �
 some_more None P Q more known = tt
 some_more (Some x) P Q more known = more x known
 
+-- a client's turn
+abbrev pub Turn : Running Client → Step → Running Client → Type 0
+Turn old step new = TakesTurn acts_at (IsStep is_sealing) old step new
+
 -- What comes of the turns that are left, from this client on, comes of all turns from the first one on, behind what was sent so far.
 abbrev pub GoOn : ℕ → ℕ → Running Client → Running Client → List Datagram → Type 0
 GoOn most left first now sent =
     (outcome : Outcome) (rest : ℕ) (last : Running Client) (more : List Datagram)
-    → Waits left None now more outcome rest last → Waits most None first (sent ++ more) outcome rest last
+    → Waits left None now (record { sent = more; outcome = outcome }) rest last → Waits most None first (record { sent = sent ++ more; outcome = outcome }) rest last
 
 pub starts : (most : ℕ) (first : Running Client) → GoOn most (most - 0) first first []
 starts most first outcome rest last more waits =
     let all : most - 0 ≡ most = omega arith in
-    subst (λ (n : ℕ). Waits n None first more outcome rest last) all waits
+    subst (λ (n : ℕ). Waits n None first (record { sent = more; outcome = outcome }) rest last) all waits
 
 -- a turn by which nothing was learnt
-pub goes_on : (most taken : ℕ) (first now next : Running Client) (sent : List Datagram) (step : Step) → taken < most → TakesTurn client_acts client_steps now step next
+pub goes_on : (most taken : ℕ) (first now next : Running Client) (sent : List Datagram) (step : Step) → taken < most → Turn now step next
     → step.notes.result ≡ None → GoOn most (most - taken) first now sent → GoOn most (most - (taken + 1)) first next (sent ++ step.out)
 goes_on most taken first now next sent step lt turn none so_far outcome rest last more waits =
     let left = most - (taken + 1) in
     let same : suc left ≡ most - taken = omega (arith, lt) in
-    let here : Waits (suc left) None now (step.out ++ more) outcome rest last =
-    turns left rest now next last step more outcome turn (subst (λ (learnt : Option ClientResult). Waits left learnt next more outcome rest last) (sym none) waits) in
-    subst (λ (all : List Datagram). Waits most None first all outcome rest last) (sym (append_assoc sent step.out more))
-    (so_far outcome rest last (step.out ++ more) (subst (λ (n : ℕ). Waits n None now (step.out ++ more) outcome rest last) same here))
+    let upshot : Upshot = record { sent = more; outcome = outcome } in
+    let here : Waits (suc left) None now (after_sending step.out upshot) rest last =
+    turns left rest now next last step upshot turn (subst (λ (learnt : Option ClientResult). Waits left learnt next upshot rest last) (sym none) waits) in
+    subst (λ (all : List Datagram). Waits most None first (record { sent = all; outcome = outcome }) rest last) (sym (append_assoc sent step.out more))
+    (so_far outcome rest last (step.out ++ more) (subst (λ (n : ℕ). Waits n None now (after_sending step.out upshot) rest last) same here))
 
 -- one by which something was
 pub learns : (most taken left : ℕ) (first now next : Running Client) (sent : List Datagram) (step : Step) (result : ClientResult) → taken < most → left ≡ most - taken - 1
-    → TakesTurn client_acts client_steps now step next → step.notes.result ≡ Some result → GoOn most (most - taken) first now sent
-    → Waits most None first (sent ++ step.out) (Told result) left next
+    → Turn now step next → step.notes.result ≡ Some result → GoOn most (most - taken) first now sent
+    → Waits most None first (record { sent = sent ++ step.out; outcome = Told result }) left next
 learns most taken left first now next sent step result lt e turn is so_far =
     let same : suc left ≡ most - taken = omega (arith, lt, e) in
-    let here : Waits (suc left) None now (step.out ++ []) (Told result) left next =
-    turns left left now next next step [] (Told result) turn (subst (λ (learnt : Option ClientResult). Waits left learnt next [] (Told result) left next) (sym is) (told left next result)) in
-    let all = so_far (Told result) left next (step.out ++ []) (subst (λ (n : ℕ). Waits n None now (step.out ++ []) (Told result) left next) same here) in
-    subst (λ (out : List Datagram). Waits most None first (sent ++ out) (Told result) left next) (append-nil step.out) all
+    let upshot : Upshot = at_once (Told result) in
+    let here : Waits (suc left) None now (after_sending step.out upshot) left next =
+    turns left left now next next step upshot turn (subst (λ (learnt : Option ClientResult). Waits left learnt next upshot left next) (sym is) (told left next result)) in
+    let all = so_far (Told result) left next (step.out ++ []) (subst (λ (n : ℕ). Waits n None now (after_sending step.out upshot) left next) same here) in
+    subst (λ (out : List Datagram). Waits most None first (record { sent = sent ++ out; outcome = Told result }) left next) (append-nil step.out) all
 
 -- none is left
-pub still_open : (most taken : ℕ) (first now : Running Client) (sent : List Datagram) → most ≡ taken → GoOn most (most - taken) first now sent → Waits most None first sent Open 0 now
+pub still_open : (most taken : ℕ) (first now : Running Client) (sent : List Datagram) → most ≡ taken → GoOn most (most - taken) first now sent
+    → Waits most None first (record { sent = sent; outcome = Open }) 0 now
 still_open most taken first now sent e so_far =
     let none : 0 ≡ most - taken = omega (arith, e) in
-    let all = so_far Open 0 now [] (subst (λ (n : ℕ). Waits n None now [] Open 0 now) none (still now)) in
-    subst (λ (out : List Datagram). Waits most None first out Open 0 now) (append-nil sent) all
+    let all = so_far Open 0 now [] (subst (λ (n : ℕ). Waits n None now (at_once Open) 0 now) none (still now)) in
+    subst (λ (out : List Datagram). Waits most None first (record { sent = out; outcome = Open }) 0 now) (append-nil sent) all
 
 -- whatever else than a context is last
-pub is_last : (left : ℕ) (request : Request) (result : ClientResult) (client : Running Client) → result ≢ Made → GoesOnBy left request result client [] (Told result) client
+pub is_last : (left : ℕ) (request : Request) (result : ClientResult) (client : Running Client) → result ≢ Made → GoesOnBy left request result client (at_once (Told result)) client
 is_last left request Made client n = absurd (n refl)
-is_last left request (Answer reply) client n = (refl, refl, refl)
-is_last left request (Unverified code) client n = (refl, refl, refl)
-is_last left request TimedOut client n = (refl, refl, refl)
-is_last left request (Refused number) client n = (refl, refl, refl)
+is_last left request (Answer reply) client n = (refl, refl)
+is_last left request (Unverified code) client n = (refl, refl)
+is_last left request TimedOut client n = (refl, refl)
+is_last left request (Refused number) client n = (refl, refl)
 
 pub both_ok : {T E : Type 0} (r : Result T E) (P Q R : T → Type 0) → ((x : T) → P x → Q x → R x) → IfOk r P → IfOk r Q → IfOk r R
 both_ok (Ok x) P Q R both p q = both x p q
@@ -71,17 +80,17 @@ both_ok (Err e) P Q R both p q = tt
 
 -- ---- what was learnt, under another name
 
-pub waits_as : (left : ℕ) (learnt other : Option ClientResult) (first : Running Client) (out : List Datagram) (outcome : Outcome) (rest : ℕ) (last : Running Client)
-    → learnt ≡ other → Waits left other first out outcome rest last → Waits left learnt first out outcome rest last
-waits_as left learnt other first out outcome rest last e waits = subst (λ (l : Option ClientResult). Waits left l first out outcome rest last) (sym e) waits
+pub waits_as : (left : ℕ) (learnt other : Option ClientResult) (first : Running Client) (upshot : Upshot) (rest : ℕ) (last : Running Client)
+    → learnt ≡ other → Waits left other first upshot rest last → Waits left learnt first upshot rest last
+waits_as left learnt other first upshot rest last e waits = subst (λ (l : Option ClientResult). Waits left l first upshot rest last) (sym e) waits
 
-pub made_goes : (left : ℕ) (request : Request) (result : ClientResult) (old : Running Client) (out : List Datagram) (outcome : Outcome) (new : Running Client)
-    → result ≡ Made → Requests left request old out outcome new → GoesOnBy left request result old out outcome new
-made_goes left request result old out outcome new e asked = subst (λ (r : ClientResult). GoesOnBy left request r old out outcome new) (sym e) asked
+pub made_goes : (left : ℕ) (request : Request) (result : ClientResult) (old : Running Client) (upshot : Upshot) (new : Running Client)
+    → result ≡ Made → Requests left request old upshot new → GoesOnBy left request result old upshot new
+made_goes left request result old upshot new e asked = subst (λ (r : ClientResult). GoesOnBy left request r old upshot new) (sym e) asked
 
-pub told_goes : (left : ℕ) (request : Request) (exchanged : Outcome) (result : ClientResult) (old : Running Client) (out : List Datagram) (outcome : Outcome) (new : Running Client)
-    → exchanged ≡ Told result → GoesOnBy left request result old out outcome new → GoesOn left request exchanged old out outcome new
-told_goes left request exchanged result old out outcome new e goes = subst (λ (x : Outcome). GoesOn left request x old out outcome new) (sym e) goes
+pub told_goes : (left : ℕ) (request : Request) (exchanged : Outcome) (result : ClientResult) (old : Running Client) (upshot : Upshot) (new : Running Client)
+    → exchanged ≡ Told result → GoesOnBy left request result old upshot new → GoesOn left request exchanged old upshot new
+told_goes left request exchanged result old upshot new e goes = subst (λ (x : Outcome). GoesOn left request x old upshot new) (sym e) goes
 
-pub open_goes : (left : ℕ) (request : Request) (exchanged : Outcome) (client : Running Client) → exchanged ≡ Open → GoesOn left request exchanged client [] Open client
-open_goes left request exchanged client e = subst (λ (x : Outcome). GoesOn left request x client [] Open client) (sym e) (refl, refl, refl)
+pub open_goes : (left : ℕ) (request : Request) (exchanged : Outcome) (client : Running Client) → exchanged ≡ Open → GoesOn left request exchanged client (at_once Open) client
+open_goes left request exchanged client e = subst (λ (x : Outcome). GoesOn left request x client (at_once Open) client) (sym e) (refl, refl)

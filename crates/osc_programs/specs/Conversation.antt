@@ -9,11 +9,11 @@ use Rattle.osc_model.specs.declared.step.Datagram.{Datagram}
 use Rattle.osc_model.specs.declared.step.Step.{Step}
 use Rattle.osc_message.specs.Endpoint.{fresh}
 use Rattle.osc_client.specs.Hearing.{Begins, Requests as Asks}
+use Rattle.osc_client.specs.Sending.{acts_at}
 use Rattle.osc_client.specs.State.{State as Client}
+use Rattle.osc_client.specs.Steps.{IsStep}
 use Rattle.osc_client.specs.Way.{HostAndPort}
 use Rattle.osc_settings.specs.declared.client.ClientSettings.{ClientSettings}
-use Rattle.osc_turn.specs.Nodes.{ClientSteps, client_acts}
-use Rattle.osc_turn.specs.Ports.{Arrival}
 use Rattle.osc_simulation.specs.Records.{learnt_text}
 use Rattle.osc_simulation.specs.Simulation.{is_sealing, tag_of}
 use Rattle.osc_simulation.specs.Text.{line}
@@ -25,10 +25,6 @@ use Rattle.osc_programs.specs.declared.ended.Ended.{Ended}
 use Rattle.osc_programs.specs.declared.ended.Ended.TheVariants.{Done, NotDone}
 
 -- ---- its steps
-
--- a client uses no draw in a turn
-abbrev pub client_steps : Client → Moment → Draw → Option Arrival → Step → Client → Type 0
-client_steps old now draw came step new = ClientSteps is_sealing old now came step new
 
 -- the client posted its token, at the next moment and with the next draw
 pub record Posts (old : Running Client) (step : Step) (new : Running Client) : Type 0 where
@@ -43,52 +39,64 @@ pub record Sends (request : Request) (old : Running Client) (step : Step) (new :
   pub now : Moment
   pub draw : Draw
   pub gives : Gives old.supply now draw new.supply
-  pub asks : Asks is_sealing tag_of old.node now request draw step new.node
+  pub asks : Asks is_sealing tag_of old.node (record { at = now; draw = draw; request = request }) step new.node
   pub busy : new.busy ≡ old.busy
 
 -- ---- what comes of them
 
--- With so many turns left it takes turns until it has learnt something, if it hasn't yet: what its steps sent, what came of it, and how
--- many turns are left then. It is `Open` where it still waits and no turn is left, and only there.
-pub data Waits : ℕ → Option ClientResult → Running Client → List Datagram → Outcome → ℕ → Running Client → Type 0 where
-  told : (left : ℕ) (client : Running Client) (result : ClientResult) → Waits left (Some result) client [] (Told result) left client
-  still : (client : Running Client) → Waits 0 None client [] Open 0 client
-  turns : (left rest : ℕ) (old next new : Running Client) (step : Step) (sent : List Datagram) (outcome : Outcome)
-      → TakesTurn client_acts client_steps old step next → Waits left step.notes.result next sent outcome rest new
-      → Waits (suc left) None old (step.out ++ sent) outcome rest new
+-- what came of a client's steps: all that they sent, in order, and the last result, or none where it still waits
+pub record Upshot : Type 0 where
+  pub sent : List Datagram
+  pub outcome : Outcome
+
+-- behind what was sent before
+abbrev pub after_sending : List Datagram → Upshot → Upshot
+after_sending before upshot = record upshot { sent = before ++ upshot.sent }
+
+-- this outcome, with nothing sent
+abbrev pub at_once : Outcome → Upshot
+at_once outcome = record { sent = []; outcome = outcome }
+
+-- With so many turns left it takes turns until it has learnt something, if it hasn't yet: what came of it, and how many turns are left
+-- then. It is `Open` where it still waits and no turn is left, and only there.
+pub data Waits : ℕ → Option ClientResult → Running Client → Upshot → ℕ → Running Client → Type 0 where
+  told : (left : ℕ) (client : Running Client) (result : ClientResult) → Waits left (Some result) client (at_once (Told result)) left client
+  still : (client : Running Client) → Waits 0 None client (at_once Open) 0 client
+  turns : (left rest : ℕ) (old next new : Running Client) (step : Step) (upshot : Upshot)
+      → TakesTurn acts_at (IsStep is_sealing) old step next → Waits left step.notes.result next upshot rest new
+      → Waits (suc left) None old (after_sending step.out upshot) rest new
 
 -- It sends its request, and what it learns of that is last.
-pub record Requests (left : ℕ) (request : Request) (old : Running Client) (sent : List Datagram) (outcome : Outcome) (new : Running Client) : Type 0 where
+pub record Requests (left : ℕ) (request : Request) (old : Running Client) (upshot : Upshot) (new : Running Client) : Type 0 where
   pub step : Step
   pub begun : Running Client
   pub sends : Sends request old step begun
-  pub waited : List Datagram
+  pub waited : Upshot
   pub rest : ℕ
-  pub waits : Waits left step.notes.result begun waited outcome rest new
-  pub is_sent : sent ≡ step.out ++ waited
+  pub waits : Waits left step.notes.result begun waited rest new
+  pub is : upshot ≡ after_sending step.out waited
 
 -- By what it learnt of its post: a context lets it send its request.
-abbrev pub GoesOnBy : ℕ → Request → ClientResult → Running Client → List Datagram → Outcome → Running Client → Type 0
-GoesOnBy left request Made old sent outcome new = Requests left request old sent outcome new
-GoesOnBy left request result old sent outcome new = (outcome ≡ Told result) × (new ≡ old) × (sent ≡ [])
+abbrev pub GoesOnBy : ℕ → Request → ClientResult → Running Client → Upshot → Running Client → Type 0
+GoesOnBy left request Made old upshot new = Requests left request old upshot new
+GoesOnBy left request result old upshot new = (upshot ≡ at_once (Told result)) × (new ≡ old)
 
-abbrev pub GoesOn : ℕ → Request → Outcome → Running Client → List Datagram → Outcome → Running Client → Type 0
-GoesOn left request (Told result) old sent outcome new = GoesOnBy left request result old sent outcome new
-GoesOn left request Open old sent outcome new = (outcome ≡ Open) × (new ≡ old) × (sent ≡ [])
+abbrev pub GoesOn : ℕ → Request → Outcome → Running Client → Upshot → Running Client → Type 0
+GoesOn left request (Told result) old upshot new = GoesOnBy left request result old upshot new
+GoesOn left request Open old upshot new = (upshot ≡ at_once Open) × (new ≡ old)
 
--- In so many turns: the last result, or none where it still waits; and all that its steps sent, in order.
-pub record Converses (turns : ℕ) (request : Request) (old : Running Client) (sent : List Datagram) (outcome : Outcome) (new : Running Client) : Type 0 where
+-- In so many turns it posts its token, waits, and goes on by what it learnt.
+pub record Converses (turns : ℕ) (request : Request) (old : Running Client) (upshot : Upshot) (new : Running Client) : Type 0 where
   pub step : Step
   pub begun : Running Client
   pub posts : Posts old step begun
-  pub waited : List Datagram
-  pub exchanged : Outcome
+  pub exchanged : Upshot
   pub left : ℕ
   pub between : Running Client
-  pub waits : Waits turns step.notes.result begun waited exchanged left between
-  pub further : List Datagram
-  pub goes_on : GoesOn left request exchanged between further outcome new
-  pub is_sent : sent ≡ step.out ++ (waited ++ further)
+  pub waits : Waits turns step.notes.result begun exchanged left between
+  pub further : Upshot
+  pub goes_on : GoesOn left request exchanged.outcome between further new
+  pub is : upshot ≡ after_sending step.out (after_sending exchanged.sent further)
 
 -- the same from the start on
 pub record Talks (turns : ℕ) (request : Request) (old : Client) (outcome : Outcome) (new : Client) : Type 0 where
@@ -96,7 +104,7 @@ pub record Talks (turns : ℕ) (request : Request) (old : Client) (outcome : Out
   pub seeded : IsSeeded start
   pub sent : List Datagram
   pub last : Running Client
-  pub talks : Converses turns request (record { node = old; busy = None; supply = start }) sent outcome last
+  pub talks : Converses turns request (record { node = old; busy = None; supply = start }) (record { sent = sent; outcome = outcome }) last
   pub ends : new ≡ last.node
 
 -- ---- the client at first, and what is told at last

@@ -10,6 +10,7 @@ use Rattle.osc_model.specs.declared.step.ClientResult.{ClientResult}
 use Rattle.osc_model.specs.declared.step.Step.{Step}
 use Rattle.osc_run.specs.ClientKinds.{ClientStep}
 use Rattle.osc_run.specs.History.{history}
+use Rattle.osc_run.specs.Nodes.{Cause}
 use Rattle.osc_run.specs.Notes.{Noted, by_client, by_server, collected}
 use Rattle.osc_run.specs.Premise.{Premise}
 use Rattle.osc_run.specs.States.{Minted, WorldState}
@@ -17,7 +18,9 @@ use Rattle.osc_run.specs.declared.noted.Actor.{Actor}
 use Rattle.osc_run.specs.declared.noted.Actor.TheVariants.{Client as ByClient}
 use Rattle.osc_client.specs.Hearing as hearing
 use Rattle.osc_client.specs.State.{State as Client, core}
+use Rattle.osc_client.specs.Steps.{IsStep as IsStepOfClient}
 use Rattle.osc_server.specs.State.{State as Server, core as core_of_server}
+use Rattle.osc_server.specs.Steps.{IsStep as IsStepOfServer}
 use Rattle.osc_script.specs.Script.{IsScript}
 use Rattle.osc_script.specs.declared.client_name.ClientName.{ClientName}
 use Rattle.osc_script.specs.declared.line.Line.{Line}
@@ -26,8 +29,6 @@ use Rattle.osc_world.specs.Starting.{AreParts}
 use Rattle.osc_world.specs.Starts.{Beginning}
 use Rattle.osc_world.specs.declared.nodes.Placed.{Placed}
 use Rattle.osc_world.specs.declared.start.Parts.{Parts}
-use Rattle.osc_turn.specs.Nodes.{ClientSteps, ServerSteps}
-use Rattle.osc_turn.specs.Ports.{Arrival}
 use Rattle.osc_simulation.specs.Names.{granted, name_of_number, number_of}
 use Rattle.osc_simulation.specs.Records.{learnt_text}
 use Rattle.osc_simulation.specs.Simulation.{IsStartOf, is_sealing, tag_of}
@@ -36,7 +37,6 @@ use Rattle.osc_simulation.specs.Trace.{end_text}
 use Rattle.osc_programs.specs.Ended.{IsFault}
 use Rattle.osc_programs.specs.declared.ended.Ended.{Ended}
 use Rattle.osc_programs.specs.declared.ended.Ended.TheVariants.{Failed}
-use Rattle.osc_programs.specs.declared.lab_nodes.LabNodes.{LabNodes}
 
 -- ---- the nodes, and their steps
 
@@ -47,9 +47,6 @@ pub record Lab : Type 0 where
   pub server : Server
   pub clients : List Placed
   pub steps : List Noted
-
-abbrev pub lab_of : LabNodes → Lab
-lab_of nodes = record { minted = nodes.minted.items; server = nodes.server; clients = nodes.clients.items; steps = nodes.notes.steps }
 
 -- those of a script, before the first step
 abbrev pub lab_in : Parts → Lab
@@ -66,7 +63,7 @@ is_waiting clients number = waits (slice_get clients number)
 -- what a line has its client do, at some moment and with some draw: it posts its token, or sends a request, protected
 abbrev pub Begins : Line → Client → Moment → Draw → Step → Client → Type 0
 Begins (Exchange client) old now draw step new = hearing.Begins old now draw step new
-Begins (Ask client request) old now draw step new = hearing.Requests is_sealing tag_of old now request draw step new
+Begins (Ask client request) old now draw step new = hearing.Requests is_sealing tag_of old (record { at = now; draw = draw; request = request }) step new
 Begins other old now draw step new = ⊥
 
 -- the line has a client do nothing: a request with the code 0.00 is none
@@ -84,28 +81,20 @@ pub record DoesBy (asked : Line) (old : Client) (step : Step) (new : Client) : T
 
 -- in a turn
 pub record DoesInTurn (old : Client) (step : Step) (new : Client) : Type 0 where
-  pub now : Moment
-  pub came : Option Arrival
-  pub steps : ClientSteps is_sealing old now came step new
+  pub cause : Cause
+  pub steps : IsStepOfClient is_sealing old cause step new
 
 -- a client's step
 pub data ClientDoes (old : Client) (step : Step) (new : Client) : Type 0 where
   by_line : (asked : Line) → DoesBy asked old step new → ClientDoes old step new
   in_turn : DoesInTurn old step new → ClientDoes old step new
 
--- the client of this number did such a thing, which was noted, or nothing, where that may be
-pub data Did (Does : Client → Step → Client → Type 0) (Nothing : Type 0) (number : ℕ) (old : Client) (before : List Noted) (new : Client) (after : List Noted) : Type 0 where
-  a_step : (step : Step) → Does old step new → after ≡ by_client number false step.notes ∷ before → Did Does Nothing number old before new after
-  no_step : Nothing → new ≡ old → after ≡ before → Did Does Nothing number old before new after
-
 -- the server took a turn, which was noted; no other node changed
 pub record ServerTurn (old new : Lab) : Type 0 where
-  pub now : Moment
-  pub draw : Draw
-  pub came : Option Arrival
+  pub cause : Cause
   pub step : Step
   pub server : Server
-  pub steps : ServerSteps is_sealing old.server now draw came step server
+  pub steps : IsStepOfServer is_sealing old.server cause step server
   pub is : new ≡ record old { server = server; steps = by_server step.notes ∷ old.steps }
 
 -- the client of this number took this step, which was noted; no other node changed
@@ -200,22 +189,6 @@ abbrev pub open_text : List ℕ → Bool → List ℕ
 open_text client true = line (client ++ codes " open")
 open_text client false = []
 
--- Nothing was written, by a fault; of an output that failed nothing is said.
-abbrev pub IsUntold : Ended → Option (List ℕ) → Option (List ℕ) → Type 0
-IsUntold ended written written_after = IsFault ended × (ended ≢ Failed → Appends written written_after [])
-
--- clients learnt more than before, and all of that was written, in order
-abbrev pub Tells : List ClientName → List Learnt → List Learnt → Option (List ℕ) → Option (List ℕ) → Type 0
-Tells clients before after written written_after = (more : List Learnt) × (after ≡ before ++ more) × Appends written written_after (all_told clients more)
-
--- Where it ends early, all of it was, but for the last result at most; of an output that failed nothing is said.
-pub record Stops (ended : Ended) (clients : List ClientName) (before after : List Learnt) (written written_after : Option (List ℕ)) : Type 0 where
-  pub fault : IsFault ended
-  pub more : List Learnt
-  pub untold : Option Learnt
-  pub learns : after ≡ before ++ (more ++ option_to_list untold)
-  pub tells : ended ≢ Failed → Appends written written_after (all_told clients more)
-
 -- ---- the lines of a script
 
 -- the client that a line has do something
@@ -224,53 +197,64 @@ client_of (Exchange client) = Some client
 client_of (Ask client request) = Some client
 client_of other = None
 
+-- the clients of a lab, by their numbers, and the most whole turns after a line that has one of them do something
+pub record Rules : Type 0 where
+  pub clients : List ClientName
+  pub turns : ℕ
+
+abbrev pub rules_of : ℕ → List Line → Rules
+rules_of turns lines = record { clients = granted lines; turns = turns }
+
 -- What comes of one of those, whose client has this number: it begins, and then the nodes take whole turns, as many as there may be as long
 -- as it waits. What clients learn by that is told, in order, and then that the line's client waits still, where it does.
-pub record TellsLine (clients : List ClientName) (turns : ℕ) (asked : Line) (number : ℕ) (old : Lab) (text : List ℕ) (new : Lab) : Type 0 where
+pub record TellsLine (rules : Rules) (asked : Line) (number : ℕ) (old : Lab) (text : List ℕ) (new : Lab) : Type 0 where
   pub begun : Lab
   pub begins : LineBegins asked number old begun
   pub taken : ℕ
   pub takes : WholeTurns begun taken new
-  pub most : taken ≤ turns
-  pub patient : is_waiting new.clients number ≡ true → taken ≡ turns
+  pub most : taken ≤ rules.turns
+  pub patient : is_waiting new.clients number ≡ true → taken ≡ rules.turns
   pub more : List Learnt
   pub learns : learnt new.steps ≡ learnt old.steps ++ more
-  pub is : text ≡ all_told clients more ++ open_text (name_of_number clients number) (is_waiting new.clients number)
+  pub is : text ≡ all_told rules.clients more ++ open_text (name_of_number rules.clients number) (is_waiting new.clients number)
 
 -- what comes of a line, by the client that it has do something: other lines set the lab up
-abbrev pub ComesOf : List ClientName → ℕ → Line → Option ClientName → Lab → List ℕ → Lab → Type 0
-ComesOf clients turns asked None old text new = (text ≡ []) × (new ≡ old)
-ComesOf clients turns asked (Some client) old text new = TellsLine clients turns asked (number_of clients client) old text new
+abbrev pub ComesOf : Rules → Line → Option ClientName → Lab → List ℕ → Lab → Type 0
+ComesOf rules asked None old text new = (text ≡ []) × (new ≡ old)
+ComesOf rules asked (Some client) old text new = TellsLine rules asked (number_of rules.clients client) old text new
 
 -- one line after another
-pub data TellsLines (clients : List ClientName) (turns : ℕ) (first : Lab) : List Line → List ℕ → Lab → Type 0 where
-  no_line : TellsLines clients turns first [] [] first
-  next_line : (lines : List Line) (next : Line) (text some : List ℕ) (between last : Lab) → TellsLines clients turns first lines text between
-      → ComesOf clients turns next (client_of next) between some last → TellsLines clients turns first (lines ++ next ∷ []) (text ++ some) last
+pub data TellsLines (rules : Rules) (first : Lab) : List Line → List ℕ → Lab → Type 0 where
+  no_line : TellsLines rules first [] [] first
+  next_line : (lines : List Line) (next : Line) (text some : List ℕ) (between last : Lab) → TellsLines rules first lines text between
+      → ComesOf rules next (client_of next) between some last → TellsLines rules first (lines ++ next ∷ []) (text ++ some) last
 
 -- All that a lab prints: what comes of the lines, and behind it the last lines, by what its nodes noted.
 pub record Prints (turns : ℕ) (lines : List Line) (first : Lab) (text : List ℕ) (last : Lab) : Type 0 where
   pub told : List ℕ
-  pub tells : TellsLines (granted lines) turns first lines told last
+  pub tells : TellsLines (rules_of turns lines) first lines told last
   pub held : Bool
   pub holds : IsTrue held ↔ Premise last.minted last.steps
   pub is : text ≡ told ++ end_text last.server.tree (length (history last.steps)) held
 
--- Where a lab ends early: it told what came of the lines before, and of the next one all that clients learnt but the last result at most;
--- of an output that failed nothing is said.
-pub record StopsIn (ended : Ended) (turns : ℕ) (lines : List Line) (first last : Lab) (written written_after : Option (List ℕ)) : Type 0 where
-  pub fault : IsFault ended
+-- What a lab printed that ends early: what came of the lines before, and of the next one all that clients learnt but the last result at
+-- most.
+pub record BreaksOff (turns : ℕ) (lines : List Line) (first : Lab) (text : List ℕ) (last : Lab) : Type 0 where
   pub before : List Line
   pub after : List Line
   pub whole : lines ≡ before ++ after
   pub told : List ℕ
   pub between : Lab
-  pub tells : TellsLines (granted lines) turns first before told between
+  pub tells : TellsLines (rules_of turns lines) first before told between
   pub leads : Leads between last
   pub more : List Learnt
   pub untold : Option Learnt
   pub learns : learnt last.steps ≡ learnt between.steps ++ (more ++ option_to_list untold)
-  pub writes : ended ≢ Failed → Appends written written_after (told ++ all_told (granted lines) more)
+  pub is : text ≡ told ++ all_told (granted lines) more
+
+-- It ended early, by a fault, with such a text written; of an output that failed nothing is said.
+abbrev pub EndsWith : (List ℕ → Type 0) → Ended → Option (List ℕ) → Option (List ℕ) → Type 0
+EndsWith IsText ended written written_after = IsFault ended × (text : List ℕ) × IsText text × (ended ≢ Failed → Appends written written_after text)
 
 -- ---- the whole program
 
@@ -292,7 +276,8 @@ pub record LinesPrint (turns : ℕ) (lines : List Line) (text : List ℕ) : Type
 -- it ended early, by a fault: before its nodes took a step, with nothing written, or in its lines
 pub data LinesStop (ended : Ended) (turns : ℕ) (lines : List Line) (written written_after : Option (List ℕ)) : Type 0 where
   unbegun : IsFault ended → Appends written written_after [] → LinesStop ended turns lines written written_after
-  in_lines : (first last : Lab) → IsFirst lines first → StopsIn ended turns lines first last written written_after → LinesStop ended turns lines written written_after
+  in_lines : (first last : Lab) → IsFirst lines first → EndsWith (λ text. BreaksOff turns lines first text last) ended written written_after
+      → LinesStop ended turns lines written written_after
 
 -- The lab of this script, with so many whole turns at most after each line that has a client do something, printed this.
 abbrev pub Labs : ℕ → List ℕ → List ℕ → Type 0

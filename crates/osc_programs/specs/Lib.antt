@@ -7,3 +7,4 @@ pub mod Turning
 pub mod Serving
 pub mod Conversation
 pub mod Lab
+pub mod Inner

@@ -1,18 +1,21 @@
 -- What `osc server` and `osc proxy` do: the node of the settings takes its turns.
-use Rattle.std.specs.Prelude.{◌≡◌, ℕ, List, [], map}
+use Rattle.std.specs.Prelude.{◌≡◌, ℕ, Bool, List, [], map}
 use Rattle.std.specs.FinMap as map
 use Rattle.std.specs.FinSet as set
 use Rattle.osc_model.specs.Scope.{exactly}
 use Rattle.osc_model.specs.declared.code.Method.TheVariants.{Get}
+use Rattle.osc_model.specs.declared.node.Moment.{Moment}
 use Rattle.osc_message.specs.Endpoint.{fresh}
 use Rattle.osc_proxy.specs.Exchanges.{none_open}
 use Rattle.osc_proxy.specs.State.{State as Proxy}
+use Rattle.osc_proxy.specs.Steps.{IsStep as IsStepOfProxy}
+use Rattle.osc_proxy.specs.Ticks.{acts as proxy_acts_at}
 use Rattle.osc_proxy.specs.declared.targets.Target.{Target}
 use Rattle.osc_server.specs.State.{State as Server}
+use Rattle.osc_server.specs.Steps.{IsStep as IsStepOfServer, acts as server_acts}
 use Rattle.osc_settings.specs.declared.proxy.ProxySettings.{ProxySettings}
 use Rattle.osc_settings.specs.declared.proxy.TargetSetting.{TargetSetting}
 use Rattle.osc_settings.specs.declared.server.ServerSettings.{ServerSettings}
-use Rattle.osc_turn.specs.Nodes.{ProxySteps, ServerSteps, proxy_acts, server_acts}
 use Rattle.osc_simulation.specs.Simulation.{is_sealing}
 use Rattle.osc_programs.specs.Turning.{Runs}
 
@@ -38,16 +41,20 @@ pub record IsProxyOf (settings : ProxySettings) (proxy : Proxy) : Type 0 where
 
 -- ---- their turns
 
+-- whether a tick at this moment sends, gives up or ends anything
+abbrev pub proxy_acts : Proxy → Moment → Bool
+proxy_acts proxy now = proxy_acts_at now proxy
+
 -- The server of these settings takes so many turns, and this there is to tell of them.
 pub record Serves (settings : ServerSettings) (turns : ℕ) (log : List ℕ) : Type 0 where
   pub first : Server
   pub last : Server
   pub is_server : IsServerOf settings first
-  pub runs : Runs server_acts (ServerSteps is_sealing) turns log first last
+  pub runs : Runs server_acts (IsStepOfServer is_sealing) turns log first last
 
 -- The proxy of these settings takes so many turns, and this there is to tell of them.
 pub record Forwards (settings : ProxySettings) (turns : ℕ) (log : List ℕ) : Type 0 where
   pub first : Proxy
   pub last : Proxy
   pub is_proxy : IsProxyOf settings first
-  pub runs : Runs proxy_acts ProxySteps turns log first last
+  pub runs : Runs proxy_acts IsStepOfProxy turns log first last

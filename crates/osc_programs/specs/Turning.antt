@@ -4,8 +4,9 @@ use Rattle.osc_model.specs.declared.node.Draw.{Draw}
 use Rattle.osc_model.specs.declared.node.Moment.{Moment}
 use Rattle.osc_model.specs.declared.step.Datagram.{Datagram}
 use Rattle.osc_model.specs.declared.step.Step.{Step}
+use Rattle.osc_run.specs.Nodes.{Cause}
 use Rattle.osc_turn.specs.Pace.{busy_after, must_tick}
-use Rattle.osc_turn.specs.Ports.{Arrival}
+use Rattle.osc_turn.specs.Ports.{Received, cause_of}
 use Rattle.osc_supply.specs.Supply.{Gives, IsSeeded, SupplyState}
 use Rattle.osc_programs.specs.Log.{IsStepText, lost_text}
 
@@ -17,16 +18,28 @@ pub record Running (N : Type 0) : Type 0 where
   pub busy : Option Moment
   pub supply : SupplyState
 
-module _ {N : Type 0} (acts : N → Moment → Bool) (is_step : N → Moment → Draw → Option Arrival → Step → N → Type 0) where
+-- what turns sent, and what there is to tell of them
+pub record Shown : Type 0 where
+  pub sent : List Datagram
+  pub text : List ℕ
+
+abbrev pub nothing_shown : Shown
+nothing_shown = record { sent = []; text = [] }
+
+-- of some turns, and of the next ones
+abbrev pub and_then : Shown → Shown → Shown
+and_then first next = record { sent = first.sent ++ next.sent; text = first.text ++ next.text }
+
+module _ {N : Type 0} (acts : N → Moment → Bool) (is_step : N → Cause → Step → N → Type 0) where
   -- a turn of the next moment and draw: a step of the node, which is a tick where one has to come: something of the node's own is due, or it
   -- has taken what came for so long
   pub record TakesTurn (old : Running N) (step : Step) (new : Running N) : Type 0 where
     pub now : Moment
     pub draw : Draw
-    pub came : Option Arrival
+    pub came : Option Received
     pub gives : Gives old.supply now draw new.supply
     pub ticks : must_tick (acts old.node now) old.busy now ≡ true → came ≡ None
-    pub steps : is_step old.node now draw came step new.node
+    pub steps : is_step old.node (cause_of now draw came) step new.node
     pub pace : new.busy ≡ busy_after old.busy now (is_some came)
 
   -- a turn of the next moment and draw for whose step there was no memory: what came is lost, and the node is as before; a tick is never lost so
@@ -38,16 +51,17 @@ module _ {N : Type 0} (acts : N → Moment → Bool) (is_step : N → Moment →
     pub node : new.node ≡ old.node
     pub rested : new.busy ≡ None
 
-  -- a turn of either kind, what it sent, and what there is to tell of it
-  pub data GoesOn (old : Running N) : List Datagram → List ℕ → Running N → Type 0 where
-    taken : (step : Step) (text : List ℕ) (new : Running N) → (turn : TakesTurn old step new) → IsStepText turn.now step text → GoesOn old step.out text new
-    lost : (new : Running N) → LosesTurn old new → GoesOn old [] lost_text new
+  -- a turn of either kind, and what it showed
+  pub data GoesOn (old : Running N) : Shown → Running N → Type 0 where
+    taken : (step : Step) (text : List ℕ) (new : Running N) → (turn : TakesTurn old step new) → IsStepText turn.now step text
+        → GoesOn old (record { sent = step.out; text = text }) new
+    lost : (new : Running N) → LosesTurn old new → GoesOn old (record { sent = []; text = lost_text }) new
 
-  -- so many turns, one after another, what they sent, and what there is to tell of them
-  pub data Turns : ℕ → Running N → List Datagram → List ℕ → Running N → Type 0 where
-    none : (first : Running N) → Turns 0 first [] [] first
-    more : (n : ℕ) (first between last : Running N) (out more_out : List Datagram) (log text : List ℕ) → Turns n first out log between
-        → GoesOn between more_out text last → Turns (suc n) first (out ++ more_out) (log ++ text) last
+  -- so many turns, one after another, and what they showed
+  pub data Turns : ℕ → Running N → Shown → Running N → Type 0 where
+    none : (first : Running N) → Turns 0 first nothing_shown first
+    more : (n : ℕ) (first between last : Running N) (shown next : Shown) → Turns n first shown between → GoesOn between next last
+        → Turns (suc n) first (and_then shown next) last
 
   -- The node takes so many turns from the start on, and this there is to tell of them.
   pub record Runs (turns : ℕ) (log : List ℕ) (old new : N) : Type 0 where
@@ -55,5 +69,5 @@ module _ {N : Type 0} (acts : N → Moment → Bool) (is_step : N → Moment →
     pub seeded : IsSeeded start
     pub sent : List Datagram
     pub last : Running N
-    pub takes : Turns turns (record { node = old; busy = None; supply = start }) sent log last
+    pub takes : Turns turns (record { node = old; busy = None; supply = start }) (record { sent = sent; text = log }) last
     pub ends : new ≡ last.node

@@ -1,15 +1,17 @@
 //! A client that runs on a socket: one exchange, and one protected request.
 ghost use Rattle.std.specs.Prelude.{◌≡◌, ◌⊎◌, List, IfErr, IfOk, IfSome, None, option_map, string_bytes};
 ghost use Rattle.std.specs.Io.KnownBytes.{Appends};
+ghost use Rattle.osc_client.specs.Sending.{acts_at};
 ghost use Rattle.osc_client.specs.State.{State as AnyClient};
+ghost use Rattle.osc_client.specs.Steps.{IsStep};
 ghost use Rattle.osc_client.specs.Way.{HostAndPort};
 ghost use Rattle.osc_model.specs.declared.step.Datagram.{Datagram as AnyDatagram};
 ghost use Rattle.osc_model.specs.declared.step.Step.{Step as AnyStep};
-ghost use Rattle.osc_turn.specs.Nodes.{client_acts};
 ghost use Rattle.osc_turn.specs.Ports.{grown};
 ghost use Rattle.osc_settings.specs.Document.{StandsFor};
 ghost use Rattle.osc_settings.specs.Settings.{AreClientSettings};
 ghost use Rattle.osc_settings.specs.declared.client.ClientSettings.{ClientSettings as AnySettings};
+ghost use Rattle.osc_simulation.specs.Simulation.{is_sealing};
 ghost use Rattle.osc_programs.specs.Conversation as spec;
 ghost use Rattle.osc_programs.specs.Ended as ends;
 ghost use Rattle.osc_programs.specs.Turning as turning;
@@ -23,9 +25,9 @@ use crate::running::{connected, copy_of, send};
 use crate::supply::{moment_and_draw, supply_of};
 use crate::turns::take_turn;
 use osc_authz::ClientDesk;
-use osc_ccm::Ccm;
 use osc_client::{Client, Origin, Way};
 use osc_model::{Bytes, ClientResult, Peer, Request, Step};
+use osc_protect::Suite;
 use osc_settings::ClientSettings;
 use osc_simulation::learnt_text;
 use osc_supply::{Supply, Watch};
@@ -121,10 +123,8 @@ fn outcome_of<R: Clock + Net + RandomSource, I: Read>(
     let settings = client_settings(alloc, reader, &mut Silent)?;
     let bind = settings.bind;
     let peer = settings.peer;
-    let mut client = client_of(alloc, settings)?;
-    let outcome = run_at(alloc, runtime, bind, peer, &mut client, words);
-    drop(client);
-    outcome
+    let client = client_of(alloc, settings)?;
+    run_at(alloc, runtime, bind, peer, client, words)
 }
 
 // A client with this grant. Settings have the lengths that a grant and an origin need.
@@ -171,66 +171,70 @@ fn origin_of(named: Option<(Bytes, u16)>) -> Result<Option<Origin>, Ended>
 
 // ---- turns
 
+// A client that runs in a program: itself, the pace that it keeps, and what hands it moments and draws.
+#[derive(Drop)]
+struct Talking<W: Watch + Drop> {
+    client: Client,
+    pace: Pace,
+    supply: Supply<W>,
+}
+
 // The client's conversation at its own address, with the peer that everything goes to.
 fn run_at<R: Clock + Net + RandomSource>(
     alloc: Global,
     runtime: &R,
     bind: Peer,
     peer: Peer,
-    client: &mut Client,
+    client: Client,
     words: &ClientWords,
 ) -> Result<Outcome, Ended>
-    ensures talks { IfOk result (λ outcome. spec.Talks words.now.turns words.now.request client.old outcome client.new) }
+    ensures talks { IfOk result (λ outcome. (last : AnyClient) × spec.Talks words.now.turns words.now.request client outcome last) }
     ensures ends { IfErr result (ends.CannotTalk words.now.request) }
 {
     let mut port = connected(runtime, bind, peer)?;
-    let mut supply = supply_of(runtime)?;
-    let mut pace = Pace::START;
-    run(alloc, &mut supply, &mut port, client, &mut pace, words)
+    let supply = supply_of(runtime)?;
+    let mut talking = Talking {
+        client,
+        pace: Pace::START,
+        supply,
+    };
+    run(alloc, &mut port, &mut talking, words)
 }
 
 // An exchange, and the request where that made a context; what the steps send is handed to the port.
 fn run<W: Watch + Drop, P: Port>(
     alloc: Global,
-    supply: &mut Supply<W>,
     port: &mut P,
-    client: &mut Client,
-    pace: &mut Pace,
+    talking: &mut Talking<W>,
     words: &ClientWords,
 ) -> Result<Outcome, Ended>
     ensures converses { IfOk result (λ outcome. (sent : List AnyDatagram)
-        × spec.Converses words.now.turns words.now.request (record { node = client.old; busy = pace.old.busy_since; supply = supply.old }) sent outcome (record { node = client.new; busy = pace.new.busy_since; supply = supply.new })
+        × spec.Converses words.now.turns words.now.request (record { node = talking.old.client; busy = talking.old.pace.busy_since; supply = talking.old.supply }) (record { sent = sent; outcome = outcome }) (record { node = talking.new.client; busy = talking.new.pace.busy_since; supply = talking.new.supply })
         × (P.sent port.new ≡ grown (P.sent port.old) sent)) }
     ensures ends { IfErr result (ends.CannotTalk words.now.request) }
 {
     let mut turns = words.turns;
-    let learnt = post(alloc, supply, port, client, pace)?;
-    let exchanged = awaited(alloc, supply, port, client, pace, &mut turns, learnt)?;
-    go_on(
-        alloc, supply, port, client, pace, &mut turns, words, exchanged,
-    )
+    let learnt = post(alloc, port, talking)?;
+    let exchanged = awaited(alloc, port, talking, &mut turns, learnt)?;
+    go_on(alloc, port, talking, &mut turns, words, exchanged)
 }
 
 // The request, where what came of the post lets it be sent.
 fn go_on<W: Watch + Drop, P: Port>(
     alloc: Global,
-    supply: &mut Supply<W>,
     port: &mut P,
-    client: &mut Client,
-    pace: &mut Pace,
+    talking: &mut Talking<W>,
     turns: &mut u64,
     words: &ClientWords,
     exchanged: Outcome,
 ) -> Result<Outcome, Ended>
     ensures goes_on { IfOk result (λ outcome. (sent : List AnyDatagram)
-        × spec.GoesOn turns.old words.now.request exchanged (record { node = client.old; busy = pace.old.busy_since; supply = supply.old }) sent outcome (record { node = client.new; busy = pace.new.busy_since; supply = supply.new })
+        × spec.GoesOn turns.old words.now.request exchanged (record { node = talking.old.client; busy = talking.old.pace.busy_since; supply = talking.old.supply }) (record { sent = sent; outcome = outcome }) (record { node = talking.new.client; busy = talking.new.pace.busy_since; supply = talking.new.supply })
         × (P.sent port.new ≡ grown (P.sent port.old) sent)) }
     ensures ends { IfErr result (ends.CannotTalk words.now.request) }
 {
     match exchanged {
-        Outcome::Told(result) => {
-            go_on_by(alloc, supply, port, client, pace, turns, words, result)
-        }
+        Outcome::Told(result) => go_on_by(alloc, port, talking, turns, words, result),
         Outcome::Open => Ok(Outcome::Open),
     }
 }
@@ -238,21 +242,19 @@ fn go_on<W: Watch + Drop, P: Port>(
 // The same, where the client has learnt this.
 fn go_on_by<W: Watch + Drop, P: Port>(
     alloc: Global,
-    supply: &mut Supply<W>,
     port: &mut P,
-    client: &mut Client,
-    pace: &mut Pace,
+    talking: &mut Talking<W>,
     turns: &mut u64,
     words: &ClientWords,
     told: ClientResult,
 ) -> Result<Outcome, Ended>
     ensures goes_on { IfOk result (λ outcome. (sent : List AnyDatagram)
-        × spec.GoesOnBy turns.old words.now.request told (record { node = client.old; busy = pace.old.busy_since; supply = supply.old }) sent outcome (record { node = client.new; busy = pace.new.busy_since; supply = supply.new })
+        × spec.GoesOnBy turns.old words.now.request told (record { node = talking.old.client; busy = talking.old.pace.busy_since; supply = talking.old.supply }) (record { sent = sent; outcome = outcome }) (record { node = talking.new.client; busy = talking.new.pace.busy_since; supply = talking.new.supply })
         × (P.sent port.new ≡ grown (P.sent port.old) sent)) }
     ensures ends { IfErr result (ends.CannotTalk words.now.request) }
 {
     match told {
-        ClientResult::Made => ask_and_wait(alloc, supply, port, client, pace, turns, words),
+        ClientResult::Made => ask_and_wait(alloc, port, talking, turns, words),
         other => Ok(Outcome::Told(other)),
     }
 }
@@ -260,36 +262,32 @@ fn go_on_by<W: Watch + Drop, P: Port>(
 // Sends the request, and waits for what comes of it.
 fn ask_and_wait<W: Watch + Drop, P: Port>(
     alloc: Global,
-    supply: &mut Supply<W>,
     port: &mut P,
-    client: &mut Client,
-    pace: &mut Pace,
+    talking: &mut Talking<W>,
     turns: &mut u64,
     words: &ClientWords,
 ) -> Result<Outcome, Ended>
     ensures requests { IfOk result (λ outcome. (sent : List AnyDatagram)
-        × spec.Requests turns.old words.now.request (record { node = client.old; busy = pace.old.busy_since; supply = supply.old }) sent outcome (record { node = client.new; busy = pace.new.busy_since; supply = supply.new })
+        × spec.Requests turns.old words.now.request (record { node = talking.old.client; busy = talking.old.pace.busy_since; supply = talking.old.supply }) (record { sent = sent; outcome = outcome }) (record { node = talking.new.client; busy = talking.new.pace.busy_since; supply = talking.new.supply })
         × (P.sent port.new ≡ grown (P.sent port.old) sent)) }
     ensures ends { IfErr result (ends.CannotTalk words.now.request) }
 {
-    let learnt = send_request(alloc, supply, port, client, pace, &words.request)?;
-    awaited(alloc, supply, port, client, pace, turns, learnt)
+    let learnt = send_request(alloc, port, talking, &words.request)?;
+    awaited(alloc, port, talking, turns, learnt)
 }
 
 // Posts the token.
 fn post<W: Watch + Drop, P: Port>(
     alloc: Global,
-    supply: &mut Supply<W>,
     port: &mut P,
-    client: &mut Client,
-    pace: &mut Pace,
+    talking: &mut Talking<W>,
 ) -> Result<Option<ClientResult>, Ended>
-    ensures posts { IfOk result (λ learnt. (step : AnyStep) × spec.Posts (record { node = client.old; busy = pace.old.busy_since; supply = supply.old }) step (record { node = client.new; busy = pace.new.busy_since; supply = supply.new })
+    ensures posts { IfOk result (λ learnt. (step : AnyStep) × spec.Posts (record { node = talking.old.client; busy = talking.old.pace.busy_since; supply = talking.old.supply }) step (record { node = talking.new.client; busy = talking.new.pace.busy_since; supply = talking.new.supply })
         × (step.notes.result ≡ learnt) × (P.sent port.new ≡ grown (P.sent port.old) step.out)) }
     ensures fault { IfErr result ends.IsFault }
 {
-    let (now, draw) = moment_and_draw(supply)?;
-    match client.exchange(alloc, now, &draw) {
+    let (now, draw) = moment_and_draw(&mut talking.supply)?;
+    match talking.client.exchange(alloc, now, &draw) {
         Ok(step) => sent(port, step),
         Err(_) => Err(Ended::OutOfMemory),
     }
@@ -298,21 +296,19 @@ fn post<W: Watch + Drop, P: Port>(
 // Sends the request, protected. One with the code 0.00 is none.
 fn send_request<W: Watch + Drop, P: Port>(
     alloc: Global,
-    supply: &mut Supply<W>,
     port: &mut P,
-    client: &mut Client,
-    pace: &mut Pace,
+    talking: &mut Talking<W>,
     request: &Request,
 ) -> Result<Option<ClientResult>, Ended>
-    ensures sends { IfOk result (λ learnt. (step : AnyStep) × spec.Sends request.now (record { node = client.old; busy = pace.old.busy_since; supply = supply.old }) step (record { node = client.new; busy = pace.new.busy_since; supply = supply.new })
+    ensures sends { IfOk result (λ learnt. (step : AnyStep) × spec.Sends request.now (record { node = talking.old.client; busy = talking.old.pace.busy_since; supply = talking.old.supply }) step (record { node = talking.new.client; busy = talking.new.pace.busy_since; supply = talking.new.supply })
         × (step.notes.result ≡ learnt) × (P.sent port.new ≡ grown (P.sent port.old) step.out)) }
     ensures ends { IfErr result (ends.CannotTalk request.now) }
 {
     if request.code.0 == 0 {
         return Err(Ended::BadCommandLine);
     }
-    let (now, draw) = moment_and_draw(supply)?;
-    match client.ask::<(Ccm<8>, Ccm<16>)>(alloc, now, request, &draw) {
+    let (now, draw) = moment_and_draw(&mut talking.supply)?;
+    match talking.client.ask::<Suite>(alloc, now, request, &draw) {
         Ok(step) => sent(port, step),
         Err(_) => Err(Ended::OutOfMemory),
     }
@@ -342,41 +338,37 @@ fn sent_by<P: Port>(port: &mut P, step: &Step) -> Result<Option<ClientResult>, E
 // Turns until the client has learnt something, if it hasn't yet.
 fn awaited<W: Watch + Drop, P: Port>(
     alloc: Global,
-    supply: &mut Supply<W>,
     port: &mut P,
-    client: &mut Client,
-    pace: &mut Pace,
+    talking: &mut Talking<W>,
     turns: &mut u64,
     learnt: Option<ClientResult>,
 ) -> Result<Outcome, Ended>
     ensures waits { IfOk result (λ outcome. (sent : List AnyDatagram)
-        × spec.Waits turns.old learnt (record { node = client.old; busy = pace.old.busy_since; supply = supply.old }) sent outcome turns.new (record { node = client.new; busy = pace.new.busy_since; supply = supply.new })
+        × spec.Waits turns.old learnt (record { node = talking.old.client; busy = talking.old.pace.busy_since; supply = talking.old.supply }) (record { sent = sent; outcome = outcome }) turns.new (record { node = talking.new.client; busy = talking.new.pace.busy_since; supply = talking.new.supply })
         × (P.sent port.new ≡ grown (P.sent port.old) sent)) }
     ensures fault { IfErr result ends.IsFault }
 {
     match learnt {
         Some(result) => Ok(Outcome::Told(result)),
-        None => wait(alloc, supply, port, client, pace, turns),
+        None => wait(alloc, port, talking, turns),
     }
 }
 
 // Turns until the client has learnt something, as long as turns are left.
 fn wait<W: Watch + Drop, P: Port>(
     alloc: Global,
-    supply: &mut Supply<W>,
     port: &mut P,
-    client: &mut Client,
-    pace: &mut Pace,
+    talking: &mut Talking<W>,
     turns: &mut u64,
 ) -> Result<Outcome, Ended>
     ensures waits { IfOk result (λ outcome. (sent : List AnyDatagram)
-        × spec.Waits turns.old None (record { node = client.old; busy = pace.old.busy_since; supply = supply.old }) sent outcome turns.new (record { node = client.new; busy = pace.new.busy_since; supply = supply.new })
+        × spec.Waits turns.old None (record { node = talking.old.client; busy = talking.old.pace.busy_since; supply = talking.old.supply }) (record { sent = sent; outcome = outcome }) turns.new (record { node = talking.new.client; busy = talking.new.pace.busy_since; supply = talking.new.supply })
         × (P.sent port.new ≡ grown (P.sent port.old) sent)) }
     ensures fault { IfErr result ends.IsFault }
 {
     let most = *turns;
     for taken in 0..most {
-        let learnt = client_turn(alloc, supply, port, client, pace)?;
+        let learnt = client_turn(alloc, port, talking)?;
         if let Some(result) = learnt {
             *turns = most - taken - 1;
             return Ok(Outcome::Told(result));
@@ -389,16 +381,20 @@ fn wait<W: Watch + Drop, P: Port>(
 // What the client learnt by a turn, if it did.
 fn client_turn<W: Watch + Drop, P: Port>(
     alloc: Global,
-    supply: &mut Supply<W>,
     port: &mut P,
-    client: &mut Client,
-    pace: &mut Pace,
+    talking: &mut Talking<W>,
 ) -> Result<Option<ClientResult>, Ended>
-    ensures takes { IfOk result (λ learnt. (step : AnyStep) × turning.TakesTurn client_acts spec.client_steps (record { node = client.old; busy = pace.old.busy_since; supply = supply.old }) step (record { node = client.new; busy = pace.new.busy_since; supply = supply.new })
+    ensures takes { IfOk result (λ learnt. (step : AnyStep) × turning.TakesTurn acts_at (IsStep is_sealing) (record { node = talking.old.client; busy = talking.old.pace.busy_since; supply = talking.old.supply }) step (record { node = talking.new.client; busy = talking.new.pace.busy_since; supply = talking.new.supply })
         × (step.notes.result ≡ learnt) × (P.sent port.new ≡ grown (P.sent port.old) step.out)) }
     ensures fault { IfErr result ends.IsFault }
 {
-    match take_turn(alloc, supply, port, client, pace) {
+    match take_turn(
+        alloc,
+        &mut talking.supply,
+        port,
+        &mut talking.client,
+        &mut talking.pace,
+    ) {
         Ok(turned) => learnt_of(turned),
         Err(ended) => Err(ended),
     }

@@ -8,6 +8,7 @@ use crate::running::bound;
 use crate::udp::UdpPort;
 use osc_model::Peer;
 use osc_script::Node;
+use osc_supply::{Supply, Watch};
 use osc_turn::{Pace, Port};
 use osc_world::{Parts, Placed, PlacedProxy};
 use std::alloc::Global;
@@ -44,6 +45,17 @@ pub(crate) struct Berths<P: Port + Drop> {
     pub proxies: Vec<Berth<P>>,
     /// Those of the clients, by their numbers.
     pub clients: Vec<Berth<P>>,
+}
+
+/// What the nodes of a lab take their turns by: memory, what hands them moments and draws, and where they stand.
+#[derive(Drop)]
+pub(crate) struct Means<W: Watch + Drop, P: Port + Drop> {
+    /// The allocator.
+    pub alloc: Global,
+    /// What hands them moments and draws.
+    pub supply: Supply<W>,
+    /// Where they stand.
+    pub berths: Berths<P>,
 }
 
 /// A socket of this machine for each node.

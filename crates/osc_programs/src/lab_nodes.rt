@@ -4,19 +4,20 @@ ghost use Rattle.osc_run.specs.History.{history};
 ghost use Rattle.osc_run.specs.Notes.{by_client};
 ghost use Rattle.osc_run.specs.Premise.{Premise};
 ghost use Rattle.osc_programs.specs.Ended as ends;
+ghost use Rattle.osc_programs.specs.Inner.Telling as inner;
 ghost use Rattle.osc_programs.specs.Lab as spec;
 ghost use Rattle.osc_programs.specs.Turning as turning;
 
 use crate::ended::Ended;
-use crate::lab_berths::{Berth, Berths};
-use crate::lab_telling::tell_result;
+use crate::lab_berths::{Berth, Means};
+use crate::lab_telling::{Who, tell_result};
 use crate::running::send;
 use crate::supply::moment_and_draw;
 use crate::turns::take_turn;
-use osc_ccm::Ccm;
 use osc_client::Client;
 use osc_model::{Datagrams, Step, StepNotes};
-use osc_run::{Minted, Noted, Notes};
+use osc_protect::Suite;
+use osc_run::{Minted, Node, Noted, Notes};
 use osc_script::{ClientName, Line};
 use osc_server::Server;
 use osc_supply::{Supply, Watch};
@@ -39,7 +40,7 @@ pub(crate) struct LabNodes {
 impl LabNodes {
     /// The nodes that these parts of a world are; nothing is noted yet.
     pub fn new(alloc: Global, parts: Parts) -> LabNodes
-        ensures { spec.lab_of result ≡ spec.lab_in parts }
+        ensures { inner.lab_of result ≡ spec.lab_in parts }
     {
         let Parts {
             minted,
@@ -87,32 +88,26 @@ impl LabNodes {
         }
     }
 
-    /// The client of this number does what the line says, which is noted. What it learnt at once, if it did, is told.
+    /// The client does what the line says, which is noted. What it learnt at once, if it did, is told.
     pub fn begin<W: Watch + Drop, P: Port + Drop, O: Write>(
         &mut self,
-        alloc: Global,
-        supply: &mut Supply<W>,
-        berths: &mut Berths<P>,
-        names: &[ClientName],
-        number: usize,
+        means: &mut Means<W, P>,
+        who: Who<'_>,
         asked: &Line,
         writer: &mut O,
     ) -> Result<(), Ended>
-        ensures begins { OnOk result (spec.LineBegins asked.now number (spec.lab_of self.old) (spec.lab_of self.new)) }
-        ensures leads { spec.Leads (spec.lab_of self.old) (spec.lab_of self.new) }
-        ensures told { OnOk result (spec.Tells names.now (spec.learnt self.old.notes.steps) (spec.learnt self.new.notes.steps) (O.contents writer.old) (O.contents writer.new)) }
-        ensures stopped { IfErr result (λ ended. spec.Stops ended names.now (spec.learnt self.old.notes.steps) (spec.learnt self.new.notes.steps) (O.contents writer.old) (O.contents writer.new)) }
+        ensures begins { OnOk result (spec.LineBegins asked.now who.entry.number (inner.lab_of self.old) (inner.lab_of self.new)) }
+        ensures leads { spec.Leads (inner.lab_of self.old) (inner.lab_of self.new) }
+        ensures told { OnOk result (inner.Tells who.entry.clients.now (spec.learnt self.old.notes.steps) (spec.learnt self.new.notes.steps) (O.contents writer.old) (O.contents writer.new)) }
+        ensures stopped { IfErr result (λ ended. inner.Stops ended who.entry.clients.now (spec.learnt self.old.notes.steps) (spec.learnt self.new.notes.steps) (O.contents writer.old) (O.contents writer.new)) }
     {
-        let Some(placed) = self.clients.get_mut(number) else {
+        let Some(placed) = self.clients.get_mut(who.number) else {
             return Ok(());
         };
         client_begins(
-            alloc,
-            supply,
-            &mut berths.clients,
+            means,
             &mut placed.client,
-            names,
-            number,
+            who,
             asked,
             &mut self.notes,
             writer,
@@ -122,38 +117,35 @@ impl LabNodes {
     /// Each node takes one turn: whether one of them was busy. What clients learn is told, in order.
     pub fn round<W: Watch + Drop, P: Port + Drop, O: Write>(
         &mut self,
-        alloc: Global,
-        supply: &mut Supply<W>,
-        berths: &mut Berths<P>,
+        means: &mut Means<W, P>,
         names: &[ClientName],
         writer: &mut O,
     ) -> Result<bool, Ended>
-        ensures takes { OnOk result (spec.WholeTurn (spec.lab_of self.old) (spec.lab_of self.new)) }
-        ensures leads { spec.Leads (spec.lab_of self.old) (spec.lab_of self.new) }
-        ensures told { OnOk result (spec.Tells names.now (spec.learnt self.old.notes.steps) (spec.learnt self.new.notes.steps) (O.contents writer.old) (O.contents writer.new)) }
-        ensures stopped { IfErr result (λ ended. spec.Stops ended names.now (spec.learnt self.old.notes.steps) (spec.learnt self.new.notes.steps) (O.contents writer.old) (O.contents writer.new)) }
+        ensures takes { OnOk result (spec.WholeTurn (inner.lab_of self.old) (inner.lab_of self.new)) }
+        ensures leads { spec.Leads (inner.lab_of self.old) (inner.lab_of self.new) }
+        ensures told { OnOk result (inner.Tells names.now (spec.learnt self.old.notes.steps) (spec.learnt self.new.notes.steps) (O.contents writer.old) (O.contents writer.new)) }
+        ensures stopped { IfErr result (λ ended. inner.Stops ended names.now (spec.learnt self.old.notes.steps) (spec.learnt self.new.notes.steps) (O.contents writer.old) (O.contents writer.new)) }
     {
-        let server = self.server_turn(alloc, supply, &mut berths.server)?;
-        let proxies = proxy_turns(alloc, supply, &mut self.proxies, &mut berths.proxies)?;
-        let clients = self.client_turns(alloc, supply, &mut berths.clients, names, writer)?;
+        let server = self.server_turn(means)?;
+        let proxies = proxy_turns(means, &mut self.proxies)?;
+        let clients = self.client_turns(means, names, writer)?;
         Ok(server || proxies || clients)
     }
 
     // The server's turn, which is noted: whether it was busy.
     fn server_turn<W: Watch + Drop, P: Port + Drop>(
         &mut self,
-        alloc: Global,
-        supply: &mut Supply<W>,
-        berth: &mut Berth<P>,
+        means: &mut Means<W, P>,
     ) -> Result<bool, Ended>
-        ensures takes { OnOk result (spec.ServerTurn (spec.lab_of self.old) (spec.lab_of self.new)) }
-        ensures leads { spec.Leads (spec.lab_of self.old) (spec.lab_of self.new) }
+        ensures takes { OnOk result (spec.ServerTurn (inner.lab_of self.old) (inner.lab_of self.new)) }
+        ensures leads { spec.Leads (inner.lab_of self.old) (inner.lab_of self.new) }
         ensures learns { spec.learnt self.new.notes.steps ≡ spec.learnt self.old.notes.steps }
         ensures fault { IfErr result ends.IsFault }
     {
         reserve(&mut self.notes)?;
+        let berth = &mut means.berths.server;
         let was_busy = berth.is_busy();
-        let turned = turn_of(alloc, supply, berth, &mut self.server)?;
+        let turned = turn_of(means.alloc, &mut means.supply, berth, &mut self.server)?;
         let Turned {
             received,
             step,
@@ -167,133 +159,120 @@ impl LabNodes {
     // The clients' turns, one after another: whether one of them was busy.
     fn client_turns<W: Watch + Drop, P: Port + Drop, O: Write>(
         &mut self,
-        alloc: Global,
-        supply: &mut Supply<W>,
-        berths: &mut [Berth<P>],
+        means: &mut Means<W, P>,
         names: &[ClientName],
         writer: &mut O,
     ) -> Result<bool, Ended>
-        ensures take { OnOk result (spec.ClientTurns (spec.lab_of self.old) (length self.old.clients.items) (spec.lab_of self.new)) }
-        ensures leads { spec.Leads (spec.lab_of self.old) (spec.lab_of self.new) }
-        ensures told { OnOk result (spec.Tells names.now (spec.learnt self.old.notes.steps) (spec.learnt self.new.notes.steps) (O.contents writer.old) (O.contents writer.new)) }
-        ensures stopped { IfErr result (λ ended. spec.Stops ended names.now (spec.learnt self.old.notes.steps) (spec.learnt self.new.notes.steps) (O.contents writer.old) (O.contents writer.new)) }
+        ensures take { OnOk result (spec.ClientTurns (inner.lab_of self.old) (length self.old.clients.items) (inner.lab_of self.new)) }
+        ensures leads { spec.Leads (inner.lab_of self.old) (inner.lab_of self.new) }
+        ensures told { OnOk result (inner.Tells names.now (spec.learnt self.old.notes.steps) (spec.learnt self.new.notes.steps) (O.contents writer.old) (O.contents writer.new)) }
+        ensures stopped { IfErr result (λ ended. inner.Stops ended names.now (spec.learnt self.old.notes.steps) (spec.learnt self.new.notes.steps) (O.contents writer.old) (O.contents writer.new)) }
     {
         let mut busy = false;
         for number in 0..self.clients.len() {
-            let one = self.client_turn(alloc, supply, berths, names, number, writer)?;
+            let who = Who {
+                clients: names,
+                number,
+            };
+            let one = self.client_turn(means, who, writer)?;
             busy = busy || one;
         }
         Ok(busy)
     }
 
-    // The turn of the client of this number, which is noted; what it learns is told.
+    // The client's turn, which is noted; what it learns is told.
     fn client_turn<W: Watch + Drop, P: Port + Drop, O: Write>(
         &mut self,
-        alloc: Global,
-        supply: &mut Supply<W>,
-        berths: &mut [Berth<P>],
-        names: &[ClientName],
-        number: usize,
+        means: &mut Means<W, P>,
+        who: Who<'_>,
         writer: &mut O,
     ) -> Result<bool, Ended>
-        ensures takes { OnOk result (spec.ClientTurn number (spec.lab_of self.old) (spec.lab_of self.new)) }
-        ensures leads { spec.Leads (spec.lab_of self.old) (spec.lab_of self.new) }
-        ensures told { OnOk result (spec.Tells names.now (spec.learnt self.old.notes.steps) (spec.learnt self.new.notes.steps) (O.contents writer.old) (O.contents writer.new)) }
-        ensures stopped { IfErr result (λ ended. spec.Stops ended names.now (spec.learnt self.old.notes.steps) (spec.learnt self.new.notes.steps) (O.contents writer.old) (O.contents writer.new)) }
+        ensures takes { OnOk result (spec.ClientTurn who.entry.number (inner.lab_of self.old) (inner.lab_of self.new)) }
+        ensures leads { spec.Leads (inner.lab_of self.old) (inner.lab_of self.new) }
+        ensures told { OnOk result (inner.Tells who.entry.clients.now (spec.learnt self.old.notes.steps) (spec.learnt self.new.notes.steps) (O.contents writer.old) (O.contents writer.new)) }
+        ensures stopped { IfErr result (λ ended. inner.Stops ended who.entry.clients.now (spec.learnt self.old.notes.steps) (spec.learnt self.new.notes.steps) (O.contents writer.old) (O.contents writer.new)) }
     {
-        let Some(berth) = berths.get_mut(number) else {
-            return Err(Ended::PortFailed);
-        };
-        let Some(placed) = self.clients.get_mut(number) else {
+        let Some(placed) = self.clients.get_mut(who.number) else {
             return Ok(false);
         };
-        client_turns_at(
-            alloc,
-            supply,
-            berth,
-            &mut placed.client,
-            names,
-            number,
-            &mut self.notes,
-            writer,
-        )
+        client_turns_at(means, &mut placed.client, who, &mut self.notes, writer)
     }
 }
 
 // ---- a client
 
-// The client of this number does what the line says.
+// The client does what the line says.
 fn client_begins<W: Watch + Drop, P: Port + Drop, O: Write>(
-    alloc: Global,
-    supply: &mut Supply<W>,
-    berths: &mut [Berth<P>],
+    means: &mut Means<W, P>,
     client: &mut Client,
-    names: &[ClientName],
-    number: usize,
+    who: Who<'_>,
     asked: &Line,
     notes: &mut Notes,
     writer: &mut O,
 ) -> Result<(), Ended>
-    ensures begins { OnOk result (spec.Did (spec.DoesBy asked.now) (spec.IsNoTask asked.now) number client.old notes.old.steps client.new notes.new.steps) }
-    ensures does { spec.Did spec.ClientDoes (Unit {0}) number client.old notes.old.steps client.new notes.new.steps }
-    ensures told { OnOk result (spec.Tells names.now (spec.learnt notes.old.steps) (spec.learnt notes.new.steps) (O.contents writer.old) (O.contents writer.new)) }
-    ensures stopped { IfErr result (λ ended. spec.Stops ended names.now (spec.learnt notes.old.steps) (spec.learnt notes.new.steps) (O.contents writer.old) (O.contents writer.new)) }
+    ensures begins { OnOk result (inner.Did (spec.DoesBy asked.now) (spec.IsNoTask asked.now) who.entry.number
+        (record { client = client.old; steps = notes.old.steps }) (record { client = client.new; steps = notes.new.steps })) }
+    ensures does { inner.Did spec.ClientDoes (Unit {0}) who.entry.number
+        (record { client = client.old; steps = notes.old.steps }) (record { client = client.new; steps = notes.new.steps }) }
+    ensures told { OnOk result (inner.Tells who.entry.clients.now (spec.learnt notes.old.steps) (spec.learnt notes.new.steps) (O.contents writer.old) (O.contents writer.new)) }
+    ensures stopped { IfErr result (λ ended. inner.Stops ended who.entry.clients.now (spec.learnt notes.old.steps) (spec.learnt notes.new.steps) (O.contents writer.old) (O.contents writer.new)) }
 {
     reserve(notes)?;
-    let Some(step) = begun(alloc, supply, client, asked)? else {
+    let Some(step) = begun(means.alloc, &mut means.supply, client, asked)? else {
         return Ok(());
     };
-    let sent = send_from(berths, number, &step.out);
+    let sent = send_from(&mut means.berths.clients, who.number, &step.out);
     let Step { notes: done, .. } = step;
-    note(alloc, names, number, done, notes, writer)?;
+    note(means.alloc, who, done, notes, writer)?;
     sent
 }
 
-// The client of this number takes a turn: whether it was busy.
+// The client takes a turn: whether it was busy.
 fn client_turns_at<W: Watch + Drop, P: Port + Drop, O: Write>(
-    alloc: Global,
-    supply: &mut Supply<W>,
-    berth: &mut Berth<P>,
+    means: &mut Means<W, P>,
     client: &mut Client,
-    names: &[ClientName],
-    number: usize,
+    who: Who<'_>,
     notes: &mut Notes,
     writer: &mut O,
 ) -> Result<bool, Ended>
-    ensures takes { OnOk result (spec.Did spec.DoesInTurn ⊥ number client.old notes.old.steps client.new notes.new.steps) }
-    ensures does { spec.Did spec.ClientDoes (Unit {0}) number client.old notes.old.steps client.new notes.new.steps }
-    ensures told { OnOk result (spec.Tells names.now (spec.learnt notes.old.steps) (spec.learnt notes.new.steps) (O.contents writer.old) (O.contents writer.new)) }
-    ensures stopped { IfErr result (λ ended. spec.Stops ended names.now (spec.learnt notes.old.steps) (spec.learnt notes.new.steps) (O.contents writer.old) (O.contents writer.new)) }
+    ensures takes { OnOk result (inner.Did spec.DoesInTurn ⊥ who.entry.number
+        (record { client = client.old; steps = notes.old.steps }) (record { client = client.new; steps = notes.new.steps })) }
+    ensures does { inner.Did spec.ClientDoes (Unit {0}) who.entry.number
+        (record { client = client.old; steps = notes.old.steps }) (record { client = client.new; steps = notes.new.steps }) }
+    ensures told { OnOk result (inner.Tells who.entry.clients.now (spec.learnt notes.old.steps) (spec.learnt notes.new.steps) (O.contents writer.old) (O.contents writer.new)) }
+    ensures stopped { IfErr result (λ ended. inner.Stops ended who.entry.clients.now (spec.learnt notes.old.steps) (spec.learnt notes.new.steps) (O.contents writer.old) (O.contents writer.new)) }
 {
+    let Some(berth) = means.berths.clients.get_mut(who.number) else {
+        return Err(Ended::PortFailed);
+    };
     reserve(notes)?;
     let was_busy = berth.is_busy();
-    let turned = turn_of(alloc, supply, berth, client)?;
+    let turned = turn_of(means.alloc, &mut means.supply, berth, client)?;
     let Turned {
         received,
         step,
         fault,
     } = turned;
     let Step { notes: done, .. } = step;
-    note(alloc, names, number, done, notes, writer)?;
+    note(means.alloc, who, done, notes, writer)?;
     unless_lost(fault, was_busy || received)
 }
 
-// Tells what the client of this number learnt by a step, if it did, and notes the step, for which there is room.
+// Tells what the client learnt by a step, if it did, and notes the step, for which there is room.
 fn note<O: Write>(
     alloc: Global,
-    names: &[ClientName],
-    number: usize,
+    who: Who<'_>,
     step: StepNotes,
     notes: &mut Notes,
     writer: &mut O,
 ) -> Result<(), Ended>
     requires { 0 < notes.old.room }
-    ensures noted { notes.new.steps ≡ by_client number false step ∷ notes.old.steps }
-    ensures told { OnOk result (spec.Tells names.now (spec.learnt notes.old.steps) (spec.learnt notes.new.steps) (O.contents writer.old) (O.contents writer.new)) }
-    ensures stopped { IfErr result (λ ended. spec.Stops ended names.now (spec.learnt notes.old.steps) (spec.learnt notes.new.steps) (O.contents writer.old) (O.contents writer.new)) }
+    ensures noted { notes.new.steps ≡ by_client who.entry.number false step ∷ notes.old.steps }
+    ensures told { OnOk result (inner.Tells who.entry.clients.now (spec.learnt notes.old.steps) (spec.learnt notes.new.steps) (O.contents writer.old) (O.contents writer.new)) }
+    ensures stopped { IfErr result (λ ended. inner.Stops ended who.entry.clients.now (spec.learnt notes.old.steps) (spec.learnt notes.new.steps) (O.contents writer.old) (O.contents writer.new)) }
 {
-    let told = tell_result(alloc, names, number, step.result(), writer);
-    notes.add(Noted::by_client(number, false, step));
+    let told = tell_result(alloc, who, step.result(), writer);
+    notes.add(Noted::by_client(who.number, false, step));
     told
 }
 
@@ -315,7 +294,7 @@ fn begun<W: Watch + Drop>(
             Err(_) => Err(Ended::OutOfMemory),
         },
         Line::Ask { request, .. } if request.code.0 > 0 => {
-            match client.ask::<(Ccm<8>, Ccm<16>)>(alloc, now, request, &draw) {
+            match client.ask::<Suite>(alloc, now, request, &draw) {
                 Ok(step) => Ok(Some(step)),
                 Err(_) => Err(Ended::OutOfMemory),
             }
@@ -342,38 +321,35 @@ fn send_from<P: Port + Drop>(
 
 // Their turns, one after another: whether one of them was busy. What proxies do isn't noted, since they seal and open nothing.
 fn proxy_turns<W: Watch + Drop, P: Port + Drop>(
-    alloc: Global,
-    supply: &mut Supply<W>,
+    means: &mut Means<W, P>,
     proxies: &mut [PlacedProxy],
-    berths: &mut [Berth<P>],
 ) -> Result<bool, Ended>
     ensures fault { IfErr result ends.IsFault }
 {
     let mut busy = false;
     for number in 0..proxies.len() {
-        let one = proxy_turn(alloc, supply, proxies, berths, number)?;
+        let one = proxy_turn(means, proxies, number)?;
         busy = busy || one;
     }
     Ok(busy)
 }
 
 fn proxy_turn<W: Watch + Drop, P: Port + Drop>(
-    alloc: Global,
-    supply: &mut Supply<W>,
+    means: &mut Means<W, P>,
     proxies: &mut [PlacedProxy],
-    berths: &mut [Berth<P>],
     number: usize,
 ) -> Result<bool, Ended>
     ensures fault { IfErr result ends.IsFault }
 {
-    let Some(berth) = berths.get_mut(number) else {
+    let Some(berth) = means.berths.proxies.get_mut(number) else {
         return Ok(false);
     };
     let Some(placed) = proxies.get_mut(number) else {
         return Ok(false);
     };
     let was_busy = berth.is_busy();
-    came(was_busy, turn_of(alloc, supply, berth, &mut placed.proxy)?)
+    let turned = turn_of(means.alloc, &mut means.supply, berth, &mut placed.proxy)?;
+    came(was_busy, turned)
 }
 
 // Whether a node was busy that was so before this turn, or not.
@@ -399,7 +375,7 @@ fn reserve(notes: &mut Notes) -> Result<(), Ended>
 }
 
 // A turn of the node.
-fn turn_of<W: Watch + Drop, P: Port + Drop, N: osc_turn::Node<(Ccm<8>, Ccm<16>)>>(
+fn turn_of<W: Watch + Drop, P: Port + Drop, N: Node<Suite>>(
     alloc: Global,
     supply: &mut Supply<W>,
     berth: &mut Berth<P>,

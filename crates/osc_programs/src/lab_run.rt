@@ -12,18 +12,19 @@ ghost use Rattle.osc_simulation.specs.Trace.{end_text};
 ghost use Rattle.osc_world.specs.Starting.{AreParts};
 ghost use Rattle.osc_world.specs.Starts.{Beginning};
 ghost use Rattle.osc_programs.specs.Ended as ends;
+ghost use Rattle.osc_programs.specs.Inner.Telling as inner;
 ghost use Rattle.osc_programs.specs.Lab as spec;
 
 use crate::ended::Ended;
-use crate::lab_berths::{Berths, bind_all};
+use crate::lab_berths::{Means, bind_all};
 use crate::lab_nodes::LabNodes;
-use crate::lab_telling::{tell, tell_open};
+use crate::lab_telling::{Who, tell, tell_open};
 use crate::reading::bytes_of;
 use crate::supply::supply_of;
 use osc_script::{ClientName, Line, Script, ScriptError, read_script};
 use osc_simulation::laws::a_script_fits;
 use osc_simulation::{Names, end_text, name_of_number, number_of, start_of};
-use osc_supply::{Supply, Watch};
+use osc_supply::Watch;
 use osc_turn::Port;
 use osc_world::Parts;
 use std::alloc::Global;
@@ -169,14 +170,17 @@ fn lab_lines<R: Clock + Net + RandomSource, W: Write>(
 {
     let names = names_of(alloc, lines)?;
     let parts = parts_of(alloc, &names, lines)?;
-    let mut berths = bind_all(alloc, runtime, &parts)?;
-    let mut supply = supply_of(runtime)?;
+    let berths = bind_all(alloc, runtime, &parts)?;
+    let supply = supply_of(runtime)?;
+    let mut means = Means {
+        alloc,
+        supply,
+        berths,
+    };
     let mut nodes = LabNodes::new(alloc, parts);
     run(
-        alloc,
-        &mut supply,
+        &mut means,
         &mut nodes,
-        &mut berths,
         names.clients(),
         lines,
         turns,
@@ -214,71 +218,69 @@ fn parts_of(alloc: Global, names: &Names, lines: &[Line]) -> Result<Parts, Ended
 
 // What comes of the lines, one after another, and the end lines: over any ports.
 fn run<W: Watch + Drop, P: Port + Drop, O: Write>(
-    alloc: Global,
-    supply: &mut Supply<W>,
+    means: &mut Means<W, P>,
     nodes: &mut LabNodes,
-    berths: &mut Berths<P>,
     names: &[ClientName],
     lines: &[Line],
     turns: u64,
     writer: &mut O,
 ) -> Result<(), Ended>
     requires { names.now ≡ granted lines.now }
-    ensures prints { OnOk result ((text : List ℕ) × spec.Prints turns lines.now (spec.lab_of nodes.old) text (spec.lab_of nodes.new)
+    ensures prints { OnOk result ((text : List ℕ) × spec.Prints turns lines.now (inner.lab_of nodes.old) text (inner.lab_of nodes.new)
         × Appends (O.contents writer.old) (O.contents writer.new) text) }
-    ensures stops { IfErr result (λ ended. spec.StopsIn ended turns lines.now (spec.lab_of nodes.old) (spec.lab_of nodes.new) (O.contents writer.old) (O.contents writer.new)) }
+    ensures stops { IfErr result (λ ended. spec.EndsWith (λ text. spec.BreaksOff turns lines.now (inner.lab_of nodes.old) text (inner.lab_of nodes.new)) ended
+        (O.contents writer.old) (O.contents writer.new)) }
     ensures fault { IfErr result ends.IsFault }
 {
-    run_lines(alloc, supply, nodes, berths, names, lines, turns, writer)?;
-    tell_end(alloc, nodes, writer)
+    run_lines(means, nodes, names, lines, turns, writer)?;
+    tell_end(means.alloc, nodes, writer)
 }
 
 // What comes of the lines.
 fn run_lines<W: Watch + Drop, P: Port + Drop, O: Write>(
-    alloc: Global,
-    supply: &mut Supply<W>,
+    means: &mut Means<W, P>,
     nodes: &mut LabNodes,
-    berths: &mut Berths<P>,
     names: &[ClientName],
     lines: &[Line],
     turns: u64,
     writer: &mut O,
 ) -> Result<(), Ended>
     requires { names.now ≡ granted lines.now }
-    ensures tells { OnOk result ((text : List ℕ) × spec.TellsLines (granted lines.now) turns (spec.lab_of nodes.old) lines.now text (spec.lab_of nodes.new)
+    ensures tells { OnOk result ((text : List ℕ)
+        × spec.TellsLines (spec.rules_of turns lines.now) (inner.lab_of nodes.old) lines.now text (inner.lab_of nodes.new)
         × Appends (O.contents writer.old) (O.contents writer.new) text) }
-    ensures stops { IfErr result (λ ended. spec.StopsIn ended turns lines.now (spec.lab_of nodes.old) (spec.lab_of nodes.new) (O.contents writer.old) (O.contents writer.new)) }
+    ensures stops { IfErr result (λ ended. spec.EndsWith (λ text. spec.BreaksOff turns lines.now (inner.lab_of nodes.old) text (inner.lab_of nodes.new)) ended
+        (O.contents writer.old) (O.contents writer.new)) }
     ensures fault { IfErr result ends.IsFault }
 {
     for line in lines {
-        run_line(alloc, supply, nodes, berths, names, line, turns, writer)?;
+        run_line(means, nodes, names, line, turns, writer)?;
     }
     Ok(())
 }
 
 // What comes of one line.
 fn run_line<W: Watch + Drop, P: Port + Drop, O: Write>(
-    alloc: Global,
-    supply: &mut Supply<W>,
+    means: &mut Means<W, P>,
     nodes: &mut LabNodes,
-    berths: &mut Berths<P>,
     names: &[ClientName],
     line: &Line,
     turns: u64,
     writer: &mut O,
 ) -> Result<(), Ended>
     ensures comes { OnOk result ((text : List ℕ)
-        × spec.ComesOf names.now turns line.now (spec.client_of line.now) (spec.lab_of nodes.old) text (spec.lab_of nodes.new)
+        × spec.ComesOf (record { clients = names.now; turns = turns }) line.now (spec.client_of line.now) (inner.lab_of nodes.old) text (inner.lab_of nodes.new)
         × Appends (O.contents writer.old) (O.contents writer.new) text) }
-    ensures leads { spec.Leads (spec.lab_of nodes.old) (spec.lab_of nodes.new) }
-    ensures stopped { IfErr result (λ ended. spec.Stops ended names.now (spec.learnt nodes.old.notes.steps) (spec.learnt nodes.new.notes.steps) (O.contents writer.old) (O.contents writer.new)) }
+    ensures leads { spec.Leads (inner.lab_of nodes.old) (inner.lab_of nodes.new) }
+    ensures stopped { IfErr result (λ ended. inner.Stops ended names.now (spec.learnt nodes.old.notes.steps) (spec.learnt nodes.new.notes.steps) (O.contents writer.old) (O.contents writer.new)) }
 {
     match client_of(line) {
         Some(client) => {
-            let number = number_of(names, client);
-            perform(
-                alloc, supply, nodes, berths, names, number, line, turns, writer,
-            )
+            let who = Who {
+                clients: names,
+                number: number_of(names, client),
+            };
+            perform(means, nodes, who, line, turns, writer)
         }
         None => Ok(()),
     }
@@ -295,55 +297,48 @@ fn client_of(line: &Line) -> Option<ClientName>
     }
 }
 
-// The client of this number does what the line says, and turns; what clients learn is told as it comes, and that the client waits still,
-// where it does.
+// The client does what the line says, and turns; what clients learn is told as it comes, and that the client waits still, where it does.
 fn perform<W: Watch + Drop, P: Port + Drop, O: Write>(
-    alloc: Global,
-    supply: &mut Supply<W>,
+    means: &mut Means<W, P>,
     nodes: &mut LabNodes,
-    berths: &mut Berths<P>,
-    names: &[ClientName],
-    number: usize,
+    who: Who<'_>,
     asked: &Line,
     turns: u64,
     writer: &mut O,
 ) -> Result<(), Ended>
     ensures tells { OnOk result ((text : List ℕ)
-        × spec.TellsLine names.now turns asked.now number (spec.lab_of nodes.old) text (spec.lab_of nodes.new)
+        × spec.TellsLine (record { clients = who.entry.clients.now; turns = turns }) asked.now who.entry.number (inner.lab_of nodes.old) text (inner.lab_of nodes.new)
         × Appends (O.contents writer.old) (O.contents writer.new) text) }
-    ensures leads { spec.Leads (spec.lab_of nodes.old) (spec.lab_of nodes.new) }
-    ensures stopped { IfErr result (λ ended. spec.Stops ended names.now (spec.learnt nodes.old.notes.steps) (spec.learnt nodes.new.notes.steps) (O.contents writer.old) (O.contents writer.new)) }
+    ensures leads { spec.Leads (inner.lab_of nodes.old) (inner.lab_of nodes.new) }
+    ensures stopped { IfErr result (λ ended. inner.Stops ended who.entry.clients.now (spec.learnt nodes.old.notes.steps) (spec.learnt nodes.new.notes.steps) (O.contents writer.old) (O.contents writer.new)) }
 {
-    nodes.begin(alloc, supply, berths, names, number, asked, writer)?;
-    take_whole_turns(alloc, supply, nodes, berths, names, number, turns, writer)?;
+    nodes.begin(means, who, asked, writer)?;
+    take_whole_turns(means, nodes, who, turns, writer)?;
     tell_open(
-        alloc,
-        name_of_number(names, number),
-        nodes.is_waiting(number),
+        means.alloc,
+        name_of_number(who.clients, who.number),
+        nodes.is_waiting(who.number),
         writer,
     )
 }
 
-// Whole turns, until the client of this number waits for nothing and no node was busy in one, or until they are gone.
+// Whole turns, until the client waits for nothing and no node was busy in one, or until they are gone.
 fn take_whole_turns<W: Watch + Drop, P: Port + Drop, O: Write>(
-    alloc: Global,
-    supply: &mut Supply<W>,
+    means: &mut Means<W, P>,
     nodes: &mut LabNodes,
-    berths: &mut Berths<P>,
-    names: &[ClientName],
-    number: usize,
+    who: Who<'_>,
     turns: u64,
     writer: &mut O,
 ) -> Result<(), Ended>
-    ensures takes { OnOk result ((taken : ℕ) × spec.WholeTurns (spec.lab_of nodes.old) taken (spec.lab_of nodes.new) × (taken ≤ turns)
-        × (spec.is_waiting nodes.new.clients.items number ≡ true → taken ≡ turns)) }
-    ensures told { OnOk result (spec.Tells names.now (spec.learnt nodes.old.notes.steps) (spec.learnt nodes.new.notes.steps) (O.contents writer.old) (O.contents writer.new)) }
-    ensures leads { spec.Leads (spec.lab_of nodes.old) (spec.lab_of nodes.new) }
-    ensures stopped { IfErr result (λ ended. spec.Stops ended names.now (spec.learnt nodes.old.notes.steps) (spec.learnt nodes.new.notes.steps) (O.contents writer.old) (O.contents writer.new)) }
+    ensures takes { OnOk result ((taken : ℕ) × spec.WholeTurns (inner.lab_of nodes.old) taken (inner.lab_of nodes.new) × (taken ≤ turns)
+        × (spec.is_waiting nodes.new.clients.items who.entry.number ≡ true → taken ≡ turns)) }
+    ensures told { OnOk result (inner.Tells who.entry.clients.now (spec.learnt nodes.old.notes.steps) (spec.learnt nodes.new.notes.steps) (O.contents writer.old) (O.contents writer.new)) }
+    ensures leads { spec.Leads (inner.lab_of nodes.old) (inner.lab_of nodes.new) }
+    ensures stopped { IfErr result (λ ended. inner.Stops ended who.entry.clients.now (spec.learnt nodes.old.notes.steps) (spec.learnt nodes.new.notes.steps) (O.contents writer.old) (O.contents writer.new)) }
 {
     for _ in 0..turns {
-        let busy = nodes.round(alloc, supply, berths, names, writer)?;
-        if !busy && !nodes.is_waiting(number) {
+        let busy = nodes.round(means, who.clients, writer)?;
+        if !busy && !nodes.is_waiting(who.number) {
             return Ok(());
         }
     }
@@ -354,7 +349,7 @@ fn take_whole_turns<W: Watch + Drop, P: Port + Drop, O: Write>(
 fn tell_end<O: Write>(alloc: Global, nodes: &LabNodes, writer: &mut O) -> Result<(), Ended>
     ensures told { OnOk result ((held : Bool) × (IsTrue held ↔ Premise nodes.now.minted.items nodes.now.notes.steps)
         × Appends (O.contents writer.old) (O.contents writer.new) (end_text nodes.now.server.tree (length (history nodes.now.notes.steps)) held)) }
-    ensures untold { IfErr result (λ ended. spec.IsUntold ended (O.contents writer.old) (O.contents writer.new)) }
+    ensures untold { IfErr result (λ ended. inner.IsUntold ended (O.contents writer.old) (O.contents writer.new)) }
 {
     let Ok(entries) = nodes.count_entries(alloc) else {
         return Err(Ended::OutOfMemory);

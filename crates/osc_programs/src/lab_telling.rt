@@ -3,6 +3,7 @@ ghost use Rattle.std.specs.Prelude.{◌≡◌, ◌++◌, Some, IfErr, IfOk, OnOk
 ghost use Rattle.std.specs.Io.KnownBytes.{Appends};
 ghost use Rattle.osc_simulation.specs.Records.{learnt_text};
 ghost use Rattle.osc_simulation.specs.Text.{line};
+ghost use Rattle.osc_programs.specs.Inner.Telling as inner;
 ghost use Rattle.osc_programs.specs.Lab as spec;
 
 use crate::ended::Ended;
@@ -24,21 +25,34 @@ pub(crate) fn tell<W: Write>(writer: &mut W, text: &[u8]) -> Result<(), Ended>
     }
 }
 
-/// Tells what the client of this number learnt, if it did: `CLIENT RESULT`.
+/// A client of a lab: the names of all, by their numbers, and its own number.
+#[derive(Clone, Copy)]
+pub(crate) struct Who<'a> {
+    /// The names of all clients.
+    pub clients: &'a [ClientName],
+    /// Its number, from 0.
+    pub number: usize,
+}
+
+/// Tells what this client learnt, if it did: `CLIENT RESULT`.
 pub(crate) fn tell_result<W: Write>(
     alloc: Global,
-    clients: &[ClientName],
-    number: usize,
+    who: Who<'_>,
     learnt: Option<&ClientResult>,
     writer: &mut W,
 ) -> Result<(), Ended>
     ensures told { OnOk result (Appends (W.contents writer.old) (W.contents writer.new)
-        (spec.all_told clients.now (option_to_list (spec.learnt_by number (option_map (λ it. it.now) learnt.entry))))) }
-    ensures untold { IfErr result (λ ended. spec.IsUntold ended (W.contents writer.old) (W.contents writer.new)) }
+        (spec.all_told who.entry.clients.now (option_to_list (spec.learnt_by who.entry.number (option_map (λ it. it.now) learnt.entry))))) }
+    ensures untold { IfErr result (λ ended. inner.IsUntold ended (W.contents writer.old) (W.contents writer.new)) }
 {
     match learnt {
         None => Ok(()),
-        Some(learnt) => tell_line(alloc, name_of_number(clients, number), learnt, writer),
+        Some(learnt) => tell_line(
+            alloc,
+            name_of_number(who.clients, who.number),
+            learnt,
+            writer,
+        ),
     }
 }
 
@@ -49,7 +63,7 @@ fn tell_line<W: Write>(
     writer: &mut W,
 ) -> Result<(), Ended>
     ensures told { OnOk result (Appends (W.contents writer.old) (W.contents writer.new) (line (client.now ++ codes " " ++ learnt_text learnt.now))) }
-    ensures untold { IfErr result (λ ended. spec.IsUntold ended (W.contents writer.old) (W.contents writer.new)) }
+    ensures untold { IfErr result (λ ended. inner.IsUntold ended (W.contents writer.old) (W.contents writer.new)) }
 {
     match told_line(alloc, client, learnt) {
         Ok(line) => tell(writer, line.as_bytes()),
@@ -72,7 +86,7 @@ pub(crate) fn tell_open<W: Write>(
     writer: &mut W,
 ) -> Result<(), Ended>
     ensures told { OnOk result (Appends (W.contents writer.old) (W.contents writer.new) (spec.open_text client.now waits)) }
-    ensures untold { IfErr result (λ ended. spec.IsUntold ended (W.contents writer.old) (W.contents writer.new)) }
+    ensures untold { IfErr result (λ ended. inner.IsUntold ended (W.contents writer.old) (W.contents writer.new)) }
 {
     if !waits {
         return Ok(());

@@ -22,15 +22,16 @@ use crate::supply::supply_of;
 use crate::turns::take_turns;
 use crate::udp::UdpPort;
 use osc_authz::ServerDesk;
-use osc_ccm::Ccm;
 use osc_model::laws::permissions_are_ordered;
 use osc_model::{ClientResult, Datagrams, Method, Path, Peer};
+use osc_protect::Suite;
 use osc_proxy::{Proxy, Target, Targets};
+use osc_run::Node;
 use osc_scope::Scope;
 use osc_server::Server;
 use osc_settings::{ProxySettings, ServerSettings, TargetSetting};
 use osc_tree::Tree;
-use osc_turn::{Node, Port, send_all};
+use osc_turn::{Port, send_all};
 use std::alloc::{AllocError, Global};
 use std::io::{self, Eprint, Read};
 use std::net::Net;
@@ -171,7 +172,7 @@ fn target_of(setting: &TargetSetting) -> Result<Target, AllocError>
 // ---- turns
 
 // The node takes so many turns at this address.
-fn run<R: Clock + Eprint + Net + RandomSource, N: Node<(Ccm<8>, Ccm<16>)>, L: Log>(
+fn run<R: Clock + Eprint + Net + RandomSource, N: Node<Suite>, L: Log>(
     alloc: Global,
     runtime: &R,
     bind: Peer,
@@ -220,7 +221,7 @@ fn ended_by_port(error: &io::Error) -> Ended
     }
 }
 
-fn started<R: Clock + Eprint + RandomSource, N: Node<(Ccm<8>, Ccm<16>)>, L: Log>(
+fn started<R: Clock + Eprint + RandomSource, N: Node<Suite>, L: Log>(
     alloc: Global,
     runtime: &R,
     port: &mut UdpPort,

@@ -9,14 +9,15 @@ ghost use Rattle.osc_programs.specs.Turning as spec;
 use crate::ended::Ended;
 use crate::log::Log;
 use crate::supply::moment_and_draw;
-use osc_ccm::Ccm;
+use osc_protect::Suite;
+use osc_run::Node;
 use osc_supply::{Supply, Watch};
-use osc_turn::{Node, Pace, Port, TurnError, Turned, paced_turn};
+use osc_turn::{Pace, Port, TurnError, Turned, paced_turn};
 use std::alloc::Global;
 
 /// The node takes so many turns, unless one fails, and the log tells of each. A datagram that can't be sent is lost, as on the way; so
 /// is what came where there is no memory for its step.
-pub(crate) fn take_turns<W: Watch + Drop, P: Port, N: Node<(Ccm<8>, Ccm<16>)>, L: Log>(
+pub(crate) fn take_turns<W: Watch + Drop, P: Port, N: Node<Suite>, L: Log>(
     alloc: Global,
     supply: &mut Supply<W>,
     port: &mut P,
@@ -26,7 +27,7 @@ pub(crate) fn take_turns<W: Watch + Drop, P: Port, N: Node<(Ccm<8>, Ccm<16>)>, L
 ) -> Ended
     ensures turns { (taken : ℕ) × (out : List AnyDatagram) × (text : List ℕ) × (last : spec.Running N)
         × spec.Turns N.acts N.is_step taken
-        (record { node = node.old; busy = None; supply = supply.old }) out text last
+        (record { node = node.old; busy = None; supply = supply.old }) (record { sent = out; text = text }) last
         × (node.new ≡ last.node) × (P.sent port.new ≡ grown (P.sent port.old) out) × Tells (L.told log.old) (L.told log.new) text
         × (((result ≡ Ended.Done) × (taken ≡ turns)) ⊎ ((result ≢ Ended.Done) × (taken < turns))) }
     ensures ends { ends.EndsTurns result }
@@ -42,7 +43,7 @@ pub(crate) fn take_turns<W: Watch + Drop, P: Port, N: Node<(Ccm<8>, Ccm<16>)>, L
 }
 
 // One turn, of which the log tells.
-fn one_turn<W: Watch + Drop, P: Port, N: Node<(Ccm<8>, Ccm<16>)>, L: Log>(
+fn one_turn<W: Watch + Drop, P: Port, N: Node<Suite>, L: Log>(
     alloc: Global,
     supply: &mut Supply<W>,
     port: &mut P,
@@ -52,14 +53,14 @@ fn one_turn<W: Watch + Drop, P: Port, N: Node<(Ccm<8>, Ccm<16>)>, L: Log>(
 ) -> Result<(), Ended>
     ensures ok { OnOk result ((text : List ℕ) × (out : List AnyDatagram)
         × spec.GoesOn N.acts N.is_step
-        (record { node = node.old; busy = pace.old.busy_since; supply = supply.old }) out text
+        (record { node = node.old; busy = pace.old.busy_since; supply = supply.old }) (record { sent = out; text = text })
         (record { node = node.new; busy = pace.new.busy_since; supply = supply.new })
         × (P.sent port.new ≡ grown (P.sent port.old) out) × Tells (L.told log.old) (L.told log.new) text) }
     ensures err { OnErr result ((node.new ≡ node.old) × (P.sent port.new ≡ P.sent port.old) × (log.new ≡ log.old)) }
     ensures fault { IfErr result ends.IsFault }
 {
     let (now, draw) = moment_and_draw(supply)?;
-    match paced_turn::<(Ccm<8>, Ccm<16>), _, _>(alloc, port, node, pace, now, &draw) {
+    match paced_turn::<Suite, _, _>(alloc, port, node, pace, now, &draw) {
         Ok(turned) => {
             log.step(alloc, now, &turned.step);
             drop(turned);
@@ -76,7 +77,7 @@ fn one_turn<W: Watch + Drop, P: Port, N: Node<(Ccm<8>, Ccm<16>)>, L: Log>(
 }
 
 /// One turn of the node, at the next moment and with the next draw.
-pub(crate) fn take_turn<W: Watch + Drop, P: Port, N: Node<(Ccm<8>, Ccm<16>)>>(
+pub(crate) fn take_turn<W: Watch + Drop, P: Port, N: Node<Suite>>(
     alloc: Global,
     supply: &mut Supply<W>,
     port: &mut P,
@@ -91,7 +92,7 @@ pub(crate) fn take_turn<W: Watch + Drop, P: Port, N: Node<(Ccm<8>, Ccm<16>)>>(
     ensures fault { IfErr result ends.IsFault }
 {
     let (now, draw) = moment_and_draw(supply)?;
-    match paced_turn::<(Ccm<8>, Ccm<16>), _, _>(alloc, port, node, pace, now, &draw) {
+    match paced_turn::<Suite, _, _>(alloc, port, node, pace, now, &draw) {
         Ok(turned) => Ok(turned),
         Err(error) => Err(ended_by_turn(error)),
     }

@@ -14,10 +14,10 @@ returns-clause-requests g c =
         step = sent.0;
         begun = _;
         sends = sent.1;
-        waited = waited.0;
+        waited = record { sent = waited.0; outcome = outcome };
         rest = _;
-        waits = waits_as _ _ _ _ _ _ _ _ sent.2 waited.1;
-        is_sent = refl;
+        waits = waits_as _ _ _ _ _ _ _ sent.2 waited.1;
+        is = refl;
       },
       grown_more _ _ _ sent.0.out waited.0 sent.3 waited.2,
     ))

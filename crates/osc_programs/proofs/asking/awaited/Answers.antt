@@ -1,5 +1,5 @@
 use Rattle.std.proofs.Common.{[], subst, sym}
-use Rattle.osc_programs.specs.Conversation.{Waits, told}
+use Rattle.osc_programs.specs.Conversation.{Waits, at_once, told}
 use Rattle.osc_programs.specs.Turning.{Running}
 use Rattle.osc_programs.specs.declared.asking.Outcome.TheVariants.{Told}
 use Rattle.osc_client.specs.State.{State as Client}
@@ -8,6 +8,7 @@ use Rattle.osc_programs.proofs.asking.awaited.Goals as goal
 
 pub returns-in-Some-clause-waits : goal.returns-in-Some-clause-waits
 returns-in-Some-clause-waits g c =
-    let client : Running Client = (record { node = c.args.client.now; busy = c.args.pace.now.busy_since; supply = c.args.supply.now }) in
+    let talking = c.args.talking.now in
+    let client : Running Client = (record { node = talking.client; busy = talking.pace.busy_since; supply = talking.supply }) in
     let result = c.in-Some.result in
-    ([], subst (λ learnt. Waits c.args.turns.now learnt client [] (Told result) c.args.turns.now client) (sym c.in-Some.is) (told c.args.turns.now client result), grown_none _)
+    ([], subst (λ learnt. Waits c.args.turns.now learnt client (at_once (Told result)) c.args.turns.now client) (sym c.in-Some.is) (told c.args.turns.now client result), grown_none _)

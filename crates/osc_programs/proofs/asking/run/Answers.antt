@@ -15,14 +15,13 @@ returns-clause-converses g c =
         step = posted.0;
         begun = _;
         posts = posted.1;
-        waited = waited.0;
-        exchanged = c.in_ok-exchanged.exchanged;
+        exchanged = record { sent = waited.0; outcome = c.in_ok-exchanged.exchanged };
         left = _;
         between = _;
-        waits = waits_as _ _ _ _ _ _ _ _ posted.2 waited.1;
-        further = goes.0;
+        waits = waits_as _ _ _ _ _ _ _ posted.2 waited.1;
+        further = record { sent = goes.0; outcome = outcome };
         goes_on = goes.1;
-        is_sent = refl;
+        is = refl;
       },
       grown_more _ _ _ posted.0.out (waited.0 ++ goes.0) posted.3 (grown_more _ _ _ waited.0 goes.0 waited.2 goes.2),
     ))

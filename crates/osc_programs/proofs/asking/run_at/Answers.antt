@@ -5,12 +5,15 @@ use Rattle.osc_programs.proofs.asking.run_at.Goals as goal
 pub returns-clause-talks : goal.returns-clause-talks
 returns-clause-talks g c =
     IfOk-weaker c.run.result _ _
-    (λ outcome talked. record {
-      start = c.in_ok-supply.supply;
-      seeded = c.in_ok-supply.ensures.seeded;
-      sent = talked.0;
-      last = _;
-      talks = talked.1;
-      ends = refl;
-    })
+    (λ outcome talked. (
+      c.run.new.talking.client,
+      record {
+        start = c.in_ok-supply.supply;
+        seeded = c.in_ok-supply.ensures.seeded;
+        sent = talked.0;
+        last = _;
+        talks = talked.1;
+        ends = refl;
+      },
+    ))
     c.run.ensures.converses

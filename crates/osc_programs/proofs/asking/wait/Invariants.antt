@@ -8,5 +8,5 @@ use Rattle.osc_programs.proofs.asking.wait.Given as goal
 abbrev pub invariant-loop-taken : goal.invariant-loop-taken
 invariant-loop-taken g l =
     (l.taken ≤ l.most) × (sent : List Datagram) × (g.P.Port.sent l.port ≡ grown (g.P.Port.sent l.initial.port) sent)
-    × GoOn l.most (l.most - l.taken) (record { node = l.initial.client; busy = l.initial.pace.busy_since; supply = l.initial.supply })
-    (record { node = l.client; busy = l.pace.busy_since; supply = l.supply }) sent
+    × GoOn l.most (l.most - l.taken) (record { node = l.initial.talking.client; busy = l.initial.talking.pace.busy_since; supply = l.initial.talking.supply })
+    (record { node = l.talking.client; busy = l.talking.pace.busy_since; supply = l.talking.supply }) sent

@@ -15,14 +15,14 @@ returns-in_err-step-clause-stopped g c =
 pub returns-in_err-note-clause-does : goal.returns-in_err-note-clause-does
 returns-in_err-note-clause-does g c =
     did_by_line c.args.asked.now _ _ _ _ _
-    (began c.args.asked.now c.args.number c.in_ok-step.field-0 c.in-Some.step _ _ _ _ _ c.in-Some.is c.in_ok-step.ensures.begins c.note.ensures.noted c.reserve.ensures.steps)
+    (began c.args.asked.now c.args.who.number c.in_ok-step.field-0 c.in-Some.step _ _ _ _ _ c.in-Some.is c.in_ok-step.ensures.begins c.note.ensures.noted c.reserve.ensures.steps)
 
 pub returns-clause-begins : goal.returns-clause-begins
 returns-clause-begins g c =
     always_ok c.send_from-sent.result _
-    (began c.args.asked.now c.args.number c.in_ok-step.field-0 c.in-Some.step _ _ _ _ _ c.in-Some.is c.in_ok-step.ensures.begins c.note.ensures.noted c.reserve.ensures.steps)
+    (began c.args.asked.now c.args.who.number c.in_ok-step.field-0 c.in-Some.step _ _ _ _ _ c.in-Some.is c.in_ok-step.ensures.begins c.note.ensures.noted c.reserve.ensures.steps)
 
 pub returns-clause-does : goal.returns-clause-does
 returns-clause-does g c =
     did_by_line c.args.asked.now _ _ _ _ _
-    (began c.args.asked.now c.args.number c.in_ok-step.field-0 c.in-Some.step _ _ _ _ _ c.in-Some.is c.in_ok-step.ensures.begins c.note.ensures.noted c.reserve.ensures.steps)
+    (began c.args.asked.now c.args.who.number c.in_ok-step.field-0 c.in-Some.step _ _ _ _ _ c.in-Some.is c.in_ok-step.ensures.begins c.note.ensures.noted c.reserve.ensures.steps)

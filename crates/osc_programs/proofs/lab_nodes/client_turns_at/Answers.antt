@@ -1,7 +1,14 @@
-use Rattle.osc_programs.specs.Lab.{a_step}
-use Rattle.osc_programs.proofs.Labs.{always_ok, at_exit, behind, did_in_turn, nothing_learnt, stops_at_once}
+use Rattle.std.proofs.Common.{refl}
+use Rattle.osc_programs.specs.Inner.Telling.{a_step, no_step}
+use Rattle.osc_programs.proofs.Labs.{always_ok, at_exit, behind, did_in_turn, nothing_learnt, stops_at_once, turned}
 use Rattle.osc_programs.proofs.Appended.{appends_none}
 use Rattle.osc_programs.proofs.lab_nodes.client_turns_at.Goals as goal
+
+pub returns-in_default-clause-does : goal.returns-in_default-clause-does
+returns-in_default-clause-does g c = no_step tt refl refl
+
+pub returns-in_default-clause-stopped : goal.returns-in_default-clause-stopped
+returns-in_default-clause-stopped g c = stops_at_once _ _ _ _ _ _ tt refl (appends_none _)
 
 pub returns-in_err-reserve-clause-stopped : goal.returns-in_err-reserve-clause-stopped
 returns-in_err-reserve-clause-stopped g c =
@@ -15,18 +22,15 @@ returns-in_err-turned-clause-stopped g c =
 
 pub returns-in_err-note-clause-does : goal.returns-in_err-note-clause-does
 returns-in_err-note-clause-does g c =
-    let turn = c.in_ok-turned.ensures.takes in
-    did_in_turn c.args.number _ _ _ _
-    (a_step c.in_ok-turned.turned.step (record { now = turn.now; came = turn.came; steps = turn.steps }) (behind _ _ _ _ c.note.ensures.noted c.reserve.ensures.steps))
+    did_in_turn c.args.who.number _ _ _ _
+    (a_step c.in_ok-turned.turned.step (turned _ _ _ c.in_ok-turned.ensures.takes) (behind _ _ _ _ c.note.ensures.noted c.reserve.ensures.steps))
 
 pub returns-clause-takes : goal.returns-clause-takes
 returns-clause-takes g c =
-    let turn = c.in_ok-turned.ensures.takes in
     always_ok c.unless_lost.result _
-    (a_step c.in_ok-turned.turned.step (record { now = turn.now; came = turn.came; steps = turn.steps }) (behind _ _ _ _ c.note.ensures.noted c.reserve.ensures.steps))
+    (a_step c.in_ok-turned.turned.step (turned _ _ _ c.in_ok-turned.ensures.takes) (behind _ _ _ _ c.note.ensures.noted c.reserve.ensures.steps))
 
 pub returns-clause-does : goal.returns-clause-does
 returns-clause-does g c =
-    let turn = c.in_ok-turned.ensures.takes in
-    did_in_turn c.args.number _ _ _ _
-    (a_step c.in_ok-turned.turned.step (record { now = turn.now; came = turn.came; steps = turn.steps }) (behind _ _ _ _ c.note.ensures.noted c.reserve.ensures.steps))
+    did_in_turn c.args.who.number _ _ _ _
+    (a_step c.in_ok-turned.turned.step (turned _ _ _ c.in_ok-turned.ensures.takes) (behind _ _ _ _ c.note.ensures.noted c.reserve.ensures.steps))

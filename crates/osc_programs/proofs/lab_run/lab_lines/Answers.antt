@@ -1,7 +1,7 @@
 use Rattle.std.proofs.Common.{◌≡◌, ◌∙◌, ap}
 use Rattle.std.proofs.lemmas.Result.{on_ok_weaker, IfErr-weaker}
 use Rattle.osc_simulation.specs.Names.{Names, granted}
-use Rattle.osc_programs.specs.Lab.{IsFirst, in_lines, lab_of, unbegun}
+use Rattle.osc_programs.specs.Lab.{in_lines, unbegun}
 use Rattle.osc_programs.proofs.Labs.{at_exit}
 use Rattle.osc_programs.proofs.Appended.{appends_none}
 use Rattle.osc_programs.proofs.lab_run.lab_lines.Goals as goal

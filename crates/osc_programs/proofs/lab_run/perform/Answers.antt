@@ -14,7 +14,7 @@ pub returns-clause-tells : goal.returns-clause-tells
 returns-clause-tells g c =
     let taken = c.in_ok-take_whole_turns.ensures.takes in
     on_ok_weaker c.tell_open.result
-    (line_told c.args.names.now c.args.turns c.args.asked.now c.args.number _ _ _ taken.0 _ _ _ _ _ _ c.in_ok-begin.ensures.begins c.in_ok-begin.ensures.told taken.1 taken.2
+    (line_told (record { clients = c.args.who.clients.now; turns = c.args.turns }) c.args.asked.now c.args.who.number _ _ _ taken.0 _ _ _ _ _ _ c.in_ok-begin.ensures.begins c.in_ok-begin.ensures.told taken.1 taken.2
     taken.3 c.in_ok-take_whole_turns.ensures.told c.name_of_number.ensures c.is_waiting.ensures)
     c.tell_open.ensures.told
 

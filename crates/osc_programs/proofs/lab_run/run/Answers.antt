@@ -1,5 +1,5 @@
 use Rattle.std.proofs.lemmas.Result.{IfErr-weaker, on_ok_weaker}
-use Rattle.osc_programs.specs.Lab.{lab_of}
+use Rattle.osc_programs.specs.Inner.Telling.{lab_of}
 use Rattle.osc_programs.proofs.Labs.{prints_by, stops_at_end}
 use Rattle.osc_programs.proofs.lab_run.run.Goals as goal
 

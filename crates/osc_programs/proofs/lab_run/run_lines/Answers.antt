@@ -1,6 +1,6 @@
 use Rattle.std.proofs.Common.{[]}
 use Rattle.osc_programs.specs.Lab.{no_line}
-use Rattle.osc_programs.proofs.Labs.{at_exit, one_more_line, stops_in}
+use Rattle.osc_programs.proofs.Labs.{all_lines, at_exit, one_more_line, stops_in}
 use Rattle.osc_programs.proofs.Appended.{appends_none}
 use Rattle.osc_programs.proofs.lab_run.run_lines.Goals as goal
 
@@ -14,5 +14,8 @@ returns-in_err-run_line-clause-stops g c =
 
 pub loop-line-preserved : goal.loop-line-preserved
 loop-line-preserved g c =
-    one_more_line c.args.names.now c.args.turns _ _ _ c.args.lines.now c.loop-line.line-index _ c.line-item.result _ _ _ c.loop-line-test.true c.line-item.is c.loop-line.invariant
+    one_more_line (record { clients = c.args.names.now; turns = c.args.turns }) _ _ _ c.args.lines.now c.loop-line.line-index _ c.line-item.result _ _ _ c.loop-line-test.true c.line-item.is c.loop-line.invariant
     c.in_ok-run_line.ensures.comes
+
+pub returns-clause-tells : goal.returns-clause-tells
+returns-clause-tells g c = all_lines c.args.turns c.args.names.now c.args.lines.now c.loop-line.line-index _ _ _ _ c.requires c.loop-line-test.false c.loop-line.invariant

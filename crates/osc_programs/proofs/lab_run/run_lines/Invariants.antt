@@ -1,10 +1,11 @@
 use Rattle.std.proofs.Common.{ℕ, List, take}
 use Rattle.std.specs.Io.KnownBytes.{Appends}
-use Rattle.osc_programs.specs.Lab.{TellsLines, lab_of}
+use Rattle.osc_programs.specs.Inner.Telling.{lab_of}
+use Rattle.osc_programs.specs.Lab.{TellsLines}
 use Rattle.osc_programs.proofs.lab_run.run_lines.Given as goal
 
 -- what came of the lines so far is told
 abbrev pub invariant-loop-line : goal.invariant-loop-line
 invariant-loop-line g l =
-    (text : List ℕ) × TellsLines l.names l.turns (lab_of l.initial.nodes) (take l.line-index l.lines) text (lab_of l.nodes)
+    (text : List ℕ) × TellsLines (record { clients = l.names; turns = l.turns }) (lab_of l.initial.nodes) (take l.line-index l.lines) text (lab_of l.nodes)
     × Appends (g.O.Write.contents l.initial.writer) (g.O.Write.contents l.writer) text

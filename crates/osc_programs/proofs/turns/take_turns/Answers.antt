@@ -1,4 +1,4 @@
-use Rattle.std.proofs.Common.{◌∙◌, ap, arith, inl, inr, refl, subst, sym}
+use Rattle.std.proofs.Common.{◌∙◌, ◌++◌, ap, arith, inl, inr, refl, subst, sym}
 use Rattle.osc_programs.specs.Log.{Tells}
 use Rattle.osc_programs.specs.Turning as spec
 use Rattle.osc_programs.proofs.Taken.{grown_none, grown_more, fault_turns, no_end, one_more, tells_more, tells_none}
@@ -31,9 +31,9 @@ loop-preserved g c =
     let so_far = c.loop.invariant in
     let turn = c.in-Ok.ensures.ok in (
       omega (arith, c.loop-test.true),
-      _,
-      _,
-      one_more g.N.Node.acts g.N.Node.is_step c.loop.counter _ _ _ so_far.1 turn.1 so_far.2 turn.0 so_far.3 turn.2,
+      so_far.1 ++ turn.1,
+      so_far.2 ++ turn.0,
+      one_more g.N.Node.acts g.N.Node.is_step c.loop.counter _ _ _ _ _ so_far.3 turn.2,
       grown_more _ _ _ so_far.1 turn.1 so_far.4 turn.3,
       tells_more _ _ _ so_far.2 turn.0 so_far.5 turn.4,
     )

@@ -9,5 +9,5 @@ use Rattle.osc_programs.proofs.turns.take_turns.Given as goal
 abbrev pub invariant-loop : goal.invariant-loop
 invariant-loop g l =
     (l.counter ≤ l.turns) × (out : List Datagram) × (text : List ℕ)
-    × spec.Turns g.N.Node.acts g.N.Node.is_step l.counter (record { node = l.initial.node; busy = None; supply = l.initial.supply }) out text (record { node = l.node; busy = l.pace.busy_since; supply = l.supply })
+    × spec.Turns g.N.Node.acts g.N.Node.is_step l.counter (record { node = l.initial.node; busy = None; supply = l.initial.supply }) (record { sent = out; text = text }) (record { node = l.node; busy = l.pace.busy_since; supply = l.supply })
     × (g.P.Port.sent l.port ≡ grown (g.P.Port.sent l.initial.port) out) × Tells (g.L.Log.told l.initial.log) (g.L.Log.told l.log) text

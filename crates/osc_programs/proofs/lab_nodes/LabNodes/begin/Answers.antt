@@ -12,14 +12,14 @@ returns-in_default-clause-leads g c = stays
 pub returns-clause-begins : goal.returns-clause-begins
 returns-clause-begins g c =
     let old = c.args.self.now in
-    let there : slice_get old.clients.items c.args.number ≡ Some c.in-Some.placed.now = slice_get_read old.clients.items (length old.clients.items) c.args.number _ refl (search rules) c.in-Some.ensures.value in
+    let there : slice_get old.clients.items c.args.who.number ≡ Some c.in-Some.placed.now = slice_get_read old.clients.items (length old.clients.items) c.args.who.number _ refl (search rules) c.in-Some.ensures.value in
     on_ok_weaker c.client_begins.result
-    (client_began c.args.asked.now old.minted.items old.server old.clients.items old.notes.steps c.client_begins.new.notes.steps c.args.number c.in-Some.placed.now c.client_begins.new.client there)
+    (client_began c.args.asked.now old.minted.items old.server old.clients.items old.notes.steps c.client_begins.new.notes.steps c.args.who.number c.in-Some.placed.now c.client_begins.new.client there)
     c.client_begins.ensures.begins
 
 pub returns-clause-leads : goal.returns-clause-leads
 returns-clause-leads g c =
     let old = c.args.self.now in
-    let there : slice_get old.clients.items c.args.number ≡ Some c.in-Some.placed.now = slice_get_read old.clients.items (length old.clients.items) c.args.number _ refl (search rules) c.in-Some.ensures.value in
-    client_leads old.minted.items old.server old.clients.items old.notes.steps c.client_begins.new.notes.steps c.args.number c.in-Some.placed.now c.client_begins.new.client there
+    let there : slice_get old.clients.items c.args.who.number ≡ Some c.in-Some.placed.now = slice_get_read old.clients.items (length old.clients.items) c.args.who.number _ refl (search rules) c.in-Some.ensures.value in
+    client_leads old.minted.items old.server old.clients.items old.notes.steps c.client_begins.new.notes.steps c.args.who.number c.in-Some.placed.now c.client_begins.new.client there
     c.client_begins.ensures.does

@@ -1,4 +1,5 @@
-use Rattle.osc_programs.specs.Lab.{ClientTurns, Leads, Tells, lab_of, learnt}
+use Rattle.osc_programs.specs.Inner.Telling.{Tells, lab_of}
+use Rattle.osc_programs.specs.Lab.{ClientTurns, Leads, learnt}
 use Rattle.osc_programs.proofs.lab_nodes.LabNodes.client_turns.Given as goal
 
 -- so many clients took their turns, and what they learnt is told

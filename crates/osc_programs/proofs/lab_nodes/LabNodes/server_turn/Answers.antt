@@ -1,5 +1,6 @@
 use Rattle.std.proofs.Common.{refl}
 use Rattle.osc_run.specs.Notes.{by_server}
+use Rattle.osc_turn.specs.Ports.{cause_of}
 use Rattle.osc_programs.proofs.Labs.{always_ok, leads_by, noted_steps, server_stays, server_took}
 use Rattle.osc_programs.specs.Lab.{of_server}
 use Rattle.osc_programs.proofs.lab_nodes.LabNodes.server_turn.Goals as goal
@@ -20,7 +21,7 @@ returns-clause-takes g c =
     let turn = c.in_ok-turned.ensures.takes in
     let step = c.in_ok-turned.turned.step in
     always_ok c.unless_lost.result _
-    (server_took old.minted.items old.clients.items old.notes.steps c.add.new.self.steps old.server c.turn_of.new.node turn.now turn.draw turn.came step turn.steps
+    (server_took old.minted.items old.clients.items old.notes.steps c.add.new.self.steps old.server c.turn_of.new.node (cause_of turn.now turn.draw turn.came) step turn.steps
     (noted_steps c.add.new.self c.by_server.result (by_server step.notes) c.reserve.new.notes.steps old.notes.steps _ c.add.ensures c.by_server.ensures c.reserve.ensures.steps))
 
 pub returns-clause-leads : goal.returns-clause-leads
@@ -30,5 +31,5 @@ returns-clause-leads g c =
     let step = c.in_ok-turned.turned.step in
     leads_by _ _
     (of_server
-    (server_took old.minted.items old.clients.items old.notes.steps c.add.new.self.steps old.server c.turn_of.new.node turn.now turn.draw turn.came step turn.steps
+    (server_took old.minted.items old.clients.items old.notes.steps c.add.new.self.steps old.server c.turn_of.new.node (cause_of turn.now turn.draw turn.came) step turn.steps
     (noted_steps c.add.new.self c.by_server.result (by_server step.notes) c.reserve.new.notes.steps old.notes.steps _ c.add.ensures c.by_server.ensures c.reserve.ensures.steps)))
