@@ -17,7 +17,7 @@ use crate::client_handle::ClientHandle;
 use osc_calls::{
     ClientNode, GivenGrant, GivenRequest, Outcome, PlainDraw, PlainOptions, PlainPeer, PlainResult,
 };
-use osc_ccm::Ccm;
+use osc_protect::Suite;
 use std::alloc::Global;
 
 /// Makes a client that was granted this token, in the place of one that is held.
@@ -125,7 +125,7 @@ pub extern "C" fn osc_client_ask(
                 payload,
                 draw,
             };
-            let outcome = node.ask::<(Ccm<8>, Ccm<16>)>(alloc, &given);
+            let outcome = node.ask::<Suite>(alloc, &given);
             *client = ClientHandle::holding(node);
             outcome.number()
         }
@@ -149,7 +149,7 @@ pub extern "C" fn osc_client_on_datagram(
     match client.take(alloc) {
         None => Outcome::Nothing.number(),
         Some(mut node) => {
-            let outcome = node.on_datagram::<(Ccm<8>, Ccm<16>)>(alloc, now, from, bytes);
+            let outcome = node.on_datagram::<Suite>(alloc, now, from, bytes);
             *client = ClientHandle::holding(node);
             outcome.number()
         }

@@ -12,7 +12,7 @@ ghost use Rattle.osc_c.specs.Ciphers.{sealing};
 
 use crate::device_handle::DeviceHandle;
 use osc_calls::{DeviceNode, Outcome, PlainDraw, PlainKey, PlainPeer};
-use osc_ccm::Ccm;
+use osc_protect::Suite;
 use std::alloc::Global;
 
 /// Makes a device without resources, in the place of one that is held. Its server takes tokens that are sealed under `key` and for `audience`.
@@ -33,7 +33,7 @@ pub extern "C" fn osc_device_new(
     ensures { let given : Given = record { key = key.now.bytes; audience = audience.now; free = free.now; own = own.now; draw = draw.now.bytes } in
         Makes device.old.held result device.new.held (λ node. IsNewDevice sealing given node) (IsNoNewDevice given) }
 {
-    let made = DeviceNode::new::<(Ccm<8>, Ccm<16>)>(alloc, key, audience, free, own, draw);
+    let made = DeviceNode::new::<Suite>(alloc, key, audience, free, own, draw);
     match made {
         Ok(node) => match Box::new(alloc, node) {
             Ok(node) => {
@@ -64,7 +64,7 @@ pub extern "C" fn osc_device_on_datagram(
     match device.take(alloc) {
         None => Outcome::Nothing.number(),
         Some(mut node) => {
-            let outcome = node.on_datagram::<(Ccm<8>, Ccm<16>)>(alloc, now, from, bytes, draw);
+            let outcome = node.on_datagram::<Suite>(alloc, now, from, bytes, draw);
             *device = DeviceHandle::holding(node);
             outcome.number()
         }
@@ -86,7 +86,7 @@ pub extern "C" fn osc_device_on_tick(
     match device.take(alloc) {
         None => Outcome::Nothing.number(),
         Some(mut node) => {
-            let outcome = node.on_tick::<(Ccm<8>, Ccm<16>)>(alloc, now, draw);
+            let outcome = node.on_tick::<Suite>(alloc, now, draw);
             *device = DeviceHandle::holding(node);
             outcome.number()
         }

@@ -8,7 +8,7 @@ ghost use Rattle.osc_c.specs.Ciphers.{sealing, tags};
 
 use crate::device_handle::DeviceHandle;
 use osc_calls::{GivenValue, Outcome, PlainDraws, Told};
-use osc_ccm::Ccm;
+use osc_protect::Suite;
 use std::alloc::Global;
 
 /// Tells the code, and answers the number.
@@ -39,7 +39,7 @@ pub extern "C" fn osc_device_open(
     match device.take(alloc) {
         None => Outcome::Nothing.number(),
         Some(mut node) => {
-            let told = node.open::<(Ccm<8>, Ccm<16>)>(alloc, now, draws);
+            let told = node.open::<Suite>(alloc, now, draws);
             *device = DeviceHandle::holding(node);
             answer(told, code)
         }
@@ -73,7 +73,7 @@ pub extern "C" fn osc_device_put(
                 payload,
                 draws,
             };
-            let told = node.put::<(Ccm<8>, Ccm<16>)>(alloc, &given);
+            let told = node.put::<Suite>(alloc, &given);
             *device = DeviceHandle::holding(node);
             answer(told, code)
         }
@@ -105,7 +105,7 @@ pub extern "C" fn osc_device_append(
                 payload,
                 draws,
             };
-            let told = node.append::<(Ccm<8>, Ccm<16>)>(alloc, &given);
+            let told = node.append::<Suite>(alloc, &given);
             *device = DeviceHandle::holding(node);
             answer(told, code)
         }
@@ -128,7 +128,7 @@ pub extern "C" fn osc_device_remove(
     match device.take(alloc) {
         None => Outcome::Nothing.number(),
         Some(mut node) => {
-            let told = node.remove::<(Ccm<8>, Ccm<16>)>(alloc, now, path, draws);
+            let told = node.remove::<Suite>(alloc, now, path, draws);
             *device = DeviceHandle::holding(node);
             answer(told, code)
         }
