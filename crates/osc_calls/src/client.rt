@@ -53,15 +53,15 @@ impl<'a> Model for GivenGrant<'a> {
     ghost Value = { Given };
 
     ghost view = { λ g. record {
-        next_hop = peer_of g.next_hop.now;
-        host = g.host.now;
-        port = g.port;
-        token = g.token.now;
-        secret = g.secret.now;
-        salt = g.salt.now;
-        context = g.context.now;
-        has_context = g.has_context;
-        algorithm = g.algorithm;
+      next_hop = peer_of g.next_hop.now;
+      host = g.host.now;
+      port = g.port;
+      token = g.token.now;
+      secret = g.secret.now;
+      salt = g.salt.now;
+      context = g.context.now;
+      has_context = g.has_context;
+      algorithm = g.algorithm;
     } };
 }
 
@@ -89,12 +89,12 @@ impl<'a> Model for GivenRequest<'a> {
     ghost Value = { Given };
 
     ghost view = { λ g. record {
-        ms = g.ms;
-        method = g.method;
-        path = g.path.now;
-        options = g.options.now;
-        payload = g.payload.now;
-        draw = draw_of g.draw.now;
+      ms = g.ms;
+      method = g.method;
+      path = g.path.now;
+      options = g.options.now;
+      payload = g.payload.now;
+      draw = draw_of g.draw.now;
     } };
 }
 
@@ -132,14 +132,7 @@ impl ClientNode {
         let alg = granted::algorithm(given.algorithm)?;
         let way = granted::way(alloc, given.next_hop, given.host, given.port)?;
         let context = granted::id_context(alloc, given.has_context, given.context)?;
-        let desk = granted::desk(
-            alloc,
-            given.token,
-            given.secret,
-            given.salt,
-            context,
-            alg,
-        )?;
+        let desk = granted::desk(alloc, given.token, given.secret, given.salt, context, alg)?;
         Ok(ClientNode::of(alloc, desk, way)?)
     }
 

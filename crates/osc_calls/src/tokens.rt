@@ -115,15 +115,15 @@ impl<'a> Model for GivenClaims<'a> {
     ghost Value = { Given };
 
     ghost view = { λ g. record {
-        audience = g.audience.now;
-        id = g.id.now;
-        secret = g.secret.now;
-        context = g.context.now;
-        has_context = g.has_context;
-        scope = g.scope.now;
-        not_before = g.not_before;
-        expires = g.expires;
-        algorithm = g.algorithm;
+      audience = g.audience.now;
+      id = g.id.now;
+      secret = g.secret.now;
+      context = g.context.now;
+      has_context = g.has_context;
+      scope = g.scope.now;
+      not_before = g.not_before;
+      expires = g.expires;
+      algorithm = g.algorithm;
     } };
 }
 
