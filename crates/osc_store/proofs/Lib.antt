@@ -1,0 +1,9 @@
+-- Lemmas.
+pub mod RowLemmas
+pub mod ViewLemmas
+pub mod LoadLemmas
+pub mod CauseLemmas
+pub mod FindLemmas
+pub mod StartLemmas
+pub mod FileLemmas
+pub mod TakeLemmas

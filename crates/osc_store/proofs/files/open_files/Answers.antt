@@ -1,0 +1,27 @@
+use Rattle.std.proofs.Common.{◌≡◌, ◌∙◌, ap₂, subst}
+use Rattle.std.proofs.Math.Logic.{∥∥₁_elim}
+use Rattle.sqlite_disk.specs.Disk.{MoreFaults}
+use Rattle.sqlite_store.specs.Report.{named}
+use Rattle.sqlite_wal.specs.Reads.{tally_of_files}
+use Rattle.sqlite_trees.specs.declared.error.StoreError.{StoreError}
+use Rattle.osc_store.specs.Causes.{by_fault}
+use Rattle.osc_store.specs.Starting.{IsStore}
+use Rattle.osc_store.specs.Opening.{IsFullLeft, IsOtherVersion, WhyNotOpened, faults_left, faults_of, image_of, tally_left}
+use Rattle.osc_store.proofs.FindLemmas.{once_named}
+use Rattle.osc_store.proofs.files.open_files.Goals as goal
+
+pub returns-in-Err-clause-cause : goal.returns-in-Err-clause-cause
+returns-in-Err-clause-cause g c clean =
+    let files = c.args.files in
+    let now = c.in-Err.left in
+    let kind = c.name_fault.result in
+    let is : kind ≡ named (tally_of_files g.D.Disk (files.log, files.db)) (tally_left now) = c.name_fault.ensures.value ∙ ap₂ named c.tally-before.ensures c.tally.ensures in
+    rw c.by_fault-error.ensures (subst (λ (k : StoreError). WhyNotOpened (λ (x : StoreError). MoreFaults (faults_of g.D.Disk files) (faults_left now) × (k ≡ x))
+    (IsFullLeft now) (IsStore (image_of g.D.Disk files)) (IsOtherVersion (image_of g.D.Disk files)) (by_fault kind c.in-Err.error)) is
+    (once_named _ _ _ _ c.in-Err.error kind c.name_fault.ensures.kind (c.in-Err.ensures.spares clean).cause))
+
+pub returns-in-Err-clause-unharmed : goal.returns-in-Err-clause-unharmed
+returns-in-Err-clause-unharmed g c clean tree leaves left may =
+    let image = image_of g.D.Disk c.args.files in
+    let stays = g.met.D.Disk.seen_may_stay in
+    ∥∥₁_elim (leaves image (stays c.args.files.log, stays c.args.files.db)) squash₁ (λ found. (c.in-Err.ensures.spares clean).goes_on tt tree found leaves left may)

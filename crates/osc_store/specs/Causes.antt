@@ -1,0 +1,82 @@
+-- Why a call fails.
+use Rattle.std.specs.Prelude.{ℕ, ◌+◌, ◌^◌, ◌<◌, Bool, true, false, List, length, Option, Some, None, ⊤}
+use Rattle.osc_model.specs.declared.resource.Resource.{Resource}
+use Rattle.sqlite_trees.specs.declared.error.StoreError.{StoreError}
+use Rattle.sqlite_trees.specs.declared.error.StoreError.TheVariants as call
+use Rattle.sqlite_store.specs.declared.error.OpenError.{OpenError as FileError}
+use Rattle.sqlite_store.specs.declared.error.OpenError.TheVariants as file
+use Rattle.sqlite_wal.specs.declared.error.Error.{Error as LogError}
+use Rattle.sqlite_wal.specs.declared.error.Error.TheVariants as log
+use Rattle.osc_store.specs.declared.error.KeepError.{KeepError}
+use Rattle.osc_store.specs.declared.error.KeepError.TheVariants as keeping
+use Rattle.osc_store.specs.declared.error.OpenError.{OpenError}
+use Rattle.osc_store.specs.declared.error.OpenError.TheVariants as opening
+
+abbrev pub told : StoreError → KeepError
+told call.OutOfMemory = keeping.OutOfMemory
+told call.Io = keeping.Failed
+told call.Corrupt = keeping.Damaged
+told call.Full = keeping.Full
+told call.Broken = keeping.Closed
+told call.Unstorable = keeping.TooLong
+
+abbrev pub of_open : FileError → OpenError
+of_open file.OutOfMemory = opening.OutOfMemory
+of_open file.Io = opening.Failed
+of_open file.Full = opening.Full
+of_open file.Refused = opening.Damaged
+
+abbrev pub of_probe : LogError → OpenError
+of_probe log.OutOfMemory = opening.OutOfMemory
+of_probe (log.Io e) = opening.Failed
+of_probe log.Full = opening.Full
+of_probe _ = opening.Damaged
+
+-- why a call of an open store may fail, where `fault` says that the disk failed during it or was full
+abbrev pub Excuses : Type 0 → Type 0 → StoreError → Type 0
+Excuses fault long call.OutOfMemory = ⊤
+Excuses fault long call.Io = fault
+Excuses fault long call.Corrupt = fault
+Excuses fault long call.Full = fault
+Excuses fault long call.Broken = ⊥
+Excuses fault long call.Unstorable = long
+
+-- why a change may not be kept, where `fault` says that the disk failed meanwhile or was full
+abbrev pub WhyNotKept : Type 0 → Type 0 → KeepError → Type 0
+WhyNotKept fault long keeping.OutOfMemory = ⊤
+WhyNotKept fault long keeping.Full = fault
+WhyNotKept fault long keeping.Failed = fault
+WhyNotKept fault long keeping.Damaged = fault
+WhyNotKept fault long keeping.Closed = ⊥
+WhyNotKept fault long keeping.TooLong = long
+
+-- the three that are told of a disk
+abbrev pub is_of_disk : KeepError → Bool
+is_of_disk keeping.Full = true
+is_of_disk keeping.Failed = true
+is_of_disk keeping.Damaged = true
+is_of_disk _ = false
+
+-- a row has at most a billion bytes, 18 of them for each of its three columns
+abbrev pub IsTooLong : List ℕ → Option Resource → Type 0
+IsTooLong path None = ⊥
+IsTooLong path (Some resource) = 10 ^ 9 < 54 + length path + length resource.payload
+
+-- the error of a store that was just opened, where the files say later which failure of the disk it was
+abbrev pub of_call : StoreError → OpenError
+of_call call.OutOfMemory = opening.OutOfMemory
+of_call _ = opening.Failed
+
+-- a failure of the disk, by its name
+abbrev pub by_fault : StoreError → OpenError → OpenError
+by_fault call.Corrupt opening.Failed = opening.Damaged
+by_fault call.Full opening.Failed = opening.Full
+by_fault kind e = e
+
+-- what is told of the content of the files
+abbrev pub is_of_content : OpenError → Bool
+is_of_content opening.NoStore = true
+is_of_content opening.OtherVersion = true
+is_of_content opening.Damaged = true
+is_of_content opening.Full = true
+is_of_content _ = false

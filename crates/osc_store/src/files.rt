@@ -1,0 +1,71 @@
+//! The store of two files.
+ghost use Rattle.std.specs.Prelude.{◌≡◌, ⊤, IfOk, IfErr, IsTrue};
+ghost use Rattle.sqlite_store.specs.FileStore.{recovers, view};
+ghost use Rattle.sqlite_store.specs.Report.{named as name_of};
+ghost use Rattle.osc_model.specs.Tree.{Tree as AnyTree};
+ghost use Rattle.osc_store.specs.Causes.{by_fault as renamed};
+ghost use Rattle.osc_store.specs.Keeping.{Keeps};
+ghost use Rattle.osc_store.specs.Starting.{FindsTree, IsStore, IsUnmade, Leaves};
+ghost use Rattle.osc_store.specs.Opening.{Fault, IsCleanLeft, IsFullLeft, IsOnlyRead, IsOtherVersion, Spares, WhyNotOpened, image_of, outcomes_left, outcomes_of};
+
+use crate::error::{OpenError, by_fault};
+use crate::left::Left;
+use crate::loading::adopt;
+use crate::starting::store_over;
+use osc_tree::Tree;
+use sqlite_disk::{Disk, Files};
+use sqlite_store::{FileStore, name_fault};
+use std::alloc::Global;
+
+/// Opens the store in a database file and its log, with the tree that it holds, or makes one without a resource where there is none yet: in
+/// files without a byte, and where a first start was cut off. The disk is any that the caller gives; `seed` is a number that no one else
+/// knows. The tree is what the files held, as they are recovered. A start that is cut off loses nothing: where a crash before it left files
+/// that are found as a tree, so does one after it, whatever the result. An error has a cause, and comes with what is left of the files.
+pub fn open_files<D: Disk + Drop>(
+    alloc: Global,
+    files: Files<D>,
+    seed: u64,
+) -> Result<(FileStore<D>, Tree), (OpenError, Left<D>)>
+    requires log { IsTrue (D.Disk.is_usable files.log) }
+    requires db { IsTrue (D.Disk.is_usable files.db) }
+    ensures kept { IfOk result (λ opened. IsTrue (view opened.0).is_clean → Keeps view recovers opened.0 opened.1) }
+    ensures found { IfOk result (λ opened. IsTrue (view opened.0).is_clean → FindsTree (image_of D.Disk files) opened.1) }
+    ensures sums { IfOk result (λ opened. IsTrue (view opened.0).is_clean → IsUnmade (image_of D.Disk files) → IsTrue (view opened.0).has_sums) }
+    ensures cause { IfErr result (λ e. IsCleanLeft e.1
+        → WhyNotOpened (Fault files e.1) (IsFullLeft e.1) (IsStore (image_of D.Disk files)) (IsOtherVersion (image_of D.Disk files)) e.0) }
+    ensures unharmed { IfErr result (λ e. IsCleanLeft e.1 → (tree : AnyTree) → Leaves (outcomes_of D.Disk files) tree → Leaves (outcomes_left e.1) tree) }
+    ensures read { IfErr result (λ e. e.0 ≡ OpenError.NoStore → IsOnlyRead files e.1) }
+{
+    let before = files.tally();
+    match open_over(alloc, files, seed) {
+        Ok(opened) => Ok(opened),
+        Err((error, left)) => {
+            let error = by_fault(name_fault(before, left.tally()), error);
+            Err((error, left))
+        }
+    }
+}
+
+// The same, before a failure of the disk is named.
+fn open_over<D: Disk + Drop>(
+    alloc: Global,
+    files: Files<D>,
+    seed: u64,
+) -> Result<(FileStore<D>, Tree), (OpenError, Left<D>)>
+    requires log { IsTrue (D.Disk.is_usable files.log) }
+    requires db { IsTrue (D.Disk.is_usable files.db) }
+    ensures kept { IfOk result (λ opened. IsTrue (view opened.0).is_clean → Keeps view recovers opened.0 opened.1) }
+    ensures found { IfOk result (λ opened. IsTrue (view opened.0).is_clean → FindsTree (image_of D.Disk files) opened.1) }
+    ensures sums { IfOk result (λ opened. IsTrue (view opened.0).is_clean → IsUnmade (image_of D.Disk files) → IsTrue (view opened.0).has_sums) }
+    ensures spares { IfErr result (λ e. IsCleanLeft e.1 → Spares files e.1 ⊤ (IsStore (image_of D.Disk files)) (IsOtherVersion (image_of D.Disk files)) e.0) }
+    ensures read { IfErr result (λ e. e.0 ≡ OpenError.NoStore → IsOnlyRead files e.1) }
+{
+    let store = match store_over(alloc, files, seed) {
+        Ok(store) => store,
+        Err((error, left)) => return Err((error, left)),
+    };
+    match adopt(alloc, store) {
+        Ok(opened) => Ok(opened),
+        Err((error, store)) => Err((error, Left::Store(store))),
+    }
+}

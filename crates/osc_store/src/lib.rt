@@ -1,0 +1,24 @@
+//! The resources of a server in a file that sqlite3 reads, which outlive a power cut.
+#![tactic(auto)]
+
+mod error;
+mod files;
+mod finding;
+mod keeper;
+mod keeping;
+pub mod laws;
+mod left;
+mod listing;
+mod loading;
+mod opening;
+mod path;
+mod rows;
+mod starting;
+
+pub use error::{KeepError, OpenError};
+pub use files::open_files;
+pub use keeper::{Forgetful, Keeper, Keeping};
+pub use keeping::keep;
+pub use left::Left;
+pub use path::open;
+pub use sqlite_std_file::{Start, Unknown, Wary};

@@ -1,0 +1,39 @@
+//! Files in memory.
+ghost use Rattle.std.specs.Prelude.{IfOk, IsTrue};
+ghost use Rattle.sqlite_disk.specs.Memory.{memory_is_usable};
+
+use osc_store::{OpenError, open_files};
+use osc_tree::Tree;
+use sqlite_disk::{Disk, Files, Memory};
+use std::alloc::Global;
+use std::test::Fail;
+
+/// A file that holds these bytes, and has them on the disk.
+pub fn memory(alloc: Global, bytes: &[u8]) -> Result<Memory, Fail>
+    ensures { IfOk result (λ file. IsTrue (memory_is_usable file)) }
+{
+    let mut file = Memory::new(alloc);
+    if !bytes.is_empty() {
+        file.write_at(0, bytes)?;
+        file.sync()?;
+    }
+    Ok(file)
+}
+
+/// A log and a database file that hold these bytes.
+pub fn pair(alloc: Global, log: &[u8], db: &[u8]) -> Result<Files<Memory>, Fail>
+    ensures log { IfOk result (λ files. IsTrue (memory_is_usable files.log)) }
+    ensures db { IfOk result (λ files. IsTrue (memory_is_usable files.db)) }
+{
+    let log = memory(alloc, log)?;
+    let db = memory(alloc, db)?;
+    Ok(Files { log, db })
+}
+
+/// The tree that a start finds in them, or why it fails.
+pub fn start(alloc: Global, log: &[u8], db: &[u8]) -> Result<Result<Tree, OpenError>, Fail> {
+    match open_files(alloc, pair(alloc, log, db)?, 7) {
+        Ok((_store, tree)) => Ok(Ok(tree)),
+        Err((error, _left)) => Ok(Err(error)),
+    }
+}

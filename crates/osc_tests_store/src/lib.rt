@@ -1,0 +1,16 @@
+//! Tests of `osc_store`, by what callers see: over disks in memory that are cut, damaged or foreign, and over files. They stand apart, so
+//! that a test that changes has no crate below proved anew.
+#![tactic(auto)]
+
+#[cfg(test)]
+mod changes;
+#[cfg(test)]
+mod cuts;
+#[cfg(test)]
+mod damage;
+#[cfg(test)]
+mod disks;
+#[cfg(test)]
+mod foreign;
+#[cfg(test)]
+mod paths;

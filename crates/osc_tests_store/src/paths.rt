@@ -1,0 +1,72 @@
+//! Stores in files of the system.
+
+use crate::changes::{CHANGES, is_after, path_of, resource_of};
+use osc_store::{Keeper, Keeping, OpenError, Wary, open};
+use std::alloc::Global;
+use std::fs;
+use std::test::Fail;
+
+const FOLDER: &str = "osc_store_test";
+
+const STORE: &str = "osc_store_test/store.db";
+
+const LOG: &str = "osc_store_test/store.db-wal";
+
+fn keep_each<K: Keeping>(alloc: Global, keeper: &mut K) -> Result<(), Fail> {
+    for change in &CHANGES {
+        let path = path_of(alloc, change.0)?;
+        let resource = resource_of(alloc, change.1)?;
+        keeper.keep(&path, resource.as_ref())?;
+    }
+    Ok(())
+}
+
+fn keep_all(rt: &HostRuntime) -> Result<(), Fail> {
+    let (store, tree) = match open(rt, STORE, Wary) {
+        Ok(opened) => opened,
+        Err((error, _left)) => return Err(Fail::from(error)),
+    };
+    if !is_after(rt.alloc(), &tree, 0)? {
+        return Err(Fail::from("a new store has a resource"));
+    }
+    let mut keeper = Keeper::new(rt.alloc(), store);
+    keep_each(rt.alloc(), &mut keeper)?;
+    match open(rt, STORE, Wary) {
+        Err((OpenError::Busy, None)) => Ok(()),
+        _ => Err(Fail::from("a file that is open was opened again")),
+    }
+}
+
+fn refusal(rt: &HostRuntime, path: &str) -> Option<OpenError> {
+    match open(rt, path, Wary) {
+        Ok(_) => None,
+        Err((error, _left)) => Some(error),
+    }
+}
+
+#[test]
+fn a_store_outlives_its_process(rt: HostRuntime) -> Result<(), Fail> {
+    let _ = fs::remove_dir_all(&rt, FOLDER);
+    fs::create_dir(&rt, FOLDER)?;
+    keep_all(&rt)?;
+    match open(&rt, STORE, Wary) {
+        Ok((_store, tree)) => assert!(&rt; is_after(rt.alloc(), &tree, CHANGES.len())?),
+        Err((error, _left)) => return Err(Fail::from(error)),
+    }
+    fs::remove_file(&rt, STORE)?;
+    fs::remove_file(&rt, LOG)?;
+    fs::write(&rt, STORE, b"These are no resources.".as_slice())?;
+    assert_eq!(&rt; refusal(&rt, STORE), Some(OpenError::NoStore));
+    assert!(&rt; !fs::exists(&rt, LOG)?, "nothing is left beside it");
+    assert_eq!(&rt;
+        fs::read(&rt, STORE)?.as_slice(),
+        b"These are no resources.".as_slice()
+    );
+    assert_eq!(&rt; refusal(&rt, FOLDER), Some(OpenError::Failed));
+    assert_eq!(&rt;
+        refusal(&rt, "osc_store_test/none/store.db"),
+        Some(OpenError::Failed)
+    );
+    fs::remove_dir_all(&rt, FOLDER)?;
+    Ok(())
+}
