@@ -1,15 +1,23 @@
-//! `osc`: CoAP nodes that are protected by OSCORE. What its subcommands do stands in `osc_programs`, and how they are asked in `osc_words`.
+//! `osc`: CoAP nodes that are protected by OSCORE. What its subcommands do stands in `osc_programs` and `osc_lab`, and how they are asked in `osc_words`.
 #![tactic(auto)]
 
+use osc_lab::lab;
 use osc_programs::{
-    AtOnce, Ended, Lines, Silent, TraceForm, ask, ended_by, filled, forward, issue_token, lab,
-    running_fault, serve, sim, started_by_io, status, token_fault, token_warning,
+    AtOnce, Ended, Faults, Kept, Lines, Noted, TraceForm, ask, check_client, check_proxy,
+    check_server, ended_by, ended_by_io, filled, forward, issue_key, issue_token,
+    running_fault, serve, sim, started_by_io, status, token_fault, token_warning, with_payload,
 };
-use osc_words::{Source, TokenAsked, TokenWords, Words, WordsError, fault_line, read_words};
-use std::env;
+use osc_script::{ClientName, form_of};
+use osc_words::{
+    ClientWords, FileName, NodeWords, Source, TokenAsked, TokenWords, Words, WordsError,
+    fault_line, read_words,
+};
+use std::alloc::AllocError;
 use std::fs::File;
-use std::io::{self, IsTerminal};
+use std::io::{self, ErrorKind, IsTerminal, Read};
 use std::process::ExitCode;
+use std::time::Clock;
+use std::{env, str};
 
 fn main(rt: HostRuntime) -> ExitCode {
     let ended = match run(&rt) {
@@ -35,26 +43,14 @@ fn run(rt: &HostRuntime) -> io::Result<Ended> {
 
 /// Does what these words ask for.
 fn follow(rt: &HostRuntime, words: Words) -> Ended {
-    let alloc = rt.alloc();
     match words {
-        Words::Sim { bytes, lines, only } => sim(
-            alloc,
-            &mut rt.reader(),
-            &mut io::writer(rt),
-            TraceForm { bytes, lines },
-            only,
-        ),
+        Words::Sim { bytes, lines, only } => run_sim(rt, TraceForm { bytes, lines }, only),
         Words::Token(asked) => token(rt, asked),
-        Words::Server { turns, log } => tell(rt, run_server(rt, turns, log)),
-        Words::Proxy { turns, log } => tell(rt, run_proxy(rt, turns, log)),
-        Words::Client(words) => tell(
-            rt,
-            ask(alloc, rt, &mut rt.reader(), &mut io::writer(rt), &words),
-        ),
-        Words::Lab { turns } => tell(
-            rt,
-            lab(alloc, rt, &mut rt.reader(), &mut io::writer(rt), turns),
-        ),
+        Words::Key => key(rt),
+        Words::Server(words) => tell(rt, run_server(rt, &words)),
+        Words::Proxy(words) => tell(rt, run_proxy(rt, &words)),
+        Words::Client(words) => tell(rt, run_client(rt, words)),
+        Words::Lab { turns } => tell(rt, run_lab(rt, turns)),
     }
 }
 
@@ -73,41 +69,219 @@ fn awaited(words: &Words) -> Option<&'static str> {
         Words::Sim { .. } | Words::Lab { .. } => {
             Some("reading the script from standard input; end with Ctrl-D")
         }
-        Words::Server { .. } | Words::Proxy { .. } | Words::Client(_) => {
-            Some("reading the settings from standard input; end with Ctrl-D")
-        }
-        Words::Token(_) => None,
+        Words::Server(words) | Words::Proxy(words) => awaited_settings(&words.config),
+        Words::Client(words) => awaited_settings(&words.config),
+        Words::Token(_) | Words::Key => None,
     }
 }
 
-/// A server, whose log goes to the standard error where one is wanted. It waits for nobody who reads that.
-fn run_server(rt: &HostRuntime, turns: u64, log: bool) -> Ended {
-    let mut reader = rt.reader();
-    if log {
-        let mut lines = Lines::new(AtOnce::new(rt.stderr()));
-        serve(rt.alloc(), rt, &mut reader, &mut lines, turns)
-    } else {
-        serve(rt.alloc(), rt, &mut reader, &mut Silent, turns)
+fn awaited_settings(config: &Option<FileName>) -> Option<&'static str> {
+    match config {
+        Some(_) => None,
+        None => Some("reading the settings from standard input; end with Ctrl-D"),
     }
+}
+
+// ---- scripts
+
+fn run_sim(rt: &HostRuntime, form: TraceForm, only: Option<ClientName>) -> Ended {
+    let mut input = Kept::new(rt.alloc(), Noted::new(rt.reader()));
+    let mut output = Noted::new(io::writer(rt));
+    let ended = sim(rt.alloc(), &mut input, &mut output, form, only);
+    tell_line(rt, ended, input.kept());
+    tell_streams(
+        rt,
+        ended,
+        STANDARD_INPUT,
+        input.inner().fault(),
+        output.fault(),
+    )
+}
+
+fn run_lab(rt: &HostRuntime, turns: u64) -> Ended {
+    let mut input = Kept::new(rt.alloc(), Noted::new(rt.reader()));
+    let mut output = Noted::new(io::writer(rt));
+    let ended = lab(rt.alloc(), rt, &mut input, &mut output, turns);
+    tell_line(rt, ended, input.kept());
+    tell_streams(
+        rt,
+        ended,
+        STANDARD_INPUT,
+        input.inner().fault(),
+        output.fault(),
+    )
+}
+
+/// Where a line of a script is bad, a line on the standard error says how it should be.
+fn tell_line(rt: &HostRuntime, ended: Ended, script: Option<&[u8]>) {
+    if let (Ended::BadLine(number), Some(script)) = (ended, script) {
+        if let Some(line) = line_at(script, number) {
+            if let Ok(text) = line_text(rt, number, line) {
+                notice(rt, text.as_str());
+            }
+        }
+    }
+}
+
+/// The line of this number, counted from 1.
+fn line_at(script: &[u8], number: u64) -> Option<&[u8]> {
+    let before = usize::try_from(number.checked_sub(1)?).ok()?;
+    script.split(|byte| *byte == b'\n').nth(before)
+}
+
+fn line_text(rt: &HostRuntime, number: u64, line: &[u8]) -> Result<String, AllocError> {
+    match str::from_utf8(line) {
+        Ok(line) => {
+            let form = form_of(line.split(' ').next().unwrap_or(""));
+            format!(in rt.alloc(); "line {number}: should be {form}")
+        }
+        Err(_) => format!(in rt.alloc(); "line {number}: should be UTF-8"),
+    }
+}
+
+// ---- nodes
+
+/// A server, by the settings of its file or of the standard input.
+fn run_server(rt: &HostRuntime, words: &NodeWords) -> Ended {
+    match &words.config {
+        None => server_from(rt, words, Noted::new(rt.reader()), STANDARD_INPUT),
+        Some(name) => match File::open(rt, name.as_str()) {
+            Ok(file) => server_from(rt, words, Noted::new(file), CONFIG),
+            Err(error) => unopened(rt, &error),
+        },
+    }
+}
+
+/// Its log goes to the standard error where one is wanted, and it waits for nobody who reads that.
+fn server_from<I: Read + Drop>(
+    rt: &HostRuntime,
+    words: &NodeWords,
+    settings: Noted<I>,
+    name: &str,
+) -> Ended {
+    let alloc = rt.alloc();
+    let mut input = settings;
+    let mut output = Noted::new(io::writer(rt));
+    let mut faults = Faults::new(AtOnce::new(rt.stderr()));
+    let ended = if words.check {
+        check_server(alloc, &mut input, &mut faults, &mut output)
+    } else if words.log {
+        let mut lines = Lines::new(AtOnce::new(rt.stderr()));
+        serve(alloc, rt, &mut input, &mut lines, words.turns)
+    } else {
+        serve(alloc, rt, &mut input, &mut faults, words.turns)
+    };
+    tell_streams(rt, ended, name, input.fault(), output.fault())
 }
 
 /// A proxy likewise.
-fn run_proxy(rt: &HostRuntime, turns: u64, log: bool) -> Ended {
-    let mut reader = rt.reader();
-    if log {
-        let mut lines = Lines::new(AtOnce::new(rt.stderr()));
-        forward(rt.alloc(), rt, &mut reader, &mut lines, turns)
-    } else {
-        forward(rt.alloc(), rt, &mut reader, &mut Silent, turns)
+fn run_proxy(rt: &HostRuntime, words: &NodeWords) -> Ended {
+    match &words.config {
+        None => proxy_from(rt, words, Noted::new(rt.reader()), STANDARD_INPUT),
+        Some(name) => match File::open(rt, name.as_str()) {
+            Ok(file) => proxy_from(rt, words, Noted::new(file), CONFIG),
+            Err(error) => unopened(rt, &error),
+        },
     }
 }
 
-/// Reads the files that the key and the secret may stand in, and prints the token.
+fn proxy_from<I: Read + Drop>(
+    rt: &HostRuntime,
+    words: &NodeWords,
+    settings: Noted<I>,
+    name: &str,
+) -> Ended {
+    let alloc = rt.alloc();
+    let mut input = settings;
+    let mut output = Noted::new(io::writer(rt));
+    let mut faults = Faults::new(AtOnce::new(rt.stderr()));
+    let ended = if words.check {
+        check_proxy(alloc, &mut input, &mut faults, &mut output)
+    } else if words.log {
+        let mut lines = Lines::new(AtOnce::new(rt.stderr()));
+        forward(alloc, rt, &mut input, &mut lines, words.turns)
+    } else {
+        forward(alloc, rt, &mut input, &mut faults, words.turns)
+    };
+    tell_streams(rt, ended, name, input.fault(), output.fault())
+}
+
+// ---- a client
+
+/// A client, with the payload of its file where that stands in one.
+fn run_client(rt: &HostRuntime, words: ClientWords) -> Ended {
+    let payload_file = payload_file(rt, &words);
+    match with_payload(rt.alloc(), words, payload_file) {
+        Ok(words) => run_asking(rt, &words),
+        Err(error) => refuse(rt, &error),
+    }
+}
+
+/// The file that the payload stands in, if it does and the file can be opened.
+fn payload_file(rt: &HostRuntime, words: &ClientWords) -> Option<File> {
+    match &words.payload_file {
+        Some(name) => File::open(rt, name.as_str()).ok(),
+        None => None,
+    }
+}
+
+fn run_asking(rt: &HostRuntime, words: &ClientWords) -> Ended {
+    match &words.config {
+        None => client_from(rt, words, Noted::new(rt.reader()), STANDARD_INPUT),
+        Some(name) => match File::open(rt, name.as_str()) {
+            Ok(file) => client_from(rt, words, Noted::new(file), CONFIG),
+            Err(error) => unopened(rt, &error),
+        },
+    }
+}
+
+fn client_from<I: Read + Drop>(
+    rt: &HostRuntime,
+    words: &ClientWords,
+    settings: Noted<I>,
+    name: &str,
+) -> Ended {
+    let alloc = rt.alloc();
+    let mut input = settings;
+    let mut output = Noted::new(io::writer(rt));
+    let mut faults = Faults::new(AtOnce::new(rt.stderr()));
+    let ended = if words.check {
+        check_client(alloc, &mut input, &mut faults, &mut output)
+    } else {
+        ask(alloc, rt, &mut input, &mut faults, &mut output, words)
+    };
+    tell_streams(rt, ended, name, input.fault(), output.fault())
+}
+
+// ---- keys and tokens
+
+/// A key goes to the standard output.
+fn key(rt: &HostRuntime) -> Ended {
+    let mut output = Noted::new(io::writer(rt));
+    let ended = issue_key(rt.alloc(), rt, &mut output);
+    if ended == Ended::OutOfMemory {
+        notice(rt, "out of memory");
+    }
+    tell_streams(rt, ended, STANDARD_INPUT, None, output.fault())
+}
+
+/// Reads the clock and the files that the key and the secret may stand in, and prints the token.
 fn token(rt: &HostRuntime, asked: TokenAsked) -> Ended {
+    match rt.since_1970() {
+        Ok(since_1970) => token_at(rt, asked, since_1970.as_secs()),
+        Err(error) => {
+            tell_fault(rt, "the clock", Some(error.kind()));
+            ended_by_io(&error)
+        }
+    }
+}
+
+/// The same at this second.
+fn token_at(rt: &HostRuntime, asked: TokenAsked, now: u64) -> Ended {
     let key_file = opened(rt, &asked.key);
     let secret_file = opened(rt, &asked.secret);
-    match filled(rt.alloc(), asked, key_file, secret_file) {
-        Ok(words) => print_token(rt, &words),
+    match filled(rt.alloc(), asked, now, key_file, secret_file) {
+        Ok(words) => print_token(rt, &words, now),
         Err(error) => refuse(rt, &error),
     }
 }
@@ -121,16 +295,56 @@ fn opened<T>(rt: &HostRuntime, source: &Source<T>) -> Option<File> {
 }
 
 /// The token goes to the standard output, and the one line of a fault or a warning to the standard error.
-fn print_token(rt: &HostRuntime, words: &TokenWords) -> Ended {
-    let ended = issue_token(rt.alloc(), rt, words, &mut io::writer(rt));
+fn print_token(rt: &HostRuntime, words: &TokenWords, now: u64) -> Ended {
+    let mut output = Noted::new(io::writer(rt));
+    let ended = issue_token(rt.alloc(), rt, words, &mut output);
     let line = match ended {
-        Ended::Done => token_warning(words),
+        Ended::Done => token_warning(words, now),
         _ => token_fault(ended),
     };
     if let Some(line) = line {
         notice(rt, line);
     }
+    tell_streams(rt, ended, STANDARD_INPUT, None, output.fault())
+}
+
+// ---- faults
+
+const STANDARD_INPUT: &str = "standard input";
+
+const CONFIG: &str = "--config";
+
+/// Where an input or an output failed, a line says which, and why.
+fn tell_streams(
+    rt: &HostRuntime,
+    ended: Ended,
+    name: &str,
+    input: Option<ErrorKind>,
+    output: Option<ErrorKind>,
+) -> Ended {
+    if ended == Ended::Failed {
+        tell_fault(rt, name, input);
+        tell_fault(rt, "standard output", output);
+    }
     ended
+}
+
+fn tell_fault(rt: &HostRuntime, name: &str, fault: Option<ErrorKind>) {
+    if let Some(kind) = fault {
+        if let Ok(line) = fault_text(rt, name, kind) {
+            notice(rt, line.as_str());
+        }
+    }
+}
+
+fn fault_text(rt: &HostRuntime, name: &str, kind: ErrorKind) -> Result<String, AllocError> {
+    format!(in rt.alloc(); "{name}: {kind}")
+}
+
+/// The file of settings can't be opened.
+fn unopened(rt: &HostRuntime, error: &io::Error) -> Ended {
+    let ended = ended_by_io(error);
+    tell_streams(rt, ended, CONFIG, Some(error.kind()), None)
 }
 
 /// The one line of a fault of what runs on sockets goes to the standard error.

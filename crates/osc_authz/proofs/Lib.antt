@@ -3,6 +3,7 @@ pub mod Parts
 pub mod Pigeon
 pub mod TableLaws
 pub mod Lookups
+mod PlaceLemmas
 pub mod MarkLemmas
 mod PayloadLemmas
 mod AnswerLemmas

@@ -68,7 +68,7 @@ module _ (id : List ℕ) (number : ℕ) where
   client_ids xs = map (λ held. held.name.client_id) xs
 
   -- none of these contexts has the ID
-  abbrev IsNone : List Held → Type 0
+  abbrev pub IsNone : List Held → Type 0
   IsNone xs = AllByRecursion (λ y. bytes_eq id y ≡ false) (client_ids xs)
 
   none_of : (held : Held) (xs : List Held) → has_id id held ≡ true → AllByRecursion (λ y. bytes_eq held.name.client_id y ≡ false) (client_ids xs) → IsNone xs
@@ -106,7 +106,7 @@ module _ (id : List ℕ) (number : ℕ) where
       by false true e = absurd (cc)
       by false false e = refl
 
-  neither : (c p : Option Held) (rest : List Held) → IsNone (listed c ++ listed p ++ rest)
+  pub neither : (c p : Option Held) (rest : List Held) → IsNone (listed c ++ listed p ++ rest)
       → ((option_map_or (has_id id) c false || option_map_or (has_id id) p false) ≡ false) × IsNone rest
   neither None None rest none = (refl, none)
   neither None (Some held) rest none = (none.0, none.1)
@@ -180,7 +180,7 @@ module _ (id : List ℕ) (number : ℕ) where
       by false outside is = let none : None ≡ Some i = is in absurd (cc)
 
   -- where a context has the ID, there is a place
-  misses : (c p : Option Held) (rest : List Held) → (option_map_or (has_id id) c false || option_map_or (has_id id) p false) ≡ false
+  pub misses : (c p : Option Held) (rest : List Held) → (option_map_or (has_id id) c false || option_map_or (has_id id) p false) ≡ false
       → find (has_id id) (listed c ++ listed p ++ rest) ≡ find (has_id id) rest
   misses None None rest none = refl
   misses None (Some held) rest none = cond-false (has_id id held) (Some held) (find (has_id id) rest) none

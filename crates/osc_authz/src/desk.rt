@@ -23,6 +23,7 @@ use crate::context::ServerContext;
 use crate::error::PostError;
 use crate::holding::Holding;
 use crate::payload::{PostFields, post_fields};
+use crate::places::{NOWHERE, Places, places_of};
 use crate::post::{Post, PostAnswer};
 use crate::table;
 use osc_cbor::ItemRef;
@@ -35,12 +36,14 @@ use std::alloc::{AllocError, Global};
 use std::marker::Model;
 
 /// The desk at authz-info: it judges tokens, and keeps the contexts that they made. For each token id it has at most one
-/// context that a request has opened under, and one of the newest post; at most 64 token ids have one. A look-up goes over
-/// the contexts, at most 128, and takes no memory.
+/// context that a request has opened under, and one of the newest post; at most 64 token ids have one. A look-up takes the
+/// same time however many there are, and no memory.
 pub struct ServerDesk {
     key: [u8; 16],
     audience: Audience,
     table: Vec<Holding>,
+    // Where each recipient ID stands in the table.
+    places: Places,
 }
 
 // Proved once, and not anew at each exit of whoever owns one.
@@ -50,6 +53,7 @@ impl Drop for ServerDesk {
             key: _,
             audience: _,
             table: _,
+            places: _,
         } = self;
     }
 }
@@ -66,7 +70,9 @@ impl Model for ServerDesk {
 
     ghost view = { λ desk. record { key = desk.key; audience = desk.audience; table = desk.table.items } };
 
-    ghost invariant = { λ desk. IsTable desk.table.items };
+    ghost use Rattle.osc_authz.specs.Inner.Places.{IsIndex};
+
+    ghost invariant = { λ desk. IsTable desk.table.items × IsIndex desk.places desk.table.items };
 }
 
 impl ServerDesk {
@@ -79,6 +85,7 @@ impl ServerDesk {
             key,
             audience,
             table: Vec::new(alloc),
+            places: [NOWHERE; 256],
         }
     }
 
@@ -241,6 +248,7 @@ impl ServerDesk {
         let (token, context) = context_of(alloc, claims, scope, fields, &answer)?;
         self.table.reserve_exact(1)?;
         table::add_pending(&mut self.table, now, token, context);
+        self.places = places_of(&self.table);
         Ok(answer)
     }
 
@@ -254,7 +262,7 @@ impl ServerDesk {
         ensures found { option_map (λ context. context.now) result ≡ meant now kid.now (option_map (λ bytes. bytes.now) kid_context.entry) self.now.table }
         ensures table { IsTable self.now.table }
     {
-        match table::with_id(&self.table, kid) {
+        match table::with_id(&self.table, &self.places, kid) {
             Some(context) if context.is_live(now) && context.is_named(kid_context) => Some(context),
             _ => None,
         }
@@ -271,7 +279,7 @@ impl ServerDesk {
     pub fn get(&self, id: &[u8]) -> Option<&ServerContext>
         ensures { option_map (λ context. context.now) result ≡ with_id id.now self.now.table }
     {
-        table::with_id(&self.table, id)
+        table::with_id(&self.table, &self.places, id)
     }
 
     /// The context that a request has opened under of the token id at this place, as [`ServerDesk::accept`] answers it; no look-up.
@@ -293,7 +301,7 @@ impl ServerDesk {
         ensures accepted { self.new ≡ record self.old { table = accepted id.now number self.old.table } }
         ensures table { IsTable self.new.table }
     {
-        table::accept(&mut self.table, id, number)
+        table::accept(&mut self.table, &mut self.places, id, number)
     }
 
     /// Forgets all contexts.
@@ -301,5 +309,6 @@ impl ServerDesk {
         ensures { self.new ≡ record self.old { table = [] } }
     {
         self.table.clear();
+        self.places = [NOWHERE; 256];
     }
 }

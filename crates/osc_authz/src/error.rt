@@ -5,7 +5,7 @@ ghost use Rattle.osc_authz.specs.Errors.{post_number, finish_number};
 ghost use Rattle.osc_authz.specs.Post.{code_of};
 
 use crate::client::OpenExchange;
-use osc_model::Code;
+use osc_model::{Code, refusals};
 use osc_token::TokenError;
 use thiserror::Error;
 
@@ -29,9 +29,9 @@ impl PostError {
         ensures { result ≡ post_number self }
     {
         match self {
-            PostError::Fields => 30,
+            PostError::Fields => refusals::FIELDS,
             PostError::Token(error) => error.number(),
-            PostError::Full => 31,
+            PostError::Full => refusals::FULL,
         }
     }
 
@@ -92,9 +92,9 @@ impl FinishError {
         ensures { result ≡ finish_number self.now }
     {
         match self {
-            FinishError::Fields => 30,
-            FinishError::EqualIds => 20,
-            FinishError::Memory(_) => 9,
+            FinishError::Fields => refusals::FIELDS,
+            FinishError::EqualIds => refusals::EQUAL_IDS,
+            FinishError::Memory(_) => refusals::MEMORY,
         }
     }
 }

@@ -80,11 +80,11 @@ impl Holding {
         token == self.id.as_slice()
     }
 
-    /// Whether one of the contexts has this recipient ID.
-    pub fn has_id(&self, id: &[u8]) -> bool
-        ensures { result ≡ holds_id id.now self.now }
+    /// Whether the pending context has this recipient ID.
+    pub fn awaits(&self, id: &[u8]) -> bool
+        ensures { result ≡ option_map_or (has_id id.now) self.now.pending false }
     {
-        is_of(&self.confirmed, id) || is_of(&self.pending, id)
+        is_of(&self.pending, id)
     }
 
     /// The context with this recipient ID.

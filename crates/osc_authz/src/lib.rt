@@ -15,6 +15,7 @@ mod holding;
 pub mod laws;
 mod marks;
 mod payload;
+mod places;
 mod post;
 mod table;
 

@@ -1,17 +1,19 @@
 //! The table of a desk: look-ups, what is full, which recipient ID is free, and one more pending context.
 
-ghost use Rattle.std.specs.Prelude.{◌≡◌, ◌↔◌, ◌<◌, ◌≤◌, ◌∷◌, length, option_map, bytes_eq, position, IfSome, IsTrue, Some};
+ghost use Rattle.std.specs.Prelude.{◌≡◌, ◌↔◌, ℕ, IsFalse, ◌<◌, ◌≤◌, ◌∷◌, length, option_map, bytes_eq, position, IfSome, IsTrue, Some};
 ghost use Rattle.std.specs.Vec.{vec_len, vec_capacity};
 ghost use Rattle.osc_model.specs.declared.context.Side.TheVariants.{Server};
 ghost use Rattle.osc_context.specs.Derivation.{accepted_of};
 ghost use Rattle.osc_context.specs.Nonce.{greatest_number};
 ghost use Rattle.osc_window.specs.Window.{IsFresh};
 ghost use Rattle.osc_authz.specs.Held.{Held};
-ghost use Rattle.osc_authz.specs.Table.{IsTable, IsFull, IsLeastFree, accepted, alive, confirmed_at, has_token, holds_id, ids, taking, with_id as with_id_of, without_pending, with_pending};
+ghost use Rattle.osc_authz.specs.Inner.Places.{IsIndex};
+ghost use Rattle.osc_authz.specs.Table.{IsTable, IsFull, IsLeastFree, accepted, alive, confirmed_at, has_token, ids, taking, with_id as with_id_of, without_pending, with_pending};
 
 use crate::context::ServerContext;
 use crate::holding::Holding;
 use crate::marks::{least_unmarked, mark, mark_staying};
+use crate::places::{Places, place_of_id, places_of};
 use osc_context::AcceptedNumber;
 use osc_model::{Bytes, Moment};
 
@@ -19,35 +21,76 @@ use osc_model::{Bytes, Moment};
 const MOST: usize = 64;
 
 /// The context with this recipient ID.
-pub(crate) fn with_id<'a>(table: &'a [Holding], id: &[u8]) -> Option<&'a ServerContext>
+pub(crate) fn with_id<'a>(
+    table: &'a [Holding],
+    places: &Places,
+    id: &[u8],
+) -> Option<&'a ServerContext>
+    requires table { IsTable table.now }
+    requires index { IsIndex places.now table.now }
     ensures { option_map (λ context. context.now) result ≡ with_id_of id.now table.now }
 {
-    for holding in table {
-        if let Some(context) = holding.with_id(id) {
-            return Some(context);
-        }
+    match place_of_id(table, places, id) {
+        Some(index) => table[index].with_id(id),
+        None => None,
     }
-    None
-}
-
-/// The place of the token id that has the context with this recipient ID.
-fn place_of_id(table: &[Holding], id: &[u8]) -> Option<usize>
-    ensures { result ≡ position (holds_id id.now) table.now }
-{
-    table.iter().position(|holding| holding.has_id(id))
 }
 
 /// The window of the context with this recipient ID takes this fresh number. If it was pending, it is confirmed, and the
 /// older one of its token id goes. Answers the place of the token id as well.
-pub(crate) fn accept(table: &mut [Holding], id: &[u8], number: u64) -> (AcceptedNumber, usize)
+pub(crate) fn accept(
+    table: &mut [Holding],
+    places: &mut Places,
+    id: &[u8],
+    number: u64,
+) -> (AcceptedNumber, usize)
     requires table { IsTable table.old }
+    requires index { IsIndex places.old table.old }
+    requires fresh { (held : Held) × (with_id_of id.now table.old ≡ Some held) × IsFresh held.window number }
+    requires number { number ≤ greatest_number }
+    ensures right { IfSome (with_id_of id.now table.old) (λ held. result.0 ≡ accepted_of held.name Server number) }
+    ensures placed { IfSome (with_id_of id.now table.old) (λ held. confirmed_at result.1 table.new ≡ Some (taking number held)) }
+    ensures accepted { table.new ≡ accepted id.now number table.old }
+    ensures index { IsIndex places.new table.new }
+{
+    let confirms = confirms(table, places, id);
+    let accepted = take_number(table, places, id, number);
+    if confirms {
+        *places = places_of(table);
+    }
+    accepted
+}
+
+/// Whether a request under the context with this recipient ID confirms it, so that an older one may go; else each ID stays where it is.
+fn confirms(table: &[Holding], places: &Places, id: &[u8]) -> bool
+    requires table { IsTable table.now }
+    requires index { IsIndex places.now table.now }
+    requires there { (held : Held) × (with_id_of id.now table.now ≡ Some held) }
+    ensures { IsFalse result → (number : ℕ) → IsIndex places.now (accepted id.now number table.now) }
+{
+    match place_of_id(table, places, id) {
+        Some(index) => table[index].awaits(id),
+        // The context is there.
+        None => unreachable!(),
+    }
+}
+
+/// The same as [`accept`], with the places as they were.
+fn take_number(
+    table: &mut [Holding],
+    places: &Places,
+    id: &[u8],
+    number: u64,
+) -> (AcceptedNumber, usize)
+    requires table { IsTable table.old }
+    requires index { IsIndex places.now table.old }
     requires fresh { (held : Held) × (with_id_of id.now table.old ≡ Some held) × IsFresh held.window number }
     requires number { number ≤ greatest_number }
     ensures right { IfSome (with_id_of id.now table.old) (λ held. result.0 ≡ accepted_of held.name Server number) }
     ensures placed { IfSome (with_id_of id.now table.old) (λ held. confirmed_at result.1 table.new ≡ Some (taking number held)) }
     ensures accepted { table.new ≡ accepted id.now number table.old }
 {
-    match place_of_id(table, id) {
+    match place_of_id(table, places, id) {
         Some(index) => (table[index].accept(id, number), index),
         // The context is there.
         None => unreachable!(),

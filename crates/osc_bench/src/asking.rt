@@ -4,10 +4,10 @@ ghost use Rattle.std.specs.Prelude.{◌<◌, IfOk};
 
 use crate::messages::answer;
 use crate::tokens::right_of;
+use osc_ccm::Suite;
 use osc_client::Client;
 use osc_fixtures::{POST, SERVER, empty_server, request, sent, straight};
 use osc_model::{Bytes, Draw, Moment, Request, Step};
-use osc_protect::Suite;
 use std::alloc::{AllocError, Global};
 
 /// A client makes a context by an exchange with a server, and then asks so many times: a POST of 64 bytes on `/log`, confirmable and

@@ -4,10 +4,10 @@ use crate::asking::{DRAW, client_of};
 use crate::flood::mark;
 use crate::hearing::told;
 use crate::messages::server_of;
+use osc_ccm::Suite;
 use osc_client::Client;
 use osc_fixtures::{SERVER, STRANGER, drawn, sent};
 use osc_model::{Bytes, Moment, Step};
-use osc_protect::Suite;
 use osc_server::Server;
 use std::alloc::{AllocError, Global};
 

@@ -3,10 +3,10 @@
 ghost use Rattle.std.specs.Prelude.{◌≡◌, ◌≤◌, ◌<◌, length, IsTrue};
 ghost use Rattle.osc_coap.specs.Message.{Message, Spells};
 
+use osc_ccm::Suite;
 use osc_coap::MessageRef;
 use osc_fixtures::{STRANGER, put, server};
 use osc_model::{Datagram, Draw, Method, Moment, Path, Step};
-use osc_protect::Suite;
 use osc_scope::Scope;
 use osc_server::Server;
 use osc_tree::Tree;

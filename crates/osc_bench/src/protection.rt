@@ -5,12 +5,13 @@ ghost use Rattle.osc_model.specs.declared.context.Side.TheVariants.{Client, Serv
 ghost use Rattle.osc_context.specs.Derivation.{sender_of, recipient_of};
 ghost use Rattle.osc_protect.specs.Protection.{IsFor};
 
+use osc_ccm::Suite;
 use osc_coap::{DATAGRAM_LIMIT, MessageRef};
 use osc_context::{NUMBER_LIMIT, RecipientContext, SenderContext, derive};
 use osc_fixtures::shared_name;
 use osc_model::{SharedName, Side};
 use osc_protect::{
-    MessageTooLong, ProtectedRequest, Room, SealedRequestRef, Suite, open_request, protect_request,
+    MessageTooLong, ProtectedRequest, Room, SealedRequestRef, open_request, protect_request,
     read_request,
 };
 use std::alloc::{AllocError, Global};

@@ -5,8 +5,8 @@ use crate::flood::{
 };
 use crate::messages::{answer, server_of};
 use crate::protected::{length_of_reply, requests_under};
+use osc_ccm::Suite;
 use osc_model::{Bytes, Method, Moment};
-use osc_protect::Suite;
 use osc_server::Server;
 use std::alloc::{AllocError, Global};
 

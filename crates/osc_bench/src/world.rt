@@ -1,9 +1,9 @@
 //! A world of four clients, which ask in turn.
 
 use crate::tokens::right_of;
+use osc_ccm::Suite;
 use osc_fixtures::{GET, KEY, POST, SERVER, claims, drawn, iv_of, place, request, straight};
 use osc_model::{Draw, Moment, Request};
-use osc_protect::Suite;
 use osc_scope::Scope;
 use osc_token::Audience;
 use osc_tree::Tree;

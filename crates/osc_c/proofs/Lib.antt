@@ -1,4 +1,5 @@
-pub mod DeviceValues
-pub mod ClientValues
-pub mod ProxyValues
-pub mod Calls
+pub mod LooseValues
+pub mod HandleValues
+pub mod Lending
+pub mod Refused
+pub mod ServedParts

@@ -1,8 +1,8 @@
 -- Calls on handles.
 use Rattle.std.specs.Prelude.{◌≡◌, ◌⊎◌, Option, Some, None, MatchOption, ℕ, ℤ, pos}
-use Rattle.osc_calls.specs.Outcome.{number_of}
-use Rattle.osc_calls.specs.declared.outcome.Outcome.{Outcome}
-use Rattle.osc_calls.specs.declared.round.Told.{Told}
+use Rattle.osc_c.specs.Outcome.{number_of}
+use Rattle.osc_c.specs.declared.calls.outcome.Outcome.{Outcome}
+use Rattle.osc_c.specs.declared.calls.round.Told.{Told}
 
 -- a number, as a call answers it
 abbrev pub Answers : ℤ → (Outcome → Type 0) → Type 0

@@ -1,11 +1,11 @@
 -- Minting by numbers and bytes.
 use Rattle.std.specs.Prelude.{◌≡◌, ◌⊎◌, ◌≤◌}
-use Rattle.osc_protect.specs.Ciphers.{Sealing}
+use Rattle.osc_ccm.specs.Ciphers.{Sealing}
 use Rattle.osc_token.specs.declared.claims.Claims.{Claims}
-use Rattle.osc_calls.specs.Filling.{Room}
-use Rattle.osc_calls.specs.Given.{GivenClaims}
-use Rattle.osc_calls.specs.Tokens.{AreClaims, HaveLengths, IsNoClaims, KeyAndIv, Mints}
-use Rattle.osc_calls.specs.declared.outcome.Outcome.{Outcome}
+use Rattle.osc_c.specs.Filling.{Room}
+use Rattle.osc_c.specs.Given.{GivenClaims}
+use Rattle.osc_c.specs.Tokens.{AreClaims, HaveLengths, IsNoClaims, KeyAndIv, Mints}
+use Rattle.osc_c.specs.declared.calls.outcome.Outcome.{Outcome}
 
 -- A token of these claims is minted, or isn't; or they are none. In the latter two cases nothing is written.
 abbrev pub MintsBy : Sealing → KeyAndIv → GivenClaims → Room → Outcome → Room → Type 0

@@ -2,22 +2,23 @@
 ghost use Rattle.std.specs.Prelude.{◌≡◌};
 ghost use Rattle.std.specs.declared.option.Option.TheVariants.{None};
 ghost use Rattle.osc_client.specs.Sending.{restarted};
-ghost use Rattle.osc_calls.specs.Client.{AskedBy, BegunBy, HeardBy, IsNewClient, TellsContext, TellsDeadline, TickedBy};
-ghost use Rattle.osc_calls.specs.Arguments.{IsUnfit};
-ghost use Rattle.osc_calls.specs.Given.{GivenGrant as Given};
-ghost use Rattle.osc_calls.specs.Granted.{IsNoClient};
-ghost use Rattle.osc_calls.specs.Last.{HandsOut, nothing};
-ghost use Rattle.osc_calls.specs.Plain.{draw_of, peer_of};
-ghost use Rattle.osc_calls.specs.Results.{TellsResult, learnt_in};
-ghost use Rattle.osc_calls.specs.declared.outcome.Outcome.TheVariants.{Done};
+ghost use Rattle.osc_c.specs.Client.{AskedBy, BegunBy, HeardBy, IsNewClient, TellsContext, TellsDeadline, TickedBy};
+ghost use Rattle.osc_c.specs.Arguments.{IsUnfit};
+ghost use Rattle.osc_c.specs.Given.{GivenGrant as Given};
+ghost use Rattle.osc_c.specs.Granted.{IsNoClient};
+ghost use Rattle.osc_c.specs.Last.{HandsOut, nothing};
+ghost use Rattle.osc_c.specs.Plain.{draw_of, peer_of};
+ghost use Rattle.osc_c.specs.Results.{TellsResult, learnt_in};
+ghost use Rattle.osc_c.specs.declared.calls.outcome.Outcome.TheVariants.{Done};
 ghost use Rattle.osc_c.specs.Calls.{Calls, Looks, Makes};
 ghost use Rattle.osc_c.specs.Ciphers.{sealing, tags};
 
-use crate::client_handle::ClientHandle;
-use osc_calls::{
+use crate::calls::{
     ClientNode, GivenGrant, GivenRequest, Outcome, PlainDraw, PlainOptions, PlainPeer, PlainResult,
 };
-use osc_protect::Suite;
+use crate::handle::{hold, taken, with};
+use crate::handles::ClientHandle;
+use osc_ccm::Suite;
 use std::alloc::Global;
 
 /// Makes a client that was granted this token, in the place of one that is held.
@@ -61,16 +62,7 @@ pub extern "C" fn osc_client_new(
         has_context,
         algorithm,
     };
-    match ClientNode::new(alloc, &given) {
-        Ok(node) => match Box::new(alloc, node) {
-            Ok(node) => {
-                *client = ClientHandle::holding(node);
-                Outcome::Done.number()
-            }
-            Err(_) => Outcome::NoMemory.number(),
-        },
-        Err(outcome) => outcome.number(),
-    }
+    hold(alloc, client, ClientNode::new(alloc, &given)).number()
 }
 
 /// Posts the token. Where it isn't begun, `osc_client_result` tells why.
@@ -86,14 +78,14 @@ pub extern "C" fn osc_client_exchange(
 ) -> i32
     ensures { Calls client.old.held result client.new.held (λ old outcome new. BegunBy old now (draw_of draw.now) outcome new) }
 {
-    match client.take(alloc) {
-        None => Outcome::Nothing.number(),
-        Some(mut node) => {
-            let outcome = node.exchange(alloc, now, draw);
-            *client = ClientHandle::holding(node);
-            outcome.number()
-        }
-    }
+    with(
+        alloc,
+        client,
+        &mut |node|
+            ensures { BegunBy node.old now (draw_of draw.entry.now) result node.new }
+        { node.exchange(alloc, now, draw) },
+    )
+    .number()
 }
 
 /// Asks for this under protection. Where it isn't begun, `osc_client_result` tells why.
@@ -114,9 +106,13 @@ pub extern "C" fn osc_client_ask(
     ensures { Calls client.old.held result client.new.held (λ old outcome new. AskedBy sealing tags old
         (record { ms = now; method = method; path = path.now; options = options.now; payload = payload.now; draw = draw_of draw.now }) outcome new) }
 {
-    match client.take(alloc) {
-        None => Outcome::Nothing.number(),
-        Some(mut node) => {
+    with(
+        alloc,
+        client,
+        &mut |node|
+            ensures { AskedBy sealing tags node.old
+                (record { ms = now; method = method; path = path.entry.now; options = options.entry.now; payload = payload.entry.now; draw = draw_of draw.entry.now }) result node.new }
+        {
             let given = GivenRequest {
                 ms: now,
                 method,
@@ -125,11 +121,10 @@ pub extern "C" fn osc_client_ask(
                 payload,
                 draw,
             };
-            let outcome = node.ask::<Suite>(alloc, &given);
-            *client = ClientHandle::holding(node);
-            outcome.number()
-        }
-    }
+            node.ask::<Suite>(alloc, &given)
+        },
+    )
+    .number()
 }
 
 /// These bytes came from this peer at this moment as one datagram.
@@ -146,14 +141,14 @@ pub extern "C" fn osc_client_on_datagram(
     ensures { Calls client.old.held result client.new.held (λ old outcome new.
         HeardBy sealing old (record { ms = now; from = peer_of from.now; bytes = bytes.now }) outcome new) }
 {
-    match client.take(alloc) {
-        None => Outcome::Nothing.number(),
-        Some(mut node) => {
-            let outcome = node.on_datagram::<Suite>(alloc, now, from, bytes);
-            *client = ClientHandle::holding(node);
-            outcome.number()
-        }
-    }
+    with(
+        alloc,
+        client,
+        &mut |node|
+            ensures { HeardBy sealing node.old (record { ms = now; from = peer_of from.entry.now; bytes = bytes.entry.now }) result node.new }
+        { node.on_datagram::<Suite>(alloc, now, from, bytes) },
+    )
+    .number()
 }
 
 /// What is due by now is done.
@@ -163,14 +158,14 @@ pub extern "C" fn osc_client_on_datagram(
 pub extern "C" fn osc_client_on_tick(alloc: Global, client: &mut ClientHandle, now: u64) -> i32
     ensures { Calls client.old.held result client.new.held (λ old outcome new. TickedBy old now outcome new) }
 {
-    match client.take(alloc) {
-        None => Outcome::Nothing.number(),
-        Some(mut node) => {
-            let outcome = node.on_tick(alloc, now);
-            *client = ClientHandle::holding(node);
-            outcome.number()
-        }
-    }
+    with(
+        alloc,
+        client,
+        &mut |node|
+            ensures { TickedBy node.old now result node.new }
+        { node.on_tick(alloc, now) },
+    )
+    .number()
 }
 
 /// The first moment at which a tick does anything.
@@ -184,14 +179,7 @@ pub extern "C" fn osc_client_next_deadline(
 ) -> i32
     ensures { Looks client.old.held result client.new.held (λ node outcome. TellsDeadline node moment.old outcome moment.new) }
 {
-    match client.take(alloc) {
-        None => Outcome::Nothing.number(),
-        Some(node) => {
-            let outcome = node.next_deadline(moment);
-            *client = ClientHandle::holding(node);
-            outcome.number()
-        }
-    }
+    with(alloc, client, &mut |node| node.next_deadline(moment)).number()
 }
 
 /// Takes the next datagram of the last step.
@@ -208,14 +196,7 @@ pub extern "C" fn osc_client_next(
 ) -> i32
     ensures { Calls client.old.held result client.new.held (λ old outcome new. HandsOut old.last (record { to = to.old; bytes = bytes.old; size = length.old }) outcome new.last (record { to = to.new; bytes = bytes.new; size = length.new }) × (new.client ≡ old.client)) }
 {
-    match client.take(alloc) {
-        None => Outcome::Nothing.number(),
-        Some(mut node) => {
-            let outcome = node.next(to, bytes, length);
-            *client = ClientHandle::holding(node);
-            outcome.number()
-        }
-    }
+    with(alloc, client, &mut |node| node.next(to, bytes, length)).number()
 }
 
 /// What the client learnt in its last step.
@@ -230,14 +211,7 @@ pub extern "C" fn osc_client_result(
 ) -> i32
     ensures { Looks client.old.held result client.new.held (λ node outcome. TellsResult (learnt_in node.last) learnt.old payload.old outcome learnt.new payload.new) }
 {
-    match client.take(alloc) {
-        None => Outcome::Nothing.number(),
-        Some(node) => {
-            let outcome = node.result(learnt, payload);
-            *client = ClientHandle::holding(node);
-            outcome.number()
-        }
-    }
+    with(alloc, client, &mut |node| node.result(learnt, payload)).number()
 }
 
 /// The number (Partial IV) that its next request takes.
@@ -251,14 +225,7 @@ pub extern "C" fn osc_client_context(
 ) -> i32
     ensures { Looks client.old.held result client.new.held (λ node outcome. TellsContext node number.old outcome number.new) }
 {
-    match client.take(alloc) {
-        None => Outcome::Nothing.number(),
-        Some(node) => {
-            let outcome = node.context(number);
-            *client = ClientHandle::holding(node);
-            outcome.number()
-        }
-    }
+    with(alloc, client, &mut |node| node.context(number)).number()
 }
 
 /// Starts again: it forgets its context and what it heard.
@@ -268,14 +235,15 @@ pub extern "C" fn osc_client_context(
 pub extern "C" fn osc_client_restart(alloc: Global, client: &mut ClientHandle) -> i32
     ensures { Calls client.old.held result client.new.held (λ old outcome new. (outcome ≡ Done) × (new ≡ record { client = restarted old.client; last = nothing })) }
 {
-    match client.take(alloc) {
-        None => Outcome::Nothing.number(),
-        Some(mut node) => {
+    with(
+        alloc,
+        client,
+        &mut |node| {
             node.restart();
-            *client = ClientHandle::holding(node);
-            Outcome::Done.number()
-        }
-    }
+            Outcome::Done
+        },
+    )
+    .number()
 }
 
 /// Lets the client go, so that nothing is held.
@@ -283,5 +251,5 @@ pub extern "C" fn osc_client_restart(alloc: Global, client: &mut ClientHandle) -
 pub extern "C" fn osc_client_free(alloc: Global, client: &mut ClientHandle)
     ensures { client.new.held ≡ None }
 {
-    drop(client.take(alloc));
+    drop(taken(alloc, client));
 }

@@ -1,18 +1,19 @@
 //! A device.
 ghost use Rattle.std.specs.Prelude.{◌≡◌};
 ghost use Rattle.std.specs.declared.option.Option.TheVariants.{None};
-ghost use Rattle.osc_calls.specs.Device.{HeardBy, Restarts, TellsDeadline, TickedBy};
-ghost use Rattle.osc_calls.specs.Given.{GivenDevice as Given};
-ghost use Rattle.osc_calls.specs.Last.{HandsOut};
-ghost use Rattle.osc_calls.specs.Making.{IsNewDevice, IsNoNewDevice};
-ghost use Rattle.osc_calls.specs.Plain.{draw_of, peer_of};
-ghost use Rattle.osc_calls.specs.declared.outcome.Outcome.TheVariants.{Done};
+ghost use Rattle.osc_c.specs.Device.{HeardBy, Restarts, TellsDeadline, TickedBy};
+ghost use Rattle.osc_c.specs.Given.{GivenDevice as Given};
+ghost use Rattle.osc_c.specs.Last.{HandsOut};
+ghost use Rattle.osc_c.specs.Making.{IsNewDevice, IsNoNewDevice};
+ghost use Rattle.osc_c.specs.Plain.{draw_of, peer_of};
+ghost use Rattle.osc_c.specs.declared.calls.outcome.Outcome.TheVariants.{Done};
 ghost use Rattle.osc_c.specs.Calls.{Calls, Looks, Makes};
 ghost use Rattle.osc_c.specs.Ciphers.{sealing};
 
-use crate::device_handle::DeviceHandle;
-use osc_calls::{DeviceNode, Outcome, PlainDraw, PlainKey, PlainPeer};
-use osc_protect::Suite;
+use crate::calls::{DeviceNode, Outcome, PlainDraw, PlainKey, PlainPeer};
+use crate::handle::{hold, taken, with};
+use crate::handles::DeviceHandle;
+use osc_ccm::Suite;
 use std::alloc::Global;
 
 /// Makes a device without resources, in the place of one that is held. Its server takes tokens that are sealed under `key` and for `audience`.
@@ -34,16 +35,7 @@ pub extern "C" fn osc_device_new(
         Makes device.old.held result device.new.held (λ node. IsNewDevice sealing given node) (IsNoNewDevice given) }
 {
     let made = DeviceNode::new::<Suite>(alloc, key, audience, free, own, draw);
-    match made {
-        Ok(node) => match Box::new(alloc, node) {
-            Ok(node) => {
-                *device = DeviceHandle::holding(node);
-                Outcome::Done.number()
-            }
-            Err(_) => Outcome::NoMemory.number(),
-        },
-        Err(outcome) => outcome.number(),
-    }
+    hold(alloc, device, made).number()
 }
 
 /// These bytes came from this peer at this moment as one datagram.
@@ -61,14 +53,14 @@ pub extern "C" fn osc_device_on_datagram(
     ensures { Calls device.old.held result device.new.held (λ old outcome new.
         HeardBy sealing old (record { ms = now; from = peer_of from.now; bytes = bytes.now }) (draw_of draw.now) outcome new) }
 {
-    match device.take(alloc) {
-        None => Outcome::Nothing.number(),
-        Some(mut node) => {
-            let outcome = node.on_datagram::<Suite>(alloc, now, from, bytes, draw);
-            *device = DeviceHandle::holding(node);
-            outcome.number()
-        }
-    }
+    with(
+        alloc,
+        device,
+        &mut |node|
+            ensures { HeardBy sealing node.old (record { ms = now; from = peer_of from.entry.now; bytes = bytes.entry.now }) (draw_of draw.entry.now) result node.new }
+        { node.on_datagram::<Suite>(alloc, now, from, bytes, draw) },
+    )
+    .number()
 }
 
 /// What is due by now is done.
@@ -83,14 +75,14 @@ pub extern "C" fn osc_device_on_tick(
 ) -> i32
     ensures { Calls device.old.held result device.new.held (λ old outcome new. TickedBy sealing old now (draw_of draw.now) outcome new) }
 {
-    match device.take(alloc) {
-        None => Outcome::Nothing.number(),
-        Some(mut node) => {
-            let outcome = node.on_tick::<Suite>(alloc, now, draw);
-            *device = DeviceHandle::holding(node);
-            outcome.number()
-        }
-    }
+    with(
+        alloc,
+        device,
+        &mut |node|
+            ensures { TickedBy sealing node.old now (draw_of draw.entry.now) result node.new }
+        { node.on_tick::<Suite>(alloc, now, draw) },
+    )
+    .number()
 }
 
 /// The first moment at which a tick does anything for the device itself.
@@ -104,14 +96,7 @@ pub extern "C" fn osc_device_next_deadline(
 ) -> i32
     ensures { Looks device.old.held result device.new.held (λ node outcome. TellsDeadline node moment.old outcome moment.new) }
 {
-    match device.take(alloc) {
-        None => Outcome::Nothing.number(),
-        Some(node) => {
-            let outcome = node.next_deadline(moment);
-            *device = DeviceHandle::holding(node);
-            outcome.number()
-        }
-    }
+    with(alloc, device, &mut |node| node.next_deadline(moment)).number()
 }
 
 /// Takes the next datagram of the last step.
@@ -128,14 +113,7 @@ pub extern "C" fn osc_device_next(
 ) -> i32
     ensures { Calls device.old.held result device.new.held (λ old outcome new. HandsOut old.last (record { to = to.old; bytes = bytes.old; size = length.old }) outcome new.last (record { to = to.new; bytes = bytes.new; size = length.new }) × (new.device ≡ old.device)) }
 {
-    match device.take(alloc) {
-        None => Outcome::Nothing.number(),
-        Some(mut node) => {
-            let outcome = node.next(to, bytes, length);
-            *device = DeviceHandle::holding(node);
-            outcome.number()
-        }
-    }
+    with(alloc, device, &mut |node| node.next(to, bytes, length)).number()
 }
 
 /// Starts again: resources stay, and security contexts are gone.
@@ -145,14 +123,17 @@ pub extern "C" fn osc_device_next(
 pub extern "C" fn osc_device_restart(alloc: Global, device: &mut DeviceHandle) -> i32
     ensures { Calls device.old.held result device.new.held (λ old outcome new. (outcome ≡ Done) × Restarts old new) }
 {
-    match device.take(alloc) {
-        None => Outcome::Nothing.number(),
-        Some(mut node) => {
+    with(
+        alloc,
+        device,
+        &mut |node|
+            ensures { (result ≡ Done) × Restarts node.old node.new }
+        {
             node.restart();
-            *device = DeviceHandle::holding(node);
-            Outcome::Done.number()
-        }
-    }
+            Outcome::Done
+        },
+    )
+    .number()
 }
 
 /// Lets the device go, so that nothing is held.
@@ -160,5 +141,5 @@ pub extern "C" fn osc_device_restart(alloc: Global, device: &mut DeviceHandle) -
 pub extern "C" fn osc_device_free(alloc: Global, device: &mut DeviceHandle)
     ensures { device.new.held ≡ None }
 {
-    drop(device.take(alloc));
+    drop(taken(alloc, device));
 }

@@ -1,12 +1,12 @@
 //! Devices, clients and proxies for C: include/osc.h says each call.
 #![tactic(auto)]
 
+mod calls;
 mod client;
-mod client_handle;
 mod device;
-mod device_handle;
+mod handle;
+mod handles;
 mod own;
 mod proxy;
-mod proxy_handle;
 mod serving;
 mod token;

@@ -1,23 +1,26 @@
 //! What a device does at its own server.
 ghost use Rattle.std.specs.Prelude.{◌≡◌, ◌≢◌, pos};
-ghost use Rattle.osc_calls.specs.Outcome.{number_of};
 ghost use Rattle.osc_model.specs.declared.code.Method.TheVariants.{Post, Put};
-ghost use Rattle.osc_calls.specs.Own.{AsksBy, OpensBy, RemovesBy};
+ghost use Rattle.osc_c.specs.Own.{AsksBy, OpensBy, RemovesBy};
 ghost use Rattle.osc_c.specs.Calls.{Tells};
+ghost use Rattle.osc_c.specs.declared.calls.outcome.Outcome.TheVariants as outcome;
+ghost use Rattle.osc_c.specs.declared.calls.round.Told.{Told};
 ghost use Rattle.osc_c.specs.Ciphers.{sealing, tags};
 
-use crate::device_handle::DeviceHandle;
-use osc_calls::{GivenValue, Outcome, PlainDraws, Told};
-use osc_protect::Suite;
+use crate::calls::{GivenValue, Outcome, PlainDraws, Told};
+use crate::handle::{put_back, taken, with};
+use crate::handles::DeviceHandle;
+use osc_ccm::Suite;
+use osc_model::Method;
 use std::alloc::Global;
 
-/// Tells the code, and answers the number.
-fn answer(told: Told, code: &mut u8) -> i32
-    ensures number { result ≡ pos (number_of told.outcome) }
+/// Tells the code, and gives the outcome.
+fn tell(told: Told, code: &mut u8) -> Outcome
+    ensures outcome { result ≡ told.outcome }
     ensures code { code.new ≡ told.code }
 {
     *code = told.code;
-    told.outcome.number()
+    told.outcome
 }
 
 /// Gives the device a security context with its server. `code` is that of an unprotected answer where 36 is answered, and else 0.
@@ -36,14 +39,16 @@ pub extern "C" fn osc_device_open(
         (λ old told new. OpensBy sealing old now draws.now told new) }
     ensures fits { result ≢ pos 14 }
 {
-    match device.take(alloc) {
-        None => Outcome::Nothing.number(),
-        Some(mut node) => {
-            let told = node.open::<Suite>(alloc, now, draws);
-            *device = DeviceHandle::holding(node);
-            answer(told, code)
-        }
-    }
+    with(
+        alloc,
+        device,
+        &mut |node|
+            ensures tells { (told : Told) × (result ≡ told.outcome) × (code.exit.now ≡ told.code)
+                × OpensBy sealing node.old now draws.entry.now told node.new }
+            ensures fits { result ≢ outcome.TooLong }
+        { tell(node.open::<Suite>(alloc, now, draws), code) },
+    )
+    .number()
 }
 
 /// Puts this value at the path, as a holder of the device's token does. `code` is the answer's, where 0 or 36 is answered, and else 0.
@@ -63,7 +68,7 @@ pub extern "C" fn osc_device_put(
     ensures { Tells device.old.held code.old (record { number = result; code = code.new }) device.new.held (λ old told new. AsksBy sealing tags old
         (record { method = Put; value = record { ms = now; path = path.now; format = format; payload = payload.now; draws = draws.now } }) told new) }
 {
-    match device.take(alloc) {
+    match taken(alloc, device) {
         None => Outcome::Nothing.number(),
         Some(mut node) => {
             let given = GivenValue {
@@ -73,9 +78,9 @@ pub extern "C" fn osc_device_put(
                 payload,
                 draws,
             };
-            let told = node.put::<Suite>(alloc, &given);
-            *device = DeviceHandle::holding(node);
-            answer(told, code)
+            let told = node.write::<Suite>(alloc, Method::Put, &given);
+            put_back(device, node);
+            tell(told, code).number()
         }
     }
 }
@@ -95,7 +100,7 @@ pub extern "C" fn osc_device_append(
     ensures { Tells device.old.held code.old (record { number = result; code = code.new }) device.new.held (λ old told new. AsksBy sealing tags old
         (record { method = Post; value = record { ms = now; path = path.now; format = format; payload = payload.now; draws = draws.now } }) told new) }
 {
-    match device.take(alloc) {
+    match taken(alloc, device) {
         None => Outcome::Nothing.number(),
         Some(mut node) => {
             let given = GivenValue {
@@ -105,9 +110,9 @@ pub extern "C" fn osc_device_append(
                 payload,
                 draws,
             };
-            let told = node.append::<Suite>(alloc, &given);
-            *device = DeviceHandle::holding(node);
-            answer(told, code)
+            let told = node.write::<Suite>(alloc, Method::Post, &given);
+            put_back(device, node);
+            tell(told, code).number()
         }
     }
 }
@@ -125,12 +130,13 @@ pub extern "C" fn osc_device_remove(
     ensures { Tells device.old.held code.old (record { number = result; code = code.new }) device.new.held
         (λ old told new. RemovesBy sealing tags old (record { ms = now; path = path.now; draws = draws.now }) told new) }
 {
-    match device.take(alloc) {
-        None => Outcome::Nothing.number(),
-        Some(mut node) => {
-            let told = node.remove::<Suite>(alloc, now, path, draws);
-            *device = DeviceHandle::holding(node);
-            answer(told, code)
-        }
-    }
+    with(
+        alloc,
+        device,
+        &mut |node|
+            ensures { (told : Told) × (result ≡ told.outcome) × (code.exit.now ≡ told.code)
+                × RemovesBy sealing tags node.old (record { ms = now; path = path.entry.now; draws = draws.entry.now }) told node.new }
+        { tell(node.remove::<Suite>(alloc, now, path, draws), code) },
+    )
+    .number()
 }

@@ -1,15 +1,16 @@
 //! A forward proxy.
 ghost use Rattle.std.specs.Prelude.{◌≡◌, ◌⊎◌, [], pos};
 ghost use Rattle.std.specs.declared.option.Option.TheVariants.{None, Some};
-ghost use Rattle.osc_calls.specs.Last.{HandsOut, nothing};
-ghost use Rattle.osc_calls.specs.Plain.{draw_of, peer_of};
-ghost use Rattle.osc_calls.specs.Proxy.{AddsTarget, HeardBy, TellsDeadline, TickedBy, restarted_from};
-ghost use Rattle.osc_calls.specs.declared.outcome.Outcome.TheVariants.{Done};
-ghost use Rattle.osc_calls.specs.declared.proxy.Forwarding.TheVariants.{Setting};
+ghost use Rattle.osc_c.specs.Last.{HandsOut, nothing};
+ghost use Rattle.osc_c.specs.Plain.{draw_of, peer_of};
+ghost use Rattle.osc_c.specs.Proxy.{AddsTarget, HeardBy, TellsDeadline, TickedBy, restarted_from};
+ghost use Rattle.osc_c.specs.declared.calls.outcome.Outcome.TheVariants.{Done};
+ghost use Rattle.osc_c.specs.declared.calls.proxy.Forwarding.TheVariants.{Setting};
 ghost use Rattle.osc_c.specs.Calls.{Calls, Looks};
 
-use crate::proxy_handle::ProxyHandle;
-use osc_calls::{Outcome, PlainDraw, PlainPeer, ProxyNode};
+use crate::calls::{Outcome, PlainDraw, PlainPeer, ProxyNode};
+use crate::handle::{hold, taken, with};
+use crate::handles::ProxyHandle;
 use std::alloc::Global;
 
 /// Makes a proxy without targets, in the place of one that is held.
@@ -19,13 +20,7 @@ use std::alloc::Global;
 pub extern "C" fn osc_proxy_new(alloc: Global, proxy: &mut ProxyHandle) -> i32
     ensures { ((result ≡ pos 0) × (proxy.new.held ≡ Some (record { forwarding = Setting []; last = nothing }))) ⊎ ((result ≡ pos 9) × (proxy.new.held ≡ proxy.old.held)) }
 {
-    match Box::new(alloc, ProxyNode::new(alloc)) {
-        Ok(node) => {
-            *proxy = ProxyHandle::holding(node);
-            Outcome::Done.number()
-        }
-        Err(_) => Outcome::NoMemory.number(),
-    }
+    hold(alloc, proxy, Ok(ProxyNode::new(alloc))).number()
 }
 
 /// Requests for this host and port go there.
@@ -42,14 +37,12 @@ pub extern "C" fn osc_proxy_add_target(
 ) -> i32
     ensures { Calls proxy.old.held result proxy.new.held (λ old outcome new. AddsTarget (record { host = host.now; port = port; peer = peer_of to.now }) old outcome new) }
 {
-    match proxy.take(alloc) {
-        None => Outcome::Nothing.number(),
-        Some(mut node) => {
-            let outcome = node.add_target(alloc, host, port, to);
-            *proxy = ProxyHandle::holding(node);
-            outcome.number()
-        }
-    }
+    with(
+        alloc,
+        proxy,
+        &mut |node| node.add_target(alloc, host, port, to),
+    )
+    .number()
 }
 
 /// These bytes came from this peer at this moment as one datagram.
@@ -68,14 +61,14 @@ pub extern "C" fn osc_proxy_on_datagram(
     ensures { Calls proxy.old.held result proxy.new.held (λ old outcome new.
         HeardBy old (record { ms = now; from = peer_of from.now; bytes = bytes.now }) (draw_of draw.now) outcome new) }
 {
-    match proxy.take(alloc) {
-        None => Outcome::Nothing.number(),
-        Some(mut node) => {
-            let outcome = node.on_datagram(alloc, now, from, bytes, draw);
-            *proxy = ProxyHandle::holding(node);
-            outcome.number()
-        }
-    }
+    with(
+        alloc,
+        proxy,
+        &mut |node|
+            ensures { HeardBy node.old (record { ms = now; from = peer_of from.entry.now; bytes = bytes.entry.now }) (draw_of draw.entry.now) result node.new }
+        { node.on_datagram(alloc, now, from, bytes, draw) },
+    )
+    .number()
 }
 
 /// What is due by now is done.
@@ -91,14 +84,14 @@ pub extern "C" fn osc_proxy_on_tick(
 ) -> i32
     ensures { Calls proxy.old.held result proxy.new.held (λ old outcome new. TickedBy old now (draw_of draw.now) outcome new) }
 {
-    match proxy.take(alloc) {
-        None => Outcome::Nothing.number(),
-        Some(mut node) => {
-            let outcome = node.on_tick(alloc, now, draw);
-            *proxy = ProxyHandle::holding(node);
-            outcome.number()
-        }
-    }
+    with(
+        alloc,
+        proxy,
+        &mut |node|
+            ensures { TickedBy node.old now (draw_of draw.entry.now) result node.new }
+        { node.on_tick(alloc, now, draw) },
+    )
+    .number()
 }
 
 /// The first moment at which a tick does anything.
@@ -112,14 +105,7 @@ pub extern "C" fn osc_proxy_next_deadline(
 ) -> i32
     ensures { Looks proxy.old.held result proxy.new.held (λ node outcome. TellsDeadline node moment.old outcome moment.new) }
 {
-    match proxy.take(alloc) {
-        None => Outcome::Nothing.number(),
-        Some(node) => {
-            let outcome = node.next_deadline(moment);
-            *proxy = ProxyHandle::holding(node);
-            outcome.number()
-        }
-    }
+    with(alloc, proxy, &mut |node| node.next_deadline(moment)).number()
 }
 
 /// Takes the next datagram of the last step.
@@ -136,14 +122,7 @@ pub extern "C" fn osc_proxy_next(
 ) -> i32
     ensures { Calls proxy.old.held result proxy.new.held (λ old outcome new. HandsOut old.last (record { to = to.old; bytes = bytes.old; size = length.old }) outcome new.last (record { to = to.new; bytes = bytes.new; size = length.new }) × (new.forwarding ≡ old.forwarding)) }
 {
-    match proxy.take(alloc) {
-        None => Outcome::Nothing.number(),
-        Some(mut node) => {
-            let outcome = node.next(to, bytes, length);
-            *proxy = ProxyHandle::holding(node);
-            outcome.number()
-        }
-    }
+    with(alloc, proxy, &mut |node| node.next(to, bytes, length)).number()
 }
 
 /// Starts again: it forgets what it heard, and keeps its targets.
@@ -153,14 +132,15 @@ pub extern "C" fn osc_proxy_next(
 pub extern "C" fn osc_proxy_restart(alloc: Global, proxy: &mut ProxyHandle) -> i32
     ensures { Calls proxy.old.held result proxy.new.held (λ old outcome new. (outcome ≡ Done) × (new ≡ record { forwarding = restarted_from old.forwarding; last = nothing })) }
 {
-    match proxy.take(alloc) {
-        None => Outcome::Nothing.number(),
-        Some(mut node) => {
+    with(
+        alloc,
+        proxy,
+        &mut |node| {
             node.restart();
-            *proxy = ProxyHandle::holding(node);
-            Outcome::Done.number()
-        }
-    }
+            Outcome::Done
+        },
+    )
+    .number()
 }
 
 /// Lets the proxy go, so that nothing is held.
@@ -168,5 +148,5 @@ pub extern "C" fn osc_proxy_restart(alloc: Global, proxy: &mut ProxyHandle) -> i
 pub extern "C" fn osc_proxy_free(alloc: Global, proxy: &mut ProxyHandle)
     ensures { proxy.new.held ≡ None }
 {
-    drop(proxy.take(alloc));
+    drop(taken(alloc, proxy));
 }

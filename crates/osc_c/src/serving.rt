@@ -1,12 +1,13 @@
 //! What a device has, and what its server served and refused.
 ghost use Rattle.std.specs.Prelude.{◌≡◌};
-ghost use Rattle.osc_calls.specs.Serving.{TellsRefused, TellsServed, refused_by_last, served_by_last};
-ghost use Rattle.osc_calls.specs.Told.{TellsLearnt};
-ghost use Rattle.osc_calls.specs.Values.{TellsValueAt};
+ghost use Rattle.osc_c.specs.Serving.{TellsRefused, TellsServed, refused_by_last, served_by_last};
+ghost use Rattle.osc_c.specs.Told.{TellsLearnt};
+ghost use Rattle.osc_c.specs.Values.{TellsValueAt};
 ghost use Rattle.osc_c.specs.Calls.{Looks};
 
-use crate::device_handle::DeviceHandle;
-use osc_calls::{Outcome, PlainRefused, PlainServed, PlainValue};
+use crate::calls::{Outcome, PlainRefused, PlainServed, PlainValue};
+use crate::handle::{put_back, taken, with};
+use crate::handles::DeviceHandle;
 use std::alloc::Global;
 
 /// What stands at a path.
@@ -24,14 +25,12 @@ pub extern "C" fn osc_device_get(
     ensures { Looks device.old.held result device.new.held (λ node outcome.
         TellsValueAt node path.now (record { payload = payload.old; value = value.old }) outcome (record { payload = payload.new; value = value.new })) }
 {
-    match device.take(alloc) {
-        None => Outcome::Nothing.number(),
-        Some(node) => {
-            let outcome = node.get(alloc, path, payload, value);
-            *device = DeviceHandle::holding(node);
-            outcome.number()
-        }
-    }
+    with(
+        alloc,
+        device,
+        &mut |node| node.get(alloc, path, payload, value),
+    )
+    .number()
 }
 
 /// The protected request that the last step served.
@@ -48,11 +47,11 @@ pub extern "C" fn osc_device_served(
 ) -> i32
     ensures { Looks device.old.held result device.new.held (λ node outcome. TellsServed (served_by_last node.last) served.old (record { path = path.old; payload = payload.old; context = context.old }) outcome served.new (record { path = path.new; payload = payload.new; context = context.new })) }
 {
-    match device.take(alloc) {
+    match taken(alloc, device) {
         None => Outcome::Nothing.number(),
         Some(node) => {
             let outcome = node.served(alloc, served, path, payload, context);
-            *device = DeviceHandle::holding(node);
+            put_back(device, node);
             outcome.number()
         }
     }
@@ -65,14 +64,7 @@ pub extern "C" fn osc_device_served(
 pub extern "C" fn osc_device_learnt(alloc: Global, device: &mut DeviceHandle, code: &mut u8) -> i32
     ensures { Looks device.old.held result device.new.held (λ node outcome. TellsLearnt node.last.own code.old outcome code.new) }
 {
-    match device.take(alloc) {
-        None => Outcome::Nothing.number(),
-        Some(node) => {
-            let outcome = node.learnt(code);
-            *device = DeviceHandle::holding(node);
-            outcome.number()
-        }
-    }
+    with(alloc, device, &mut |node| node.learnt(code)).number()
 }
 
 /// The request that the last step refused.
@@ -86,12 +78,5 @@ pub extern "C" fn osc_device_refused(
 ) -> i32
     ensures { Looks device.old.held result device.new.held (λ node outcome. TellsRefused (refused_by_last node.last) refused.old outcome refused.new) }
 {
-    match device.take(alloc) {
-        None => Outcome::Nothing.number(),
-        Some(node) => {
-            let outcome = node.refused(refused);
-            *device = DeviceHandle::holding(node);
-            outcome.number()
-        }
-    }
+    with(alloc, device, &mut |node| node.refused(refused)).number()
 }

@@ -3,7 +3,7 @@ ghost use Rattle.osc_c.specs.Calls.{Answers};
 ghost use Rattle.osc_c.specs.Minting.{MintsBy};
 ghost use Rattle.osc_c.specs.Ciphers.{short_tag};
 
-use osc_calls::{GivenClaims, PlainIv, PlainKey, claims, mint};
+use crate::calls::{GivenClaims, PlainIv, PlainKey, claims, mint};
 use osc_ccm::Ccm;
 use std::alloc::Global;
 

@@ -1,5 +1,6 @@
 -- The numbers of the refusals, and what a read gives.
 use Rattle.std.specs.Prelude.{◌≡◌, ℕ, Result, Ok, Err}
+use Rattle.osc_model.specs.Refusals as refusal
 use Rattle.osc_cbor.specs.Data.{DataItem}
 use Rattle.osc_cbor.specs.View.{view}
 use Rattle.osc_cbor.specs.declared.item.Item.{Item}
@@ -7,11 +8,11 @@ use Rattle.osc_cbor.specs.declared.error.ReadError.{ReadError}
 use Rattle.osc_cbor.specs.declared.error.ReadError.TheVariants.{Truncated, Unsupported, DuplicateKey, TooDeep, Memory}
 
 abbrev pub number_of : ReadError → ℕ
-number_of Truncated = 5
-number_of Unsupported = 6
-number_of DuplicateKey = 7
-number_of TooDeep = 8
-number_of Memory = 9
+number_of Truncated = refusal.truncated
+number_of Unsupported = refusal.unsupported
+number_of DuplicateKey = refusal.duplicate_key
+number_of TooDeep = refusal.too_deep
+number_of Memory = refusal.memory
 
 -- the item and the count of its bytes are read, unless memory runs out
 abbrev pub GivesItem : Result (Item × ℕ) ReadError → DataItem → ℕ → Type 0

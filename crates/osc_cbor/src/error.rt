@@ -4,6 +4,7 @@ ghost use Rattle.std.specs.Prelude.{◌≡◌};
 ghost use Rattle.osc_cbor.specs.Errors.{number_of};
 ghost use Rattle.osc_cbor.specs.declared.error.ReadError.TheVariants.{Memory};
 
+use osc_model::refusals;
 use std::alloc::{AllocError, AllocFailed};
 use thiserror::Error;
 
@@ -34,11 +35,11 @@ impl ReadError {
         ensures { result ≡ number_of self }
     {
         match self {
-            ReadError::Truncated => 5,
-            ReadError::Unsupported => 6,
-            ReadError::DuplicateKey => 7,
-            ReadError::TooDeep => 8,
-            ReadError::Memory => 9,
+            ReadError::Truncated => refusals::TRUNCATED,
+            ReadError::Unsupported => refusals::UNSUPPORTED,
+            ReadError::DuplicateKey => refusals::DUPLICATE_KEY,
+            ReadError::TooDeep => refusals::TOO_DEEP,
+            ReadError::Memory => refusals::MEMORY,
         }
     }
 }

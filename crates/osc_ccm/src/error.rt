@@ -3,6 +3,7 @@
 ghost use Rattle.std.specs.Prelude.{◌≡◌};
 ghost use Rattle.osc_ccm.specs.Errors.{seal_number, open_number};
 
+use osc_model::refusals;
 use thiserror::Error;
 
 /// Why a text was not sealed.
@@ -22,8 +23,8 @@ impl SealError {
         ensures { result ≡ seal_number self }
     {
         match self {
-            SealError::TooLong => 1,
-            SealError::OutTooSmall => 2,
+            SealError::TooLong => refusals::TOO_LONG,
+            SealError::OutTooSmall => refusals::OUT_TOO_SMALL,
         }
     }
 }
@@ -49,9 +50,9 @@ impl OpenError {
         ensures { result ≡ open_number self }
     {
         match self {
-            OpenError::TooLong => 1,
-            OpenError::OutTooSmall => 2,
-            OpenError::NotGenuine => 3,
+            OpenError::TooLong => refusals::TOO_LONG,
+            OpenError::OutTooSmall => refusals::OUT_TOO_SMALL,
+            OpenError::NotGenuine => refusals::NOT_GENUINE,
         }
     }
 }

@@ -19,6 +19,7 @@
 mod aead;
 mod block;
 mod ccm;
+mod ciphers;
 mod error;
 pub mod lanes;
 mod mac;
@@ -28,4 +29,5 @@ mod stream;
 
 pub use aead::{AAD_LIMIT, Aead, TAG_LIMIT, TEXT_LIMIT};
 pub use ccm::Ccm;
+pub use ciphers::{Ciphers, Suite, TagOf8, TagOf16};
 pub use error::{OpenError, SealError};

@@ -1,4 +1,3 @@
-pub mod Counted
 pub mod Outcomes
 pub mod Fitting
 pub mod Opened

@@ -7,7 +7,7 @@ use Rattle.osc_model.specs.declared.step.ClientResult.{ClientResult}
 use Rattle.osc_model.specs.declared.step.ClientResult.TheVariants as result
 use Rattle.osc_model.specs.declared.step.Note.{Note}
 use Rattle.osc_coap.specs.Message.{Message}
-use Rattle.osc_protect.specs.Ciphers.{Sealings}
+use Rattle.osc_ccm.specs.Ciphers.{Sealings}
 use Rattle.osc_authz.specs.Begun.{Begun, ClientContextState}
 use Rattle.osc_authz.specs.Client.{Finishes}
 use Rattle.osc_authz.specs.declared.error.FinishError.{FinishError}
@@ -15,7 +15,7 @@ use Rattle.osc_authz.specs.declared.error.FinishError.TheVariants.{Fields, Equal
 use Rattle.osc_authz.specs.declared.granted.ClientDesk.{ClientDesk}
 use Rattle.osc_run.specs.ClientKinds.{ClientStep, ClientIdle, Made, Answered, Ended, IsEnding, IsMade, response_note}
 use Rattle.osc_run.specs.States.{ClientState, Nothing, Exchange as OpenExchange, Ask as AskOf}
-use Rattle.osc_run.specs.Texts.{IsReplyIn}
+use Rattle.osc_options.specs.Texts.{IsReplyIn}
 use Rattle.osc_client.specs.Answering.{AskComes, Comes, ExchangeComes, code_of, context_after, ended_by, notes_of, waits_after}
 use Rattle.osc_client.specs.Answering as comes
 use Rattle.osc_client.specs.Inner.Bounds.{IsOfGrant, NeedsContext}

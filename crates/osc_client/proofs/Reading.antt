@@ -7,7 +7,7 @@ use Rattle.osc_options.specs.PlaintextReplies.{if_reply, reply_of_plaintext}
 use Rattle.osc_options.specs.PlaintextRequests.{IsMemoryAside}
 use Rattle.osc_options.specs.declared.error.PlaintextError.{PlaintextError}
 use Rattle.osc_options.specs.declared.error.PlaintextError.TheVariants.{Format, Memory}
-use Rattle.osc_run.specs.Texts.{IsReplyIn}
+use Rattle.osc_options.specs.Texts.{IsReplyIn}
 
 -- what was read as a reply is one
 pub reads_as : (text : List ℕ) (came : Result Reply PlaintextError) (reply : Reply)

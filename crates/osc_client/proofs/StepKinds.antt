@@ -1,6 +1,6 @@
 -- Which kind of step each is.
 use Rattle.std.proofs.Common.{◌≡◌, ◌≤◌, ap, ℕ, Bool, true, false, List, Some, None, Option, Ok, refl, subst}
-use Rattle.osc_model.specs.Arrival.{Arrival}
+use Rattle.osc_model.specs.Arrival.{Arrival, read_as}
 use Rattle.osc_model.specs.Step.{sends}
 use Rattle.osc_model.specs.StepNotes.{quiet}
 use Rattle.osc_model.specs.declared.code.Code.{Code}
@@ -9,20 +9,23 @@ use Rattle.osc_model.specs.declared.step.ClientResult.TheVariants as result
 use Rattle.osc_model.specs.declared.step.ClientResult.TheVariants.{Refused}
 use Rattle.osc_model.specs.declared.step.Datagram.{Datagram}
 use Rattle.osc_model.specs.declared.step.Step.{Step}
+use Rattle.osc_coap.specs.Message.{Message}
 use Rattle.osc_message.specs.Endpoint.{EndpointState}
+use Rattle.osc_message.specs.declared.heard.Heard.{Heard}
+use Rattle.osc_message.specs.declared.heard.Heard.TheVariants as heard
 use Rattle.osc_authz.specs.Begun.{Begun, ClientContextState}
 use Rattle.osc_authz.specs.Client.{Finishes}
 use Rattle.osc_run.specs.ClientKinds.{ClientStep, ClientIdle, Ended, IsMade, Lied}
 use Rattle.osc_run.specs.States.{ClientState, Nothing, Exchange as OpenExchange}
 use Rattle.osc_client.specs.Inner.Bounds.{HasContext}
-use Rattle.osc_client.specs.Case.{is_ended, is_reset}
+use Rattle.osc_client.specs.Case.{case_of, is_ended, is_reset}
 use Rattle.osc_context.specs.Nonce.{greatest_number}
-use Rattle.osc_protect.specs.Ciphers.{Sealings, Tags}
+use Rattle.osc_ccm.specs.Ciphers.{Sealings, Tags}
 use Rattle.osc_client.specs.Lying.{Lie, Lies, lies}
 use Rattle.osc_client.specs.State.{State, core, outstanding}
-use Rattle.osc_client.specs.Table.{Answers, Settles}
+use Rattle.osc_client.specs.Table.{Answers, AnswersNew, Settles}
 use Rattle.osc_client.specs.declared.case.Case.{Case}
-use Rattle.osc_client.specs.declared.case.Case.TheVariants.{Ignored, Reset, Repeated, Empty, Refused as RefusedCase, Rejected, Dropped, Counted}
+use Rattle.osc_client.specs.declared.case.Case.TheVariants.{Refused as RefusedCase, Unused, Counted}
 use Rattle.osc_client.specs.declared.waiting.Waiting.{Waiting}
 use Rattle.osc_client.proofs.Outcomes.{kind_after, something}
 use Rattle.osc_client.proofs.Own.{and_right}
@@ -48,32 +51,38 @@ settles true old endpoint step new something settled =
       is = ap core settled.1;
     })
 
--- a step of the table
-pub kind_of : (is_sealing : Sealings) (old : State) (came : Arrival (List ℕ)) (case : Case) (step : Step) (new : State)
-    → HasContext old.context old.waiting
-    → ((begun : Begun) (came : Code) (payload : List ℕ) (made : ClientContextState) (before : ClientState) → before.outstanding ≡ OpenExchange begun
+-- what the crates below know of an exchange that makes a context
+abbrev pub Makes : Type 0
+Makes =
+    (begun : Begun) (came : Code) (payload : List ℕ) (made : ClientContextState) (before : ClientState) → before.outstanding ≡ OpenExchange begun
     → Finishes before.desk begun came payload (Ok made)
-    → IsMade before (record quiet { result = Some result.Made }) (record before { context = Some made; outstanding = Nothing }))
-    → Answers is_sealing old came case step new → ClientStep false (core old) step.notes (core new)
-kind_of is_sealing old came Ignored step new has makes answers = quietly old new step _ answers.0 (ap core answers.1)
-kind_of is_sealing old came (Reset id) step new has makes answers = quietly old new step _ answers.0 (ap core answers.1)
-kind_of is_sealing old came (Repeated id) step new has makes answers = quietly old new step _ answers.0 (ap core answers.1)
-kind_of is_sealing old came (Empty kind id) step new has makes answers =
+    → IsMade before (record quiet { result = Some result.Made }) (record before { context = Some made; outstanding = Nothing })
+
+-- a step for a new message
+new_kind : (is_sealing : Sealings) (old : State) (came : Arrival Message) (case : Case) (step : Step) (new : State) → HasContext old.context old.waiting → Makes
+    → AnswersNew is_sealing old came case step new → ClientStep false (core old) step.notes (core new)
+new_kind is_sealing old came RefusedCase step new has makes answers = quietly old new step _ answers.0 (ap core answers.1)
+new_kind is_sealing old came Unused step new has makes answers = quietly old new step _ answers.0 (ap core answers.1)
+new_kind is_sealing old came Counted step new has makes answers =
+    let held : HasContext old.context (Some answers.waiting) = subst (HasContext old.context) answers.waits has in
+    let kind = kind_after is_sealing old.desk came.what old.context answers.waiting answers.outcome answers.comes held.0 makes in
+    let before : core old ≡ record { desk = old.desk; context = old.context; outstanding = outstanding old.context (Some answers.waiting) } =
+    ap (λ (w : Option Waiting). record { desk = old.desk; context = old.context; outstanding = outstanding old.context w }) answers.waits in
+    rw (before, answers.told, answers.kept) kind
+
+-- a step of the table
+pub kind_of : (is_sealing : Sealings) (old : State) (came : Arrival (List ℕ)) (it : Heard) (step : Step) (new : State) → HasContext old.context old.waiting → Makes
+    → Answers is_sealing old came it step new → ClientStep false (core old) step.notes (core new)
+kind_of is_sealing old came (heard.Alone out) step new has makes answers = quietly old new step _ answers.0 (ap core answers.1)
+kind_of is_sealing old came (heard.Empty kind id) step new has makes answers =
     settles (is_ended old.next_hop came.from kind id old.waiting) old _ step new (open_one old.waiting has) answers
   where
     open_one : (waiting : Option Waiting) → HasContext old.context waiting → is_ended old.next_hop came.from kind id waiting ≡ true
         → outstanding old.context waiting ≡ Nothing → ⊥
     open_one None has ends e = let wrong : false ≡ true = and_right (is_reset kind) false ends in cc
     open_one (Some waiting) has ends e = something old.context waiting.what has.0 e
-kind_of is_sealing old came (RefusedCase message) step new has makes answers = quietly old new step _ answers.0 (ap core answers.1)
-kind_of is_sealing old came (Rejected message) step new has makes answers = quietly old new step _ answers.0 (ap core answers.1)
-kind_of is_sealing old came (Dropped message) step new has makes answers = quietly old new step _ answers.0 (ap core answers.1)
-kind_of is_sealing old came (Counted message) step new has makes answers =
-    let held : HasContext old.context (Some answers.waiting) = subst (HasContext old.context) answers.waits has in
-    let kind = kind_after is_sealing old.desk message old.context answers.waiting answers.outcome answers.comes held.0 makes in
-    let before : core old ≡ record { desk = old.desk; context = old.context; outstanding = outstanding old.context (Some answers.waiting) } =
-    ap (λ (w : Option Waiting). record { desk = old.desk; context = old.context; outstanding = outstanding old.context w }) answers.waits in
-    rw (before, answers.told, answers.kept) kind
+kind_of is_sealing old came (heard.Message message) step new has makes answers =
+    new_kind is_sealing old (read_as came message) (case_of old.next_hop came.from old.waiting message) step new has makes answers
 
 -- a lie, under the context that the client has
 pub lied : (is_sealing : Sealings) (tag : Tags) (old : State) (lie : Lie) (draw : Draw) (step : Step) → lie.number ≤ greatest_number

@@ -20,23 +20,25 @@ use Rattle.osc_model.specs.declared.step.Note.{Note}
 use Rattle.osc_model.specs.declared.step.Step.{Step}
 use Rattle.osc_coap.specs.Message.{Message, Spells}
 use Rattle.osc_options.specs.Split.{has_oscore}
-use Rattle.osc_protect.specs.Ciphers.{Sealings, Tags}
+use Rattle.osc_ccm.specs.Ciphers.{Sealings, Tags}
 use Rattle.osc_protect.specs.Protection.{IsRequestOf, plain_bytes}
 use Rattle.osc_authz.specs.Begun.{Begun, ClientContextState}
 use Rattle.osc_authz.specs.declared.error.FinishError.{FinishError}
 use Rattle.osc_authz.specs.declared.error.FinishError.TheVariants.{Fields, EqualIds, Memory}
 use Rattle.osc_message.specs.Confirmables.{Open}
 use Rattle.osc_message.specs.Endpoint.{EndpointState}
-use Rattle.osc_message.specs.Heard.{heard, noted_reply}
-use Rattle.osc_message.specs.Received.{Receives}
-use Rattle.osc_message.specs.Sending.{GoesOut, empty_acknowledgement, is_confirmable, reset, again, datagram, sent_to}
+use Rattle.osc_coap.specs.declared.kind.Kind.{Kind}
+use Rattle.osc_coap.specs.declared.kind.Kind.TheVariants.{Confirmable, NonConfirmable, Acknowledgement, Reset}
+use Rattle.osc_message.specs.Heard.{AnswersAlone, IsAlone, ignores, noted_reply, rejects, repeats}
+use Rattle.osc_message.specs.declared.heard.Heard.{Heard}
+use Rattle.osc_message.specs.declared.heard.Heard.TheVariants as heard
+use Rattle.osc_message.specs.Sending.{GoesOut, empty_acknowledgement, is_confirmable, rejection, reset, again, datagram, sent_to}
 use Rattle.osc_message.specs.Ticks.{datagram_of, due_of, dues, tick_sends}
 use Rattle.osc_message.specs.declared.due.Due.{Due}
 use Rattle.osc_message.specs.declared.due.Due.TheVariants.{Keep, Send, GiveUp}
-use Rattle.osc_message.specs.declared.received.Received.{Received}
 use Rattle.osc_run.specs.ClientKinds.{IsEnding, request_note, response_note}
 use Rattle.osc_run.specs.Seals.{IsOpenOf, IsSealOf}
-use Rattle.osc_run.specs.Texts.{IsReplyIn}
+use Rattle.osc_options.specs.Texts.{IsReplyIn}
 use Rattle.osc_client.specs.Answering.{AskComes, Comes, ExchangeComes, code_of, ended_by, notes_of}
 use Rattle.osc_client.specs.Answering as comes
 use Rattle.osc_client.specs.Case.{case_of, is_ended}
@@ -44,7 +46,7 @@ use Rattle.osc_client.specs.Lying.{Lie, Lies, lies, outside_of}
 use Rattle.osc_client.specs.Lying as lying
 use Rattle.osc_client.specs.Sending.{Asks, asks, hindered, plain_of, refusing}
 use Rattle.osc_client.specs.State.{State}
-use Rattle.osc_client.specs.Table.{Answers, Counts, Settles, refusal}
+use Rattle.osc_client.specs.Table.{Answers, AnswersNew, Counts, Settles, refusal}
 use Rattle.osc_client.specs.Told.{AreTold, IsToldOf, NeedsNoSeal, SealsNothing, needs_none, noted_before, open_before, sealed_now, unprotected}
 use Rattle.osc_client.specs.declared.answering.Outcome.{Outcome}
 use Rattle.osc_client.specs.declared.answering.Outcome.TheVariants as outcome
@@ -53,7 +55,6 @@ use Rattle.osc_client.specs.declared.case.Case.TheVariants as case
 use Rattle.osc_client.specs.declared.waiting.Awaited.{Awaited}
 use Rattle.osc_client.specs.declared.waiting.Awaited.TheVariants.{Exchange, Ask}
 use Rattle.osc_client.specs.declared.waiting.OpenAsk.{OpenAsk}
-use Rattle.osc_client.proofs.Counted.{counted_came}
 
 -- ---- steps that seal nothing
 
@@ -251,21 +252,29 @@ module _ (is_sealing : Sealings) (old : State) (now : Moment) where
     quietly : (step it : Step) → step ≡ it → SealsNothing old now it → AreTold is_sealing old now (Some came) step
     quietly step it e told = told_of (Some came) step (as_silent old now step it e told)
 
-    table_told : (draw : Draw) (it : Case) (step : Step) (new : State) → ((message : Message) → it ≡ case.Counted message → Spells came message)
-        → Answers is_sealing old (record { at = now; from = from; draw = draw; what = came }) it step new → AreTold is_sealing old now (Some came) step
-    table_told draw case.Ignored step new spelled a = quietly step _ a.0 (silent old now [] (none_plain old now))
-    table_told draw (case.Reset id) step new spelled a = quietly step _ a.0 (silent_message old now from (reset id) refl)
-    table_told draw (case.Repeated id) step new spelled a = quietly step _ a.0 (again_silent old now from id (noted_reply old.endpoint.seen now from id) refl)
-    table_told draw (case.Empty kind id) step new spelled a =
-        told_of (Some came) step (settled_silent old now (is_ended old.next_hop from kind id old.waiting) _ step new a)
-    table_told draw (case.Refused message) step new spelled a = quietly step _ a.0 (silent_message old now from (refusal message) refl)
-    table_told draw (case.Rejected message) step new spelled a = quietly step _ a.0 (silent_message old now from (reset message.id) refl)
-    table_told draw (case.Dropped message) step new spelled a = quietly step _ a.0 (silent old now [] (none_plain old now))
-    table_told draw (case.Counted message) step new spelled a = counts_told draw message step new (spelled message refl) a
+    rejected_silently : (kind : Kind) (id : ℕ) → SealsNothing old now (sends (rejection from kind id))
+    rejected_silently Confirmable id = silent_message old now from (reset id) refl
+    rejected_silently NonConfirmable id = silent old now [] (none_plain old now)
+    rejected_silently Acknowledgement id = silent old now [] (none_plain old now)
+    rejected_silently Reset id = silent old now [] (none_plain old now)
 
-    pub datagram_told : (draw : Draw) (it : Received) (step : Step) (new : State) → Receives came it
-        → Answers is_sealing old (record { at = now; from = from; draw = draw; what = came })
-        (case_of old.next_hop from old.waiting (heard old.endpoint.seen now from it)) step new → AreTold is_sealing old now (Some came) step
-    datagram_told draw it step new receives answers =
-        table_told draw (case_of old.next_hop from old.waiting (heard old.endpoint.seen now from it)) step new
-        (λ message e. (subst (Receives came) (counted_came old.next_hop from old.waiting old.endpoint.seen now it message e) receives).1) answers
+    alone_silently : (out : List Datagram) → IsAlone old.endpoint.seen now from out → SealsNothing old now (sends out)
+    alone_silently out (ignores is) = rw is (silent old now [] (none_plain old now))
+    alone_silently out (rejects id spelled is) = rw is (silent_message old now from (reset id) refl)
+    alone_silently out (repeats id is) = rw is (again_silent old now from id (noted_reply old.endpoint.seen now from id) refl)
+
+    new_told : (draw : Draw) (message : Message) (it : Case) (step : Step) (new : State) → Spells came message
+        → AnswersNew is_sealing old (record { at = now; from = from; draw = draw; what = message }) it step new → AreTold is_sealing old now (Some came) step
+    new_told draw message case.Refused step new spelled a = quietly step _ a.0 (silent_message old now from (refusal message) refl)
+    new_told draw message case.Unused step new spelled a = quietly step _ a.0 (rejected_silently message.kind message.id)
+    new_told draw message case.Counted step new spelled a = counts_told draw message step new spelled a
+
+    -- what the message layer answers is one of its three answers; a message is the one that came
+    pub datagram_told : (draw : Draw) (it : Heard) (step : Step) (new : State) → AnswersAlone old.endpoint.seen now from it
+        → ((message : Message) → it ≡ heard.Message message → Spells came message)
+        → Answers is_sealing old (record { at = now; from = from; draw = draw; what = came }) it step new → AreTold is_sealing old now (Some came) step
+    datagram_told draw (heard.Alone out) step new alone spelled a = quietly step _ a.0 (alone_silently out alone)
+    datagram_told draw (heard.Empty kind id) step new alone spelled a =
+        told_of (Some came) step (settled_silent old now (is_ended old.next_hop from kind id old.waiting) _ step new a)
+    datagram_told draw (heard.Message message) step new alone spelled a =
+        new_told draw message (case_of old.next_hop from old.waiting message) step new (spelled message refl) a

@@ -6,12 +6,16 @@ use Rattle.std.proofs.lemmas.Bool.{both_ways, cases_Bool, cases_lt, eqb-true, lt
 use Rattle.std.proofs.lemmas.List.Elements.{filter-append}
 use Rattle.osc_model.specs.declared.request.Request.{Request}
 use Rattle.osc_coap.specs.Message.{NumberAndValue, Message, spelling}
+use Rattle.osc_coap.specs.declared.kind.Kind.{Kind}
+use Rattle.osc_coap.specs.declared.kind.Kind.TheVariants.{Confirmable}
+use Rattle.osc_coap.specs.Building.{bare}
 use Rattle.osc_coap.specs.Plaintext.{Plaintext}
 use Rattle.osc_coap.specs.Length.{extension_length, option_length, options_length, spelled_length}
 use Rattle.osc_options.specs.declared.table.Class.TheVariants.{E}
 use Rattle.osc_options.specs.Replies.{uint_bytes}
-use Rattle.osc_options.specs.Requests.{each, none_match_options, path_options, request_options, segments_of, uint_options}
-use Rattle.osc_options.specs.Split.{AreInOrder, has_oscore, inner_options, insert, merge, of_number, plaintext_of, same_class}
+use Rattle.osc_options.specs.Requests.{each, none_match_options, path_options, request_options, segments_of, uint_options, with_request}
+use Rattle.osc_options.specs.PlaintextRequests.{request_plaintext}
+use Rattle.osc_options.specs.Split.{AreInOrder, has_oscore, inner_options, insert, merge, of_number, outer_options, plaintext_of, same_class, unprotected}
 use Rattle.osc_options.specs.Table.{class_of}
 use Rattle.osc_client.specs.Sending.{plain_request, post_with}
 use Rattle.osc_client.specs.Way.{HostAndPort, proxy_options, through}
@@ -244,6 +248,20 @@ request_inside id token request = all_inside 0 (request_options request) (reques
 
 pub post_order : (id : ℕ) (token body : List ℕ) → AreInOrder 0 (post_with id token body).options
 post_order id token body = (omega arith, (omega arith, tt))
+
+-- what stays outside of a request, and its plaintext, are the request as it goes to the server
+found_outside : (default : Bool) (origin : HostAndPort) → outer_options (found_by default origin) ≡ found_by default origin
+found_outside true origin = refl
+found_outside false origin = refl
+
+pub request_around : ((m : Message) (r : Request) → plaintext_of (with_request m r) ≡ request_plaintext r)
+    → ((kind : Kind) (code id : ℕ) (token : List ℕ) (r : Request) → unprotected (bare kind code id token) (request_plaintext r) ≡ with_request (bare kind code id token) r)
+    → (origin : Option HostAndPort) (id : ℕ) (token : List ℕ) (request : Request)
+    → unprotected (through origin (bare Confirmable 2 id token)) (request_plaintext request) ≡ through origin (plain_request id token request)
+request_around plaintext alone None id token request = alone Confirmable 2 id token request
+request_around plaintext alone (Some origin) id token request =
+    ap₂ (λ (outer inner : List NumberAndValue). record (plain_request id token request) { options = merge outer inner })
+    (found_outside (origin.port == 5683) origin) (ap (λ (p : Plaintext). p.options) (plaintext (bare Confirmable 2 id token) request))
 
 -- what is encrypted isn't OSCORE's own option
 none_own : (before : ℕ) (options : List NumberAndValue) → AreEncrypted before options → has_oscore options ≡ false

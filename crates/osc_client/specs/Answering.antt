@@ -1,5 +1,6 @@
 -- What an answer that counts comes to (RFC 8613 section 8.4, RFC 9203 section 4.2).
 use Rattle.std.specs.Prelude.{◌≡◌, ℕ, ◌/◌, Bool, true, false, ◌==◌, ◌||◌, List, [], Option, Some, None, Result, Ok, Err, unwrap_or}
+use Rattle.osc_model.specs.Refusals as refusal
 use Rattle.osc_model.specs.StepNotes.{StepNotes, quiet}
 use Rattle.osc_model.specs.Code.{code}
 use Rattle.osc_model.specs.declared.code.Code.{Code}
@@ -14,7 +15,7 @@ use Rattle.osc_options.specs.Split.{has_oscore}
 use Rattle.osc_context.specs.Algorithm.{algorithm_of}
 use Rattle.osc_context.specs.Derivation.{key_of}
 use Rattle.osc_protect.specs.Aad.{aad_of}
-use Rattle.osc_protect.specs.Ciphers.{Sealings}
+use Rattle.osc_ccm.specs.Ciphers.{Sealings}
 use Rattle.osc_protect.specs.Protection.{SealedResponse, IsResponse, response_nonce}
 use Rattle.osc_authz.specs.Begun.{Begun, ClientContextState}
 use Rattle.osc_authz.specs.Client.{Finishes}
@@ -22,7 +23,7 @@ use Rattle.osc_authz.specs.declared.error.FinishError.{FinishError}
 use Rattle.osc_authz.specs.declared.error.FinishError.TheVariants.{Fields, EqualIds, Memory}
 use Rattle.osc_authz.specs.declared.granted.ClientDesk.{ClientDesk}
 use Rattle.osc_run.specs.ClientKinds.{response_note}
-use Rattle.osc_run.specs.Texts.{IsReplyIn}
+use Rattle.osc_options.specs.Texts.{IsReplyIn}
 use Rattle.osc_client.specs.declared.answering.Outcome.{Outcome}
 use Rattle.osc_client.specs.declared.answering.Outcome.TheVariants.{Stays, Makes, Answers, Ends}
 use Rattle.osc_client.specs.declared.waiting.Awaited.{Awaited}
@@ -44,8 +45,8 @@ code_of message = record { 0 = message.code }
 
 abbrev pub ended_by : Result ClientContextState FinishError → Outcome
 ended_by (Ok made) = Makes made
-ended_by (Err Fields) = Ends (result.Refused 30)
-ended_by (Err EqualIds) = Ends (result.Refused 20)
+ended_by (Err Fields) = Ends (result.Refused refusal.fields)
+ended_by (Err EqualIds) = Ends (result.Refused refusal.equal_ids)
 ended_by (Err (Memory begun)) = Stays None
 
 -- a success finishes it

@@ -1,4 +1,4 @@
--- Which case a datagram is to a client: the first test that holds, read from the top.
+-- Which case a new message is to a client: the first test that holds, read from the top.
 use Rattle.std.specs.Prelude.{ℕ, Bool, true, false, ◌&&◌, nat_eq, bytes_eq, if◌then◌else◌, Option, Some, None, is_some}
 use Rattle.osc_model.specs.declared.node.Peer.{Peer}
 use Rattle.osc_coap.specs.Code.{is_request_code}
@@ -8,10 +8,8 @@ use Rattle.osc_coap.specs.declared.kind.Kind.TheVariants.{Reset as ResetKind}
 use Rattle.osc_options.specs.Recognised.{unrecognised_critical}
 use Rattle.osc_message.specs.Confirmables.{same_peer}
 use Rattle.osc_message.specs.Sending.{is_acknowledgement, is_confirmable}
-use Rattle.osc_message.specs.declared.heard.Heard.{Heard}
-use Rattle.osc_message.specs.declared.heard.Heard.TheVariants as heard
 use Rattle.osc_client.specs.declared.case.Case.{Case}
-use Rattle.osc_client.specs.declared.case.Case.TheVariants.{Ignored, Reset, Repeated, Empty, Refused, Rejected, Dropped, Counted}
+use Rattle.osc_client.specs.declared.case.Case.TheVariants.{Refused, Unused, Counted}
 use Rattle.osc_client.specs.declared.waiting.Waiting.{Waiting}
 
 abbrev pub is_reset : Kind → Bool
@@ -29,26 +27,15 @@ abbrev pub counts : Peer → Peer → CoapMessage → Option Waiting → Bool
 counts next_hop from message None = false
 counts next_hop from message (Some waiting) = is_for next_hop from message waiting
 
--- what a client can't use is rejected, where it is confirmable, and else ignored (sections 4.2 and 4.3)
-abbrev pub unused : CoapMessage → Case
-unused message = if is_confirmable message.kind then Rejected message else Dropped message
-
 -- A critical option that isn't recognised (section 5.4.1): a confirmable request is answered. Requests aren't served. A response
 -- counts for what waits, or for nothing.
-abbrev pub message_case : Peer → Peer → Option Waiting → CoapMessage → Case
-message_case next_hop from waiting message =
+abbrev pub case_of : Peer → Peer → Option Waiting → CoapMessage → Case
+case_of next_hop from waiting message =
     if is_some (unrecognised_critical 0 message.options) then
-    (if is_request_code message.code && is_confirmable message.kind then Refused message else unused message)
-    else if is_request_code message.code then unused message
-    else if counts next_hop from message waiting then Counted message
-    else unused message
-
-abbrev pub case_of : Peer → Peer → Option Waiting → Heard → Case
-case_of next_hop from waiting heard.Ignored = Ignored
-case_of next_hop from waiting (heard.Reset id) = Reset id
-case_of next_hop from waiting (heard.Repeat id) = Repeated id
-case_of next_hop from waiting (heard.Empty kind id) = Empty kind id
-case_of next_hop from waiting (heard.Message message) = message_case next_hop from waiting message
+    (if is_request_code message.code && is_confirmable message.kind then Refused else Unused)
+    else if is_request_code message.code then Unused
+    else if counts next_hop from message waiting then Counted
+    else Unused
 
 -- a Reset ends what waits where it names its message, acknowledged before or not (section 4.2)
 abbrev pub is_named : Peer → Peer → ℕ → Option Waiting → Bool

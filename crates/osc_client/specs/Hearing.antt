@@ -9,8 +9,7 @@ use Rattle.osc_message.specs.Heard.{heard}
 use Rattle.osc_message.specs.Received.{Receives}
 use Rattle.osc_message.specs.Sending.{AreSendable}
 use Rattle.osc_message.specs.declared.received.Received.{Received}
-use Rattle.osc_protect.specs.Ciphers.{Sealings, Tags}
-use Rattle.osc_client.specs.Case.{case_of}
+use Rattle.osc_ccm.specs.Ciphers.{Sealings, Tags}
 use Rattle.osc_client.specs.Lying.{Lie, Lies}
 use Rattle.osc_client.specs.Sending.{Asked, Asks, Exchanges}
 use Rattle.osc_client.specs.Sending as sending
@@ -36,7 +35,7 @@ module _ (is_sealing : Sealings) where
   pub record Hears (old : State) (came : Arrival (List ℕ)) (step : Step) (new : State) : Type 0 where
     pub received : Received
     pub receives : Receives came.what received
-    pub answers : Answers is_sealing old came (case_of old.next_hop came.from old.waiting (heard old.endpoint.seen came.at came.from received)) step new
+    pub answers : Answers is_sealing old came (heard old.endpoint.seen came.at came.from received) step new
     pub told : AreTold is_sealing old came.at (Some came.what) step
     pub fits : AreSendable step.out
 

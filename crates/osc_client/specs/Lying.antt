@@ -1,7 +1,10 @@
 -- What a client's holder may seal that keeps no rule of its own: any text, at any number.
 use Rattle.std.specs.Prelude.{◌≡◌, ℕ, ◌+◌, ◌<◌, ◌≤◌, List, [], ◌∷◌, length, Option, Some, None}
+use Rattle.osc_model.specs.Refusals as refusal
+use Rattle.osc_model.specs.Code.{method_number}
 use Rattle.osc_model.specs.Draw.{message_id_drawn, token_drawn}
 use Rattle.osc_model.specs.StepNotes.{quiet}
+use Rattle.osc_model.specs.declared.code.Method.TheVariants.{Post}
 use Rattle.osc_model.specs.declared.context.ContextName.{ContextName}
 use Rattle.osc_model.specs.declared.node.Draw.{Draw}
 use Rattle.osc_model.specs.declared.step.Step.{Step}
@@ -9,7 +12,7 @@ use Rattle.osc_coap.specs.Building.{bare}
 use Rattle.osc_coap.specs.Message.{Message, Spells, spelling}
 use Rattle.osc_coap.specs.declared.kind.Kind.TheVariants.{Confirmable}
 use Rattle.osc_context.specs.Algorithm.{algorithm_of}
-use Rattle.osc_protect.specs.Ciphers.{Sealings, Tags}
+use Rattle.osc_ccm.specs.Ciphers.{Sealings, Tags}
 use Rattle.osc_protect.specs.Protection.{IsRequestOf, length_of_request, longest_message}
 use Rattle.osc_authz.specs.Begun.{ClientContextState}
 use Rattle.osc_run.specs.ClientKinds.{request_note}
@@ -20,7 +23,7 @@ use Rattle.osc_client.specs.Way.{HostAndPort, through}
 
 -- what goes around a lie: a confirmable POST, with a message ID and a token that are drawn (RFC 8613 section 4.2)
 abbrev pub outside_of : Option HostAndPort → Draw → Message
-outside_of origin draw = through origin (bare Confirmable 2 (message_id_drawn draw) (token_drawn draw))
+outside_of origin draw = through origin (bare Confirmable (method_number Post) (message_id_drawn draw) (token_drawn draw))
 
 -- the text that is sealed, and the number at which it is
 pub record Lie : Type 0 where
@@ -36,9 +39,9 @@ module _ (is_sealing : Sealings) (tag : Tags) where
   -- 22 without a context, and 14 where it would be longer than a datagram may be; else a protected request with this text and this number
   -- goes out, sealed under the context that the client has, as bytes that are read again as it
   pub data Lies (client : State) (lie : Lie) (draw : Draw) (step : Step) : Type 0 where
-    no_context : client.context ≡ None → step ≡ refusing 22 → Lies client lie draw step
+    no_context : client.context ≡ None → step ≡ refusing refusal.no_context → Lies client lie draw step
     too_long : (context : ClientContextState) → client.context ≡ Some context
-        → longest_message < lie_length context.name lie (outside_of client.origin draw) → step ≡ refusing 14 → Lies client lie draw step
+        → longest_message < lie_length context.name lie (outside_of client.origin draw) → step ≡ refusing refusal.datagram_too_long → Lies client lie draw step
     lies : (context : ClientContextState) (protected : Message) → client.context ≡ Some context
         → lie_length context.name lie (outside_of client.origin draw) ≤ longest_message
         → IsRequestOf is_sealing lie.text context.name lie.number (outside_of client.origin draw) protected

@@ -1,8 +1,11 @@
 -- What a client sends of its own, and what it keeps then.
 use Rattle.std.specs.Prelude.{◌≡◌, ◌≢◌, ℕ, ◌+◌, ◌<◌, ◌≤◌, Bool, true, false, ◌||◌, ◌==◌, nat_le, if◌then◌else◌, List, [], ◌∷◌, length, Option, Some, None, codes}
+use Rattle.osc_model.specs.Refusals as refusal
+use Rattle.osc_model.specs.Code.{method_number}
 use Rattle.osc_model.specs.Draw.{nonce_drawn, token_drawn}
 use Rattle.osc_model.specs.Step.{sends}
 use Rattle.osc_model.specs.StepNotes.{quiet}
+use Rattle.osc_model.specs.declared.code.Method.TheVariants.{Post}
 use Rattle.osc_model.specs.declared.node.Draw.{Draw}
 use Rattle.osc_model.specs.declared.node.Moment.{Moment}
 use Rattle.osc_model.specs.declared.node.Peer.{Peer}
@@ -21,7 +24,7 @@ use Rattle.osc_message.specs.Endpoint.{EndpointState, own_id, id_taken, after_ti
 use Rattle.osc_message.specs.Ticks.{acts, ticked, tick_sends}
 use Rattle.osc_message.specs.Timeout.{timeout_of}
 use Rattle.osc_context.specs.Nonce.{greatest_number}
-use Rattle.osc_protect.specs.Ciphers.{Sealings, Tags}
+use Rattle.osc_ccm.specs.Ciphers.{Sealings, Tags}
 use Rattle.osc_protect.specs.Protection.{IsProtectedRequest, longest_message, plain_bytes, request_length}
 use Rattle.osc_authz.specs.Begun.{Begun, ClientContextState}
 use Rattle.osc_authz.specs.Client.{offered_id}
@@ -69,10 +72,14 @@ pub record IsRefused (number : ℕ) (old : State) (step : Step) (new : State) : 
 abbrev pub begun_by : State → Draw → Begun
 begun_by old draw = record { nonce1 = nonce_drawn draw; recipient_id = offered_id old.context }
 
+-- the Content-Format application/ace+cbor (RFC 9203 section 3)
+abbrev pub ace_cbor : ℕ
+ace_cbor = 19
+
 -- a post with this body: confirmable, to authz-info, as application/ace+cbor
 abbrev pub post_with : ℕ → List ℕ → List ℕ → Message
 post_with id token body =
-    record (bare Confirmable 2 id token) { options = (uri_path, codes "authz-info") ∷ (content_format, 19 ∷ []) ∷ []; payload = payload_of body }
+    record (bare Confirmable (method_number Post) id token) { options = (uri_path, codes "authz-info") ∷ (content_format, ace_cbor ∷ []) ∷ []; payload = payload_of body }
 
 abbrev pub post_of : ClientDesk → Begun → ℕ → List ℕ → Message
 post_of desk begun id token = post_with id token (item_spelling (post_item desk.token begun.nonce1 (begun.recipient_id ∷ [])))
@@ -97,8 +104,8 @@ PostIsTooLong client = OfEachPost (λ size. longest_message < size) client.desk 
 -- 17 where something is open, 14 where the post is longer than a datagram may be, and else it goes out, as bytes that are read again
 -- as it
 pub data Exchanges (old : State) (now : Moment) (draw : Draw) (step : Step) (new : State) : Type 0 where
-  busy : old.waiting ≢ None → IsRefused 17 old step new → Exchanges old now draw step new
-  too_long : old.waiting ≡ None → longest_message < length (spelling (post_by old draw)) → IsRefused 14 old step new
+  busy : old.waiting ≢ None → IsRefused refusal.busy old step new → Exchanges old now draw step new
+  too_long : old.waiting ≡ None → longest_message < length (spelling (post_by old draw)) → IsRefused refusal.datagram_too_long old step new
       → Exchanges old now draw step new
   begins : old.waiting ≡ None → length (spelling (post_by old draw)) ≤ longest_message → Spells (spelling (post_by old draw)) (post_by old draw)
       → step ≡ record { out = datagram old.next_hop (post_by old draw) ∷ []; notes = record quiet { drawn = Some (nonce_drawn draw) } }
@@ -158,11 +165,11 @@ module _ (is_sealing : Sealings) (tag : Tags) where
   -- why a request isn't sent, by its number: something is open; there is no context; its numbers are used up; protected under the next
   -- one it would be longer than a datagram may be
   pub data IsHindered (old : State) (request : Request) (draw : Draw) (number : ℕ) : Type 0 where
-    busy : number ≡ 17 → old.waiting ≢ None → IsHindered old request draw number
-    no_context : number ≡ 22 → old.waiting ≡ None → old.context ≡ None → IsHindered old request draw number
-    exhausted : number ≡ 18 → (context : ClientContextState) → old.waiting ≡ None → old.context ≡ Some context → greatest_number < context.next
+    busy : number ≡ refusal.busy → old.waiting ≢ None → IsHindered old request draw number
+    no_context : number ≡ refusal.no_context → old.waiting ≡ None → old.context ≡ None → IsHindered old request draw number
+    exhausted : number ≡ refusal.exhausted → (context : ClientContextState) → old.waiting ≡ None → old.context ≡ Some context → greatest_number < context.next
         → IsHindered old request draw number
-    too_long : number ≡ 14 → (context : ClientContextState) → old.waiting ≡ None → old.context ≡ Some context → context.next ≤ greatest_number
+    too_long : number ≡ refusal.datagram_too_long → (context : ClientContextState) → old.waiting ≡ None → old.context ≡ Some context → context.next ≤ greatest_number
         → longest_message < request_length tag context.name context.next (plain_of old draw request) → IsHindered old request draw number
 
   -- nothing hinders it, under this context

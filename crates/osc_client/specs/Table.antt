@@ -1,10 +1,9 @@
--- What a client sends in each case, and what it keeps after it.
-use Rattle.std.specs.Prelude.{◌≡◌, ℕ, Bool, true, false, List, [], ◌∷◌, Some, None, IsSome, option_map}
+-- What a client sends for each thing that it hears, and what it keeps after it.
+use Rattle.std.specs.Prelude.{◌≡◌, ◌≢◌, ℕ, Bool, true, false, List, [], ◌∷◌, Option, Some, None, option_map}
 use Rattle.osc_model.specs.Arrival.{Arrival, read_as}
 use Rattle.osc_model.specs.Code.{code}
 use Rattle.osc_model.specs.Step.{sends}
 use Rattle.osc_model.specs.StepNotes.{quiet}
-use Rattle.osc_model.specs.declared.node.Moment.{Moment}
 use Rattle.osc_model.specs.declared.node.Peer.{Peer}
 use Rattle.osc_model.specs.declared.step.ClientResult.TheVariants.{Unverified}
 use Rattle.osc_model.specs.declared.step.Datagram.{Datagram}
@@ -13,17 +12,17 @@ use Rattle.osc_coap.specs.Building.{bare}
 use Rattle.osc_coap.specs.Message.{Message, spelling}
 use Rattle.osc_coap.specs.declared.kind.Kind.TheVariants.{Acknowledgement}
 use Rattle.osc_message.specs.Endpoint.{EndpointState, settled}
-use Rattle.osc_message.specs.Heard.{noted_reply}
-use Rattle.osc_message.specs.Sending.{acknowledgement, reset, again, datagram, sent_to}
+use Rattle.osc_message.specs.Sending.{acknowledgement, datagram, is_confirmable, rejection, sent_to}
 use Rattle.osc_message.specs.declared.handling.Handling.TheVariants as handling
+use Rattle.osc_message.specs.declared.heard.Heard.{Heard}
 use Rattle.osc_message.specs.declared.heard.Heard.TheVariants as heard
-use Rattle.osc_protect.specs.Ciphers.{Sealings}
+use Rattle.osc_ccm.specs.Ciphers.{Sealings}
 use Rattle.osc_client.specs.Answering.{Comes, CountsInMemory, context_after, notes_of, waits_after}
-use Rattle.osc_client.specs.Case.{is_ended}
+use Rattle.osc_client.specs.Case.{case_of, is_ended}
 use Rattle.osc_client.specs.State.{State}
 use Rattle.osc_client.specs.declared.answering.Outcome.{Outcome}
 use Rattle.osc_client.specs.declared.case.Case.{Case}
-use Rattle.osc_client.specs.declared.case.Case.TheVariants.{Ignored, Reset, Repeated, Empty, Refused, Rejected, Dropped, Counted}
+use Rattle.osc_client.specs.declared.case.Case.TheVariants.{Refused, Unused, Counted}
 use Rattle.osc_client.specs.declared.waiting.Waiting.{Waiting}
 
 -- 4.02 (Bad Option), in the acknowledgement of the request (RFC 7252 section 5.4.1)
@@ -40,7 +39,7 @@ SendsOne peer (sent ∷ next ∷ later) = ⊥
 abbrev pub Settles : Bool → State → EndpointState → Step → State → Type 0
 Settles false old endpoint step new = (step ≡ sends []) × (new ≡ record old { endpoint = endpoint })
 Settles true old endpoint step new =
-    (step ≡ record { out = []; notes = record quiet { result = Some (Unverified (record { 0 = 0 })) } })
+    (step ≡ record { out = []; notes = record quiet { result = Some (Unverified (code 0 0)) } })
     × (new ≡ record old { waiting = None; endpoint = endpoint })
 
 -- `is_sealing algorithm` is the relation of the algorithm's cipher
@@ -60,25 +59,32 @@ module _ (is_sealing : Sealings) where
           endpoint = settled old.endpoint came.at came.from (heard.Message came.what) (handling.Counted waiting.id (option_map spelling (acknowledgement came.what)));
         }
 
-  abbrev pub Answers : State → Arrival (List ℕ) → Case → Step → State → Type 0
-  Answers old came Ignored step new = (step ≡ sends []) × (new ≡ old)
-  Answers old came (Reset id) step new = (step ≡ sends (datagram came.from (reset id) ∷ [])) × (new ≡ old)
-  Answers old came (Repeated id) step new = (step ≡ sends (again came.from (noted_reply old.endpoint.seen came.at came.from id))) × (new ≡ old)
-  Answers old came (Empty kind id) step new =
-      Settles (is_ended old.next_hop came.from kind id old.waiting) old (settled old.endpoint came.at came.from (heard.Empty kind id) handling.Dropped) step new
-  Answers old came (Refused message) step new =
-      (step ≡ sends (datagram came.from (refusal message) ∷ []))
-      × (new ≡ record old { endpoint = settled old.endpoint came.at came.from (heard.Message message) (handling.Answered (Some (spelling (refusal message)))) })
-  Answers old came (Rejected message) step new = (step ≡ sends (datagram came.from (reset message.id) ∷ [])) × (new ≡ old)
-  Answers old came (Dropped message) step new =
-      (step ≡ sends []) × (new ≡ record old { endpoint = settled old.endpoint came.at came.from (heard.Message message) handling.Dropped })
-  Answers old came (Counted message) step new = Counts old (read_as came message) step new
+  -- A new message, in each case. What a client has no use for is rejected, where it is confirmable, and else ignored; an acknowledgement
+  -- acknowledges all the same.
+  abbrev pub AnswersNew : State → Arrival Message → Case → Step → State → Type 0
+  AnswersNew old came Refused step new =
+      (step ≡ sends (datagram came.from (refusal came.what) ∷ []))
+      × (new ≡ record old { endpoint = settled old.endpoint came.at came.from (heard.Message came.what) (handling.Answered (Some (spelling (refusal came.what)))) })
+  AnswersNew old came Unused step new =
+      (step ≡ sends (rejection came.from came.what.kind came.what.id))
+      × (new ≡ record old { endpoint = settled old.endpoint came.at came.from (heard.Message came.what) handling.Dropped })
+  AnswersNew old came Counted step new = Counts old came step new
 
--- What takes memory: what is sent, or read. Of a repeat something is sent where the message was answered before.
-abbrev pub TakesMemory : State → Moment → Peer → Case → Type 0
-TakesMemory old now from Ignored = ⊥
-TakesMemory old now from (Repeated id) = IsSome (noted_reply old.endpoint.seen now from id)
-TakesMemory old now from (Empty kind id) = ⊥
-TakesMemory old now from (Dropped message) = ⊥
-TakesMemory old now from (Counted message) = CountsInMemory old.waiting message
-TakesMemory old now from case = Unit {0}
+  -- What the message layer answers by itself changes nothing; an empty message is settled; a new message is answered as its case says.
+  abbrev pub Answers : State → Arrival (List ℕ) → Heard → Step → State → Type 0
+  Answers old came (heard.Alone out) step new = (step ≡ sends out) × (new ≡ old)
+  Answers old came (heard.Empty kind id) step new =
+      Settles (is_ended old.next_hop came.from kind id old.waiting) old (settled old.endpoint came.at came.from (heard.Empty kind id) handling.Dropped) step new
+  Answers old came (heard.Message message) step new = AnswersNew old (read_as came message) (case_of old.next_hop came.from old.waiting message) step new
+
+-- What takes memory of a new message: what is sent, or read.
+abbrev pub NewTakesMemory : Option Waiting → Message → Case → Type 0
+NewTakesMemory waiting message Refused = Unit {0}
+NewTakesMemory waiting message Unused = is_confirmable message.kind ≡ true
+NewTakesMemory waiting message Counted = CountsInMemory waiting message
+
+-- the same of all that is heard
+abbrev pub TakesMemory : State → Peer → Heard → Type 0
+TakesMemory old from (heard.Alone out) = out ≢ []
+TakesMemory old from (heard.Empty kind id) = ⊥
+TakesMemory old from (heard.Message message) = NewTakesMemory old.waiting message (case_of old.next_hop from old.waiting message)

@@ -12,9 +12,9 @@ use Rattle.osc_coap.specs.Message.{Message, spelling}
 use Rattle.osc_options.specs.Split.{has_oscore}
 use Rattle.osc_message.specs.Confirmables.{Open}
 use Rattle.osc_message.specs.Heard.{noted_reply}
-use Rattle.osc_protect.specs.Ciphers.{Sealings}
+use Rattle.osc_ccm.specs.Ciphers.{Sealings}
 use Rattle.osc_run.specs.Seals.{IsOpenOf, IsSealOf}
-use Rattle.osc_run.specs.Texts.{IsReplyIn}
+use Rattle.osc_options.specs.Texts.{IsReplyIn}
 use Rattle.osc_client.specs.State.{State}
 
 -- A datagram for which nothing is sealed in this step: its message has no OSCORE option; or it is an open message, which is sent

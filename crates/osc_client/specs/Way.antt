@@ -19,9 +19,13 @@ pub record IsLawfulOrigin (origin : HostAndPort) : Type 0 where
   pub host : IsHost origin.host
   pub port : origin.port < 65536
 
--- Uri-Port, where the port isn't that of the scheme (sections 5.10.1 and 6.1)
+-- the port of the scheme `coap` (section 6.1)
+abbrev pub default_port : ℕ
+default_port = 5683
+
+-- Uri-Port, where the port isn't that of the scheme (section 5.10.1)
 abbrev pub port_options : ℕ → List NumberAndValue
-port_options port = if port == 5683 then [] else (uri_port, uint_bytes port) ∷ []
+port_options port = if port == default_port then [] else (uri_port, uint_bytes port) ∷ []
 
 -- By these a proxy finds the server: Uri-Host, Uri-Port and Proxy-Scheme (sections 5.10.1 and 5.10.2).
 abbrev pub proxy_options : Option HostAndPort → List NumberAndValue

@@ -8,7 +8,7 @@ ghost use Rattle.osc_model.specs.declared.reply.Reply.{Reply as AnyReply};
 ghost use Rattle.osc_options.specs.Split.{has_oscore as has_oscore_in};
 ghost use Rattle.osc_protect.specs.Protection.{IsResponse};
 ghost use Rattle.osc_run.specs.ClientKinds.{response_note};
-ghost use Rattle.osc_run.specs.Texts.{IsReplyIn};
+ghost use Rattle.osc_options.specs.Texts.{IsReplyIn};
 ghost use Rattle.osc_client.specs.Answering.{AskComes, Comes, ExchangeComes, IsFinish, IsRead, IsSealedFor, awaited_after, code_of, context_after, is_error as is_error_of, is_success as is_success_of, notes_of, waits_after};
 ghost use Rattle.osc_client.specs.Inner.Bounds.{IsEnd, IsLawful, NeedsContext};
 ghost use Rattle.osc_client.specs.Inner.Opened.{ComesOf};
@@ -18,12 +18,13 @@ ghost use Rattle.osc_model.specs.declared.step.ClientResult.TheVariants as ended
 
 use crate::waiting::{Awaited, OpenAsk, Waiting};
 use osc_authz::{ClientContext, ClientDesk, FinishError, OpenExchange};
+use osc_ccm::Ciphers;
 use osc_coap::MessageRef;
 use osc_coap::laws::reading;
-use osc_model::{ClientResult, Code, Note, Reply, StepNotes};
+use osc_model::{ClientResult, Code, Note, Reply, StepNotes, refusals};
 use osc_options::numbers::OSCORE;
 use osc_options::{PlaintextError, has_option, reply_of};
-use osc_protect::{Ciphers, SealedResponseRef, open_response, read_response};
+use osc_protect::{SealedResponseRef, open_response, read_response};
 use std::alloc::{AllocError, Global};
 
 /// What an answer that counts comes to.
@@ -117,16 +118,10 @@ fn finish(
     match desk.finish(alloc, begun, Code(message.code()), payload) {
         Ok(made) => Ok(Outcome::Makes(made)),
         Err(FinishError::Memory(back)) => Err(back),
-        Err(FinishError::Fields) => Ok(Outcome::Ends(ClientResult::Refused(FIELDS))),
-        Err(FinishError::EqualIds) => Ok(Outcome::Ends(ClientResult::Refused(EQUAL_IDS))),
+        Err(FinishError::Fields) => Ok(Outcome::Ends(ClientResult::Refused(refusals::FIELDS))),
+        Err(FinishError::EqualIds) => Ok(Outcome::Ends(ClientResult::Refused(refusals::EQUAL_IDS))),
     }
 }
-
-/// An answer to an exchange makes no context (30).
-const FIELDS: u8 = 30;
-
-/// The server's ID is the client's (20).
-const EQUAL_IDS: u8 = 20;
 
 /// What an answer to a protected request comes to.
 fn ask_outcome<A: Ciphers>(

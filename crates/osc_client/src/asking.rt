@@ -1,46 +1,52 @@
 //! Protected requests.
-ghost use Rattle.std.specs.Prelude.{◌≡◌, ◌≢◌, ◌≤◌, ◌<◌, [], ◌∷◌, length, None, Some, IfOk, IsOk, IsSome, IfSome, ◌↔◌, ◌+◌};
-ghost use Rattle.osc_coap.specs.Length.{datagram_limit};
+ghost use Rattle.std.specs.Prelude.{◌≡◌, ◌≤◌, ◌↔◌, ◌+◌, length, IfOk, IsSome, IfSome};
 ghost use Rattle.osc_coap.specs.Message.{spelling};
 ghost use Rattle.osc_context.specs.Nonce.{greatest_number};
+ghost use Rattle.osc_options.specs.PlaintextRequests.{request_plaintext};
+ghost use Rattle.osc_options.specs.Split.{unprotected};
 ghost use Rattle.osc_protect.specs.Protection.{HasShortContext, IsProtectedRequest, longest_message, plain_bytes, request_length};
-ghost use Rattle.osc_client.specs.Inner.Bounds.{room_for};
+ghost use Rattle.osc_client.specs.Inner.Bounds.{room_for, size_for};
 ghost use Rattle.osc_client.specs.Sending.{plain_request};
 ghost use Rattle.osc_client.specs.Way.{through as through_of};
 ghost use Rattle.osc_run.specs.ClientKinds.{request_note};
 
-use crate::proxied::through;
+use crate::proxied::outside_with;
 use crate::waiting::OpenAsk;
 use crate::way::Origin;
 use osc_authz::ClientContext;
-use osc_coap::laws::length_of_spelling;
-use osc_coap::{DatagramTooLong, Kind, MessageBuilder};
+use osc_ccm::Ciphers;
+use osc_coap::MessageBuilder;
 use osc_message::{Buffer, ReplyRoom};
 use osc_model::{Note, Request};
-use osc_options::laws::merged_options;
-use osc_options::request_message;
-use osc_protect::laws::protected_messages_are_longer;
-use osc_protect::{Ciphers, ProtectedRequest, RequestSize, Room, protect_request, request_size};
+use osc_options::laws::a_written_request;
+use osc_protect::{ProtectedRequest, RequestSize, Room, seal_request, sealed_request_size};
 use std::alloc::{AllocError, Global};
 
-/// The request as a message that goes to the server; refused only where it is longer than a datagram may be.
-fn plain_message(
-    origin: &Option<Origin>,
-    id: u16,
-    token: &[u8; 8],
+/// How long a request is under the context's next number, beside what stays outside of it, where it fits a datagram once it is protected.
+#[inline(never)]
+fn size_of<A: Ciphers>(
+    context: &ClientContext,
+    outside: &MessageBuilder,
     request: &Request,
-) -> Result<MessageBuilder, DatagramTooLong>
-    requires { 0 < request.now.code.0 }
-    ensures ok { IfOk result (λ plain. plain ≡ through_of origin.now (plain_request id token.now request.now)) }
-    ensures fits { IsOk result ↔ (length (spelling (through_of origin.now (plain_request id token.now request.now))) ≤ datagram_limit) }
+) -> Option<RequestSize>
+    requires number { context.now.next ≤ greatest_number }
+    requires short { HasShortContext context.now.name }
+    ensures size { IfSome result (λ size. size ≡ size_for A.TAG context.now (unprotected outside.now (request_plaintext request.now))) }
+    ensures fits { IsSome result
+        ↔ (request_length A.TAG context.now.name context.now.next (unprotected outside.now (request_plaintext request.now)) ≤ longest_message) }
 {
-    length_of_spelling();
-    merged_options();
-    let plain = request_message(Kind::Confirmable, id, token, request)?;
-    through(origin, plain)
+    // For the proof alone: the call tells how long the ID is.
+    let _id = context.sender().id();
+    sealed_request_size::<A>(
+        context.name(),
+        context.sender().next_number(),
+        &outside.message(),
+        request,
+    )
 }
 
-/// The request as a message, and how long it is under the context's next number, where it fits a datagram once it is protected.
+/// What stays outside of the request, and how long the request is under the context's next number, where it fits a datagram once it is
+/// protected.
 pub(crate) fn fitting<A: Ciphers>(
     context: &ClientContext,
     origin: &Option<Origin>,
@@ -48,40 +54,20 @@ pub(crate) fn fitting<A: Ciphers>(
     token: &[u8; 8],
     request: &Request,
 ) -> Option<(MessageBuilder, RequestSize)>
-    requires code { 0 < request.now.code.0 }
     requires number { context.now.next ≤ greatest_number }
     requires short { HasShortContext context.now.name }
-    ensures plain { IfSome result (λ fitting. fitting.0 ≡ through_of origin.now (plain_request id token.now request.now)) }
-    ensures size { IfSome result (λ fitting. fitting.1
-        ≡ record { plaintext = length (plain_bytes fitting.0); message = request_length A.TAG context.now.name context.now.next fitting.0 }) }
+    ensures plain { IfSome result (λ fitting. unprotected fitting.0 (request_plaintext request.now)
+        ≡ through_of origin.now (plain_request id token.now request.now)) }
+    ensures size { IfSome result (λ fitting. fitting.1 ≡ size_for A.TAG context.now (through_of origin.now (plain_request id token.now request.now))) }
     ensures fits { IsSome result
         ↔ (request_length A.TAG context.now.name context.now.next (through_of origin.now (plain_request id token.now request.now)) ≤ longest_message) }
 {
-    merged_options();
-    protected_messages_are_longer();
-    let plain = plain_message(origin, id, token, request).ok()?;
-    match size_of::<A>(context, &plain) {
-        Some(size) => Some((plain, size)),
+    a_written_request();
+    let outside = outside_with(origin, id, token);
+    match size_of::<A>(context, &outside, request) {
+        Some(size) => Some((outside, size)),
         None => None,
     }
-}
-
-/// How long the message is under the context's next number, where it fits a datagram once it is protected.
-#[inline(never)]
-fn size_of<A: Ciphers>(context: &ClientContext, plain: &MessageBuilder) -> Option<RequestSize>
-    requires number { context.now.next ≤ greatest_number }
-    requires short { HasShortContext context.now.name }
-    ensures size { IfSome result (λ size. size
-        ≡ record { plaintext = length (plain_bytes plain.now); message = request_length A.TAG context.now.name context.now.next plain.now }) }
-    ensures fits { IsSome result ↔ (request_length A.TAG context.now.name context.now.next plain.now ≤ longest_message) }
-{
-    // For the proof alone: the call tells how long the ID is.
-    let _id = context.sender().id();
-    request_size::<A>(
-        context.name(),
-        context.sender().next_number(),
-        &plain.message(),
-    )
 }
 
 /// The memory of a protected request, taken before its number.
@@ -133,20 +119,21 @@ pub(crate) struct Asked {
     pub datagram: ReplyRoom,
 }
 
-/// Protects the request under the context's next number, which is taken; takes no memory.
+/// Protects the request under the context's next number, which is taken, beside what stays outside of it; takes no memory.
 #[inline(never)]
 pub(crate) fn protected<A: Ciphers>(
     context: &mut ClientContext,
     room: AskRoom,
-    plain: &MessageBuilder,
+    outside: &MessageBuilder,
+    request: &Request,
 ) -> Asked
     requires number { context.old.next ≤ greatest_number }
     requires short { HasShortContext context.old.name }
-    requires fits { request_length A.TAG context.old.name context.old.next plain.now ≤ longest_message }
-    requires room { room ≡ room_for A.TAG context.old.name context.old.next plain.now }
-    ensures protected { IsProtectedRequest A.is_sealing context.old.name context.old.next plain.now result.message }
-    ensures note { result.note ≡ request_note context.old.name context.old.next (plain_bytes plain.now) }
-    ensures ask { result.ask ≡ record { number = context.old.next; plaintext = plain_bytes plain.now } }
+    requires fits { request_length A.TAG context.old.name context.old.next (unprotected outside.now (request_plaintext request.now)) ≤ longest_message }
+    requires room { room ≡ room_for A.TAG context.old.name context.old.next (unprotected outside.now (request_plaintext request.now)) }
+    ensures protected { IsProtectedRequest A.is_sealing context.old.name context.old.next (unprotected outside.now (request_plaintext request.now)) result.message }
+    ensures note { result.note ≡ request_note context.old.name context.old.next (plain_bytes (unprotected outside.now (request_plaintext request.now))) }
+    ensures ask { result.ask ≡ record { number = context.old.next; plaintext = plain_bytes (unprotected outside.now (request_plaintext request.now)) } }
     ensures lawful { result.ask.number ≤ greatest_number }
     ensures datagram { length (spelling result.message) ≤ result.datagram }
     ensures next { context.new ≡ record context.old { next = context.old.next + 1 } }
@@ -158,10 +145,11 @@ pub(crate) fn protected<A: Ciphers>(
     } = room;
     let number = context.take_number().unwrap();
     let taken = number.get();
-    let ProtectedRequest { message, note } = protect_request::<A>(
+    let ProtectedRequest { message, note } = seal_request::<A>(
         seal,
         number,
-        &plain.message(),
+        &outside.message(),
+        request,
     ).unwrap();
     let plaintext = plaintext.fill(note.plaintext.as_slice());
     Asked {

@@ -8,20 +8,22 @@ ghost use Rattle.osc_model.specs.declared.step.ClientResult.TheVariants as resul
 ghost use Rattle.osc_context.specs.Nonce.{greatest_number};
 ghost use Rattle.osc_authz.specs.Begun.{ClientContextState};
 ghost use Rattle.osc_message.specs.Endpoint.{fresh, settled};
-ghost use Rattle.osc_message.specs.Heard.{heard as heard_as, noted_reply as noted_reply_of};
+ghost use Rattle.osc_message.specs.Heard.{IsSendableHeard, heard as heard_as};
 ghost use Rattle.osc_message.specs.Received.{Receives};
 ghost use Rattle.osc_message.specs.declared.handling.Handling.TheVariants as handling;
 ghost use Rattle.osc_message.specs.declared.heard.Heard.TheVariants as heard;
 ghost use Rattle.osc_message.specs.declared.received.Received.{Received as AnyReceived};
 ghost use Rattle.osc_model.specs.Step.{sends};
-ghost use Rattle.osc_message.specs.Sending.{AreSendable, again, datagram};
+ghost use Rattle.osc_message.specs.Sending.{AreSendable, datagram, is_confirmable, rejection};
 ghost use Rattle.osc_client.specs.Answering.{CountsInMemory};
 ghost use Rattle.osc_client.specs.Hearing.{Begins, Hears, Requests, TellsLie, Ticks};
 ghost use Rattle.osc_client.specs.Case.{case_of as case_in, counts as counts_of, is_ended as is_ended_of};
-ghost use Rattle.osc_client.specs.Table.{Answers, Counts, SendsOne, Settles, TakesMemory, refusal as refusal_of};
+ghost use Rattle.osc_client.specs.Table.{Answers, AnswersNew, Counts, NewTakesMemory, SendsOne, Settles, TakesMemory, refusal as refusal_of};
 ghost use Rattle.osc_message.specs.Ticks.{acts};
 ghost use Rattle.osc_run.specs.ClientKinds.{ClientStep, IsSkipped};
 ghost use Rattle.osc_client.specs.State.{core, skipped_to};
+ghost use Rattle.osc_options.specs.PlaintextRequests.{request_plaintext};
+ghost use Rattle.osc_options.specs.Split.{unprotected};
 ghost use Rattle.osc_client.specs.Sending.{IsFree, IsHindered, PostFits, PostIsTooLong, acts_at, is_over_by, opened, plain_of, restarted};
 ghost use Rattle.osc_client.specs.Inner.Bounds.{AsksFor, IsLawful, NeedsContext, room_for};
 ghost use Rattle.osc_client.specs.Lawful.{IsLawfulClient};
@@ -33,17 +35,19 @@ use crate::asking::{AskRoom, Asked, fitting, protected};
 use crate::case::{Case, case_of, is_ended};
 use crate::exchanging::{each_post_fits, post_message};
 use crate::lying::{lie_under, outside};
-use crate::refusing::{BUSY, EXHAUSTED, NO_CONTEXT, TOO_LONG, refused};
+use crate::refusing::refused;
 use crate::sending::{acknowledged, refusal};
 use crate::waiting::{Awaited, Waiting};
 use crate::way::{Origin, Way};
 use osc_authz::{ClientContext, ClientDesk};
+use osc_ccm::Ciphers;
 use osc_coap::{Kind, MessageBuilder, MessageRef};
 use osc_context::NUMBER_LIMIT;
-use osc_message::laws::ticks_at_rest;
-use osc_message::{Handling, Heard, ReplyRoom, Ticked, noted, sending_reset};
-use osc_model::{ClientResult, Code, Datagrams, Draw, Moment, Peer, Request, Step, StepNotes};
-use osc_protect::Ciphers;
+use osc_message::laws::{ticks_at_rest, what_is_heard};
+use osc_message::{Handling, Heard, ReplyRoom, Ticked, noted};
+use osc_model::{
+    ClientResult, Code, Datagrams, Draw, Moment, Peer, Request, Step, StepNotes, refusals,
+};
 use osc_run::kinds;
 use std::alloc::{AllocError, Global};
 use std::marker::Model;
@@ -207,14 +211,14 @@ impl Client {
     {
         kinds::exchanges_that_start();
         if self.waiting.is_some() {
-            return Ok(refused(alloc, BUSY));
+            return Ok(refused(alloc, refusals::BUSY));
         }
         let begun = self.desk.start(self.context.as_ref(), draw);
         let mut body = Vec::new(alloc);
         self.desk.write_post(alloc, &begun, &mut body)?;
         let id = self.endpoint.own_id(draw);
         let Ok(post) = post_message(&self.origin, id, &draw.token(), &body) else {
-            return Ok(refused(alloc, TOO_LONG));
+            return Ok(refused(alloc, refusals::DATAGRAM_TOO_LONG));
         };
         let room = ReplyRoom::new(alloc, post.bytes().len())?;
         let nonce = *begun.nonce1();
@@ -242,7 +246,7 @@ impl Client {
         // What hinders a request is told without memory.
         ensures needs_memory { OnErr result ((context : ClientContextState) × IsFree A.is_sealing A.TAG self.old request.now draw.now context) }
     {
-        let (plain, room) = match self.prepared::<A>(alloc, request, draw)? {
+        let (outside, room) = match self.prepared::<A>(alloc, request, draw)? {
             Ok(prepared) => prepared,
             Err(number) => return Ok(refused(alloc, number)),
         };
@@ -252,7 +256,7 @@ impl Client {
             note,
             ask,
             datagram,
-        } = protected::<A>(context, room, &plain);
+        } = protected::<A>(context, room, &outside, request);
         let out = self.open(datagram, now, draw, &message, Awaited::Ask(ask));
         Ok(Step {
             out,
@@ -280,11 +284,11 @@ impl Client {
                 let outside = outside(&self.origin, draw);
                 lie_under::<A>(alloc, self.next_hop, context, number, text, &outside)
             }
-            None => Ok(refused(alloc, NO_CONTEXT)),
+            None => Ok(refused(alloc, refusals::NO_CONTEXT)),
         }
     }
 
-    /// The request as a message, and room for it; or the number of what hinders it.
+    /// What stays outside of the request, and room for it; or the number of what hinders it.
     #[inline(never)]
     fn prepared<A: Ciphers>(
         &self,
@@ -295,23 +299,24 @@ impl Client {
         requires { 0 < request.now.code.0 }
         ensures free { IfOk result (λ prepared. IfOk prepared (λ parts. (context : ClientContextState)
             × IsFree A.is_sealing A.TAG self.now request.now draw.now context
-            × (parts.0 ≡ plain_of self.now draw.now request.now) × (parts.1 ≡ room_for A.TAG context.name context.next parts.0))) }
+            × (unprotected parts.0 (request_plaintext request.now) ≡ plain_of self.now draw.now request.now)
+            × (parts.1 ≡ room_for A.TAG context.name context.next (plain_of self.now draw.now request.now)))) }
         ensures hindered { IfOk result (λ prepared. IfErr prepared (λ number. IsHindered A.is_sealing A.TAG self.now request.now draw.now number)) }
         ensures needs_memory { IsErr result → (context : ClientContextState) × IsFree A.is_sealing A.TAG self.now request.now draw.now context }
     {
         if self.waiting.is_some() {
-            return Ok(Err(BUSY));
+            return Ok(Err(refusals::BUSY));
         }
         let Some(context) = &self.context else {
-            return Ok(Err(NO_CONTEXT));
+            return Ok(Err(refusals::NO_CONTEXT));
         };
         if context.sender().next_number() > NUMBER_LIMIT {
-            return Ok(Err(EXHAUSTED));
+            return Ok(Err(refusals::EXHAUSTED));
         }
         let id = self.endpoint.own_id(draw);
         match fitting::<A>(context, &self.origin, id, &draw.token(), request) {
-            Some((plain, size)) => Ok(Ok((plain, AskRoom::new(alloc, context, size)?))),
-            None => Ok(Err(TOO_LONG)),
+            Some((outside, size)) => Ok(Ok((outside, AskRoom::new(alloc, context, size)?))),
+            None => Ok(Err(refusals::DATAGRAM_TOO_LONG)),
         }
     }
 
@@ -363,37 +368,53 @@ impl Client {
         ensures err { OnErr result (self.new ≡ self.old) }
         // What is neither answered nor read takes no memory.
         ensures needs_memory { OnErr result ((received : AnyReceived) × Receives bytes.now received
-            × TakesMemory self.old now from (case_in self.old.next_hop from self.old.waiting (heard_as self.old.endpoint.seen now from received))) }
+            × TakesMemory self.old from (heard_as self.old.endpoint.seen now from received)) }
     {
+        what_is_heard();
         kinds::exchanges_that_make();
-        let heard = self.endpoint.on_datagram(now, from, bytes);
-        let case = case_of(self.next_hop, from, &self.waiting, heard);
-        self.answer::<A>(alloc, now, from, case)
+        let heard = self.endpoint.on_datagram(alloc, now, from, bytes)?;
+        self.answer::<A>(alloc, now, from, heard)
     }
 
-    /// What is sent in this case, and what is kept after it.
+    /// What is sent for what is heard, and what is kept after it.
     fn answer<A: Ciphers>(
         &mut self,
         alloc: Global,
         now: Moment,
         from: Peer,
-        case: Case<'_>,
+        heard: Heard<'_>,
     ) -> Result<Step, AllocError>
-        requires { AsksFor self.old.next_hop from self.old.waiting case }
-        ensures answered { IfOk result (λ step. (draw : AnyDraw) (bytes : List ℕ) → Answers A.is_sealing self.old (record { at = now; from = from; draw = draw; what = bytes }) case.entry step self.new) }
+        requires { IsSendableHeard heard }
+        ensures answered { IfOk result (λ step. (draw : AnyDraw) (bytes : List ℕ) → Answers A.is_sealing self.old (record { at = now; from = from; draw = draw; what = bytes }) heard.entry step self.new) }
         ensures err { OnErr result (self.new ≡ self.old) }
         ensures fits { IfOk result (λ step. AreSendable step.out) }
-        ensures needs_memory { OnErr result (TakesMemory self.old now from case.entry) }
+        ensures needs_memory { OnErr result (TakesMemory self.old from heard.entry) }
     {
-        match case {
-            Case::Ignored => Ok(Step::sending(Datagrams::new(alloc))),
-            Case::Reset(id) => sending_reset(alloc, from, id),
-            Case::Repeated(id) => self.endpoint.repeat(alloc, now, from, id),
-            Case::Empty(kind, id) => Ok(self.settle_empty(alloc, now, from, kind, id)),
-            Case::Refused(message) => self.refuse(alloc, now, from, message),
-            Case::Rejected(message) => sending_reset(alloc, from, message.id()),
-            Case::Dropped(message) => Ok(self.ignore(alloc, now, from, message)),
-            Case::Counted(message) => self.count::<A>(alloc, now, from, message),
+        match heard {
+            Heard::Alone(out) => Ok(Step::sending(out)),
+            Heard::Empty(kind, id) => Ok(self.settle_empty(alloc, now, from, kind, id)),
+            Heard::Message(message) => self.answer_new::<A>(alloc, now, from, message),
+        }
+    }
+
+    /// What is sent for a new message, and what is kept after it.
+    fn answer_new<A: Ciphers>(
+        &mut self,
+        alloc: Global,
+        now: Moment,
+        from: Peer,
+        message: MessageRef<'_>,
+    ) -> Result<Step, AllocError>
+        ensures answered { IfOk result (λ step. (draw : AnyDraw) → AnswersNew A.is_sealing self.old (record { at = now; from = from; draw = draw; what = message.entry })
+            (case_in self.old.next_hop from self.old.waiting message.entry) step self.new) }
+        ensures err { OnErr result (self.new ≡ self.old) }
+        ensures fits { IfOk result (λ step. AreSendable step.out) }
+        ensures needs_memory { OnErr result (NewTakesMemory self.old.waiting message.entry (case_in self.old.next_hop from self.old.waiting message.entry)) }
+    {
+        match case_of(self.next_hop, from, &self.waiting, &message) {
+            Case::Refused => self.refuse(alloc, now, from, message),
+            Case::Unused => self.pass_over(alloc, now, from, message),
+            Case::Counted => self.count::<A>(alloc, now, from, message),
         }
     }
 
@@ -437,13 +458,23 @@ impl Client {
         Ok(Step::sending(out))
     }
 
-    /// Ignores a message; an acknowledgement acknowledges all the same.
-    fn ignore(&mut self, alloc: Global, now: Moment, from: Peer, message: MessageRef<'_>) -> Step
-        ensures step { result ≡ sends [] }
-        ensures kept { self.new ≡ record self.old { endpoint = settled self.old.endpoint now from (heard.Message message.entry) handling.Dropped } }
+    /// Rejects a message that the client has no use for, where it is confirmable, and else ignores it; an acknowledgement acknowledges all the
+    /// same.
+    fn pass_over(
+        &mut self,
+        alloc: Global,
+        now: Moment,
+        from: Peer,
+        message: MessageRef<'_>,
+    ) -> Result<Step, AllocError>
+        ensures sent { IfOk result (λ step. step ≡ sends (rejection from message.entry.kind message.entry.id)) }
+        ensures kept { OnOk result (self.new ≡ record self.old { endpoint = settled self.old.endpoint now from (heard.Message message.entry) handling.Dropped }) }
+        ensures fits { IfOk result (λ step. AreSendable step.out) }
+        ensures err { OnErr result (self.new ≡ self.old) }
+        ensures needs_memory { OnErr result (is_confirmable message.entry.kind ≡ true) }
     {
-        self.endpoint.settle_dropped(now, from, message);
-        Step::sending(Datagrams::new(alloc))
+        let step = self.endpoint.pass_over(alloc, now, from, message)?;
+        Ok(step)
     }
 
     /// What comes of a response that counts.

@@ -7,28 +7,22 @@ ghost use Rattle.osc_message.specs.Sending.{AreSendable};
 ghost use Rattle.osc_client.specs.Lying.{Lies, outside_of};
 ghost use Rattle.osc_client.specs.State.{State};
 
-use crate::proxied::outer_message;
-use crate::refusing::{TOO_LONG, refused};
+use crate::proxied::outside_with;
+use crate::refusing::refused;
 use crate::sending::message_out;
 use crate::way::Origin;
 use osc_authz::ClientContext;
-use osc_coap::{DATAGRAM_LIMIT, Kind, MessageBuilder};
-use osc_model::{Draw, Peer, Step, StepNotes};
-use osc_protect::{Ciphers, Room, UncountedRequest, protect_uncounted};
+use osc_ccm::Ciphers;
+use osc_coap::{DATAGRAM_LIMIT, MessageBuilder};
+use osc_model::{Draw, Peer, Step, StepNotes, refusals};
+use osc_protect::{Room, UncountedRequest, protect_uncounted};
 use std::alloc::{AllocError, Global};
-
-/// The code of a POST.
-const POST: u8 = 0x02;
 
 /// The message in which a lie is sealed.
 pub(crate) fn outside(origin: &Option<Origin>, draw: &Draw) -> MessageBuilder
     ensures { result ≡ outside_of origin.now draw.now }
 {
-    let message = MessageBuilder::start(Kind::Confirmable, POST, draw.message_id(), &draw.token());
-    match origin {
-        Some(origin) => outer_message(origin, &message),
-        None => message,
-    }
+    outside_with(origin, draw.message_id(), &draw.token())
 }
 
 /// Seals the text at this number under the context, in this message.
@@ -54,6 +48,6 @@ pub(crate) fn lie_under<A: Ciphers>(
             out: message_out(alloc, to, &message)?,
             notes: StepNotes::quiet().with_seal(note),
         }),
-        Err(_) => Ok(refused(alloc, TOO_LONG)),
+        Err(_) => Ok(refused(alloc, refusals::DATAGRAM_TOO_LONG)),
     }
 }

@@ -4,8 +4,8 @@ ghost use Rattle.osc_client.specs.Sending.{acts_at, restarted};
 ghost use Rattle.osc_client.specs.Steps.{IsStep, most_sent};
 
 use crate::client::Client;
+use osc_ccm::Ciphers;
 use osc_model::{Draw, Moment, Peer, Step};
-use osc_protect::Ciphers;
 use osc_run::Node;
 use std::alloc::{AllocError, Global};
 

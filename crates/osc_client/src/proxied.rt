@@ -2,16 +2,20 @@
 ghost use Rattle.std.specs.Prelude.{◌≡◌, ◌<◌, ◌≤◌, ◌↔◌, ◌++◌, None, Some, length, OnOk, IsOk, IfOk};
 ghost use Rattle.osc_coap.specs.Building.{bare, last_number};
 ghost use Rattle.osc_coap.specs.Length.{datagram_limit};
+ghost use Rattle.osc_coap.specs.declared.kind.Kind.TheVariants.{Confirmable};
 ghost use Rattle.osc_coap.specs.Message.{spelling};
 ghost use Rattle.osc_options.specs.Split.{inner_options};
 ghost use Rattle.osc_client.specs.Way.{port_options, proxy_options, through as through_of};
 
 use crate::way::Origin;
 use osc_coap::laws::length_of_spelling;
-use osc_coap::{DatagramTooLong, MessageBuilder, PlaintextRef};
+use osc_coap::{DatagramTooLong, Kind, MessageBuilder, PlaintextRef};
 use osc_options::laws::length_of_split;
 use osc_options::numbers::{PROXY_SCHEME, URI_HOST, URI_PORT};
 use osc_options::{plaintext_of, unprotected_message};
+
+/// The code of a POST.
+const POST: u8 = 0x02;
 
 /// The port of the scheme (RFC 7252 section 6.1).
 const SCHEME_PORT: u16 = 5683;
@@ -56,6 +60,18 @@ pub(crate) fn outer_message(origin: &Origin, message: &MessageBuilder) -> Messag
     add_port(&mut outer, origin.port()).unwrap();
     outer.option(PROXY_SCHEME, b"coap").unwrap();
     outer
+}
+
+/// What stays outside of a protected request (RFC 8613 section 4.2): a confirmable POST with this message ID and this token, and with the
+/// options by which a proxy finds the server, where there is one.
+pub(crate) fn outside_with(origin: &Option<Origin>, id: u16, token: &[u8; 8]) -> MessageBuilder
+    ensures { result ≡ through_of origin.now (bare Confirmable 2 id token.now) }
+{
+    let message = MessageBuilder::start(Kind::Confirmable, POST, id, token);
+    match origin {
+        Some(origin) => outer_message(origin, &message),
+        None => message,
+    }
 }
 
 /// The message with the options by which the proxy finds the server among its own; refused only where it is longer than a datagram

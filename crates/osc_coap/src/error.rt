@@ -1,8 +1,10 @@
 //! Why a datagram is no message, and why a message is not built.
 
 ghost use Rattle.std.specs.Prelude.{◌≡◌};
+ghost use Rattle.osc_model.specs.Refusals as refusal;
 ghost use Rattle.osc_coap.specs.Errors.{number_of};
 
+use osc_model::refusals;
 use thiserror::Error;
 
 /// Why a datagram is no message (RFC 7252 section 3).
@@ -22,8 +24,8 @@ impl ParseError {
         ensures { result ≡ number_of self }
     {
         match self {
-            ParseError::Version => 12,
-            ParseError::Format => 13,
+            ParseError::Version => refusals::VERSION,
+            ParseError::Format => refusals::FORMAT,
         }
     }
 }
@@ -36,8 +38,8 @@ pub struct DatagramTooLong;
 impl DatagramTooLong {
     /// The error's number, under which programs report it: 14.
     pub fn number(self) -> u8
-        ensures { result ≡ 14 }
+        ensures { result ≡ refusal.datagram_too_long }
     {
-        14
+        refusals::DATAGRAM_TOO_LONG
     }
 }

@@ -1,8 +1,10 @@
 //! Why a context isn't derived, or a number not taken.
 
 ghost use Rattle.std.specs.Prelude.{◌≡◌};
+ghost use Rattle.osc_model.specs.Refusals as refusal;
 ghost use Rattle.osc_context.specs.Errors.{number_of};
 
+use osc_model::refusals;
 use thiserror::Error;
 
 /// Why no security context is derived: the first of these that stands.
@@ -25,9 +27,9 @@ impl DeriveError {
         ensures { result ≡ number_of self }
     {
         match self {
-            DeriveError::IdTooLong => 19,
-            DeriveError::EqualIds => 20,
-            DeriveError::Memory => 9,
+            DeriveError::IdTooLong => refusals::ID_TOO_LONG,
+            DeriveError::EqualIds => refusals::EQUAL_IDS,
+            DeriveError::Memory => refusals::MEMORY,
         }
     }
 }
@@ -40,8 +42,8 @@ pub struct Exhausted;
 impl Exhausted {
     /// The number by which programs name the refusal.
     pub fn number(self) -> u8
-        ensures { result ≡ 18 }
+        ensures { result ≡ refusal.exhausted }
     {
-        18
+        refusals::EXHAUSTED
     }
 }

@@ -1,5 +1,6 @@
 -- The numbers of the refusals.
 use Rattle.std.specs.Prelude.{ℕ}
+use Rattle.osc_model.specs.Refusals as refusal
 use Rattle.osc_cose.specs.declared.error.ParseError.{ParseError}
 use Rattle.osc_cose.specs.declared.error.ParseError.TheVariants as p
 use Rattle.osc_cose.specs.declared.error.SealError.{SealError}
@@ -8,15 +9,15 @@ use Rattle.osc_cose.specs.declared.error.OpenError.{OpenError}
 use Rattle.osc_cose.specs.declared.error.OpenError.TheVariants as o
 
 abbrev pub parse_number : ParseError → ℕ
-parse_number p.Shape = 10
-parse_number p.Memory = 9
+parse_number p.Shape = refusal.shape
+parse_number p.Memory = refusal.memory
 
 abbrev pub seal_number : SealError → ℕ
-seal_number s.TooLong = 1
-seal_number s.Memory = 9
+seal_number s.TooLong = refusal.too_long
+seal_number s.Memory = refusal.memory
 
 abbrev pub open_number : OpenError → ℕ
-open_number o.Algorithm = 11
-open_number o.TooLong = 1
-open_number o.NotGenuine = 3
-open_number o.Memory = 9
+open_number o.Algorithm = refusal.algorithm
+open_number o.TooLong = refusal.too_long
+open_number o.NotGenuine = refusal.not_genuine
+open_number o.Memory = refusal.memory

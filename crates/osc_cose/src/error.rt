@@ -6,6 +6,7 @@ ghost use Rattle.osc_cose.specs.declared.error.ParseError.TheVariants as parse_v
 ghost use Rattle.osc_cose.specs.declared.error.SealError.TheVariants as seal_variants;
 ghost use Rattle.osc_cose.specs.declared.error.OpenError.TheVariants as open_variants;
 
+use osc_model::refusals;
 use std::alloc::AllocError;
 use thiserror::Error;
 
@@ -26,8 +27,8 @@ impl ParseError {
         ensures { result ≡ parse_number self }
     {
         match self {
-            ParseError::Shape => 10,
-            ParseError::Memory => 9,
+            ParseError::Shape => refusals::SHAPE,
+            ParseError::Memory => refusals::MEMORY,
         }
     }
 }
@@ -57,8 +58,8 @@ impl SealError {
         ensures { result ≡ seal_number self }
     {
         match self {
-            SealError::TooLong => 1,
-            SealError::Memory => 9,
+            SealError::TooLong => refusals::TOO_LONG,
+            SealError::Memory => refusals::MEMORY,
         }
     }
 }
@@ -94,10 +95,10 @@ impl OpenError {
         ensures { result ≡ open_number self }
     {
         match self {
-            OpenError::Algorithm => 11,
-            OpenError::TooLong => 1,
-            OpenError::NotGenuine => 3,
-            OpenError::Memory => 9,
+            OpenError::Algorithm => refusals::ALGORITHM,
+            OpenError::TooLong => refusals::TOO_LONG,
+            OpenError::NotGenuine => refusals::NOT_GENUINE,
+            OpenError::Memory => refusals::MEMORY,
         }
     }
 }

@@ -12,7 +12,7 @@ use Rattle.osc_model.specs.declared.step.ClientResult.{ClientResult}
 use Rattle.osc_model.specs.declared.step.ClientResult.TheVariants as result
 use Rattle.osc_model.specs.declared.step.Note.{Note}
 use Rattle.osc_model.specs.declared.step.Step.{Step}
-use Rattle.osc_protect.specs.Ciphers.{Sealings}
+use Rattle.osc_ccm.specs.Ciphers.{Sealings}
 use Rattle.osc_run.specs.ClientKinds.{ClientStep, IsEnding, response_note}
 use Rattle.osc_run.specs.ClientKinds as kinds
 use Rattle.osc_run.specs.History.{Acceptance, acceptance_in, acceptances}

@@ -14,7 +14,7 @@ use Rattle.osc_client.specs.State.{State as Client}
 use Rattle.osc_model.specs.Grant.{HasBegun, IsNotOver}
 use Rattle.osc_model.specs.declared.algorithm.Algorithm.TheVariants.{EightByteTag}
 use Rattle.osc_model.specs.declared.node.Moment.{Moment}
-use Rattle.osc_protect.specs.Ciphers.{IsLongerBy, Sealings}
+use Rattle.osc_ccm.specs.Ciphers.{IsLongerBy, Sealings}
 use Rattle.osc_rounds.specs.Ready.{MayExchange}
 use Rattle.osc_server.specs.State.{State as Server}
 use Rattle.osc_token.specs.Minted.{HasLawfulParts}
@@ -79,18 +79,18 @@ pub one_client : (is_sealing : Sealings) (parts : ServerParts) (own : OwnToken) 
     → (enrols : Enrols is_sealing (server_alone parts) (own_holder parts own) start) → start.clients ≡ enrols.placed ∷ []
 one_client is_sealing parts own start enrols = ap (λ (s : Beginning). s.clients) enrols.is
 
-same_client : (clients : List Placed) (a b : Placed) → clients ≡ a ∷ [] → clients ≡ b ∷ [] → a ≡ b
+same_client : (clients : List (Placed Client)) (a b : Placed Client) → clients ≡ a ∷ [] → clients ≡ b ∷ [] → a ≡ b
 same_client clients a b e f = cc
 
-pub is_begun : (is_sealing : Sealings) (parts : ServerParts) (own : OwnToken) (start : Beginning) (server : Server) (placed : Placed)
+pub is_begun : (is_sealing : Sealings) (parts : ServerParts) (own : OwnToken) (start : Beginning) (server : Server) (placed : Placed Client)
     → Enrols is_sealing (server_alone parts) (own_holder parts own) start
     → server ≡ (first_nodes start).server → start.clients ≡ placed ∷ []
-    → IsBegun is_sealing parts own (record { server = server; own = placed.client })
+    → IsBegun is_sealing parts own (record { server = server; own = placed.node })
 is_begun is_sealing parts own start server placed enrols is there = record {
   start = start;
   enrols = enrols;
   server = is;
-  own_is = ap (λ (p : Placed). p.client) (same_client start.clients placed enrols.placed there (one_client is_sealing parts own start enrols));
+  own_is = ap (λ (p : Placed Client). p.node) (same_client start.clients placed enrols.placed there (one_client is_sealing parts own start enrols));
 }
 
 pub lawful_parts : (parts : ServerParts) (own : OwnToken) → IsLawful (own_claims parts own)
@@ -111,14 +111,14 @@ module _ (is_sealing : Sealings) (tag : ℕ) (sealed_length : IsLongerBy tag (is
     (may_exchange : (before after start : Beginning) (holder : Holder) (now : Moment) (enrols : Enrols is_sealing before holder after)
     → start.key ≡ before.key → HasLawfulParts holder.claims → FitAToken holder.claims → holder.claims.audience ≡ start.audience
     → HasBegun holder.claims.not_before now → IsNotOver holder.claims.expires now
-    → length holder.iv ≡ 13 → length enrols.placed.client.desk.token < 2 ^ 64
-    → MayExchange is_sealing enrols.placed.client (begun start).nodes.server now holder.claims enrols.enrolled.entries)
+    → length holder.iv ≡ 13 → length enrols.placed.node.desk.token < 2 ^ 64
+    → MayExchange is_sealing enrols.placed.node (begun start).nodes.server now holder.claims enrols.enrolled.entries)
     (parts : ServerParts) (own : OwnToken) (device : State) (is : IsBegun is_sealing parts own device)
     (lawful : IsLawful (own_claims parts own)) (has : HasLawfulParts (own_claims parts own)) (iv_size : length own.iv ≡ 13) where
   abbrev start : Beginning
   start = is.start
 
-  token_size : length is.enrols.placed.client.desk.token < 2 ^ 64
+  token_size : length is.enrols.placed.node.desk.token < 2 ^ 64
   token_size =
       let enrolled = is.enrols.enrolled in
       omega (
@@ -152,17 +152,17 @@ module _ (is_sealing : Sealings) (tag : ℕ) (sealed_length : IsLongerBy tag (is
       }
 
 -- the device sends straight to its server
-pub straight : (is_sealing : Sealings) (parts : ServerParts) (own : OwnToken) (start : Beginning) (placed : Placed)
+pub straight : (is_sealing : Sealings) (parts : ServerParts) (own : OwnToken) (start : Beginning) (placed : Placed Client)
     → Enrols is_sealing (server_alone parts) (own_holder parts own) start → start.clients ≡ placed ∷ []
-    → (placed.client.origin ≡ None) × (placed.client.next_hop ≡ server_address)
+    → (placed.node.origin ≡ None) × (placed.node.next_hop ≡ server_address)
 straight is_sealing parts own start placed enrols there =
-    let same = ap (λ (p : Placed). p.client) (same_client start.clients placed enrols.placed there (one_client is_sealing parts own start enrols)) in
+    let same = ap (λ (p : Placed Client). p.node) (same_client start.clients placed enrols.placed there (one_client is_sealing parts own start enrols)) in
     (ap (λ (c : Client). c.origin) same ∙ enrols.enrolled.client.origin, ap (λ (c : Client). c.next_hop) same ∙ enrols.enrolled.client.next_hop)
 
 -- what stands against it: the post of its token
 pub too_long : (is_sealing : Sealings) (tag : ℕ) → IsLongerBy tag (is_sealing EightByteTag) → tag ≡ 8
-    → (parts : ServerParts) (own : OwnToken) (start : Beginning) (placed : Placed)
-    → Enrols is_sealing (server_alone parts) (own_holder parts own) start → start.clients ≡ placed ∷ [] → PostIsTooLong placed.client
+    → (parts : ServerParts) (own : OwnToken) (start : Beginning) (placed : Placed Client)
+    → Enrols is_sealing (server_alone parts) (own_holder parts own) start → start.clients ≡ placed ∷ [] → PostIsTooLong placed.node
     → IsTooLongToPost (own_holder parts own)
 too_long is_sealing tag sealed_length eight parts own start placed enrols there long =
     let enrolled = enrols.enrolled in
@@ -175,5 +175,5 @@ too_long is_sealing tag sealed_length eight parts own start placed enrols there 
       );
       placed = enrols.placed;
       client = enrolled.client;
-      too_long = subst (λ (p : Placed). PostIsTooLong p.client) (same_client start.clients placed enrols.placed there (one_client is_sealing parts own start enrols)) long;
+      too_long = subst (λ (p : Placed Client). PostIsTooLong p.node) (same_client start.clients placed enrols.placed there (one_client is_sealing parts own start enrols)) long;
     }

@@ -10,7 +10,7 @@ use Rattle.osc_model.specs.declared.node.Draw.{Draw}
 use Rattle.osc_model.specs.declared.node.Moment.{Moment}
 use Rattle.osc_model.specs.declared.step.Datagram.{Datagram}
 use Rattle.osc_model.specs.declared.step.Step.{Step}
-use Rattle.osc_protect.specs.Ciphers.{Sealings}
+use Rattle.osc_ccm.specs.Ciphers.{Sealings}
 use Rattle.osc_client.specs.State.{State as Client, core as client_core}
 use Rattle.osc_server.specs.State.{State as Server, core as server_core}
 use Rattle.osc_run.specs.ClientKinds.{ClientStep}

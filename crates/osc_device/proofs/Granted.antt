@@ -11,7 +11,7 @@ use Rattle.osc_dedup.specs.Table.{looked}
 use Rattle.osc_message.specs.Endpoint.{own_id}
 use Rattle.osc_model.specs.declared.node.Draw.{Draw}
 use Rattle.osc_model.specs.declared.node.Moment.{Moment}
-use Rattle.osc_protect.specs.Ciphers.{Sealings}
+use Rattle.osc_ccm.specs.Ciphers.{Sealings}
 use Rattle.osc_authz.specs.Table.{IsFull, alive}
 use Rattle.osc_authz.specs.declared.holding.Holding.{Holding}
 use Rattle.osc_scope.specs.Entries.{Entry}

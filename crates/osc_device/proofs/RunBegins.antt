@@ -6,7 +6,7 @@ use Rattle.osc_authz.specs.Contexts.{of_tokens}
 use Rattle.osc_authz.specs.Members.{In}
 use Rattle.osc_client.specs.State.{State as Client, core as client_core, outstanding}
 use Rattle.osc_model.specs.Grant.{Grant}
-use Rattle.osc_protect.specs.Ciphers.{Sealings}
+use Rattle.osc_ccm.specs.Ciphers.{Sealings}
 use Rattle.osc_cbor.specs.Spelling.{spelling}
 use Rattle.osc_run.specs.Runs.{IsNewClient, IsReached, IsStart, IsTextOf}
 use Rattle.osc_run.specs.States.{ClientState, Minted}
@@ -90,7 +90,7 @@ module _ (is_sealing : Sealings)
       subst (λ (c : Client). IsNewClient (others ++ one ∷ []) (length clients) (client_core c)) (sym is.own_is) (record {
         holds = record { held = one; granted = in_back one others (one ∷ []) (inl refl); holder = refl; secret = sym placed.desk.secret };
         context = placed.context;
-        outstanding = ap (outstanding is.enrols.placed.client.context) placed.waiting;
+        outstanding = ap (outstanding is.enrols.placed.node.context) placed.waiting;
       })
 
   more : (number : ℕ) (client : ClientState) → IsNewClient others number client → IsNewClient (others ++ one ∷ []) number client

@@ -1,6 +1,7 @@
 -- What a request of the device's own comes to.
 use Rattle.std.specs.Prelude.{◌≡◌, ◌≢◌, ℕ, false, List, [], Option, Some, None}
 use Rattle.std.specs.Option.{IsSome}
+use Rattle.osc_model.specs.Refusals as refusal
 use Rattle.osc_model.specs.Apply.{apply_read}
 use Rattle.osc_model.specs.Code.{code, method_number}
 use Rattle.osc_model.specs.declared.code.Method.{Method}
@@ -14,12 +15,12 @@ use Rattle.osc_dedup.specs.Table.{looked}
 use Rattle.osc_message.specs.Endpoint.{own_id}
 use Rattle.osc_scope.specs.Entries.{Entry}
 use Rattle.osc_token.specs.declared.claims.Claims.{Claims}
-use Rattle.osc_protect.specs.Ciphers.{Sealings}
+use Rattle.osc_ccm.specs.Ciphers.{Sealings}
 use Rattle.osc_authz.specs.Begun.{ClientContextState}
 use Rattle.osc_authz.specs.Held.{Held}
 use Rattle.osc_client.specs.Sending.{Asked}
 use Rattle.osc_run.specs.ServerKinds.{Replies as AppliesTo}
-use Rattle.osc_run.specs.Texts.{read_request}
+use Rattle.osc_options.specs.Texts.{read_request}
 use Rattle.osc_server.specs.Table.{notes_of_request}
 use Rattle.osc_rounds.specs.AskRound.{asked_text}
 use Rattle.osc_rounds.specs.ExchangeRound.{IsHeld}
@@ -35,7 +36,7 @@ pub record IsReady (device : State) (now : Moment) (draw : Draw) (context : Clie
 
 -- the request wasn't too long for a datagram, and no step wanted memory
 pub record IsWhole (round : Round) : Type 0 where
-  pub fits : round.begun.notes.result ≢ Some (result.Refused 14)
+  pub fits : round.begun.notes.result ≢ Some (result.Refused refusal.datagram_too_long)
   pub served : IsSome round.served
   pub learnt : IsSome round.learnt
 

@@ -5,11 +5,12 @@ use Rattle.osc_cbor.specs.Spelling.{spelling}
 use Rattle.osc_client.specs.Sending.{PostIsTooLong}
 use Rattle.osc_cose.specs.Encrypt0.{object_item}
 use Rattle.osc_model.specs.declared.algorithm.Algorithm.TheVariants.{EightByteTag}
-use Rattle.osc_protect.specs.Ciphers.{Sealings}
+use Rattle.osc_ccm.specs.Ciphers.{Sealings}
 use Rattle.osc_scope.specs.Entries.{Entry}
 use Rattle.osc_token.specs.Minted.{HasLawfulParts}
 use Rattle.osc_token.specs.Token.{claims_item, token_object}
 use Rattle.osc_token.specs.declared.claims.Claims.{Claims}
+use Rattle.osc_client.specs.State.{State as Client}
 use Rattle.osc_world.specs.Refusals.{Refuses}
 use Rattle.osc_world.specs.Starts.{Beginning, Enrols, IsPlaced, first_nodes}
 use Rattle.osc_world.specs.declared.nodes.Placed.{Placed}
@@ -57,9 +58,9 @@ server_alone parts = record {
 pub record IsTooLongToPost (holder : Holder) : Type 0 where
   pub ciphertext : List ℕ
   pub sealed_size : length ciphertext ≡ length (spelling (claims_item holder.claims)) + 8
-  pub placed : Placed
+  pub placed : Placed Client
   pub client : IsPlaced holder (spelling (object_item (token_object holder.iv ciphertext))) placed
-  pub too_long : PostIsTooLong placed.client
+  pub too_long : PostIsTooLong placed.node
 
 -- Why there is none: a token id that is too long; why the device can't be enrolled; or a token whose post fits no datagram.
 abbrev pub IsNoDevice : ServerParts → OwnToken → NewError → Type 0
@@ -74,7 +75,7 @@ module _ (is_sealing : Sealings) where
     pub start : Beginning
     pub enrols : Enrols is_sealing (server_alone parts) (own_holder parts own) start
     pub server : device.server ≡ (first_nodes start).server
-    pub own_is : device.own ≡ enrols.placed.client
+    pub own_is : device.own ≡ enrols.placed.node
 
   -- The device's token has these claims and this scope, was minted under its server's key and for its audience, and counts at all times.
   pub record IsGranted (device : State) (claims : Claims) (entries : List Entry) : Type 0 where

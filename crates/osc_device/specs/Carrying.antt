@@ -9,16 +9,15 @@ use Rattle.osc_model.specs.declared.step.Step.{Step}
 use Rattle.osc_message.specs.Heard.{heard as heard_as}
 use Rattle.osc_message.specs.Received.{Receives}
 use Rattle.osc_message.specs.declared.received.Received.{Received}
-use Rattle.osc_protect.specs.Ciphers.{Sealings, Tags}
+use Rattle.osc_ccm.specs.Ciphers.{Sealings, Tags}
 use Rattle.osc_run.specs.ClientKinds.{ClientStep}
 use Rattle.osc_run.specs.Nodes.{Came}
-use Rattle.osc_client.specs.Case.{case_of as client_case}
 use Rattle.osc_client.specs.Hearing.{Requests}
 use Rattle.osc_client.specs.Sending.{Asked}
 use Rattle.osc_client.specs.State.{State as Client, core as client_core}
 use Rattle.osc_client.specs.Steps.{IsStep as IsClientStep}
 use Rattle.osc_client.specs.Table.{TakesMemory}
-use Rattle.osc_server.specs.Case.{IsAnswered, case_of as server_case}
+use Rattle.osc_server.specs.Case.{IsAnswered}
 use Rattle.osc_server.specs.State.{State as Server}
 use Rattle.osc_server.specs.Steps.{IsStep as IsServerStep}
 use Rattle.osc_device.specs.State.{State, own_address, server_address}
@@ -32,13 +31,13 @@ IsLost old step new = (step ≡ None) × (new ≡ old)
 abbrev pub ServerTakesMemory : Server → Arrival (List ℕ) → Type 0
 ServerTakesMemory old came =
     (received : Received) × Receives came.what received
-    × IsAnswered old.endpoint.seen came (server_case old.open_scope (heard_as old.endpoint.seen came.at came.from received))
+    × IsAnswered old.open_scope (heard_as old.endpoint.seen came.at came.from received)
 
 -- and so of a client: it answers or reads them
 abbrev pub ClientTakesMemory : Client → Moment → List ℕ → Type 0
 ClientTakesMemory old now bytes =
     (received : Received) × Receives bytes received
-    × TakesMemory old now server_address (client_case old.next_hop server_address old.waiting (heard_as old.endpoint.seen now server_address received))
+    × TakesMemory old server_address (heard_as old.endpoint.seen now server_address received)
 
 -- one datagram of these bytes is what goes out
 abbrev pub IsOne : List Datagram → Datagram → Type 0

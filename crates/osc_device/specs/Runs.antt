@@ -14,7 +14,7 @@ use Rattle.osc_run.specs.OneHistory.{IsReplyOfRequest, OneHistory}
 use Rattle.osc_run.specs.Premise.{Premise}
 use Rattle.osc_run.specs.Runs.{IsNewClient, IsReached, IsTextOf}
 use Rattle.osc_run.specs.States.{ClientState, Minted, WorldState, grants_of}
-use Rattle.osc_run.specs.Texts.{read_request}
+use Rattle.osc_options.specs.Texts.{read_request}
 use Rattle.osc_server.specs.State.{core as server_core}
 use Rattle.osc_device.specs.State.{State}
 use Rattle.osc_device.specs.declared.round.Round.{Round}

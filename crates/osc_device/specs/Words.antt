@@ -11,7 +11,7 @@ use Rattle.osc_model.specs.declared.step.Datagram.{Datagram}
 use Rattle.osc_model.specs.declared.step.Entry.{Entry}
 use Rattle.osc_model.specs.declared.step.RefusedRequest.{RefusedRequest}
 use Rattle.osc_model.specs.declared.step.Step.{Step}
-use Rattle.osc_run.specs.Texts.{read_request}
+use Rattle.osc_options.specs.Texts.{read_request}
 
 -- ---- a protected request that was served
 

@@ -1,6 +1,7 @@
 //! Where a device begins.
 ghost use Rattle.std.specs.Prelude.{◌≡◌, ◌∷◌, ◌<◌, ◌^◌, [], IfErr, IfOk, OnOk, length};
 ghost use Rattle.std.specs.Str.{IsUtf8};
+ghost use Rattle.osc_client.specs.State.{State as AnyClient};
 ghost use Rattle.osc_world.specs.Refusals.{IsLawful, Refuses};
 ghost use Rattle.osc_world.specs.Starts.{Enrols, first_nodes};
 ghost use Rattle.osc_world.specs.declared.nodes.Placed.{Placed as AnyPlaced};
@@ -8,9 +9,9 @@ ghost use Rattle.osc_device.specs.Begun.{own_claims, own_holder as own_holder_of
 ghost use Rattle.osc_device.specs.declared.own_token.ServerParts.{ServerParts as AnyParts};
 
 use crate::own_token::{OwnToken, ServerParts};
-use osc_client::Way;
+use osc_ccm::Ciphers;
+use osc_client::{Client, Way};
 use osc_model::{Algorithm, Bytes, Peer};
-use osc_protect::Ciphers;
 use osc_server::Server;
 use osc_token::{Audience, Claims, InputMaterial};
 use osc_world::{EnrollError, Holder, Parts, Placed, Start};
@@ -89,16 +90,13 @@ pub(crate) fn enrolled<A: Ciphers>(
 }
 
 /// The nodes of a beginning with one client.
-pub(crate) fn nodes_of(alloc: Global, start: Start) -> Result<(Server, Placed), AllocError>
-    requires { (placed : AnyPlaced) × (start.clients ≡ placed ∷ []) }
+pub(crate) fn nodes_of(alloc: Global, start: Start) -> Result<(Server, Placed<Client>), AllocError>
+    requires { (placed : AnyPlaced AnyClient) × (start.clients ≡ placed ∷ []) }
     ensures server { IfOk result (λ nodes. nodes.0 ≡ (first_nodes start).server) }
     ensures own { IfOk result (λ nodes. start.clients ≡ nodes.1 ∷ []) }
 {
-    let Parts {
-        server,
-        mut clients,
-        ..
-    } = start.into_parts(alloc)?;
+    let Parts { nodes, .. } = start.into_parts(alloc)?;
+    let (server, mut clients, _) = nodes.into_parts();
     match clients.pop() {
         Some(placed) => Ok((server, placed)),
         // There is one.

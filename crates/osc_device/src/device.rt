@@ -1,5 +1,6 @@
 //! The device.
 ghost use Rattle.std.specs.Prelude.{◌≡◌, ◌≢◌, ◌∷◌, ◌<◌, ◌≤◌, ◌↔◌, true, false, [], List, None, Some, length, IfErr, IfNone, IfOk, IfSome, OnErr};
+ghost use Rattle.osc_model.specs.Refusals as refusal;
 ghost use Rattle.osc_scope.specs.Entries.{Entry, IsScope};
 ghost use Rattle.osc_token.specs.declared.claims.Claims.{Claims as AnyClaims};
 ghost use Rattle.osc_client.specs.Hearing.{Begins};
@@ -11,7 +12,7 @@ ghost use Rattle.osc_run.specs.Nodes.{Came, Due};
 ghost use Rattle.osc_run.specs.Notes.{by_server};
 ghost use Rattle.osc_run.specs.ServerKinds.{ServerStep};
 ghost use Rattle.osc_server.specs.State.{core};
-ghost use Rattle.osc_server.specs.Steps.{IsStep};
+ghost use Rattle.osc_server.specs.Steps.{IsStep, again};
 ghost use Rattle.osc_model.specs.StepNotes.{quiet};
 ghost use Rattle.osc_model.specs.declared.node.Draw.{Draw as AnyDraw};
 ghost use Rattle.osc_model.specs.declared.node.Moment.{Moment as AnyMoment};
@@ -35,9 +36,9 @@ use crate::laws::{
 };
 use crate::own_token::{OwnToken, ServerParts};
 use crate::round::Round;
+use osc_ccm::Ciphers;
 use osc_client::Client;
 use osc_model::{Bytes, Draw, ETags, Method, Moment, Path, Peer, Request, Step};
-use osc_protect::Ciphers;
 use osc_server::Server;
 use osc_world::Placed;
 use osc_world::laws::where_a_world_begins;
@@ -50,10 +51,10 @@ const LONGEST_ID: usize = 64;
 /// A server, and the device itself as a client of it.
 pub struct Device {
     server: Server,
-    own: Placed,
+    own: Placed<Client>,
 }
 
-// Proved once, and not anew at each exit of whoever owns one.
+// Proved once for whoever owns one.
 impl Drop for Device {
     fn drop(self) {
         let Device { server: _, own: _ } = self;
@@ -72,9 +73,9 @@ impl Model for Device {
 
     ghost coded = { Prim.hlevel (codes, coded_scope, coded_tree) };
 
-    ghost view = { λ d. record { server = d.server; own = d.own.client } };
+    ghost view = { λ d. record { server = d.server; own = d.own.node } };
 
-    ghost invariant = { λ d. (d.own.client.origin ≡ None) × (d.own.client.next_hop ≡ server_address) × PostFits d.own.client };
+    ghost invariant = { λ d. (d.own.node.origin ≡ None) × (d.own.node.next_hop ≡ server_address) × PostFits d.own.node };
 }
 
 /// A request of this method on this path, with a payload, its format, and no other option.
@@ -145,7 +146,7 @@ impl Device {
             Err(error) => return Err(NewError::Token(error)),
         };
         let (server, own) = nodes_of(alloc, start)?;
-        if !own.client.post_fits() {
+        if !own.node.post_fits() {
             return Err(NewError::TooLong);
         }
         Ok(Device { server, own })
@@ -162,7 +163,7 @@ impl Device {
     pub fn own(&self) -> &Client
         ensures { result.now ≡ self.now.own }
     {
-        &self.own.client
+        &self.own.node
     }
 
     /// These bytes came from this peer at this moment as one datagram: the server's step that answers them, as
@@ -198,7 +199,7 @@ impl Device {
         runs_go_on::<A>();
         runs_keep_their_promises::<A>();
         let _let_go = self.server.on_tick(alloc, now);
-        let begun = self.own.client.on_tick(alloc, now);
+        let begun = self.own.node.on_tick(alloc, now);
         self.carry::<A>(alloc, now, begun, server_draw)
     }
 
@@ -208,12 +209,12 @@ impl Device {
         ensures some { IfSome result (λ deadline. (now : AnyMoment) → (acts_at self.now.own now ≡ true) ↔ (deadline ≤ now.ms)) }
         ensures none { IfNone result ((now : AnyMoment) → acts_at self.now.own now ≡ false) }
     {
-        self.own.client.next_deadline()
+        self.own.node.next_deadline()
     }
 
     /// Starts again: the server as [`Server::restart`] says, and the device without its context, so that it posts its token anew.
     pub fn restart(&mut self)
-        ensures server { self.new.server ≡ record self.old.server { desk = record self.old.server.desk { table = [] }; endpoint = fresh } }
+        ensures server { self.new.server ≡ again self.old.server }
         ensures own { self.new.own ≡ restarted self.old.own }
         ensures kinds { ((now : AnyMoment) → ServerStep (core self.old.server) now quiet (core self.new.server))
             × ClientStep false (own_core self.old.own) quiet (own_core self.new.own) }
@@ -221,7 +222,7 @@ impl Device {
     {
         runs_go_on_alone();
         self.server.restart();
-        self.own.client.restart();
+        self.own.node.restart();
     }
 
     /// Asks the server for this, as [`Client::ask`] does. Without memory for the request an `AllocError`; then nothing has changed.
@@ -245,8 +246,8 @@ impl Device {
         runs_go_on::<A>();
         runs_keep_their_promises::<A>();
         is_lawful(&self.server);
-        let begun = self.own.client.ask::<A>(alloc, now, request, draw)?;
-        self.own.client.has_lawful_parts();
+        let begun = self.own.node.ask::<A>(alloc, now, request, draw)?;
+        self.own.node.has_lawful_parts();
         Ok(self.carry::<A>(alloc, now, begun, server_draw))
     }
 
@@ -350,7 +351,7 @@ impl Device {
         ensures made { IfOk result (λ round. (claims : AnyClaims) (entries : List Entry)
             → MayOpen A.is_sealing self.old now draw.now claims entries → IsWhole round → IsOpen now entries self.new) }
         // Its post is never too long for a datagram.
-        ensures fits { IfOk result (λ round. round.begun.notes.result ≢ Some (result_of.Refused 14)) }
+        ensures fits { IfOk result (λ round. round.begun.notes.result ≢ Some (result_of.Refused refusal.datagram_too_long)) }
         ensures run { IfOk result (λ round. AllGoOn self.old (λ number. noted number round) self.new) }
         ensures err { OnErr result (self.new ≡ self.old) }
     {
@@ -358,8 +359,8 @@ impl Device {
         runs_go_on::<A>();
         is_drawn(server_draw);
         is_drawn(draw);
-        let begun = self.own.client.exchange(alloc, now, draw)?;
-        self.own.client.has_lawful_parts();
+        let begun = self.own.node.exchange(alloc, now, draw)?;
+        self.own.node.has_lawful_parts();
         Ok(self.carry::<A>(alloc, now, begun, server_draw))
     }
 
@@ -419,7 +420,7 @@ impl Device {
         match step.out.as_slice() {
             [datagram] => self
                 .own
-                .client
+                .node
                 .on_datagram::<A>(alloc, now, SERVER, datagram.bytes.as_slice())
                 .ok(),
             _ => None,

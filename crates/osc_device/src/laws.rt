@@ -30,7 +30,7 @@ ghost use Rattle.osc_device.specs.declared.own_token.OwnToken.{OwnToken as AnyTo
 ghost use Rattle.osc_device.specs.declared.own_token.ServerParts.{ServerParts as AnyParts};
 ghost use Rattle.osc_device.specs.declared.round.Round.{Round as AnyRound};
 
-use osc_protect::Ciphers;
+use osc_ccm::Ciphers;
 
 /// A request of a device that may ask, which isn't too long for a datagram, and for whose steps there is memory: it is served as one entry, and
 /// the device learns its reply.

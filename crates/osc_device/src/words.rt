@@ -1,10 +1,10 @@
 //! What a step of a server did, in the words of whoever made the device.
 ghost use Rattle.std.specs.Prelude.{◌≡◌, IfOk, option_map};
-ghost use Rattle.osc_run.specs.Texts.{read_request};
+ghost use Rattle.osc_options.specs.Texts.{read_request};
 ghost use Rattle.osc_device.specs.Words.{holder_of as holder_of_entry, refused_in, request_in as request_in_of, served_by as served_by_of, served_in};
 
 use osc_model::{ContextName, Entry, Method, Path, Peer, RefusedRequest, Reply, Request, Step};
-use osc_run::request_in;
+use osc_options::request_in;
 use std::alloc::{AllocError, Global};
 use std::fmt;
 use std::marker::Model;

@@ -1,6 +1,8 @@
 //! Why no output is made.
 ghost use Rattle.std.specs.Prelude.{◌≡◌};
+ghost use Rattle.osc_model.specs.Refusals as refusal;
 
+use osc_model::refusals;
 use thiserror::Error;
 
 /// More output was asked for than 255 blocks of 32 bytes (RFC 5869 section 2.3).
@@ -11,8 +13,8 @@ pub struct OutputTooLong;
 impl OutputTooLong {
     /// The error's number, under which programs report it: 4.
     pub fn number(self) -> u8
-        ensures { result ≡ 4 }
+        ensures { result ≡ refusal.output_too_long }
     {
-        4
+        refusals::OUTPUT_TOO_LONG
     }
 }

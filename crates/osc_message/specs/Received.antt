@@ -1,5 +1,5 @@
 -- What a datagram is, whatever its bytes (RFC 7252 sections 3, 4.2 and 4.3).
-use Rattle.std.specs.Prelude.{ℕ, ◌<◌, ◌≤◌, ◌⊎◌, List, length}
+use Rattle.std.specs.Prelude.{ℕ, ◌<◌, ◌≤◌, ◌^◌, ◌⊎◌, List, length}
 use Rattle.osc_coap.specs.Message.{Message as CoapMessage, Spells}
 use Rattle.osc_coap.specs.Header.{HasHeader, HasOtherVersion}
 use Rattle.osc_message.specs.declared.received.Received.{Received}
@@ -11,3 +11,8 @@ abbrev pub Receives : List ℕ → Received → Type 0
 Receives bytes Nothing = (1152 < length bytes) ⊎ ((length bytes < 4) ⊎ HasOtherVersion bytes)
 Receives bytes (Malformed kind id) = (length bytes ≤ 1152) × HasHeader bytes kind id × ((message : CoapMessage) → ¬ Spells bytes message)
 Receives bytes (Message message) = (length bytes ≤ 1152) × Spells bytes message
+
+-- the message ID that is made out has 16 bits
+abbrev pub HasShortId : Received → Type 0
+HasShortId (Malformed kind id) = id < 2 ^ 16
+HasShortId received = Unit {0}

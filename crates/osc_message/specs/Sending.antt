@@ -63,6 +63,12 @@ abbrev pub sent_to : Peer → Option Message → List Datagram
 sent_to peer None = []
 sent_to peer (Some message) = datagram peer message ∷ []
 
+-- A message that can't be processed, or that a node has no use for: a confirmable one is rejected by a Reset, any other is ignored
+-- (sections 4.2 and 4.3).
+abbrev pub rejection : Peer → Kind → ℕ → List Datagram
+rejection from Confirmable id = datagram from (reset id) ∷ []
+rejection from kind id = []
+
 -- the bytes that answered a repeated message go out again, where it was answered
 abbrev pub again : Peer → Option Bytes → List Datagram
 again from None = []

@@ -1,15 +1,16 @@
 //! The message layer of a node.
-ghost use Rattle.std.specs.Prelude.{◌≡◌, ◌≢◌, ◌≤◌, ◌<◌, ◌+◌, ◌↔◌, [], length, not, true, false, IsErr, IsOk, IfOk, IsSome, OnOk, OnErr, IfSome, IfNone};
+ghost use Rattle.std.specs.Prelude.{◌≡◌, ◌≢◌, ◌≤◌, ◌<◌, ◌+◌, ◌↔◌, [], length, not, true, false, IsOk, IfOk, IsSome, OnOk, OnErr, IfSome, IfNone};
 ghost use Rattle.std.specs.Option.{option_copied};
+ghost use Rattle.osc_model.specs.Refusals as refusal;
 ghost use Rattle.osc_model.specs.declared.node.Moment.{Moment as AnyMoment};
 ghost use Rattle.osc_message.specs.Received.{Receives};
-ghost use Rattle.osc_message.specs.Heard.{heard as heard_as, noted_reply as reply_noted};
+ghost use Rattle.osc_message.specs.Heard.{AnswersAlone, IsSendableHeard, SendsAlone, heard as heard_as, noted_reply as reply_noted};
 ghost use Rattle.osc_message.specs.Confirmables.{has_open as has_open_of, takes as takes_of, takes_in, with_open};
 ghost use Rattle.osc_message.specs.Bounds.{most_open};
 ghost use Rattle.osc_message.specs.Ticks.{tick_sends, tick_gives_up, acts};
 ghost use Rattle.osc_message.specs.Timeout.{timeout_of};
 ghost use Rattle.osc_message.specs.Endpoint.{fresh, own_id as own_id_of, id_taken, settled, withdrawn, after_tick};
-ghost use Rattle.osc_message.specs.Sending.{AreSendable, again, FitsDatagram, GoesOut, IsSendableHandling, IsSendableReply, reply_start as reply_start_of, reply_id as reply_id_of, replied};
+ghost use Rattle.osc_message.specs.Sending.{AreSendable, FitsDatagram, GoesOut, IsSendableHandling, IsSendableReply, reply_start as reply_start_of, reply_id as reply_id_of, replied, is_confirmable as is_confirmable_of, rejection as rejection_of};
 ghost use Rattle.osc_message.specs.Limits.{IsWithinLimits};
 ghost use Rattle.osc_message.specs.declared.handling.Handling.TheVariants.{Dropped};
 ghost use Rattle.osc_message.specs.declared.heard.Heard.TheVariants as heard;
@@ -21,14 +22,15 @@ use crate::deadline::deadline;
 use crate::due::Due;
 use crate::handling::{Handling, acknowledge_by, handle};
 use crate::heard::{Heard, hear};
+use crate::laws::what_nodes_send;
 use crate::queue::{has_open, push, takes};
 use crate::queued::Queued;
 use crate::received::receive;
-use crate::sending::{is_confirmable, reply_kind, sending_bytes};
+use crate::sending::{is_confirmable, rejection, reply_kind};
 use crate::tick::{Ticked, tick};
 use osc_coap::{Kind, MessageBuilder, MessageRef};
 use osc_dedup::Duplicates;
-use osc_model::{Bytes, Datagrams, Draw, Moment, Peer, Step};
+use osc_model::{Bytes, Draw, Moment, Peer, Step, refusals};
 use std::alloc::{AllocError, Global};
 use std::marker::Model;
 use thiserror::Error;
@@ -41,9 +43,9 @@ pub struct QueueFull;
 impl QueueFull {
     /// The number by which programs name the refusal.
     pub fn number(self) -> u8
-        ensures { result ≡ 16 }
+        ensures { result ≡ refusal.queue_full }
     {
-        16
+        refusals::QUEUE_FULL
     }
 }
 
@@ -108,11 +110,22 @@ impl<const PLACES: usize> Endpoint<PLACES> {
         self.next_id = None;
     }
 
-    /// What these bytes, which came from this peer, are to the message layer; changes nothing and takes no memory.
-    pub fn on_datagram<'a>(&self, now: Moment, from: Peer, datagram: &'a [u8]) -> Heard<'a>
-        ensures { (received : AnyReceived) × Receives datagram.now received × (result ≡ heard_as self.now.seen now from received) }
+    /// What these bytes, which came from this peer, are to the message layer: either it answers them by itself, or they are left to the
+    /// node. Changes nothing; memory is taken for what is sent by this alone, and without it there is an `AllocError`.
+    pub fn on_datagram<'a>(
+        &self,
+        alloc: Global,
+        now: Moment,
+        from: Peer,
+        datagram: &'a [u8],
+    ) -> Result<Heard<'a>, AllocError>
+        ensures heard { IfOk result (λ heard. (received : AnyReceived) × Receives datagram.now received × (heard ≡ heard_as self.now.seen now from received)) }
+        ensures alone { IfOk result (AnswersAlone self.now.seen now from) }
+        ensures fits { IfOk result IsSendableHeard }
+        ensures needs_memory { OnErr result ((received : AnyReceived) × Receives datagram.now received × SendsAlone (heard_as self.now.seen now from received)) }
     {
-        hear(&self.seen, now, from, receive(datagram))
+        what_nodes_send();
+        hear(alloc, &self.seen, now, from, receive(datagram))
     }
 
     /// The bytes that answered the message of this ID, where it was noted with some and its lifetime hasn't ended.
@@ -123,24 +136,6 @@ impl<const PLACES: usize> Endpoint<PLACES> {
         self.seen.look(now, from, id)?.reply.as_ref()
     }
 
-    /// The step that sends again what answered the message of this ID, if anything did; memory is taken for that alone.
-    pub fn repeat(
-        &self,
-        alloc: Global,
-        now: Moment,
-        from: Peer,
-        id: u16,
-    ) -> Result<Step, AllocError>
-        ensures again { IfOk result (λ step. step ≡ sends (again from (reply_noted self.now.seen now from id))) }
-        ensures fits { IfOk result (λ step. AreSendable step.out) }
-        ensures needs_memory { IsErr result → IsSome (reply_noted self.now.seen now from id) }
-    {
-        match self.noted_reply(now, from, id) {
-            Some(bytes) => sending_bytes(alloc, from, bytes.clone()?),
-            None => Ok(Step::sending(Datagrams::new(alloc))),
-        }
-    }
-
     /// An empty acknowledgement or Reset came: what it names is acknowledged. Takes no memory.
     pub fn settle_empty(&mut self, now: Moment, from: Peer, kind: Kind, id: u16)
         ensures { self.new ≡ settled self.old now from (heard.Empty kind id) Dropped }
@@ -148,11 +143,24 @@ impl<const PLACES: usize> Endpoint<PLACES> {
         self.settle(now, from, &Heard::Empty(kind, id), Handling::Dropped);
     }
 
-    /// A message came that the node drops: it isn't noted, and an acknowledgement acknowledges all the same. Takes no memory.
-    pub fn settle_dropped(&mut self, now: Moment, from: Peer, message: MessageRef<'_>)
-        ensures { self.new ≡ settled self.old now from (heard.Message message.entry) Dropped }
+    /// A message came that the node has no use for: the step that rejects it, where it is confirmable, and else sends nothing. It isn't
+    /// noted, and an acknowledgement acknowledges all the same. Memory is taken for the Reset alone; without it nothing has changed.
+    pub fn pass_over(
+        &mut self,
+        alloc: Global,
+        now: Moment,
+        from: Peer,
+        message: MessageRef<'_>,
+    ) -> Result<Step, AllocError>
+        ensures sent { IfOk result (λ step. step ≡ sends (rejection_of from message.entry.kind message.entry.id)) }
+        ensures fits { IfOk result (λ step. AreSendable step.out) }
+        ensures dropped { OnOk result (self.new ≡ settled self.old now from (heard.Message message.entry) Dropped) }
+        ensures err { OnErr result (self.new ≡ self.old) }
+        ensures needs_memory { OnErr result (is_confirmable_of message.entry.kind ≡ true) }
     {
+        let out = rejection(alloc, from, message.kind(), message.id())?;
         self.settle(now, from, &Heard::Message(message), Handling::Dropped);
+        Ok(Step::sending(out))
     }
 
     /// Makes the changes of what was heard: a message is noted, a confirmable one acknowledged. It was answered by at most 1,152

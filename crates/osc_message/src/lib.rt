@@ -1,6 +1,7 @@
 //! The message layer of CoAP (RFC 7252 section 4): what is new, what was heard before, and what goes out when.
 //!
-//! An `Endpoint` says what a datagram is and changes nothing; the node decides, and settles it. Confirmable messages are
+//! An `Endpoint` says what a datagram is and changes nothing: what no node has a say in it answers by itself, and the node decides on the
+//! rest, and settles it. Confirmable messages are
 //! retransmitted until they are acknowledged or given up. Time is handed in. What every node sends stands here, and the room in
 //! which it is sent, taken before the node's first change.
 #![tactic(auto)]
@@ -32,7 +33,7 @@ pub use outbox::{Buffer, Outbox, ReplyRoom};
 pub use queue::MOST_OPEN;
 pub use received::{Received, receive};
 pub use sending::{
-    acknowledgement, empty_acknowledgement, is_acknowledgement, is_confirmable, noted, reply_kind,
-    reset, sending_bytes, sending_message, sending_reset,
+    acknowledgement, empty_acknowledgement, is_acknowledgement, is_confirmable, noted, one_message,
+    rejection, reply_kind, reset,
 };
 pub use tick::Ticked;

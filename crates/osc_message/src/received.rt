@@ -1,5 +1,5 @@
 //! What a datagram is (RFC 7252 sections 3 and 4).
-ghost use Rattle.osc_message.specs.Received.{Receives};
+ghost use Rattle.osc_message.specs.Received.{HasShortId, Receives};
 
 use osc_coap::{DATAGRAM_LIMIT, Kind, MessageRef, kind_and_id};
 
@@ -16,7 +16,8 @@ pub enum Received<'a> {
 
 /// What the datagram is, whatever its bytes; takes no memory, as a message lends its parts from the datagram.
 pub fn receive(datagram: &[u8]) -> Received<'_>
-    ensures { Receives datagram.now result }
+    ensures received { Receives datagram.now result }
+    ensures id { HasShortId result }
 {
     if datagram.len() > DATAGRAM_LIMIT {
         return Received::Nothing;

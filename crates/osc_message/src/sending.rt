@@ -1,12 +1,11 @@
-//! Messages that every node sends (RFC 7252 sections 4.2, 4.3 and 5.2), and the steps that send one.
-ghost use Rattle.std.specs.Prelude.{◌≡◌, [], ◌∷◌, IfOk};
+//! Messages that every node sends (RFC 7252 sections 4.2, 4.3 and 5.2), and their datagrams.
+ghost use Rattle.std.specs.Prelude.{◌≡◌, [], ◌∷◌, true, IfOk, OnErr};
 ghost use Rattle.osc_coap.specs.Message.{HasSpelling, spelling};
-ghost use Rattle.osc_model.specs.Step.{sends};
-ghost use Rattle.osc_message.specs.Sending.{is_acknowledgement as is_acknowledgement_of, is_confirmable as is_confirmable_of, reset as reset_message, empty_acknowledgement as empty_acknowledgement_of, acknowledgement as acknowledgement_of, AreSendable, FitsDatagram, datagram, reply_kind as reply_kind_of};
+ghost use Rattle.osc_message.specs.Sending.{is_acknowledgement as is_acknowledgement_of, is_confirmable as is_confirmable_of, reset as reset_message, empty_acknowledgement as empty_acknowledgement_of, acknowledgement as acknowledgement_of, rejection as rejection_of, AreSendable, FitsDatagram, datagram, reply_kind as reply_kind_of};
 
 use crate::outbox::ReplyRoom;
 use osc_coap::{Kind, MessageBuilder, MessageRef};
-use osc_model::{Bytes, Datagram, Datagrams, Peer, Step};
+use osc_model::{Bytes, Datagram, Datagrams, Peer};
 use std::alloc::{AllocError, Global};
 
 /// Whether the kind is that of a confirmable message.
@@ -65,39 +64,52 @@ pub fn reply_kind(kind: Kind) -> Kind
     }
 }
 
-/// The step that sends these bytes to the peer.
+/// These bytes, as the one datagram to the peer.
 #[tactic(auto, using(crate::proofs::Notes::one_fits))]
-pub fn sending_bytes(alloc: Global, to: Peer, bytes: Bytes) -> Result<Step, AllocError>
-    ensures sent { IfOk result (λ step. step ≡ sends ((record { to = to; bytes = bytes }) ∷ [])) }
-    ensures fits { FitsDatagram bytes → IfOk result (λ step. AreSendable step.out) }
+pub(crate) fn one_datagram(alloc: Global, to: Peer, bytes: Bytes) -> Result<Datagrams, AllocError>
+    requires { FitsDatagram bytes }
+    ensures sent { IfOk result (λ out. out ≡ (record { to = to; bytes = bytes }) ∷ []) }
+    ensures fits { IfOk result AreSendable }
 {
     let mut out = Datagrams::new(alloc);
     out.push(Datagram { to, bytes })?;
-    Ok(Step::sending(out))
+    Ok(out)
 }
 
-/// The step that sends this message to the peer.
-pub fn sending_message(
+/// This message, as the one datagram to the peer.
+pub fn one_message(
     alloc: Global,
     to: Peer,
     message: &MessageBuilder,
-) -> Result<Step, AllocError>
-    ensures sent { IfOk result (λ step. step ≡ sends (datagram to message.now ∷ [])) }
+) -> Result<Datagrams, AllocError>
+    ensures sent { IfOk result (λ out. out ≡ datagram to message.now ∷ []) }
     ensures lawful { IfOk result (λ _. HasSpelling message.now) }
-    ensures fits { IfOk result (λ step. AreSendable step.out) }
+    ensures fits { IfOk result AreSendable }
 {
-    sending_bytes(alloc, to, Bytes::from_slice(alloc, message.bytes())?)
+    one_datagram(alloc, to, Bytes::from_slice(alloc, message.bytes())?)
 }
 
-/// The step that rejects the message of this ID by a Reset.
+/// The Reset that rejects the message of this ID, as the one datagram to the peer.
 // It isn't inlined, since a message under construction is a buffer of 1,152 bytes: a node's other steps have no place for it.
 #[inline(never)]
-pub fn sending_reset(alloc: Global, to: Peer, id: u16) -> Result<Step, AllocError>
-    ensures sent { IfOk result (λ step. step ≡ sends (datagram to (reset_message id) ∷ [])) }
-    ensures lawful { IfOk result (λ _. HasSpelling (reset_message id)) }
-    ensures fits { IfOk result (λ step. AreSendable step.out) }
+fn one_reset(alloc: Global, to: Peer, id: u16) -> Result<Datagrams, AllocError>
+    ensures sent { IfOk result (λ out. out ≡ datagram to (reset_message id) ∷ []) }
+    ensures fits { IfOk result AreSendable }
 {
-    sending_message(alloc, to, &reset(id))
+    one_message(alloc, to, &reset(id))
+}
+
+/// What rejects a message of this kind and ID that can't be processed, or that the node has no use for: a confirmable one is rejected by a
+/// Reset, any other is ignored, and takes no memory.
+pub fn rejection(alloc: Global, to: Peer, kind: Kind, id: u16) -> Result<Datagrams, AllocError>
+    ensures sent { IfOk result (λ out. out ≡ rejection_of to kind id) }
+    ensures fits { IfOk result AreSendable }
+    ensures needs_memory { OnErr result (is_confirmable_of kind ≡ true) }
+{
+    match kind {
+        Kind::Confirmable => one_reset(alloc, to, id),
+        _ => Ok(Datagrams::new(alloc)),
+    }
 }
 
 /// A message's datagram, and its bytes to be noted.

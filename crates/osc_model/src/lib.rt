@@ -10,6 +10,7 @@ mod etag;
 pub mod laws;
 mod node;
 mod path;
+pub mod refusals;
 mod reply;
 mod request;
 mod resource;

@@ -7,4 +7,7 @@ pub mod SplitLengths
 pub mod Lengthening
 pub mod OnePassLaws
 pub mod RequestAgainLaws
-pub mod WrittenRequestLaws
+pub mod Plaintexts
+pub mod WrittenPlaintextLaws
+pub mod ReplyTextLaws
+pub mod AroundLaws

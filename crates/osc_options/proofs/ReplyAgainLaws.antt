@@ -1,5 +1,5 @@
 -- A reply that is written is read again.
-use Rattle.std.proofs.Common.{◌≡◌, ℕ, ◌<◌, ◌≤◌, true, false, ◌==◌, nat_le, List, [], ◌∷◌, ◌++◌, length, Option, Some, None, refl, ap, ◌∙◌, arith, inl, inr}
+use Rattle.std.proofs.Common.{◌≡◌, ℕ, ◌<◌, ◌≤◌, true, false, ◌==◌, nat_le, List, [], ◌∷◌, ◌++◌, length, Option, Some, None, refl, sym, ap, ◌∙◌, arith, inl, inr}
 use Rattle.std.specs.Prelude.{IfSome, option_map, unwrap_or}
 use Rattle.std.proofs.lemmas.Bool.{cases_lt, cases_eq, lt-ltb, le-ltb, ne_eqb}
 use Rattle.std.proofs.lemmas.Bool.Decides.{nat_tests}
@@ -7,7 +7,7 @@ use Rattle.osc_model.specs.declared.reply.Reply.{Reply}
 use Rattle.osc_coap.specs.Code.{is_response_code}
 use Rattle.osc_coap.specs.Message.{NumberAndValue, Message, AreOptions}
 use Rattle.osc_coap.specs.Plaintext.{HasPlaintextSpelling}
-use Rattle.osc_options.specs.Split.{inner_options, plaintext_of}
+use Rattle.osc_options.specs.Split.{inner_options, merge, outer_options, plaintext_of, protected}
 use Rattle.osc_coap.specs.Building.{payload_of}
 use Rattle.osc_options.specs.Recognised.{recognised, unrecognised_critical}
 use Rattle.osc_options.specs.Requests.{uint, value}
@@ -114,6 +114,19 @@ all_inner (Some tag) (Some n) = refl
 
 pub reply_inside : (message : Message) (reply : Reply) → plaintext_of (with_reply message reply) ≡ reply_plaintext reply
 reply_inside message reply = ap (λ (options : List NumberAndValue). record { code = reply.code.0; options = options; payload = payload_of reply.payload }) (all_inner reply.etag reply.format)
+
+-- and none stays outside
+none_outer : (etag : Option (List ℕ)) (format : Option ℕ) → outer_options (etag_option etag ++ format_option format) ≡ []
+none_outer None None = refl
+none_outer None (Some n) = refl
+none_outer (Some tag) None = refl
+none_outer (Some tag) (Some n) = refl
+
+pub reply_outside : (message : Message) (reply : Reply) (code : ℕ) (bytes payload : List ℕ) → message.options ≡ []
+    → protected (with_reply message reply) code bytes payload ≡ protected message code bytes payload
+reply_outside message reply code bytes payload bare =
+    ap (λ (options : List NumberAndValue). record message { code = code; options = merge options ((9, bytes) ∷ []); payload = payload_of payload })
+    (none_outer reply.etag reply.format ∙ sym (ap outer_options bare))
 
 options_lawful : (etag : Option (List ℕ)) (format : Option ℕ) → IfSome etag (λ tag. length tag ≡ 8) → AreOptions 0 (etag_option etag ++ format_option format)
 options_lawful None None h = tt

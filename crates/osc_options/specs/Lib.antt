@@ -8,4 +8,5 @@ pub mod MergedOptions
 pub mod Errors
 pub mod PlaintextRequests
 pub mod PlaintextReplies
+pub mod Texts
 pub mod Inner

@@ -1,16 +1,24 @@
--- The requests that come encrypted, of which all was said inside (RFC 7252 sections 5.4.1 and 5.8, RFC 8613 sections 4.1 and 5.3).
+-- The requests that go and come encrypted, of which all was said inside (RFC 7252 sections 5.4.1 and 5.8, RFC 8613 sections 4.1 and 5.3).
 use Rattle.std.specs.Prelude.{◌≡◌, ℕ, not, ◌&&◌, ◌||◌, ◌⊎◌, if◌then◌else◌, List, [], ◌∷◌, Option, Some, None, Result, Ok, Err, IsOk}
 use Rattle.osc_model.specs.declared.request.Request.{Request}
 use Rattle.osc_coap.specs.Message.{NumberAndValue}
 use Rattle.osc_coap.specs.Code.{is_request_code}
 use Rattle.osc_coap.specs.Plaintext.{Plaintext}
+use Rattle.osc_coap.specs.Building.{payload_of}
 use Rattle.osc_options.specs.declared.error.PlaintextError.{PlaintextError}
 use Rattle.osc_options.specs.declared.error.PlaintextError.TheVariants.{Format, BadOption}
 use Rattle.osc_options.specs.declared.table.Class.TheVariants.{U}
 use Rattle.osc_options.specs.Table.{is_critical, class_of}
 use Rattle.osc_options.specs.Recognised.{is_recognised}
 use Rattle.osc_options.specs.Split.{same_class}
-use Rattle.osc_options.specs.Requests.{request_in}
+use Rattle.osc_options.specs.Requests.{request_in, request_options}
+
+-- ---- written
+
+abbrev pub request_plaintext : Request → Plaintext
+request_plaintext request = record { code = request.code.0; options = request_options request; payload = payload_of request.payload }
+
+-- ---- read
 
 -- The first option that must not stand inside a request, by its number: one of class U, recognised or not, or a critical one that
 -- isn't recognised. `before` is the number of the option before these.

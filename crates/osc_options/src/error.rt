@@ -2,6 +2,7 @@
 ghost use Rattle.std.specs.Prelude.{◌≡◌};
 ghost use Rattle.osc_options.specs.Errors.{number_of};
 
+use osc_model::refusals;
 use thiserror::Error;
 
 /// Why a plaintext is not the request, or not the reply, that it is read as.
@@ -25,9 +26,9 @@ impl PlaintextError {
         ensures { result ≡ number_of self }
     {
         match self {
-            PlaintextError::Format => 13,
-            PlaintextError::BadOption(_) => 15,
-            PlaintextError::Memory => 9,
+            PlaintextError::Format => refusals::FORMAT,
+            PlaintextError::BadOption(_) => refusals::BAD_OPTION,
+            PlaintextError::Memory => refusals::MEMORY,
         }
     }
 }

@@ -3,6 +3,8 @@
 ghost use Rattle.std.specs.Prelude.{◌≡◌, ◌<◌, ◌≤◌, ◌+◌, ◌++◌, ℕ, List, [], Some, None, Ok, IfSome, false, true, length};
 ghost use Rattle.osc_model.specs.declared.reply.Reply.{Reply};
 ghost use Rattle.osc_model.specs.declared.request.Request.{Request as AnyRequest};
+ghost use Rattle.osc_coap.specs.declared.kind.Kind.{Kind as AnyKind};
+ghost use Rattle.osc_coap.specs.Building.{bare};
 ghost use Rattle.osc_coap.specs.Code.{is_request_code};
 ghost use Rattle.osc_coap.specs.Message.{NumberAndValue, Message, AreOptions, HasSpelling, spelling};
 ghost use Rattle.osc_coap.specs.Plaintext.{Plaintext, HasPlaintextSpelling, plaintext_spelling};
@@ -10,7 +12,7 @@ ghost use Rattle.osc_coap.specs.Length.{options_length};
 ghost use Rattle.osc_options.specs.Split.{AreInOrder, of_number, inner_options, outer_options, merge, plaintext_of, protected, unprotected, has_oscore};
 ghost use Rattle.osc_options.specs.Recognised.{unrecognised_critical};
 ghost use Rattle.osc_options.specs.Requests.{IsWithinTable, request_of, request_options, value as value_in, with_request};
-ghost use Rattle.osc_options.specs.PlaintextRequests.{request_of_plaintext};
+ghost use Rattle.osc_options.specs.PlaintextRequests.{request_of_plaintext, request_plaintext};
 ghost use Rattle.osc_options.specs.Replies.{with_reply};
 ghost use Rattle.osc_options.specs.PlaintextReplies.{reply_plaintext, reply_in};
 
@@ -117,11 +119,13 @@ pub fn registered_numbers()
     ensures size1 { SIZE1 ≡ 60 }
 {}
 
-/// A reply that was written into a message is encrypted whole: its options are all of class E, and its plaintext has a
-/// spelling.
+/// A reply that was written into a message is encrypted whole: its options are all of class E, none stays outside, and its plaintext has
+/// a spelling.
 pub fn a_written_reply()
     ensures plaintext { (message : Message) (reply : Reply)
         → plaintext_of (with_reply message reply) ≡ reply_plaintext reply }
+    ensures outside { (message : Message) (reply : Reply) (code : ℕ) (value payload : List ℕ) → message.options ≡ []
+        → protected (with_reply message reply) code value payload ≡ protected message code value payload }
     ensures spelled { (reply : Reply) → IfSome reply.etag (λ tag. length tag ≡ 8) → HasPlaintextSpelling (reply_plaintext reply) }
 {}
 
@@ -150,4 +154,18 @@ pub fn a_request_is_read_again()
 /// A request is encrypted whole: none of its options stays outside.
 pub fn requests_are_encrypted()
     ensures { (request : AnyRequest) → outer_options (request_options request) ≡ [] }
+{}
+
+/// A request that was written into a message is encrypted whole: its options are all of class E, and in the order of their numbers.
+/// The message that comes of what stays outside and of the request's plaintext has these two parts again; with nothing outside it is the message
+/// that carries the request.
+pub fn a_written_request()
+    ensures plaintext { (message : Message) (request : AnyRequest) → plaintext_of (with_request message request) ≡ request_plaintext request }
+    ensures order { (request : AnyRequest) → AreInOrder 0 (request_options request) }
+    ensures inside { (outside : Message) (request : AnyRequest) → AreInOrder 0 outside.options
+        → plaintext_of (unprotected outside (request_plaintext request)) ≡ request_plaintext request }
+    ensures outside { (outside : Message) (request : AnyRequest) (code : ℕ) (value payload : List ℕ) → AreInOrder 0 outside.options
+        → protected (unprotected outside (request_plaintext request)) code value payload ≡ protected outside code value payload }
+    ensures alone { (kind : AnyKind) (code id : ℕ) (token : List ℕ) (request : AnyRequest)
+        → unprotected (bare kind code id token) (request_plaintext request) ≡ with_request (bare kind code id token) request }
 {}

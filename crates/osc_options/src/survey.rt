@@ -8,9 +8,9 @@ ghost use Rattle.osc_options.specs.Recognised as spec;
 ghost use Rattle.osc_options.specs.Recognised.{recognised};
 ghost use Rattle.osc_options.specs.Requests.{value as value_in};
 
+use crate::fields::first_of;
 use crate::numbers::{OSCORE, PROXY_SCHEME, PROXY_URI, URI_HOST, URI_PORT};
 use crate::recognised::is_recognised;
-use crate::request::first_of;
 use crate::table::{is_critical, is_unsafe};
 use osc_coap::MessageRef;
 use std::fmt;

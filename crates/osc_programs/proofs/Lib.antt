@@ -5,5 +5,4 @@ pub mod Reports
 pub mod Taken
 pub mod OpenPaths
 pub mod Printing
-pub mod Labs
-mod LabRuns
+pub mod PayloadFiles

@@ -2,13 +2,6 @@
 use Rattle.std.proofs.Common.{◌≡◌, ℕ, List, [], ◌∷◌, ◌++◌, append_assoc, codes}
 use Rattle.osc_simulation.specs.Text.{line}
 
-pub learnt_pieces : (client learnt learnt-is : List ℕ) → learnt ≡ learnt-is
-    → client ++ (codes " " ++ (learnt ++ 10 ∷ [])) ≡ line (client ++ codes " " ++ learnt-is)
-learnt_pieces client learnt learnt-is e = rw e (simp append_assoc)
-
-pub open_pieces : (client : List ℕ) → client ++ (codes " open" ++ 10 ∷ []) ≡ line (client ++ codes " open")
-open_pieces client = simp append_assoc
-
 pub who_pieces : (ms dotted dotted-is port : List ℕ) → dotted ≡ dotted-is
     → ms ++ (codes " " ++ (dotted ++ (codes ":" ++ (port ++ codes " ")))) ≡ ms ++ codes " " ++ dotted-is ++ codes ":" ++ port ++ codes " "
 who_pieces ms dotted dotted-is port e = rw e (simp append_assoc)
@@ -21,3 +14,10 @@ dropped_pieces count = simp append_assoc
 
 pub refused_pieces : (code why why-is : List ℕ) → why ≡ why-is → codes "refused " ++ (code ++ (codes ": " ++ why)) ≡ codes "refused " ++ code ++ codes ": " ++ why-is
 refused_pieces code why why-is e = rw e (simp append_assoc)
+
+pub address_pieces : (name dotted dotted-is port : List ℕ) → dotted ≡ dotted-is
+    → name ++ (codes " " ++ (dotted ++ (codes ":" ++ (port ++ 10 ∷ [])))) ≡ line (name ++ codes " " ++ (dotted-is ++ codes ":" ++ port))
+address_pieces name dotted dotted-is port e = rw e (simp append_assoc)
+
+pub grant_pieces : (size alg : List ℕ) → codes "token " ++ (size ++ (codes " bytes, alg " ++ (alg ++ 10 ∷ []))) ≡ line (codes "token " ++ size ++ codes " bytes, alg " ++ alg)
+grant_pieces size alg = simp append_assoc

@@ -4,9 +4,9 @@ use Rattle.osc_model.specs.declared.node.Moment.{Moment}
 use Rattle.osc_model.specs.declared.request.Request.{Request}
 use Rattle.osc_model.specs.declared.step.Datagram.{Datagram}
 use Rattle.osc_model.specs.declared.step.Step.{Step}
-use Rattle.osc_programs.specs.Ended.{IsFault, NoSettings, EndsLab, EndsNode, EndsTurns, EndsTold, EndsClient, CannotLab, CannotTalk, CannotAsk}
+use Rattle.osc_programs.specs.Ended.{IsFault, NoSettings, EndsNode, EndsTurns, EndsTold, EndsClient, CannotTalk, CannotAsk}
 use Rattle.osc_run.specs.Nodes.{Cause}
-use Rattle.osc_supply.specs.Supply.{IsSeeded, SupplyState}
+use Rattle.osc_turn.specs.Supply.{IsSeeded, SupplyState}
 use Rattle.osc_programs.specs.Turning.{GoesOn, Running, Runs, Shown, Turns, and_then}
 use Rattle.osc_programs.specs.Turning as turning
 use Rattle.osc_programs.specs.declared.ended.Ended.{Ended}
@@ -157,36 +157,6 @@ told_client request OutOfMemory f = f
 told_client request Failed f = f
 told_client request PortFailed f = absurd f
 told_client request NotDone f = f
-
-pub fault_lab : (ended : Ended) → IsFault ended → CannotLab ended
-fault_lab Done f = absurd f
-fault_lab BadCommandLine f = absurd f
-fault_lab (BadLine n) f = absurd f
-fault_lab BadSettings f = absurd f
-fault_lab OutOfMemory f = f
-fault_lab Failed f = f
-fault_lab PortFailed f = f
-fault_lab NotDone f = absurd f
-
-pub cannot_lab : (ended : Ended) → CannotLab ended → EndsLab ended
-cannot_lab Done f = tt
-cannot_lab BadCommandLine f = f
-cannot_lab (BadLine n) f = f
-cannot_lab BadSettings f = f
-cannot_lab OutOfMemory f = f
-cannot_lab Failed f = f
-cannot_lab PortFailed f = f
-cannot_lab NotDone f = f
-
-pub lab_no_end : (ended : Ended) → CannotLab ended → ended ≢ Done
-lab_no_end Done f e = f
-lab_no_end BadCommandLine f e = absurd cc
-lab_no_end (BadLine n) f e = absurd cc
-lab_no_end BadSettings f e = absurd cc
-lab_no_end OutOfMemory f e = absurd cc
-lab_no_end Failed f e = absurd cc
-lab_no_end PortFailed f e = absurd cc
-lab_no_end NotDone f e = absurd cc
 
 -- ---- turns
 

@@ -1,5 +1,5 @@
 -- What `osc client` does: it posts its token, and where that makes a security context it sends its request.
-use Rattle.std.specs.Prelude.{◌≡◌, ◌++◌, ◌/◌, ◌==◌, ℕ, suc, List, [], Option, Some, None, codes, if◌then◌else◌, option_map}
+use Rattle.std.specs.Prelude.{◌≡◌, ◌++◌, ◌/◌, ◌==◌, ℕ, suc, Bool, true, false, List, [], Option, Some, None, codes, if◌then◌else◌, option_map}
 use Rattle.osc_model.specs.declared.node.Draw.{Draw}
 use Rattle.osc_model.specs.declared.node.Moment.{Moment}
 use Rattle.osc_model.specs.declared.request.Request.{Request}
@@ -17,7 +17,7 @@ use Rattle.osc_settings.specs.declared.client.ClientSettings.{ClientSettings}
 use Rattle.osc_simulation.specs.Records.{learnt_text}
 use Rattle.osc_simulation.specs.Simulation.{is_sealing, tag_of}
 use Rattle.osc_simulation.specs.Text.{line}
-use Rattle.osc_supply.specs.Supply.{Gives, IsSeeded, SupplyState}
+use Rattle.osc_turn.specs.Supply.{Gives, IsSeeded, SupplyState}
 use Rattle.osc_programs.specs.Turning.{Running, TakesTurn}
 use Rattle.osc_programs.specs.declared.asking.Outcome.{Outcome}
 use Rattle.osc_programs.specs.declared.asking.Outcome.TheVariants.{Told, Open}
@@ -126,6 +126,16 @@ pub record IsClientOf (settings : ClientSettings) (client : Client) : Type 0 whe
 abbrev pub outcome_text : Outcome → List ℕ
 outcome_text (Told result) = line (codes "c1 " ++ learnt_text result)
 outcome_text Open = line (codes "c1 open")
+
+-- the payload of an answer
+abbrev pub raw_text : Outcome → List ℕ
+raw_text (Told (Answer reply)) = reply.payload
+raw_text outcome = []
+
+-- what is printed, raw or not
+abbrev pub printed_text : Bool → Outcome → List ℕ
+printed_text true outcome = raw_text outcome
+printed_text false outcome = outcome_text outcome
 
 -- an answer of class 2 is success
 abbrev pub ended_by_result : ClientResult → Ended

@@ -1,5 +1,6 @@
 -- How the programs end: their exit statuses, and what ends them.
-use Rattle.std.specs.Prelude.{◌≡◌, ℕ, List, ◌++◌, if◌then◌else◌, Option, Some, None, is_some, codes, decimal}
+use Rattle.std.specs.Prelude.{◌≡◌, ℕ, List, ◌++◌, if◌then◌else◌, Option, Some, None, nat_le, unwrap_or, codes, decimal}
+use Rattle.std.specs.Option.{option_map_or}
 use Rattle.std.specs.declared.io.ErrorKind.{ErrorKind}
 use Rattle.std.specs.declared.io.ErrorKind.TheVariants as kind
 use Rattle.clap.specs.Words.{kind_of}
@@ -128,10 +129,17 @@ token_fault_of BadCommandLine = Some (codes "error: the claims have more than 65
 token_fault_of OutOfMemory = Some (codes "out of memory")
 token_fault_of ended = None
 
--- what a token is printed with that has no `exp`
-abbrev pub token_warning_of : Claims → Option (List ℕ)
-token_warning_of claims =
-    if is_some claims.expires then None else Some (codes "warning: without --exp the token never expires, and keeps one of the server's 64 places")
+-- what a token is printed with that has no `exp`, or that never counts from this second on: it is over already, or before it begins
+abbrev pub expiry_warning : Claims → ℕ → ℕ → Option (List ℕ)
+expiry_warning claims now expires =
+    if nat_le expires now then Some (codes "warning: the token is over already")
+    else if nat_le expires (unwrap_or claims.not_before 0) then Some (codes "warning: the token is over before it begins")
+    else None
+
+abbrev pub token_warning_of : Claims → ℕ → Option (List ℕ)
+token_warning_of claims now =
+    option_map_or (expiry_warning claims now) claims.expires
+    (Some (codes "warning: without --exp the token never expires, and keeps one of the server's 64 places"))
 
 -- what is told where a program ended that runs nodes on sockets
 abbrev pub running_fault_of : Ended → Option (List ℕ)

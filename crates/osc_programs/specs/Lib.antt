@@ -6,5 +6,6 @@ pub mod Unread
 pub mod Turning
 pub mod Serving
 pub mod Conversation
-pub mod Lab
-pub mod Inner
+pub mod Checked
+pub mod KeyLine
+pub mod PayloadFile

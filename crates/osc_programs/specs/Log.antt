@@ -3,6 +3,7 @@ use Rattle.std.specs.Prelude.{◌≡◌, ◌⊎◌, ◌==◌, ℕ, ◌+◌, ◌-
 use Rattle.std.specs.List.{flat_map}
 use Rattle.std.specs.Io.KnownBytes.{Appends}
 use Rattle.std.specs.Net.Text.{ipv4_text}
+use Rattle.osc_model.specs.Refusals as refusal
 use Rattle.osc_model.specs.Code.{method_of}
 use Rattle.osc_model.specs.StepNotes.{StepNotes}
 use Rattle.osc_model.specs.declared.code.Code.{Code}
@@ -14,7 +15,7 @@ use Rattle.osc_model.specs.declared.step.Datagram.{Datagram}
 use Rattle.osc_model.specs.declared.step.Entry.{Entry}
 use Rattle.osc_model.specs.declared.step.RefusedRequest.{RefusedRequest}
 use Rattle.osc_model.specs.declared.step.Step.{Step}
-use Rattle.osc_run.specs.Texts.{read_request}
+use Rattle.osc_options.specs.Texts.{read_request}
 use Rattle.osc_scope.specs.Text.{name_of}
 use Rattle.osc_simulation.specs.Text.{code_text, line}
 use Rattle.osc_programs.specs.declared.refusals.Refusals.{Refusals}
@@ -24,18 +25,18 @@ use Rattle.osc_programs.specs.declared.refusals.Refusals.{Refusals}
 -- the reasons that have a number, in words
 abbrev pub reason_words : ℕ → List ℕ
 reason_words number =
-    if number == 3 then codes "what it seals is not genuine"
-    else (if number == 21 then codes "its protection is malformed"
-    else (if number == 22 then codes "it names no live security context"
-    else (if number == 23 then codes "its number was used, or is too old"
-    else (if number == 24 then codes "the scope of its token can not be read"
-    else (if number == 25 then codes "its token is not genuine"
-    else (if number == 26 then codes "its token has expired"
-    else (if number == 27 then codes "its token is not valid yet"
-    else (if number == 28 then codes "its token is for another audience"
-    else (if number == 29 then codes "the claims of its token can not be read"
-    else (if number == 30 then codes "a field is missing, or of another type or length"
-    else (if number == 31 then codes "too many tokens have a security context"
+    if number == refusal.not_genuine then codes "what it seals is not genuine"
+    else (if number == refusal.malformed then codes "its protection is malformed"
+    else (if number == refusal.no_context then codes "it names no live security context"
+    else (if number == refusal.replay then codes "its number was used, or is too old"
+    else (if number == refusal.bad_scope then codes "the scope of its token can not be read"
+    else (if number == refusal.token_not_genuine then codes "its token is not genuine"
+    else (if number == refusal.expired then codes "its token has expired"
+    else (if number == refusal.not_yet then codes "its token is not valid yet"
+    else (if number == refusal.audience then codes "its token is for another audience"
+    else (if number == refusal.bad_claims then codes "the claims of its token can not be read"
+    else (if number == refusal.fields then codes "a field is missing, or of another type or length"
+    else (if number == refusal.full then codes "too many tokens have a security context"
     else codes "for another reason")))))))))))
 
 -- the codes that tell the reason themselves, in words

@@ -1,8 +1,9 @@
 -- What `osc server` and `osc proxy` do: the node of the settings takes its turns.
-use Rattle.std.specs.Prelude.{◌≡◌, ℕ, Bool, List, [], map}
+use Rattle.std.specs.Prelude.{◌≡◌, ℕ, Bool, List, [], fold, map}
 use Rattle.std.specs.FinMap as map
 use Rattle.std.specs.FinSet as set
 use Rattle.osc_model.specs.Scope.{exactly}
+use Rattle.osc_model.specs.Tree.{Tree}
 use Rattle.osc_model.specs.declared.code.Method.TheVariants.{Get}
 use Rattle.osc_model.specs.declared.node.Moment.{Moment}
 use Rattle.osc_message.specs.Endpoint.{fresh}
@@ -15,19 +16,27 @@ use Rattle.osc_server.specs.State.{State as Server}
 use Rattle.osc_server.specs.Steps.{IsStep as IsStepOfServer, acts as server_acts}
 use Rattle.osc_settings.specs.declared.proxy.ProxySettings.{ProxySettings}
 use Rattle.osc_settings.specs.declared.proxy.TargetSetting.{TargetSetting}
+use Rattle.osc_settings.specs.declared.resource.ResourceSetting.{ResourceSetting}
 use Rattle.osc_settings.specs.declared.server.ServerSettings.{ServerSettings}
 use Rattle.osc_simulation.specs.Simulation.{is_sealing}
 use Rattle.osc_programs.specs.Turning.{Runs}
 
 -- ---- the nodes at first
 
--- the server of these settings, which did nothing yet: it has no resources and no contexts, and a GET of the open paths needs no protection
+-- one resource more; it takes the place of one of the same path
+abbrev pub with_resource : Tree → ResourceSetting → Tree
+with_resource tree resource = map.insert tree resource.path (record { format = resource.format; payload = resource.payload })
+
+abbrev pub tree_of : List ResourceSetting → Tree
+tree_of resources = fold with_resource map.empty resources
+
+-- the server of these settings, which did nothing yet: it has their resources and no contexts, and a GET of the open paths needs no protection
 pub record IsServerOf (settings : ServerSettings) (server : Server) : Type 0 where
   pub key : server.desk.key ≡ settings.key
   pub audience : server.desk.audience ≡ settings.audience
   pub contexts : server.desk.table ≡ []
   pub open_paths : server.open_scope ≡ set.from_list (map (λ path. exactly path Get) settings.open.items)
-  pub tree : server.tree ≡ map.empty
+  pub tree : server.tree ≡ tree_of settings.resources.items
   pub endpoint : server.endpoint ≡ fresh
 
 abbrev pub target_of : TargetSetting → Target

@@ -21,7 +21,7 @@ HoldsIt Spells file value = IfSome file (λ bytes. Holds Spells bytes value)
 abbrev pub HoldsNone : {X : Type 0} → (List ℕ → X → Type 0) → HiddenOption → Option (List ℕ) → WordsError → Type 0
 HoldsNone {X} Spells option file (Value refused) =
     (refused ≡ Token (file_option_of option)) × IfSome file (λ bytes. (value : X) → ¬ Holds Spells bytes value)
-HoldsNone Spells option file (Unread unread) = unread ≡ option
+HoldsNone Spells option file (Unread unread) = unread ≡ Token (file_option_of option)
 HoldsNone Spells option file Memory = Unit {0}
 HoldsNone Spells option file error = ⊥
 
@@ -34,12 +34,12 @@ abbrev pub GivesNone : {X : Type 0} → (List ℕ → X → Type 0) → HiddenOp
 GivesNone Spells option (Given value) file error = ⊥
 GivesNone Spells option (InFile name) file error = HoldsNone Spells option file error
 
--- the token that is asked for, with the key and the secret that are given, or that these files hold
-pub record IsFilled (asked : TokenAsked) (key_file secret_file : Option (List ℕ)) (words : TokenWords) : Type 0 where
+-- the token that is asked for and issued at this second, with the key and the secret that are given, or that these files hold
+pub record IsFilled (asked : TokenAsked) (now : ℕ) (key_file secret_file : Option (List ℕ)) (words : TokenWords) : Type 0 where
   pub key : Gives (SpellsHexWithin 16 16) asked.key key_file words.key
   pub secret : List ℕ
   pub is_secret : Gives (SpellsHexWithin 1 64) asked.secret secret_file secret
-  pub claims : words.claims ≡ with_secret asked.claims secret
+  pub claims : words.claims ≡ with_secret asked.claims now secret
   pub iv : words.iv ≡ asked.iv
 
 -- the key's file gives none, or the secret's

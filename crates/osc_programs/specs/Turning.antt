@@ -7,7 +7,7 @@ use Rattle.osc_model.specs.declared.step.Step.{Step}
 use Rattle.osc_run.specs.Nodes.{Cause}
 use Rattle.osc_turn.specs.Pace.{busy_after, must_tick}
 use Rattle.osc_turn.specs.Ports.{Received, cause_of}
-use Rattle.osc_supply.specs.Supply.{Gives, IsSeeded, SupplyState}
+use Rattle.osc_turn.specs.Supply.{Gives, IsSeeded, SupplyState}
 use Rattle.osc_programs.specs.Log.{IsStepText, lost_text}
 
 -- ---- turns

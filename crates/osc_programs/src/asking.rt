@@ -19,19 +19,18 @@ ghost use Rattle.osc_programs.specs.declared.asking.Outcome.{Outcome as AnyOutco
 
 use crate::ended::Ended;
 use crate::issue::written;
-use crate::log::Silent;
+use crate::log::Log;
 use crate::reading::client_settings;
-use crate::running::{connected, copy_of, send};
+use crate::running::{connected, copy_of, send, tell_failure};
 use crate::supply::{moment_and_draw, supply_of};
 use crate::turns::take_turn;
 use osc_authz::ClientDesk;
+use osc_ccm::Suite;
 use osc_client::{Client, Origin, Way};
 use osc_model::{Bytes, ClientResult, Peer, Request, Step};
-use osc_protect::Suite;
 use osc_settings::ClientSettings;
 use osc_simulation::learnt_text;
-use osc_supply::{Supply, Watch};
-use osc_turn::{Pace, Port, Turned};
+use osc_turn::{Pace, Port, Supply, Turned, Watch};
 use osc_words::ClientWords;
 use std::alloc::{AllocError, Global};
 use std::io::{Eprint, Read, Write};
@@ -49,39 +48,74 @@ pub(crate) enum Outcome {
 }
 
 /// Runs a client with the settings that the reader gives: it posts its token, and where that makes a context it sends the request of
-/// the words, protected. The line of its last result is written, or `c1 open` where the turns are gone before.
-pub fn ask<R: Clock + Net + RandomSource, I: Read, W: Write>(
+/// the words, protected. The line of its last result is written, or `c1 open` where the turns are gone before. Where the words want it raw, only
+/// the payload of an answer is written, and the line of any other end goes to the standard error. Where there are no settings, the log tells
+/// why; where the port fails, a line on the standard error does.
+pub fn ask<R: Clock + Eprint + Net + RandomSource, I: Read, L: Log, W: Write>(
     alloc: Global,
     runtime: &R,
     reader: &mut I,
+    log: &mut L,
     writer: &mut W,
     words: &ClientWords,
 ) -> Ended
     ensures told { (result ≡ Ended.Done) ⊎ (result ≡ Ended.NotDone) → (first last : AnyClient) × (outcome : AnyOutcome) × (settings : AnySettings)
         × IfSome (I.remaining reader.old) (λ text. StandsFor AreClientSettings text settings) × spec.IsClientOf settings first
         × spec.Talks words.now.turns words.now.request first outcome last
-        × (result ≡ spec.ended_by_outcome outcome) × Appends (W.contents writer.old) (W.contents writer.new) (spec.outcome_text outcome) }
+        × (result ≡ spec.ended_by_outcome outcome) × Appends (W.contents writer.old) (W.contents writer.new) (spec.printed_text words.now.raw outcome) }
     ensures ends { ends.EndsClient words.now.request result }
 {
-    match outcome_of(alloc, runtime, reader, words) {
-        Ok(outcome) => told(alloc, writer, &outcome),
+    match outcome_of(alloc, runtime, reader, log, words) {
+        Ok(outcome) => {
+            tell_aside(alloc, runtime, words.raw, &outcome);
+            told(alloc, writer, words.raw, &outcome)
+        }
         Err(ended) => ended,
     }
 }
 
 // ---- the last result
 
-fn told<W: Write>(alloc: Global, writer: &mut W, outcome: &Outcome) -> Ended
+// Where only a payload is written, the line of what is no answer of class 2 goes to the standard error, if that can be written.
+fn tell_aside<R: Eprint>(alloc: Global, runtime: &R, raw: bool, outcome: &Outcome) {
+    if raw && ended_by_outcome(outcome) != Ended::Done {
+        if let Ok(line) = outcome_line(alloc, outcome) {
+            let _told = runtime.eprintln(line.as_str().trim_end());
+        }
+    }
+}
+
+fn told<W: Write>(alloc: Global, writer: &mut W, raw: bool, outcome: &Outcome) -> Ended
     ensures told { (result ≡ Ended.Done) ⊎ (result ≡ Ended.NotDone) → (result ≡ spec.ended_by_outcome outcome.now)
-        × Appends (W.contents writer.old) (W.contents writer.new) (spec.outcome_text outcome.now) }
+        × Appends (W.contents writer.old) (W.contents writer.new) (spec.printed_text raw outcome.now) }
     ensures ends { ends.EndsTold result }
 {
-    let Ok(line) = outcome_line(alloc, outcome) else {
+    let Ok(text) = printed(alloc, raw, outcome) else {
         return Ended::OutOfMemory;
     };
-    match written(writer, line.as_bytes()) {
+    match written(writer, &text) {
         Ended::Done => ended_by_outcome(outcome),
         fault => fault,
+    }
+}
+
+fn printed(alloc: Global, raw: bool, outcome: &Outcome) -> Result<Vec<u8>, AllocError>
+    ensures { IfOk result (λ text. text.items ≡ spec.printed_text raw outcome.now) }
+{
+    if raw {
+        return Vec::from_slice(alloc, payload_of(outcome));
+    }
+    let line = outcome_line(alloc, outcome)?;
+    Vec::from_slice(alloc, line.as_bytes())
+}
+
+// The payload of an answer.
+fn payload_of(outcome: &Outcome) -> &[u8]
+    ensures { result.now ≡ spec.raw_text outcome.now }
+{
+    match outcome {
+        Outcome::Told(ClientResult::Answer(reply)) => reply.payload.as_slice(),
+        _ => &[],
     }
 }
 
@@ -109,10 +143,11 @@ fn ended_by_outcome(outcome: &Outcome) -> Ended
 
 // ---- the client
 
-fn outcome_of<R: Clock + Net + RandomSource, I: Read>(
+fn outcome_of<R: Clock + Eprint + Net + RandomSource, I: Read, L: Log>(
     alloc: Global,
     runtime: &R,
     reader: &mut I,
+    log: &mut L,
     words: &ClientWords,
 ) -> Result<Outcome, Ended>
     ensures talks { IfOk result (λ outcome. (first last : AnyClient) × (settings : AnySettings)
@@ -120,7 +155,7 @@ fn outcome_of<R: Clock + Net + RandomSource, I: Read>(
         × spec.Talks words.now.turns words.now.request first outcome last) }
     ensures ends { IfErr result (ends.CannotAsk words.now.request) }
 {
-    let settings = client_settings(alloc, reader, &mut Silent)?;
+    let settings = client_settings(alloc, reader, log)?;
     let bind = settings.bind;
     let peer = settings.peer;
     let client = client_of(alloc, settings)?;
@@ -180,7 +215,7 @@ struct Talking<W: Watch + Drop> {
 }
 
 // The client's conversation at its own address, with the peer that everything goes to.
-fn run_at<R: Clock + Net + RandomSource>(
+fn run_at<R: Clock + Eprint + Net + RandomSource>(
     alloc: Global,
     runtime: &R,
     bind: Peer,
@@ -191,14 +226,16 @@ fn run_at<R: Clock + Net + RandomSource>(
     ensures talks { IfOk result (λ outcome. (last : AnyClient) × spec.Talks words.now.turns words.now.request client outcome last) }
     ensures ends { IfErr result (ends.CannotTalk words.now.request) }
 {
-    let mut port = connected(runtime, bind, peer)?;
+    let mut port = connected(alloc, runtime, bind, peer)?;
     let supply = supply_of(runtime)?;
     let mut talking = Talking {
         client,
         pace: Pace::START,
         supply,
     };
-    run(alloc, &mut port, &mut talking, words)
+    let outcome = run(alloc, &mut port, &mut talking, words);
+    tell_failure(alloc, runtime, &port);
+    outcome
 }
 
 // An exchange, and the request where that made a context; what the steps send is handed to the port.

@@ -120,14 +120,27 @@ pub fn token_fault(ended: Ended) -> Option<&'static str>
     }
 }
 
-/// The line that warns on the standard error of a token that is printed, if one does: nobody can take back one that never expires.
-pub fn token_warning(words: &TokenWords) -> Option<&'static str>
-    ensures { option_map (λ line. line.now) result ≡ spec.token_warning_of words.now.claims }
+/// The line that warns on the standard error of a token that is printed at this second, counted from 1970, if one does: nobody can take back one
+/// that never expires, and nobody can use one that is over.
+pub fn token_warning(words: &TokenWords, now: u64) -> Option<&'static str>
+    ensures { option_map (λ line. line.now) result ≡ spec.token_warning_of words.now.claims now }
 {
     match words.claims.expires {
-        Some(_) => None,
+        Some(expires) => expiry_warning(words, now, expires),
         None => Some(
             "warning: without --exp the token never expires, and keeps one of the server's 64 places",
         ),
+    }
+}
+
+fn expiry_warning(words: &TokenWords, now: u64, expires: u64) -> Option<&'static str>
+    ensures { option_map (λ line. line.now) result ≡ spec.expiry_warning words.now.claims now expires }
+{
+    if expires <= now {
+        Some("warning: the token is over already")
+    } else if expires <= words.claims.not_before.unwrap_or(0) {
+        Some("warning: the token is over before it begins")
+    } else {
+        None
     }
 }

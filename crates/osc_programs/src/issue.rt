@@ -101,7 +101,7 @@ pub fn issue_token<S: RandomSource, W: Write>(
 }
 
 /// Writes all of it.
-pub(crate) fn written<W: Write>(writer: &mut W, text: &[u8]) -> Ended
+pub fn written<W: Write>(writer: &mut W, text: &[u8]) -> Ended
     ensures done { result ≡ Ended.Done → Appends (W.contents writer.old) (W.contents writer.new) text.now }
     ensures cases { (result ≡ Ended.Done) ⊎ (result ≡ Ended.Failed) }
     ensures ends { ends.EndsToken result }

@@ -3,15 +3,14 @@
 
 mod asking;
 mod at_once;
+mod checked;
+mod checking;
 mod ended;
 mod issue;
-mod lab_berths;
-mod lab_nodes;
-mod lab_port;
-mod lab_run;
-mod lab_telling;
-pub mod laws;
+mod key;
 mod log;
+mod noted;
+mod payload_file;
 mod reading;
 mod refusals;
 mod running;
@@ -24,15 +23,21 @@ mod unread;
 
 pub use asking::ask;
 pub use at_once::AtOnce;
+pub use checking::{check_client, check_proxy, check_server};
 pub use ended::{
     Ended, ended_by, ended_by_io, running_fault, started_by_io, status, token_fault, token_warning,
 };
-pub use issue::{drawn_iv, issue_token, iv_of, token};
-pub use lab_run::lab;
-pub use log::{Lines, Log, Silent, step_text};
+pub use issue::{drawn_iv, issue_token, iv_of, token, written};
+pub use key::issue_key;
+pub use log::{Faults, Lines, Log, Silent, step_text};
+pub use noted::{Kept, Noted};
 pub use osc_simulation::TraceForm;
-pub use running::{forward, serve};
+pub use payload_file::with_payload;
+pub use reading::bytes_of;
+pub use running::{bound, forward, send, serve};
 pub use simulate::{run_script, sim};
+pub use supply::{moment_and_draw, supply_of};
 pub use token_files::filled;
+pub use turns::take_turn;
 pub use udp::UdpPort;
 pub use unread::unread_text;

@@ -3,7 +3,7 @@ ghost use Rattle.std.specs.Prelude.{◌≡◌, ◌⊎◌, ◌==◌, ◌+◌, ◌
 ghost use Rattle.std.specs.Io.KnownBytes.{Appends};
 ghost use Rattle.osc_model.specs.Code.{method_of};
 ghost use Rattle.osc_scope.specs.Text.{name_of};
-ghost use Rattle.osc_run.specs.Texts.{read_request};
+ghost use Rattle.osc_options.specs.Texts.{read_request};
 ghost use Rattle.osc_programs.specs.Log as spec;
 ghost use Rattle.osc_programs.specs.Unread as unread;
 
@@ -11,8 +11,9 @@ use crate::refusals::Refusals;
 use crate::unread::unread_text;
 use osc_model::{
     Code, Datagram, Entry, Method, Moment, Path, Peer, RefusedRequest, Request, Step, StepNotes,
+    refusals,
 };
-use osc_run::request_in;
+use osc_options::request_in;
 use osc_settings::SettingsError;
 use osc_simulation::CodeText;
 use std::alloc::{AllocError, Global};
@@ -52,6 +53,41 @@ impl Log for Silent {
     fn lost(&mut self) {}
 
     fn no_settings(&mut self, _alloc: Global, _why: &SettingsError) {}
+}
+
+/// Tells by one line why settings are none, and nothing of steps.
+#[derive(Drop)]
+pub struct Faults<W: Write + Drop> {
+    writer: W,
+}
+
+impl<W: Write + Drop> Faults<W> {
+    /// A line that this writer takes.
+    pub fn new(writer: W) -> Faults<W>
+        ensures { result.writer ≡ writer }
+    {
+        Faults { writer }
+    }
+
+    // What can't be written is nobody's failure.
+    fn tell(&mut self, alloc: Global, why: &SettingsError) {
+        if let Ok(text) = unread_text(alloc, why) {
+            let _told = self.writer.write_all(&text);
+        }
+    }
+}
+
+impl<W: Write + Drop> Log for Faults<W> {
+    // Contracts see nothing of what it tells.
+    ghost told = { λ _. record { dropped = 0; refusals = None; text = None } };
+
+    fn step(&mut self, _alloc: Global, _now: Moment, _step: &Step) {}
+
+    fn lost(&mut self) {}
+
+    fn no_settings(&mut self, alloc: Global, why: &SettingsError) {
+        self.tell(alloc, why);
+    }
 }
 
 /// Tells by lines. Of the refusals of one second the first 20 are told, and the others counted: how many they were is told by a line `MOMENT left
@@ -427,18 +463,18 @@ fn reason_words(number: u8) -> &'static str
     ensures { result.now ≡ spec.reason_words number }
 {
     match number {
-        3 => "what it seals is not genuine",
-        21 => "its protection is malformed",
-        22 => "it names no live security context",
-        23 => "its number was used, or is too old",
-        24 => "the scope of its token can not be read",
-        25 => "its token is not genuine",
-        26 => "its token has expired",
-        27 => "its token is not valid yet",
-        28 => "its token is for another audience",
-        29 => "the claims of its token can not be read",
-        30 => "a field is missing, or of another type or length",
-        31 => "too many tokens have a security context",
+        refusals::NOT_GENUINE => "what it seals is not genuine",
+        refusals::MALFORMED => "its protection is malformed",
+        refusals::NO_CONTEXT => "it names no live security context",
+        refusals::REPLAY => "its number was used, or is too old",
+        refusals::BAD_SCOPE => "the scope of its token can not be read",
+        refusals::TOKEN_NOT_GENUINE => "its token is not genuine",
+        refusals::EXPIRED => "its token has expired",
+        refusals::NOT_YET => "its token is not valid yet",
+        refusals::AUDIENCE => "its token is for another audience",
+        refusals::BAD_CLAIMS => "the claims of its token can not be read",
+        refusals::FIELDS => "a field is missing, or of another type or length",
+        refusals::FULL => "too many tokens have a security context",
         _ => "for another reason",
     }
 }

@@ -101,7 +101,7 @@ fn client_settings_in(alloc: Global, bytes: &[u8]) -> Result<ClientSettings, Set
 // ---- what they share
 
 /// All that the reader gives.
-pub(crate) fn bytes_of<I: Read>(alloc: Global, reader: &mut I) -> Result<Vec<u8>, Ended>
+pub fn bytes_of<I: Read>(alloc: Global, reader: &mut I) -> Result<Vec<u8>, Ended>
     ensures bytes { IfOk result (λ bytes. IfSome (I.remaining reader.old) (λ known. bytes.items ≡ known)) }
     ensures either { IfErr result (λ ended. (ended ≡ Ended.OutOfMemory) ⊎ (ended ≡ Ended.Failed)) }
     ensures fault { IfErr result ends.IsFault }

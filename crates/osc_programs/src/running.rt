@@ -1,6 +1,8 @@
 //! Nodes that run on a socket: a server, and a proxy.
+ghost use Rattle.std.specs.FinMap as map;
 ghost use Rattle.std.specs.FinSet as set;
-ghost use Rattle.std.specs.Prelude.{◌≡◌, ℕ, List, IfErr, IfOk, IfSome, map, option_map};
+ghost use Rattle.std.specs.Prelude.{◌≡◌, ◌<◌, ◌≤◌, ℕ, List, IfErr, IfOk, IfSome, OnOk, length, map, option_map};
+ghost use Rattle.osc_model.specs.Tree.{longest_payload, most_resources};
 ghost use Rattle.osc_model.specs.Scope.{exactly};
 ghost use Rattle.osc_model.specs.declared.code.Method.TheVariants as AnyMethod;
 ghost use Rattle.osc_turn.specs.Ports.{grown};
@@ -22,18 +24,18 @@ use crate::supply::supply_of;
 use crate::turns::take_turns;
 use crate::udp::UdpPort;
 use osc_authz::ServerDesk;
+use osc_ccm::Suite;
 use osc_model::laws::permissions_are_ordered;
-use osc_model::{ClientResult, Datagrams, Method, Path, Peer};
-use osc_protect::Suite;
+use osc_model::{ClientResult, Datagrams, Method, Path, Peer, Resource};
 use osc_proxy::{Proxy, Target, Targets};
 use osc_run::Node;
 use osc_scope::Scope;
 use osc_server::Server;
-use osc_settings::{ProxySettings, ServerSettings, TargetSetting};
-use osc_tree::Tree;
+use osc_settings::{ProxySettings, ResourceSetting, ServerSettings, TargetSetting};
+use osc_tree::{LONGEST_PAYLOAD, Tree};
 use osc_turn::{Port, send_all};
 use std::alloc::{AllocError, Global};
-use std::io::{self, Eprint, Read};
+use std::io::{self, Eprint, ErrorKind, Read};
 use std::net::Net;
 use std::random::RandomSource;
 use std::time::Clock;
@@ -93,7 +95,7 @@ fn serve_by<R: Clock + Eprint + Net + RandomSource, L: Log>(
     let bind = settings.bind;
     match server_of(alloc, settings) {
         Ok(mut server) => run(alloc, runtime, bind, &mut server, log, turns),
-        Err(_) => Ended::OutOfMemory,
+        Err(ended) => ended,
     }
 }
 
@@ -114,8 +116,20 @@ fn forward_by<R: Clock + Eprint + Net + RandomSource, L: Log>(
     }
 }
 
-// A server without resources, and without contexts.
-fn server_of(alloc: Global, settings: ServerSettings) -> Result<Server, AllocError>
+// A server with these resources, and without contexts.
+fn server_of(alloc: Global, settings: ServerSettings) -> Result<Server, Ended>
+    ensures server { IfOk result (λ server. spec.IsServerOf settings server) }
+    ensures fault { IfErr result ends.IsFault }
+{
+    let tree = tree_of(alloc, &settings.resources)?;
+    match server_with(alloc, settings, tree) {
+        Ok(server) => Ok(server),
+        Err(_) => Err(Ended::OutOfMemory),
+    }
+}
+
+fn server_with(alloc: Global, settings: ServerSettings, tree: Tree) -> Result<Server, AllocError>
+    requires { tree ≡ spec.tree_of settings.resources.items }
     ensures { IfOk result (λ server. spec.IsServerOf settings server) }
 {
     let ServerSettings {
@@ -126,7 +140,45 @@ fn server_of(alloc: Global, settings: ServerSettings) -> Result<Server, AllocErr
     } = settings;
     let desk = ServerDesk::new(alloc, key, audience);
     let open_scope = open_scope(alloc, &open)?;
-    Server::new(alloc, Tree::new(alloc), desk, open_scope)
+    Server::new(alloc, tree, desk, open_scope)
+}
+
+// What a server has at first.
+fn tree_of(alloc: Global, resources: &[ResourceSetting]) -> Result<Tree, Ended>
+    ensures tree { IfOk result (λ tree. tree ≡ spec.tree_of resources.now) }
+    ensures fault { IfErr result ends.IsFault }
+{
+    let mut tree = Tree::new(alloc);
+    for resource in resources {
+        add_resource(alloc, &mut tree, resource)?;
+    }
+    Ok(tree)
+}
+
+// Settings are so many, and so short, that there is room for each.
+fn add_resource(alloc: Global, tree: &mut Tree, setting: &ResourceSetting) -> Result<(), Ended>
+    ensures added { OnOk result (tree.new ≡ spec.with_resource tree.old setting.now) }
+    ensures fault { IfErr result ends.IsFault }
+{
+    if setting.payload.len() > LONGEST_PAYLOAD || tree.is_full() {
+        return Err(Ended::Failed);
+    }
+    match put(alloc, tree, setting) {
+        Ok(()) => Ok(()),
+        Err(_) => Err(Ended::OutOfMemory),
+    }
+}
+
+fn put(alloc: Global, tree: &mut Tree, setting: &ResourceSetting) -> Result<(), AllocError>
+    requires short { length setting.now.payload ≤ longest_payload }
+    requires room { map.len tree.old < most_resources }
+    ensures { OnOk result (tree.new ≡ spec.with_resource tree.old setting.now) }
+{
+    let resource = Resource {
+        format: setting.format,
+        payload: setting.payload.clone()?,
+    };
+    tree.put(alloc, setting.path.clone()?, resource)
 }
 
 // A GET of these paths needs no protection.
@@ -184,14 +236,14 @@ fn run<R: Clock + Eprint + Net + RandomSource, N: Node<Suite>, L: Log>(
         → (text : List ℕ) × turning.Runs N.acts N.is_step turns text node.old node.new × Tells (L.told log.old) (L.told log.new) text }
     ensures ends { ends.EndsTurns result }
 {
-    match bound(runtime, bind) {
+    match bound_telling(alloc, runtime, bind) {
         Ok(mut port) => started(alloc, runtime, &mut port, node, log, turns),
         Err(ended) => ended,
     }
 }
 
 /// A port at this address.
-pub(crate) fn bound<R: Net>(runtime: &R, bind: Peer) -> Result<UdpPort, Ended>
+pub fn bound<R: Net>(runtime: &R, bind: Peer) -> Result<UdpPort, Ended>
     ensures fault { IfErr result ends.IsFault }
 {
     match UdpPort::bind(runtime, bind) {
@@ -200,15 +252,69 @@ pub(crate) fn bound<R: Net>(runtime: &R, bind: Peer) -> Result<UdpPort, Ended>
     }
 }
 
-/// A port at this address, at which nothing comes in but from this peer.
-pub(crate) fn connected<R: Net>(runtime: &R, bind: Peer, peer: Peer) -> Result<UdpPort, Ended>
+// The same; where there is none, a line on the standard error tells why.
+fn bound_telling<R: Eprint + Net>(alloc: Global, runtime: &R, bind: Peer) -> Result<UdpPort, Ended>
     ensures fault { IfErr result ends.IsFault }
 {
-    let mut port = bound(runtime, bind)?;
+    match UdpPort::bind(runtime, bind) {
+        Ok(port) => Ok(port),
+        Err(error) => {
+            tell_port(alloc, runtime, "bind", Some(bind), error.kind());
+            Err(ended_by_port(&error))
+        }
+    }
+}
+
+/// A port at this address, at which nothing comes in but from this peer; where there is none, a line on the standard error tells why.
+pub(crate) fn connected<R: Eprint + Net>(
+    alloc: Global,
+    runtime: &R,
+    bind: Peer,
+    peer: Peer,
+) -> Result<UdpPort, Ended>
+    ensures fault { IfErr result ends.IsFault }
+{
+    let mut port = bound_telling(alloc, runtime, bind)?;
     match port.connect(peer) {
         Ok(()) => Ok(port),
-        Err(error) => Err(ended_by_port(&error)),
+        Err(error) => {
+            tell_port(alloc, runtime, "send to", Some(peer), error.kind());
+            Err(ended_by_port(&error))
+        }
     }
+}
+
+/// Where the port failed, a line on the standard error tells why, if that can be written.
+pub(crate) fn tell_failure<R: Eprint>(alloc: Global, runtime: &R, port: &UdpPort) {
+    if let Some(why) = port.why() {
+        tell_port(alloc, runtime, why.what, why.peer, why.kind);
+    }
+}
+
+fn tell_port<R: Eprint>(
+    alloc: Global,
+    runtime: &R,
+    what: &str,
+    peer: Option<Peer>,
+    kind: ErrorKind,
+) {
+    if let Ok(line) = port_line(alloc, what, peer, kind) {
+        let _told = runtime.eprintln(line.as_str());
+    }
+}
+
+fn port_line(
+    alloc: Global,
+    what: &str,
+    peer: Option<Peer>,
+    kind: ErrorKind,
+) -> Result<String, AllocError> {
+    let Some(peer) = peer else {
+        return format!(in alloc; "{what}: {kind}");
+    };
+    let [a, b, c, d] = peer.address;
+    let number = peer.port;
+    format!(in alloc; "{what} {a}.{b}.{c}.{d}:{number}: {kind}")
 }
 
 // How a program ends that has no port.
@@ -235,8 +341,19 @@ fn started<R: Clock + Eprint + RandomSource, N: Node<Suite>, L: Log>(
 {
     tell_address(alloc, runtime, port);
     match supply_of(runtime) {
-        Ok(mut supply) => take_turns(alloc, &mut supply, port, node, log, turns),
+        Ok(mut supply) => {
+            let ended = take_turns(alloc, &mut supply, port, node, log, turns);
+            tell_end(alloc, runtime, port, ended);
+            ended
+        }
         Err(ended) => ended,
+    }
+}
+
+// Tells why the port failed, where that ended the node.
+fn tell_end<R: Eprint>(alloc: Global, runtime: &R, port: &UdpPort, ended: Ended) {
+    if ended == Ended::PortFailed {
+        tell_failure(alloc, runtime, port);
     }
 }
 
@@ -263,7 +380,7 @@ fn address_line(alloc: Global, peer: Peer) -> Result<String, AllocError> {
 }
 
 /// Sends these datagrams.
-pub(crate) fn send<P: Port>(port: &mut P, out: &Datagrams) -> Result<(), Ended>
+pub fn send<P: Port>(port: &mut P, out: &Datagrams) -> Result<(), Ended>
     ensures sent { P.sent port.new ≡ grown (P.sent port.old) out.now }
     ensures fault { IfErr result ends.IsFault }
 {

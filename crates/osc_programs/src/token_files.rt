@@ -13,7 +13,7 @@ use osc_words::{
 use std::alloc::Global;
 use std::io::Read;
 
-/// The token that is asked for, with the key and the secret that are given, or that the files hold which are opened for them. A file is
+/// The token that is asked for and issued at this second, counted from 1970, with the key and the secret that are given, or that the files hold which are opened for them. A file is
 /// read only where what it holds isn't given, and then a missing one is one that can't be read.
 ///
 /// # Errors
@@ -23,11 +23,12 @@ use std::io::Read;
 pub fn filled<K: Read + Drop, S: Read + Drop>(
     alloc: Global,
     asked: TokenAsked,
+    now: u64,
     key_file: Option<K>,
     secret_file: Option<S>,
 ) -> Result<TokenWords, WordsError>
     ensures { MatchResult result
-        (spec.IsFilled asked (option_and_then K.remaining key_file) (option_and_then S.remaining secret_file))
+        (spec.IsFilled asked now (option_and_then K.remaining key_file) (option_and_then S.remaining secret_file))
         (spec.IsUnfilled asked (option_and_then K.remaining key_file) (option_and_then S.remaining secret_file)) }
 {
     let TokenAsked {
@@ -40,7 +41,7 @@ pub fn filled<K: Read + Drop, S: Read + Drop>(
     let secret = secret_of(alloc, secret, secret_file)?;
     Ok(TokenWords {
         key,
-        claims: claims.with(secret),
+        claims: claims.with(now, secret),
         iv,
     })
 }
@@ -110,16 +111,23 @@ fn bytes_in<R: Read + Drop>(
     file: Option<R>,
 ) -> Result<Vec<u8>, WordsError>
     ensures bytes { IfOk result (λ bytes. IfSome (option_and_then R.remaining file) (λ known. bytes.items ≡ known)) }
-    ensures fault { IfErr result (λ error. (error ≡ WordsError.Unread option) ⊎ (error ≡ WordsError.Memory)) }
+    ensures fault { IfErr result (λ error. (error ≡ WordsError.Unread (NamedOption.Token (file_option_of option))) ⊎ (error ≡ WordsError.Memory)) }
 {
     let Some(mut reader) = file else {
-        return Err(WordsError::Unread(option));
+        return Err(unread(option));
     };
     match bytes_of(alloc, &mut reader) {
         Ok(bytes) => Ok(bytes),
         Err(Ended::OutOfMemory) => Err(WordsError::Memory),
-        Err(_) => Err(WordsError::Unread(option)),
+        Err(_) => Err(unread(option)),
     }
+}
+
+// The file can't be read.
+fn unread(option: HiddenOption) -> WordsError
+    ensures { result ≡ WordsError.Unread (NamedOption.Token (file_option_of option)) }
+{
+    WordsError::Unread(NamedOption::Token(option.file_option()))
 }
 
 // The file holds no such value.

@@ -9,10 +9,9 @@ ghost use Rattle.osc_programs.specs.Turning as spec;
 use crate::ended::Ended;
 use crate::log::Log;
 use crate::supply::moment_and_draw;
-use osc_protect::Suite;
+use osc_ccm::Suite;
 use osc_run::Node;
-use osc_supply::{Supply, Watch};
-use osc_turn::{Pace, Port, TurnError, Turned, paced_turn};
+use osc_turn::{Pace, Port, Supply, TurnError, Turned, Watch, paced_turn};
 use std::alloc::Global;
 
 /// The node takes so many turns, unless one fails, and the log tells of each. A datagram that can't be sent is lost, as on the way; so
@@ -77,7 +76,7 @@ fn one_turn<W: Watch + Drop, P: Port, N: Node<Suite>, L: Log>(
 }
 
 /// One turn of the node, at the next moment and with the next draw.
-pub(crate) fn take_turn<W: Watch + Drop, P: Port, N: Node<Suite>>(
+pub fn take_turn<W: Watch + Drop, P: Port, N: Node<Suite>>(
     alloc: Global,
     supply: &mut Supply<W>,
     port: &mut P,

@@ -10,6 +10,17 @@ use std::time::Duration;
 // The longest wait of one receive, in milliseconds.
 const WAIT_MILLIS: u64 = 10;
 
+/// Why a port failed.
+#[derive(Clone, Copy, Debug)]
+pub(crate) struct Why {
+    /// What it was to do.
+    pub what: &'static str,
+    /// To or from whom, if that is known.
+    pub peer: Option<Peer>,
+    /// What the system said.
+    pub kind: ErrorKind,
+}
+
 /// A port over a UDP socket (RFC 7252 section 3) with an IPv4 address. A receive waits for at most 10 milliseconds.
 #[derive(Drop)]
 pub struct UdpPort {
@@ -17,6 +28,8 @@ pub struct UdpPort {
     // The one peer from which anything comes in, if it is connected.
     peer: Option<Peer>,
     failures: u64,
+    // Why it failed last.
+    why: Option<Why>,
 }
 
 impl UdpPort {
@@ -34,6 +47,7 @@ impl UdpPort {
             socket,
             peer: None,
             failures: 0,
+            why: None,
         })
     }
 
@@ -56,6 +70,11 @@ impl UdpPort {
             Ok(address) => peer_of(address),
             Err(_) => None,
         }
+    }
+
+    /// Why it failed last, if it did.
+    pub(crate) fn why(&self) -> Option<Why> {
+        self.why
     }
 
     // Counts a failure. One that can't be counted any more isn't told, as if nothing had come or all had gone.
@@ -89,7 +108,14 @@ impl Port for UdpPort {
                 ErrorKind::WouldBlock | ErrorKind::TimedOut | ErrorKind::Interrupted => Ok(None),
                 // The peer's machine said that nothing listens there (RFC 1122 section 4.1.3.3): nothing came.
                 ErrorKind::ConnectionRefused => Ok(None),
-                _ => self.fail(None),
+                kind => {
+                    self.why = Some(Why {
+                        what: "receive",
+                        peer: self.peer,
+                        kind,
+                    });
+                    self.fail(None)
+                }
             },
         }
     }
@@ -99,7 +125,15 @@ impl Port for UdpPort {
             Ok(len) if len == bytes.len() => Ok(()),
             // The socket tells of an earlier datagram by this call, and sends nothing: this one is lost, as on the way.
             Err(fault) if is_refused(&fault) => Ok(()),
-            _ => self.fail(()),
+            Ok(_) => self.fail(()),
+            Err(fault) => {
+                self.why = Some(Why {
+                    what: "send to",
+                    peer: Some(to),
+                    kind: fault.kind(),
+                });
+                self.fail(())
+            }
         }
     }
 }

@@ -1,5 +1,5 @@
 -- What a protected message says is what it was made of.
-use Rattle.std.proofs.Common.{◌≡◌, ℕ, ◌+◌, ◌<◌, ◌≤◌, List, [], ◌∷◌, length, Option, Some, None, refl, ap, ◌∙◌, arith}
+use Rattle.std.proofs.Common.{◌≡◌, ℕ, ◌<◌, ◌≤◌, List, [], ◌∷◌, length, Option, Some, None, refl, ap, ◌∙◌, arith}
 use Rattle.std.specs.Prelude.{IfSome}
 use Rattle.osc_model.specs.declared.algorithm.Algorithm.{Algorithm}
 use Rattle.osc_model.specs.declared.context.ContextName.{ContextName}
@@ -13,7 +13,7 @@ use Rattle.osc_context.specs.Algorithm.{algorithm_of}
 use Rattle.osc_context.specs.Derivation.{key_of}
 use Rattle.osc_context.specs.Nonce.{greatest_number}
 use Rattle.osc_protect.specs.Aad.{aad_of}
-use Rattle.osc_protect.specs.Ciphers.{Sealings, Tags, SealsOneText, IsLongerBy}
+use Rattle.osc_ccm.specs.Ciphers.{Sealings, Tags, SealsOneText, IsLongerBy}
 use Rattle.osc_protect.specs.Protection.{HasShortContext, plain_bytes, request_nonce, response_nonce, request_value, response_value, IsProtectedRequest, IsProtectedResponse, SealedRequest, IsRequest, IsFor, SealedResponse, IsResponse}
 
 -- ---- the payload

@@ -6,3 +6,4 @@ pub mod LawAad
 pub mod LawMessages
 mod AadLemmas
 mod LengthLemmas
+pub mod SealLaws

@@ -2,6 +2,4 @@
 pub mod Value
 pub mod Aad
 pub mod Protection
-pub mod Errors
-pub mod Ciphers
 pub mod Inner

@@ -7,6 +7,9 @@ use Rattle.osc_model.specs.declared.context.Side.TheVariants.{Client, Server}
 use Rattle.osc_model.specs.declared.step.Note.{Note}
 use Rattle.osc_coap.specs.Message.{Message, spelling}
 use Rattle.osc_coap.specs.Plaintext.{plaintext_spelling}
+use Rattle.osc_coap.specs.Building.{bare}
+use Rattle.osc_model.specs.declared.reply.Reply.{Reply}
+use Rattle.osc_options.specs.Replies.{with_reply}
 use Rattle.osc_options.specs.Requests.{value}
 use Rattle.osc_options.specs.Split.{plaintext_of, protected}
 use Rattle.osc_context.specs.Algorithm.{algorithm_of}
@@ -14,7 +17,8 @@ use Rattle.osc_context.specs.Derivation.{key_of}
 use Rattle.osc_context.specs.Nonce.{nonce_of}
 use Rattle.osc_protect.specs.Value.{value_spelling, SpellsValue}
 use Rattle.osc_protect.specs.Aad.{aad_of}
-use Rattle.osc_protect.specs.Ciphers.{Sealing, Sealings, Tags}
+use Rattle.osc_protect.specs.declared.header.Header.{Header}
+use Rattle.osc_ccm.specs.Ciphers.{Sealing, Sealings, Tags}
 
 -- an id context is short enough for the option's value
 abbrev pub HasShortContext : ContextName → Type 0
@@ -56,6 +60,10 @@ request_with name number m sealed = protected m 2 (request_value name number) se
 
 abbrev pub response_with : Option ℕ → Message → List ℕ → Message
 response_with own m sealed = protected m 68 (response_value own) sealed
+
+-- the message with this header that carries a reply
+abbrev pub reply_with_header : Header → Reply → Message
+reply_with_header header reply = with_reply (bare header.kind reply.code.0 header.id header.token.now) reply
 
 -- `is_sealing algorithm` is the relation of the algorithm's cipher; a message is under the algorithm of its context
 module _ (is_sealing : Sealings) where

@@ -1,10 +1,11 @@
 //! Why a message isn't protected, read or opened.
 
 ghost use Rattle.std.specs.Prelude.{◌≡◌};
-ghost use Rattle.osc_protect.specs.Errors as spec;
+ghost use Rattle.osc_model.specs.Refusals as refusal;
 
 use crate::room::Room;
 use osc_context::{AcceptedNumber, SendNumber};
+use osc_model::refusals;
 use thiserror::Error;
 
 /// The OSCORE option's value is malformed, or there is no payload; of a request also: it has no Partial IV or no kid.
@@ -15,9 +16,9 @@ pub struct Malformed;
 impl Malformed {
     /// The number by which programs name the refusal.
     pub fn number(self) -> u8
-        ensures { result ≡ spec.malformed }
+        ensures { result ≡ refusal.malformed }
     {
-        21
+        refusals::MALFORMED
     }
 }
 
@@ -29,9 +30,9 @@ pub struct RequestNotGenuine;
 impl RequestNotGenuine {
     /// The number by which programs name the refusal.
     pub fn number(self) -> u8
-        ensures { result ≡ spec.not_genuine }
+        ensures { result ≡ refusal.not_genuine }
     {
-        3
+        refusals::NOT_GENUINE
     }
 }
 
@@ -43,9 +44,9 @@ pub struct ResponseNotGenuine;
 impl ResponseNotGenuine {
     /// The number by which programs name the refusal.
     pub fn number(self) -> u8
-        ensures { result ≡ spec.not_genuine }
+        ensures { result ≡ refusal.not_genuine }
     {
-        3
+        refusals::NOT_GENUINE
     }
 }
 
@@ -61,9 +62,9 @@ pub struct MessageTooLong {
 impl MessageTooLong {
     /// The number by which programs name the refusal.
     pub fn number(&self) -> u8
-        ensures { result ≡ spec.too_long }
+        ensures { result ≡ refusal.datagram_too_long }
     {
-        14
+        refusals::DATAGRAM_TOO_LONG
     }
 }
 
@@ -79,9 +80,9 @@ pub struct ReplyTooLong {
 impl ReplyTooLong {
     /// The number by which programs name the refusal.
     pub fn number(&self) -> u8
-        ensures { result ≡ spec.too_long }
+        ensures { result ≡ refusal.datagram_too_long }
     {
-        14
+        refusals::DATAGRAM_TOO_LONG
     }
 }
 
@@ -95,8 +96,8 @@ pub struct TextTooLong {
 impl TextTooLong {
     /// The number by which programs name the refusal.
     pub fn number(&self) -> u8
-        ensures { result ≡ spec.too_long }
+        ensures { result ≡ refusal.datagram_too_long }
     {
-        14
+        refusals::DATAGRAM_TOO_LONG
     }
 }

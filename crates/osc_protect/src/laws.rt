@@ -10,11 +10,11 @@ ghost use Rattle.osc_context.specs.Algorithm.{algorithm_of};
 ghost use Rattle.osc_context.specs.Derivation.{key_of};
 ghost use Rattle.osc_context.specs.Nonce.{longest_id, greatest_number};
 ghost use Rattle.osc_protect.specs.Aad.{aad_of};
-ghost use Rattle.osc_protect.specs.Ciphers.{Tags};
+ghost use Rattle.osc_ccm.specs.Ciphers.{Tags};
 ghost use Rattle.osc_protect.specs.Value.{Compressed, SpellsValue};
 ghost use Rattle.osc_protect.specs.Protection.{HasShortContext, plain_bytes, request_nonce, request_value, response_nonce, response_value, request_length, response_length, IsProtectedRequest, IsProtectedResponse, SealedRequest, IsRequest, SealedResponse, IsResponse, IsFor};
 
-use crate::ciphers::Ciphers;
+use osc_ccm::Ciphers;
 use osc_coap::laws::one_plaintext;
 use osc_options::laws::{
     merging_what_was_split, option_of_a_protected_message, protecting_lengthens,

@@ -7,8 +7,8 @@
 #![tactic(auto)]
 
 mod aad;
-mod ciphers;
 mod error;
+mod header;
 pub mod laws;
 mod opening;
 mod request;
@@ -19,15 +19,15 @@ mod sealing;
 mod token_cipher;
 mod value;
 
-pub use ciphers::{Ciphers, Suite, TagOf8, TagOf16};
 pub use error::{
     Malformed, MessageTooLong, ReplyTooLong, RequestNotGenuine, ResponseNotGenuine, TextTooLong,
 };
+pub use header::Header;
 pub use request::{
     ProtectedRequest, RequestSize, UncountedRequest, open_request, protect_request,
-    protect_uncounted, request_size,
+    protect_uncounted, request_size, seal_request, sealed_request_size,
 };
-pub use response::{ProtectedResponse, open_response, protect_reply, protect_response};
+pub use response::{ProtectedResponse, open_response, protect_reply, protect_response, seal_reply};
 pub use room::Room;
 pub use sealed::{SealedRequestRef, SealedResponseRef, read_request, read_response};
 pub use token_cipher::TokenCipher;

@@ -7,7 +7,7 @@ ghost use Rattle.osc_protect.specs.Aad.{aad_of};
 ghost use Rattle.osc_protect.specs.Protection.{longest_message, note_of, IsGenuine};
 
 use crate::aad::associated_data;
-use crate::ciphers::Ciphers;
+use osc_ccm::Ciphers;
 use osc_coap::DATAGRAM_LIMIT;
 use osc_model::{Algorithm, Bytes, Note, SharedName, Side};
 use std::alloc::{AllocError, Global};

@@ -2,7 +2,8 @@
 
 ghost use Rattle.std.specs.Prelude.{◌≡◌, ◌≤◌, ◌<◌, ◌⊎◌, ◌↔◌, ◌+◌, ℕ, List, [], length, replicate, IsOk, IsErr, IsSome, IfOk, IfErr, IfSome};
 ghost use Rattle.osc_coap.specs.Message.{spelling};
-ghost use Rattle.osc_options.specs.Split.{protected};
+ghost use Rattle.osc_options.specs.PlaintextRequests.{request_plaintext as request_plaintext_of};
+ghost use Rattle.osc_options.specs.Split.{protected, unprotected};
 ghost use Rattle.osc_model.specs.declared.context.Side.TheVariants.{Client, Server};
 ghost use Rattle.osc_context.specs.Algorithm.{algorithm_of};
 ghost use Rattle.osc_context.specs.Derivation.{key_of, taken_of, sender_of, recipient_of};
@@ -10,17 +11,19 @@ ghost use Rattle.osc_context.specs.Nonce.{longest_id, greatest_number};
 ghost use Rattle.osc_protect.specs.Aad.{aad_of};
 ghost use Rattle.osc_protect.specs.Protection.{HasShortContext, HasRoomFor, longest_message, plain_bytes, request_nonce, note_of, IsRequestOf, IsProtectedRequest, IsGenuine, length_of_request, request_length, IsFor};
 
-use crate::ciphers::Ciphers;
 use crate::error::{MessageTooLong, RequestNotGenuine, TextTooLong};
 use crate::opening::{KeyUse, open};
 use crate::room::Room;
 use crate::sealed::SealedRequestRef;
 use crate::sealing::{outer_message, seal, size_with, split};
 use crate::value::request_option;
+use osc_ccm::Ciphers;
 use osc_coap::laws::length_of_growing;
 use osc_coap::{DATAGRAM_LIMIT, MessageBuilder, MessageRef};
 use osc_context::{RecipientContext, SendNumber, SenderContext, nonce_for};
-use osc_model::{Algorithm, ContextName, Note, SharedName, Side};
+use osc_model::{Algorithm, ContextName, Note, Request, SharedName, Side};
+use osc_options::laws::a_written_request;
+use osc_options::request_plaintext;
 use std::alloc::{AllocError, Global};
 
 /// The code of a protected request, POST (RFC 8613 section 4.2).
@@ -100,14 +103,129 @@ pub fn protect_request<A: Ciphers>(
     ) else {
         return Err(MessageTooLong { room, number });
     };
-    let (message, note) = seal::<A>(
-        outer,
-        room,
-        number.key(),
-        Side::Client,
-        nonce,
-        plaintext.bytes(),
-    );
+    let note = room.note(Side::Client, nonce, plaintext.bytes());
+    let mut message = outer;
+    seal::<A>(&mut message, number.key(), &note);
+    number.spend();
+    Ok(ProtectedRequest { message, note })
+}
+
+/// How many bytes the request has, protected with this number beside what stays outside of it: `None` exactly where they are more than a
+/// datagram may have. Takes no memory.
+pub fn sealed_request_size<A: Ciphers>(
+    name: &ContextName,
+    number: u64,
+    outside: &MessageRef<'_>,
+    request: &Request,
+) -> Option<RequestSize>
+    requires number { number ≤ greatest_number }
+    requires short { HasShortContext name.now }
+    requires id { length name.now.client_id ≤ longest_id }
+    ensures size { IfSome result (λ size. size ≡ record {
+      plaintext = length (plain_bytes (unprotected outside.now (request_plaintext_of request.now)));
+      message = request_length A.TAG name.now number (unprotected outside.now (request_plaintext_of request.now));
+    }) }
+    ensures fits { IsSome result ↔ (request_length A.TAG name.now number (unprotected outside.now (request_plaintext_of request.now)) ≤ longest_message) }
+{
+    a_written_request();
+    length_of_growing();
+    // For the proof alone: the call tells that the options are in order.
+    let _token = outside.token();
+    match request_plaintext(request) {
+        Ok(plaintext) => text_size::<A>(name, number, outside, plaintext.bytes().len()),
+        Err(_) => None,
+    }
+}
+
+/// How many bytes a request has in which a text of so many is sealed at this number, and the text: `None` exactly where they are more than a
+/// datagram may have.
+fn text_size<A: Ciphers>(
+    name: &ContextName,
+    number: u64,
+    outside: &MessageRef<'_>,
+    plaintext: usize,
+) -> Option<RequestSize>
+    requires number { number ≤ greatest_number }
+    requires short { HasShortContext name.now }
+    requires id { length name.now.client_id ≤ longest_id }
+    ensures size { IfSome result (λ size. size
+        ≡ record { plaintext = plaintext; message = length_of_request (plaintext + A.TAG (algorithm_of name.now)) name.now number outside.now }) }
+    ensures fits { IsSome result ↔ (length_of_request (plaintext + A.TAG (algorithm_of name.now)) name.now number outside.now ≤ longest_message) }
+{
+    let value = request_option(name, number);
+    let algorithm = osc_context::algorithm_of(name);
+    let outer = outer_of_text::<A>(algorithm, outside, value.as_slice(), plaintext)?;
+    Some(RequestSize {
+        plaintext,
+        message: size_with(&outer, plaintext + A::tag(algorithm)),
+    })
+}
+
+/// Protects a request of the client as `protect_request` protects the message that comes of what stays outside of it and of its plaintext;
+/// that message itself is never built. Kind, message ID, token and class U options are those of `outside`, whose code, class E options and
+/// payload are left out. Takes no memory.
+///
+/// # Errors
+///
+/// Exactly where the protected message is longer than a datagram may be; room and number are handed back.
+pub fn seal_request<A: Ciphers>(
+    room: Room,
+    number: SendNumber,
+    outside: &MessageRef<'_>,
+    request: &Request,
+) -> Result<ProtectedRequest, MessageTooLong>
+    requires number { number ≡ taken_of room.name Client number.number }
+    requires about { room.number ≡ number.number }
+    requires short { HasShortContext room.name }
+    requires room { HasRoomFor (plain_bytes (unprotected outside.now (request_plaintext_of request.now))) room.most }
+    ensures protected { IfOk result (λ made.
+        IsProtectedRequest A.is_sealing room.name number.number (unprotected outside.now (request_plaintext_of request.now)) made.message) }
+    ensures noted { IfOk result (λ made. made.note
+        ≡ note_of room.name Client number.number (request_nonce room.name number.number) (plain_bytes (unprotected outside.now (request_plaintext_of request.now)))) }
+    ensures size { IfOk result (λ made. length (spelling made.message)
+        ≡ request_length A.TAG room.name number.number (unprotected outside.now (request_plaintext_of request.now))) }
+    ensures fits { IsOk result
+        ↔ (request_length A.TAG room.name number.number (unprotected outside.now (request_plaintext_of request.now)) ≤ longest_message) }
+    ensures err { IfErr result (λ refused. (refused.room ≡ room) × (refused.number ≡ number)) }
+{
+    a_written_request();
+    length_of_growing();
+    // For the proof alone: the call tells that the options are in order.
+    let _token = outside.token();
+    match request_plaintext(request) {
+        Ok(plaintext) => seal_text::<A>(room, number, outside, plaintext.bytes()),
+        Err(_) => Err(MessageTooLong { room, number }),
+    }
+}
+
+/// Seals a text as a request of the client, beside what stays outside of it.
+fn seal_text<A: Ciphers>(
+    room: Room,
+    number: SendNumber,
+    outside: &MessageRef<'_>,
+    text: &[u8],
+) -> Result<ProtectedRequest, MessageTooLong>
+    requires number { number ≡ taken_of room.name Client number.number }
+    requires about { room.number ≡ number.number }
+    requires short { HasShortContext room.name }
+    requires room { HasRoomFor text.now room.most }
+    ensures protected { IfOk result (λ made. IsRequestOf A.is_sealing text.now room.name number.number outside.now made.message) }
+    ensures noted { IfOk result (λ made. made.note
+        ≡ note_of room.name Client number.number (request_nonce room.name number.number) text.now) }
+    ensures size { IfOk result (λ made. length (spelling made.message)
+        ≡ length_of_request (length text.now + A.TAG (algorithm_of room.name)) room.name number.number outside.now) }
+    ensures fits { IsOk result ↔ (length_of_request (length text.now + A.TAG (algorithm_of room.name)) room.name number.number outside.now ≤ longest_message) }
+    ensures err { IfErr result (λ refused. (refused.room ≡ room) × (refused.number ≡ number)) }
+{
+    let nonce = nonce_for(number.common_iv(), number.id(), number.get());
+    let value = request_option(room.name(), number.get());
+    let Some(outer) = outer_of_text::<A>(room.algorithm(), outside, value.as_slice(), text.len())
+    else {
+        return Err(MessageTooLong { room, number });
+    };
+    let note = room.note(Side::Client, nonce, text);
+    let mut message = outer;
+    seal::<A>(&mut message, number.key(), &note);
     number.spend();
     Ok(ProtectedRequest { message, note })
 }
@@ -152,7 +270,9 @@ pub fn protect_uncounted<A: Ciphers>(
     else {
         return Err(TextTooLong { room });
     };
-    let (message, note) = seal::<A>(outer, room, sender.key(), Side::Client, nonce, text);
+    let note = room.note(Side::Client, nonce, text);
+    let mut message = outer;
+    seal::<A>(&mut message, sender.key(), &note);
     Ok(UncountedRequest { message, note })
 }
 

@@ -1,27 +1,30 @@
 //! Protected responses (RFC 8613 sections 8.3 and 8.4).
 
-ghost use Rattle.std.specs.Prelude.{◌≡◌, ◌≤◌, ◌<◌, ◌⊎◌, ◌↔◌, ℕ, List, Some, None, length, IfSome, IsOk, IsErr, IfOk, IfErr};
+ghost use Rattle.std.specs.Prelude.{◌≡◌, ◌≤◌, ◌<◌, ◌⊎◌, ◌↔◌, ◌+◌, ℕ, List, Some, None, length, replicate, IfSome, IsOk, IsErr, IfOk, IfErr};
+ghost use Rattle.osc_coap.specs.Message.{spelling};
 ghost use Rattle.osc_model.specs.declared.context.Side.TheVariants.{Client, Server};
 ghost use Rattle.osc_context.specs.Algorithm.{algorithm_of};
 ghost use Rattle.osc_context.specs.Derivation.{key_of, accepted_of, taken_of, sender_of, recipient_of};
 ghost use Rattle.osc_context.specs.Nonce.{longest_id, greatest_number};
+ghost use Rattle.osc_options.specs.Texts.{reply_text};
 ghost use Rattle.osc_protect.specs.Aad.{aad_of};
-ghost use Rattle.osc_protect.specs.Protection.{HasRoomFor, longest_message, plain_bytes, request_nonce, response_nonce, note_of, IsGenuine, IsProtectedResponse, response_length};
+ghost use Rattle.osc_protect.specs.Inner.Outside.{IsSealedOutside, outer_response};
+ghost use Rattle.osc_protect.specs.Protection.{HasRoomFor, longest_message, plain_bytes, request_nonce, response_nonce, note_of, IsGenuine, IsProtectedResponse, reply_with_header, response_length};
 
-use crate::ciphers::Ciphers;
 use crate::error::{MessageTooLong, ReplyTooLong, ResponseNotGenuine};
+use crate::header::{Header, OUTER_CODE, outer_of_reply};
 use crate::opening::{KeyUse, open};
 use crate::room::Room;
 use crate::sealed::SealedResponseRef;
 use crate::sealing::{seal, split};
 use crate::value::response_option;
+use osc_ccm::Ciphers;
 use osc_coap::{MessageBuilder, MessageRef};
 use osc_context::{AcceptedNumber, RecipientContext, SendNumber, SenderContext, nonce_for};
-use osc_model::{ContextName, Note, SharedName, Side};
+use osc_model::{ContextName, Note, Reply, SharedName, Side};
+use osc_options::laws::a_written_reply;
+use osc_options::reply_text_size;
 use std::alloc::{AllocError, Global};
-
-/// The code of a protected response, 2.04 (RFC 8613 section 4.2).
-const OUTER_CODE: u8 = 0x44;
 
 /// A protected response, and the note of its seal.
 #[derive(Debug, Drop)]
@@ -64,14 +67,71 @@ pub fn protect_reply<A: Ciphers>(
     ) else {
         return Err(ReplyTooLong { room, number });
     };
-    let (message, note) = seal::<A>(
-        outer,
-        room,
-        sender.key(),
-        Side::Server,
-        nonce,
-        plaintext.bytes(),
-    );
+    let note = room.note(Side::Server, nonce, plaintext.bytes());
+    let mut message = outer;
+    seal::<A>(&mut message, sender.key(), &note);
+    number.spend();
+    Ok(ProtectedResponse { message, note })
+}
+
+/// Protects the server's reply as `protect_reply` protects the message with this header that carries it: the plaintext is written where the
+/// note keeps it, and that message itself is never built. Takes no memory.
+///
+/// # Errors
+///
+/// Exactly where the protected message is longer than a datagram may be; room and number are handed back.
+pub fn seal_reply<A: Ciphers>(
+    room: Room,
+    number: AcceptedNumber,
+    sender: &SenderContext,
+    header: Header<'_>,
+    reply: &Reply,
+) -> Result<ProtectedResponse, ReplyTooLong>
+    requires number { number ≡ accepted_of room.name Server number.number }
+    requires about { room.number ≡ number.number }
+    requires sender { sender.now ≡ sender_of room.name Server sender.now.next }
+    requires token { length header.token.now ≤ 8 }
+    requires room { HasRoomFor (reply_text reply.now) room.most }
+    ensures protected { IfOk result (λ made.
+        IsProtectedResponse A.is_sealing room.name number.number None (reply_with_header header.entry reply.now) made.message) }
+    ensures noted { IfOk result (λ made. made.note
+        ≡ note_of room.name Server number.number (request_nonce room.name number.number) (plain_bytes (reply_with_header header.entry reply.now))) }
+    ensures fits { IsOk result
+        ↔ (response_length (A.TAG (algorithm_of room.name)) None (reply_with_header header.entry reply.now) ≤ longest_message) }
+    ensures err { IfErr result (λ refused. (refused.room ≡ room) × (refused.number ≡ number)) }
+{
+    a_written_reply();
+    seal_text_of::<A>(room, number, sender, header, reply)
+}
+
+/// The same, said of the reply's plaintext and of what goes outside.
+fn seal_text_of<A: Ciphers>(
+    room: Room,
+    number: AcceptedNumber,
+    sender: &SenderContext,
+    header: Header<'_>,
+    reply: &Reply,
+) -> Result<ProtectedResponse, ReplyTooLong>
+    requires number { number ≡ accepted_of room.name Server number.number }
+    requires about { room.number ≡ number.number }
+    requires sender { sender.now ≡ sender_of room.name Server sender.now.next }
+    requires token { length header.token.now ≤ 8 }
+    requires room { HasRoomFor (reply_text reply.now) room.most }
+    ensures protected { IfOk result (λ made. IsSealedOutside A.is_sealing room.name number.number (reply_text reply.now) header.entry made.message) }
+    ensures noted { IfOk result (λ made. made.note
+        ≡ note_of room.name Server number.number (request_nonce room.name number.number) (reply_text reply.now)) }
+    ensures fits { IsOk result
+        ↔ (length (spelling (outer_response header.entry (replicate (length (reply_text reply.now) + A.TAG (algorithm_of room.name)) 0))) ≤ longest_message) }
+    ensures err { IfErr result (λ refused. (refused.room ≡ room) × (refused.number ≡ number)) }
+{
+    let size = reply_text_size(reply);
+    let Some(outer) = outer_of_reply::<A>(room.algorithm(), header, size) else {
+        return Err(ReplyTooLong { room, number });
+    };
+    let nonce = nonce_for(number.common_iv(), number.id(), number.get());
+    let note = room.note_of_reply(Side::Server, nonce, reply);
+    let mut message = outer;
+    seal::<A>(&mut message, sender.key(), &note);
     number.spend();
     Ok(ProtectedResponse { message, note })
 }
@@ -111,14 +171,9 @@ pub fn protect_response<A: Ciphers>(
     ) else {
         return Err(MessageTooLong { room, number });
     };
-    let (message, note) = seal::<A>(
-        outer,
-        room,
-        number.key(),
-        Side::Server,
-        nonce,
-        plaintext.bytes(),
-    );
+    let note = room.note(Side::Server, nonce, plaintext.bytes());
+    let mut message = outer;
+    seal::<A>(&mut message, number.key(), &note);
     number.spend();
     Ok(ProtectedResponse { message, note })
 }

@@ -3,11 +3,13 @@
 ghost use Rattle.std.specs.Prelude.{◌≡◌, ◌≤◌, length, IfOk};
 ghost use Rattle.osc_context.specs.Algorithm.{algorithm_of};
 ghost use Rattle.osc_context.specs.Nonce.{longest_id, greatest_number};
+ghost use Rattle.osc_options.specs.Texts.{reply_text};
 ghost use Rattle.osc_protect.specs.Aad.{aad_of};
 ghost use Rattle.osc_protect.specs.Protection.{note_of};
 
 use crate::aad::associated_data;
-use osc_model::{Algorithm, Bytes, ContextName, Note, SharedName, Side};
+use osc_model::{Algorithm, Bytes, ContextName, Note, Reply, SharedName, Side};
+use osc_options::write_reply;
 use std::alloc::{AllocError, Global};
 use std::fmt;
 use std::marker::Model;
@@ -133,6 +135,29 @@ impl Room {
             text: mut plaintext,
         } = self;
         plaintext.extend_from_slice(text).unwrap();
+        Note {
+            context: name,
+            side,
+            number,
+            nonce,
+            aad,
+            plaintext: Bytes::from_vec(plaintext),
+        }
+    }
+
+    /// The note of a seal of a reply's plaintext, which is written where the note keeps it; uses up the room.
+    pub(crate) fn note_of_reply(self, side: Side, nonce: [u8; 13], reply: &Reply) -> Note
+        requires { length (reply_text reply.now) ≤ self.most }
+        ensures { result ≡ note_of self.name side self.number nonce (reply_text reply.now) }
+    {
+        let Room {
+            name,
+            number,
+            most: _,
+            aad,
+            text: mut plaintext,
+        } = self;
+        write_reply(&mut plaintext, reply);
         Note {
             context: name,
             side,

@@ -8,13 +8,12 @@ ghost use Rattle.osc_options.specs.Split.{protected, plaintext_of as plaintext_i
 ghost use Rattle.osc_context.specs.Algorithm.{algorithm_of};
 ghost use Rattle.osc_context.specs.Nonce.{longest_id};
 ghost use Rattle.osc_protect.specs.Aad.{aad_of};
-ghost use Rattle.osc_protect.specs.Protection.{plain_bytes, longest_message, note_of};
+ghost use Rattle.osc_protect.specs.Protection.{plain_bytes, longest_message};
 
-use crate::ciphers::Ciphers;
-use crate::room::Room;
+use osc_ccm::Ciphers;
 use osc_coap::laws::length_of_growing;
 use osc_coap::{DATAGRAM_LIMIT, MessageBuilder, MessageRef, PayloadWriter, PlaintextBuilder};
-use osc_model::{Algorithm, Note, Side};
+use osc_model::{Algorithm, Note};
 use osc_options::{plaintext_of, protected_message};
 use std::marker::PhantomData;
 
@@ -148,37 +147,26 @@ fn seal_payload<A: Ciphers>(
         .unwrap();
 }
 
-/// Seals a text as the payload of a message, and notes it, which uses up the room.
-pub(crate) fn seal<A: Ciphers>(
-    outer: MessageBuilder,
-    room: Room,
-    key: &[u8; 16],
-    side: Side,
-    nonce: [u8; 13],
-    text: &[u8],
-) -> (MessageBuilder, Note)
-    requires code { 0 < outer.code }
-    requires payload { outer.payload ≡ None }
-    requires fits { length (spelling (with_payload outer (replicate (length text.now + A.TAG (algorithm_of room.name)) 0))) ≤ longest_message }
-    requires id { length room.name.client_id ≤ longest_id }
-    requires room { length text.now ≤ room.most }
+/// Seals what is noted as the payload of a message.
+pub(crate) fn seal<A: Ciphers>(message: &mut MessageBuilder, key: &[u8; 16], note: &Note)
+    requires code { 0 < message.old.code }
+    requires payload { message.old.payload ≡ None }
+    requires fits { length (spelling (with_payload message.old (replicate (length note.now.plaintext + A.TAG (algorithm_of note.now.context)) 0))) ≤ longest_message }
+    requires id { length note.now.context.client_id ≤ longest_id }
+    requires aad { note.now.aad ≡ aad_of note.now.context note.now.number }
     ensures sealed { (sealed : List ℕ)
-        × A.is_sealing (algorithm_of room.name) key.now nonce (aad_of room.name room.number) text.now sealed
-        × (result.0 ≡ with_payload outer sealed) }
-    ensures size { length (spelling result.0) ≡ length (spelling (with_payload outer (replicate (length text.now + A.TAG (algorithm_of room.name)) 0))) }
-    ensures noted { result.1 ≡ note_of room.name side room.number nonce text.now }
+        × A.is_sealing (algorithm_of note.now.context) key.now note.now.nonce note.now.aad note.now.plaintext sealed
+        × (message.new ≡ with_payload message.old sealed) }
+    ensures size { length (spelling message.new)
+        ≡ length (spelling (with_payload message.old (replicate (length note.now.plaintext + A.TAG (algorithm_of note.now.context)) 0))) }
 {
     length_of_growing();
-    let algorithm = room.algorithm();
-    let note = room.note(side, nonce, text);
-    let mut message = outer;
     seal_payload::<A>(
-        &mut message,
-        algorithm,
+        message,
+        osc_context::algorithm_of(&note.context),
         key,
-        &nonce,
+        &note.nonce,
         note.aad.as_slice(),
-        text,
+        note.plaintext.as_slice(),
     );
-    (message, note)
 }

@@ -16,7 +16,7 @@ use Rattle.osc_message.specs.Received.{Receives}
 use Rattle.osc_message.specs.declared.heard.Heard.TheVariants as heard_as
 use Rattle.osc_message.specs.declared.received.Received.{Received}
 use Rattle.osc_message.specs.declared.received.Received.TheVariants as received_as
-use Rattle.osc_proxy.specs.Case.{message_case}
+use Rattle.osc_proxy.specs.Case.{case_of}
 use Rattle.osc_proxy.specs.Exchanges.{Table, answers, first_key}
 use Rattle.osc_proxy.specs.ProxyUri.{HostAndPort}
 use Rattle.osc_proxy.specs.Targets.{peer_of}
@@ -88,13 +88,13 @@ pub request_case : (targets : List Target) (exchanges : Table) (from to : Peer) 
     → is_request_code message.code ≡ true → has_unrecognised_unsafe 0 message.options ≡ false
     → value proxy_uri (recognised 0 message.options) ≡ None → value proxy_scheme (recognised 0 message.options) ≡ Some (codes "coap")
     → peer_of targets host port ≡ Some to
-    → message_case targets exchanges from (Some (host, port)) message ≡ Forwarded message to
+    → case_of targets exchanges from (Some (host, port)) message ≡ Forwarded to
 request_case targets exchanges from to message host port request safe no_uri scheme target =
     rw (request, safe, no_uri, scheme, target) refl
 
 pub response_case : (targets : List Target) (exchanges : Table) (from : Peer) (named : Option HostAndPort) (message : Message) (key : ℕ)
     → is_response_code message.code ≡ true → first_key (answers from message) exchanges ≡ Some key
-    → message_case targets exchanges from named message ≡ Counted message key
+    → case_of targets exchanges from named message ≡ Counted key
 response_case targets exchanges from named message key response found =
     let code = response_code message.code response in
     rw (code.other, response, found) refl

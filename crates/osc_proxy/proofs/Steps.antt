@@ -13,14 +13,22 @@ use Rattle.osc_model.specs.declared.step.RefusedRequest.{RefusedRequest}
 use Rattle.osc_model.specs.declared.step.Step.{Step}
 use Rattle.osc_coap.specs.Length.{datagram_limit}
 use Rattle.osc_coap.specs.Message.{Message, spelling}
-use Rattle.osc_message.specs.Heard.{noted_reply}
-use Rattle.osc_message.specs.Sending.{acknowledgement, again, is_confirmable, sent_to}
+use Rattle.osc_coap.specs.declared.kind.Kind.{Kind}
+use Rattle.osc_coap.specs.declared.kind.Kind.TheVariants.{Confirmable, NonConfirmable, Acknowledgement, Reset as ResetKind}
+use Rattle.osc_dedup.specs.Table.{Entry}
+use Rattle.osc_message.specs.Heard.{AnswersAlone, IsAlone, ignores, noted_reply, rejects, repeats}
+use Rattle.osc_message.specs.declared.heard.Heard.{Heard}
+use Rattle.osc_message.specs.declared.heard.Heard.TheVariants as heard
+use Rattle.osc_model.specs.declared.node.Moment.{Moment}
+use Rattle.osc_message.specs.Sending.{acknowledgement, again, is_confirmable, rejection, sent_to}
+use Rattle.osc_proxy.specs.Case.{ended_by}
+use Rattle.osc_proxy.specs.Exchanges.{first_key, is_named}
 use Rattle.osc_proxy.specs.Own.{goes_now, sends_own}
 use Rattle.osc_proxy.specs.State.{State}
 use Rattle.osc_proxy.specs.Passage.{Passage}
-use Rattle.osc_proxy.specs.Table.{Answers, FitsBy, ForwardsBy, IsForwarded, IsRefused, answer_for, back_sends, counted, forwarded_by, key_for, named, rejection, taken_up}
+use Rattle.osc_proxy.specs.Table.{Answers, AnswersNew, FitsBy, ForwardsBy, IsForwarded, IsRefused, Settles, answer_for, back_sends, counted, forwarded_by, key_for, named, bad_gateway, taken_up}
 use Rattle.osc_proxy.specs.declared.case.Case.{Case}
-use Rattle.osc_proxy.specs.declared.case.Case.TheVariants.{Ignored, Reset, Repeated, Empty, Ended, Refused, Forwarded, Rejected, Dropped, Counted}
+use Rattle.osc_proxy.specs.declared.case.Case.TheVariants.{Refused, Forwarded, Counted, Unused}
 use Rattle.osc_proxy.proofs.Ending.{one_back}
 
 -- a step that sends so many datagrams, and does nothing else, but that it may refuse a request
@@ -74,20 +82,35 @@ forwards_small (Some key) old came to step new is =
     let passage : Passage = record { came = came; to = to; key = key } in
     fits_small (nat_le (length (spelling (forwarded_by old passage))) datagram_limit) old passage step new is
 
-pub small_step : (old : State) (came : Arrival (List ℕ)) (case : Case) (step : Step) (new : State) → Answers old came case step new → IsSmall step
-small_step old came Ignored step new is = small step _ is.0 (omega arith)
-small_step old came (Reset id) step new is = small step _ is.0 (omega arith)
-small_step old came (Repeated id) step new is = small step _ is.0 (one_again came.from (noted_reply old.endpoint.seen came.at came.from id))
-small_step old came (Empty kind id) step new is = small step _ is.0 (omega arith)
-small_step old came (Ended id key) step new is =
-    small step _ is.told (omega (arith, one_back (named old (read_as came id)) is.exchange (rejection old came.draw is.exchange)))
-small_step old came (Refused message why) step new is = refused_small why old (read_as came message) step new is
-small_step old came (Forwarded message to) step new is = forwards_small (key_for old message to) old (read_as came message) to step new is
-small_step old came (Counted message key) step new is =
-    let it : Arrival Message = read_as came message in
-    let answer = answer_for old it is.exchange in
+one_rejection : (from : Peer) (kind : Kind) (id : ℕ) → length (rejection from kind id) ≤ 2
+one_rejection from Confirmable id = omega arith
+one_rejection from NonConfirmable id = omega arith
+one_rejection from Acknowledgement id = omega arith
+one_rejection from ResetKind id = omega arith
+
+alone_small : (seen : List Entry) (now : Moment) (from : Peer) (out : List Datagram) → IsAlone seen now from out → length out ≤ 2
+alone_small seen now from out (ignores is) = omega (arith, ap (λ (o : List Datagram). length o) is)
+alone_small seen now from out (rejects id spelled is) = omega (arith, ap (λ (o : List Datagram). length o) is)
+alone_small seen now from out (repeats id is) = omega (arith, ap (λ (o : List Datagram). length o) is, one_again from (noted_reply seen now from id))
+
+settles_small : (found : Option ℕ) (kind : Kind) (old : State) (came : Arrival ℕ) (step : Step) (new : State) → Settles found kind old came step new → IsSmall step
+settles_small None kind old came step new is = small step _ is.0 (omega arith)
+settles_small (Some key) kind old came step new is =
+    small step _ is.told (omega (arith, one_back (named old came) is.exchange (bad_gateway old came.draw is.exchange)))
+
+new_small : (old : State) (came : Arrival Message) (case : Case) (step : Step) (new : State) → AnswersNew old came case step new → IsSmall step
+new_small old came (Refused why) step new is = refused_small why old came step new is
+new_small old came (Forwarded to) step new is = forwards_small (key_for old came.what to) old came to step new is
+new_small old came (Counted key) step new is =
+    let answer = answer_for old came is.exchange in
     small step _ is.told
-    (two (sent_to came.from (acknowledgement message)) (back_sends (counted old it is.exchange) is.exchange answer)
-    (one_sent_to came.from (acknowledgement message)) (one_back (counted old it is.exchange) is.exchange answer))
-small_step old came (Rejected message) step new is = small step _ is.0 (omega arith)
-small_step old came (Dropped message) step new is = small step _ is.0 (omega arith)
+    (two (sent_to came.from (acknowledgement came.what)) (back_sends (counted old came is.exchange) is.exchange answer)
+    (one_sent_to came.from (acknowledgement came.what)) (one_back (counted old came is.exchange) is.exchange answer))
+new_small old came Unused step new is = small step _ is.0 (one_rejection came.from came.what.kind came.what.id)
+
+pub small_step : (old : State) (came : Arrival (List ℕ)) (it : Heard) (step : Step) (new : State) → AnswersAlone old.endpoint.seen came.at came.from it
+    → Answers old came it step new → IsSmall step
+small_step old came (heard.Alone out) step new alone is = small step _ is.0 (alone_small old.endpoint.seen came.at came.from out alone)
+small_step old came (heard.Empty kind id) step new alone is =
+    settles_small (ended_by kind (first_key (is_named came.from id) old.exchanges)) kind old (read_as came id) step new is
+small_step old came (heard.Message message) step new alone is = new_small old (read_as came message) _ step new is.answers

@@ -26,7 +26,7 @@ use Rattle.osc_message.specs.Sending.{AreSendable, FitsDatagram, acknowledgement
 use Rattle.osc_message.specs.Timeout.{timeout_of}
 use Rattle.osc_message.specs.declared.heard.Heard.TheVariants as heard_as
 use Rattle.osc_message.specs.declared.received.Received.TheVariants as received_as
-use Rattle.osc_proxy.specs.Case.{NamesIn, case_of, message_case}
+use Rattle.osc_proxy.specs.Case.{case_of}
 use Rattle.osc_proxy.specs.Exchanges.{HasOwnTokens, answers, count, first_key, free_key, get}
 use Rattle.osc_proxy.specs.Forwarding.{answer, forwarded, forwarded_token}
 use Rattle.osc_proxy.specs.Hearing.{Hears}
@@ -35,9 +35,9 @@ use Rattle.osc_proxy.specs.ProxyUri.{HostAndPort}
 use Rattle.osc_proxy.specs.Passage.{Passage}
 use Rattle.osc_proxy.specs.Route.{Names, port_in}
 use Rattle.osc_proxy.specs.State.{State}
-use Rattle.osc_proxy.specs.Table.{Answers, Counts, FitsBy, ForwardsBy, IsForwarded, answer_for, back_kept, back_sends, counted, exchange_of, forwarded_by, kept_on, key_for, next_own, taken_up}
+use Rattle.osc_proxy.specs.Table.{Answers, AnswersMessage, AnswersNew, Counts, FitsBy, ForwardsBy, IsForwarded, answer_for, back_kept, back_sends, counted, exchange_of, forwarded_by, kept_on, key_for, next_own, taken_up}
 use Rattle.osc_proxy.specs.ThereAndBack.{CanSendTo, IsAnswerTo, IsAtRest, IsBroughtBack, IsCarried, IsLawfulProxy, IsPassedOn, TakesUp, acknowledged_at, answer_by, answer_id, answered_at, datagram_of, heard_with}
-use Rattle.osc_proxy.specs.declared.case.Case.TheVariants.{Empty, Forwarded, Counted}
+use Rattle.osc_proxy.specs.declared.case.Case.TheVariants.{Forwarded, Counted}
 use Rattle.osc_proxy.specs.declared.exchanges.Exchange.{Exchange}
 use Rattle.osc_proxy.proofs.Its.{peer_same}
 use Rattle.osc_proxy.proofs.Forwarded.{named_by_options}
@@ -83,12 +83,12 @@ module _ (laws : PassingLaws) (proxy passed : State) (passage : Passage) (step :
   key_is = rw takes_up.kind (rw takes_up.there.room takes_up.free)
 
   case_is : (named : Option HostAndPort) → Names message.options named
-      → case_of proxy.targets proxy.exchanges came.from named (heard_as.Message message) ≡ Forwarded message passage.to
+      → case_of proxy.targets proxy.exchanges came.from named message ≡ Forwarded passage.to
   case_is named names =
       let port = port_in (value uri_port (recognised 0 message.options)) in
       let same : named ≡ Some (takes_up.host, port) =
       named_by_options message.options named takes_up.host takes_up.no_uri takes_up.scheme takes_up.host_is names in
-      ap (λ n. message_case proxy.targets proxy.exchanges came.from n message) same
+      ap (λ n. case_of proxy.targets proxy.exchanges came.from n message) same
       ∙ request_case proxy.targets proxy.exchanges came.from passage.to message takes_up.host port takes_up.request takes_up.safe takes_up.no_uri takes_up.scheme takes_up.target
 
   goes_is : goes_now (is_confirmable message.kind) passage.to (taken_up proxy came) ≡ true
@@ -140,10 +140,8 @@ module _ (laws : PassingLaws) (proxy passed : State) (passage : Passage) (step :
       let as_it : heard proxy.endpoint.seen came.at came.from hears.received ≡ heard_as.Message message =
       ap (heard proxy.endpoint.seen came.at came.from) received
       ∙ request_heard proxy.endpoint.seen came.at came.from message takes_up.kind takes_up.request takes_up.unheard in
-      let names : Names message.options hears.named = subst (λ h. NamesIn h hears.named) as_it hears.names in
-      let case : case_of proxy.targets proxy.exchanges came.from hears.named (heard proxy.endpoint.seen came.at came.from hears.received) ≡ Forwarded message passage.to =
-      ap (case_of proxy.targets proxy.exchanges came.from hears.named) as_it ∙ case_is hears.named names in
-      passed_so (forwards (subst (λ c. Answers proxy (datagram_of passage) c step passed) case hears.answers))
+      let so : AnswersMessage proxy came step passed = subst (λ h. Answers proxy (datagram_of passage) h step passed) as_it hears.answers in
+      passed_so (forwards (subst (λ c. AnswersNew proxy came c step passed) (case_is so.named so.names) so.answers))
 
 -- ---- back
 
@@ -202,7 +200,7 @@ module _ (laws : PassingLaws) (proxy passed brought : State) (passage : Passage)
   found = found_by_own passed.exchanges passage.to response passage.key its tokens is.exchange.changed answers_its
 
   case_back : (named : Option HostAndPort)
-      → case_of passed.targets passed.exchanges passage.to named (heard_as.Message response) ≡ Counted response passage.key
+      → case_of passed.targets passed.exchanges passage.to named response ≡ Counted passage.key
   case_back named = response_case passed.targets passed.exchanges passage.to named response passage.key answers_it.code found
 
   own_next : next_own passed later_draw ≡ back_id
@@ -294,9 +292,9 @@ module _ (laws : PassingLaws) (proxy passed brought : State) (passage : Passage)
       message_received laws.one_reception response hears.received answers_it.carried hears.receives in
       let as_it : heard passed.endpoint.seen later passage.to hears.received ≡ heard_as.Message response =
       ap (heard passed.endpoint.seen later passage.to) received ∙ response_heard passed.endpoint.seen later passage.to response answers_it.kind answers_it.code in
-      let case : case_of passed.targets passed.exchanges passage.to hears.named (heard passed.endpoint.seen later passage.to hears.received) ≡ Counted response passage.key =
-      ap (case_of passed.targets passed.exchanges passage.to hears.named) as_it ∙ case_back hears.named in
-      brought_so (subst (λ c. Answers passed (answered_at passage later later_draw response) c step brought) case hears.answers) hears.fits
+      let so : AnswersMessage passed it step brought =
+      subst (λ h. Answers passed (answered_at passage later later_draw response) h step brought) as_it hears.answers in
+      brought_so (subst (λ c. AnswersNew passed it c step brought) (case_back so.named) so.answers) hears.fits
 
 -- ---- at rest
 
@@ -310,10 +308,10 @@ is_at_rest one proxy brought rested passage response last draw second step is he
     let id = answer_id proxy passage.came.draw in
     let received : hears.received ≡ received_as.Message (empty_acknowledgement id) =
     message_received one (empty_acknowledgement id) hears.received is.acknowledgement hears.receives in
-    let case : case_of brought.targets brought.exchanges from hears.named (heard brought.endpoint.seen last from hears.received) ≡ Empty Acknowledgement id =
-    ap (λ r. case_of brought.targets brought.exchanges from hears.named (heard brought.endpoint.seen last from r)) received in
-    let so : Answers brought came (Empty Acknowledgement id) step rested =
-    subst (λ c. Answers brought came c step rested) case hears.answers in
+    let as_it : heard brought.endpoint.seen last from hears.received ≡ heard_as.Empty Acknowledgement id =
+    ap (λ r. heard brought.endpoint.seen last from r) received in
+    let so : Answers brought came (heard_as.Empty Acknowledgement id) step rested =
+    subst (λ h. Answers brought came h step rested) as_it hears.answers in
     record {
       told = so.0;
       targets = ap (λ (s : State). s.targets) so.1 ∙ is.targets;

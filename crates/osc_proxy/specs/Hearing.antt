@@ -8,19 +8,15 @@ use Rattle.osc_message.specs.Heard.{heard}
 use Rattle.osc_message.specs.Received.{Receives}
 use Rattle.osc_message.specs.Sending.{AreSendable}
 use Rattle.osc_message.specs.declared.received.Received.{Received}
-use Rattle.osc_proxy.specs.Case.{IsAnswered, NamesIn, case_of}
-use Rattle.osc_proxy.specs.ProxyUri.{HostAndPort}
 use Rattle.osc_proxy.specs.State.{State}
-use Rattle.osc_proxy.specs.Table.{Answers}
+use Rattle.osc_proxy.specs.Table.{Answers, IsAnswered}
 
--- These bytes came: they are answered as their case says, in datagrams of at most 1,152 bytes, and nothing is sealed or opened. At most
+-- These bytes came: they are answered as the table says, in datagrams of at most 1,152 bytes, and nothing is sealed or opened. At most
 -- a request is refused.
 pub record Hears (old : State) (came : Arrival (List ℕ)) (step : Step) (new : State) : Type 0 where
   pub received : Received
   pub receives : Receives came.what received
-  pub named : Option HostAndPort
-  pub names : NamesIn (heard old.endpoint.seen came.at came.from received) named
-  pub answers : Answers old came (case_of old.targets old.exchanges came.from named (heard old.endpoint.seen came.at came.from received)) step new
+  pub answers : Answers old came (heard old.endpoint.seen came.at came.from received) step new
   pub refused : Option RefusedRequest
   pub silent : step.notes ≡ record quiet { refused = refused }
   pub fits : AreSendable step.out
@@ -29,6 +25,4 @@ pub record Hears (old : State) (came : Arrival (List ℕ)) (step : Step) (new : 
 pub record MayBeAnswered (old : State) (came : Arrival (List ℕ)) : Type 0 where
   pub received : Received
   pub receives : Receives came.what received
-  pub named : Option HostAndPort
-  pub names : NamesIn (heard old.endpoint.seen came.at came.from received) named
-  pub answered : IsAnswered old.endpoint came.at came.from (case_of old.targets old.exchanges came.from named (heard old.endpoint.seen came.at came.from received))
+  pub answered : IsAnswered old came.from (heard old.endpoint.seen came.at came.from received)

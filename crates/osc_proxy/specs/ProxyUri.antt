@@ -23,13 +23,17 @@ pub record IsPort (digits : List ℕ) : Type 0 where
 abbrev pub decimal : List ℕ → ℕ
 decimal digits = fold (λ n digit. 10 * n + (digit - 48)) 0 digits
 
--- ':' and the port, where one is named; else the port is 5683
+-- the port of the scheme `coap` (section 6.1)
+abbrev pub default_port : ℕ
+default_port = 5683
+
+-- ':' and the port, where one is named
 abbrev pub port_spelling : Option (List ℕ) → List ℕ
 port_spelling None = []
 port_spelling (Some digits) = 58 ∷ digits
 
 abbrev pub port_named : Option (List ℕ) → ℕ
-port_named None = 5683
+port_named None = default_port
 port_named (Some digits) = decimal digits
 
 -- the empty path may be spelled as '/'

@@ -5,7 +5,7 @@ use Rattle.osc_coap.specs.Message.{NumberAndValue}
 use Rattle.osc_options.specs.Numbers.{proxy_scheme, proxy_uri, uri_host, uri_port}
 use Rattle.osc_options.specs.Recognised.{has_unrecognised_unsafe, recognised}
 use Rattle.osc_options.specs.Requests.{uint, value}
-use Rattle.osc_proxy.specs.ProxyUri.{HostAndPort, Reads}
+use Rattle.osc_proxy.specs.ProxyUri.{HostAndPort, Reads, default_port}
 use Rattle.osc_proxy.specs.Targets.{peer_of}
 use Rattle.osc_proxy.specs.declared.route.Route.{Route}
 use Rattle.osc_proxy.specs.declared.route.Route.TheVariants.{BadOption, NotFound, NotSupported, To}
@@ -15,7 +15,7 @@ use Rattle.osc_proxy.specs.declared.targets.Target.{Target}
 
 -- Uri-Port is a whole number; without it the port is that of the scheme
 abbrev pub port_in : Option (List ℕ) → ℕ
-port_in None = 5683
+port_in None = default_port
 port_in (Some bytes) = uint bytes
 
 -- by Proxy-Scheme, Uri-Host and Uri-Port: the scheme is `coap`, and a host is named

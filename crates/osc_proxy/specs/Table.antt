@@ -1,5 +1,5 @@
--- What a proxy sends in each case, and what it keeps after it (RFC 7252 sections 5.7.1 and 5.7.2).
-use Rattle.std.specs.Prelude.{◌≡◌, ℕ, ◌+◌, nat_le, Bool, true, false, if◌then◌else◌, List, [], ◌∷◌, ◌++◌, length, Option, Some, None, option_map}
+-- What a proxy sends for each thing that it hears, and what it keeps after it (RFC 7252 sections 5.7.1 and 5.7.2).
+use Rattle.std.specs.Prelude.{◌≡◌, ◌≢◌, ℕ, ◌+◌, nat_le, Bool, true, false, if◌then◌else◌, List, [], ◌∷◌, ◌++◌, length, Option, Some, None, option_map}
 use Rattle.osc_model.specs.Arrival.{Arrival, read_as}
 use Rattle.osc_model.specs.Code.{code}
 use Rattle.osc_model.specs.Step.{refuses, sends}
@@ -12,20 +12,24 @@ use Rattle.osc_model.specs.declared.step.Step.{Step}
 use Rattle.osc_coap.specs.Building.{bare}
 use Rattle.osc_coap.specs.Length.{datagram_limit}
 use Rattle.osc_coap.specs.Message.{HasSpelling, Message, spelling}
+use Rattle.osc_coap.specs.declared.kind.Kind.{Kind}
 use Rattle.osc_coap.specs.declared.kind.Kind.TheVariants.{Reset as ResetKind}
 use Rattle.osc_message.specs.Endpoint.{EndpointState, own_id, settled}
-use Rattle.osc_message.specs.Heard.{noted_reply}
-use Rattle.osc_message.specs.Sending.{acknowledgement, is_confirmable, replied, reply_start, reset, again, datagram, sent_to}
+use Rattle.osc_message.specs.Sending.{acknowledgement, is_confirmable, rejection, replied, reply_start, datagram, sent_to}
 use Rattle.osc_message.specs.declared.handling.Handling.TheVariants as handling
+use Rattle.osc_message.specs.declared.heard.Heard.{Heard}
 use Rattle.osc_message.specs.declared.heard.Heard.TheVariants as heard
-use Rattle.osc_proxy.specs.Exchanges.{Changes, Table, count, free_key, get}
+use Rattle.osc_proxy.specs.Case.{IsNewAnswered, case_of, ended_by}
+use Rattle.osc_proxy.specs.Exchanges.{Changes, Table, count, first_key, free_key, get, is_named}
 use Rattle.osc_proxy.specs.Forwarding.{answer, forwarded, forwarded_token}
 use Rattle.osc_proxy.specs.Own.{goes_now, has_room, kind_of, sends_own, with_own}
 use Rattle.osc_proxy.specs.Passage.{Passage}
+use Rattle.osc_proxy.specs.ProxyUri.{HostAndPort}
+use Rattle.osc_proxy.specs.Route.{Names}
 use Rattle.osc_proxy.specs.State.{State}
 use Rattle.osc_options.specs.Recognised.{has_unrecognised_unsafe}
 use Rattle.osc_proxy.specs.declared.case.Case.{Case}
-use Rattle.osc_proxy.specs.declared.case.Case.TheVariants.{Ignored, Reset, Repeated, Empty, Ended, Refused, Forwarded, Rejected, Dropped, Counted}
+use Rattle.osc_proxy.specs.declared.case.Case.TheVariants.{Refused, Forwarded, Counted, Unused}
 use Rattle.osc_proxy.specs.declared.exchanges.Exchange.{Exchange}
 
 -- Each message here has a spelling, by which it is read again as that very message (section 3).
@@ -167,32 +171,53 @@ abbrev pub named : State → Arrival ℕ → EndpointState
 named old came = settled old.endpoint came.at came.from (heard.Empty ResetKind came.what) handling.Dropped
 
 -- the answer of an exchange whose forwarded message was rejected: 5.02 (Bad Gateway)
-abbrev pub rejection : State → Draw → Exchange → Message
-rejection old draw exchange = failure (code 5 2) (next_own old draw) exchange
+abbrev pub bad_gateway : State → Draw → Exchange → Message
+bad_gateway old draw exchange = failure (code 5 2) (next_own old draw) exchange
 
 -- A Reset came, which names the forwarded message of the exchange of this key.
 pub record Ends (key : ℕ) (old : State) (came : Arrival ℕ) (step : Step) (new : State) : Type 0 where
   pub exchange : Exchange
   pub closes : Closes key exchange old.exchanges new.exchanges
-  pub lawful : HasSpelling (rejection old came.draw exchange)
-  pub told : step ≡ sends (back_sends (named old came) exchange (rejection old came.draw exchange))
+  pub lawful : HasSpelling (bad_gateway old came.draw exchange)
+  pub told : step ≡ sends (back_sends (named old came) exchange (bad_gateway old came.draw exchange))
   pub targets : new.targets ≡ old.targets
-  pub endpoint : new.endpoint ≡ back_kept (named old came) came.at came.draw exchange (rejection old came.draw exchange)
+  pub endpoint : new.endpoint ≡ back_kept (named old came) came.at came.draw exchange (bad_gateway old came.draw exchange)
 
--- ---- each case
+-- ---- what is heard
 
-abbrev pub Answers : State → Arrival (List ℕ) → Case → Step → State → Type 0
-Answers old came Ignored step new = (step ≡ sends []) × (new ≡ old)
-Answers old came (Reset id) step new = (step ≡ sends (datagram came.from (reset id) ∷ [])) × (new ≡ old)
-Answers old came (Repeated id) step new = (step ≡ sends (again came.from (noted_reply old.endpoint.seen came.at came.from id))) × (new ≡ old)
-Answers old came (Empty kind id) step new =
+-- an empty acknowledgement or Reset, which names this message ID, and ends the exchange of this key, if any
+abbrev pub Settles : Option ℕ → Kind → State → Arrival ℕ → Step → State → Type 0
+Settles None kind old came step new =
     (step ≡ sends [])
-    × (new ≡ record old { endpoint = settled old.endpoint came.at came.from (heard.Empty kind id) handling.Dropped })
-Answers old came (Ended id key) step new = Ends key old (read_as came id) step new
-Answers old came (Refused message why) step new = IsRefused why old (read_as came message) step new
-Answers old came (Forwarded message to) step new = ForwardsBy (key_for old message to) old (read_as came message) to step new
-Answers old came (Counted message key) step new = Counts key old (read_as came message) step new
-Answers old came (Rejected message) step new = (step ≡ sends (datagram came.from (reset message.id) ∷ [])) × (new ≡ old)
-Answers old came (Dropped message) step new =
-    (step ≡ sends [])
-    × (new ≡ record old { endpoint = settled old.endpoint came.at came.from (heard.Message message) handling.Dropped })
+    × (new ≡ record old { endpoint = settled old.endpoint came.at came.from (heard.Empty kind came.what) handling.Dropped })
+Settles (Some key) kind old came step new = Ends key old came step new
+
+-- A new message, in each case. One for no exchange is rejected, where it is confirmable, and else ignored; an acknowledgement
+-- acknowledges all the same.
+abbrev pub AnswersNew : State → Arrival Message → Case → Step → State → Type 0
+AnswersNew old came (Refused why) step new = IsRefused why old came step new
+AnswersNew old came (Forwarded to) step new = ForwardsBy (key_for old came.what to) old came to step new
+AnswersNew old came (Counted key) step new = Counts key old came step new
+AnswersNew old came Unused step new =
+    (step ≡ sends (rejection came.from came.what.kind came.what.id))
+    × (new ≡ record old { endpoint = settled old.endpoint came.at came.from (heard.Message came.what) handling.Dropped })
+
+-- by what its options name, in the case that it is
+pub record AnswersMessage (old : State) (came : Arrival Message) (step : Step) (new : State) : Type 0 where
+  pub named : Option HostAndPort
+  pub names : Names came.what.options named
+  pub answers : AnswersNew old came (case_of old.targets old.exchanges came.from named came.what) step new
+
+-- What the message layer answers by itself changes nothing; an empty message is settled; a new message is answered as its case says.
+abbrev pub Answers : State → Arrival (List ℕ) → Heard → Step → State → Type 0
+Answers old came (heard.Alone out) step new = (step ≡ sends out) × (new ≡ old)
+Answers old came (heard.Empty kind id) step new =
+    Settles (ended_by kind (first_key (is_named came.from id) old.exchanges)) kind old (read_as came id) step new
+Answers old came (heard.Message message) step new = AnswersMessage old (read_as came message) step new
+
+-- whether anything may be sent
+abbrev pub IsAnswered : State → Peer → Heard → Type 0
+IsAnswered old from (heard.Alone out) = out ≢ []
+IsAnswered old from (heard.Empty kind id) = ended_by kind (first_key (is_named from id) old.exchanges) ≢ None
+IsAnswered old from (heard.Message message) =
+    (named : Option HostAndPort) × Names message.options named × IsNewAnswered message (case_of old.targets old.exchanges from named message)

@@ -5,8 +5,8 @@ ghost use Rattle.osc_proxy.specs.Steps.{IsStep, most_sent};
 ghost use Rattle.osc_proxy.specs.Ticks.{acts};
 
 use crate::proxy::Proxy;
+use osc_ccm::Ciphers;
 use osc_model::{Draw, Moment, Peer, Step};
-use osc_protect::Ciphers;
 use osc_run::Node;
 use std::alloc::{AllocError, Global};
 

@@ -1,28 +1,34 @@
 //! The proxy.
-ghost use Rattle.std.specs.Prelude.{◌≡◌, ◌≢◌, ℕ, ◌≤◌, ◌<◌, ◌+◌, ◌↔◌, List, [], length, true, false, Some, IfOk, OnErr, IfSome, IfNone, IsSome};
+ghost use Rattle.std.specs.Prelude.{◌≡◌, ◌≢◌, ℕ, ◌≤◌, ◌<◌, ◌+◌, ◌↔◌, List, [], length, true, false, None, Option, Some, IfOk, OnErr, OnOk, IfSome, IfNone, IsSome};
+ghost use Rattle.osc_coap.specs.Code.{is_request_code};
+ghost use Rattle.osc_coap.specs.Length.{datagram_limit};
 ghost use Rattle.osc_coap.specs.Message.{HasSpelling, spelling};
 ghost use Rattle.osc_model.specs.Step.{sends};
 ghost use Rattle.osc_model.specs.declared.node.Moment.{Moment as AnyMoment};
 ghost use Rattle.osc_message.specs.Bounds.{is_reached};
 ghost use Rattle.osc_message.specs.Endpoint.{fresh, settled};
-ghost use Rattle.osc_message.specs.Heard.{noted_reply as noted_reply_of};
-ghost use Rattle.osc_message.specs.Sending.{AreSendable, is_confirmable as is_confirmable_of, again};
+ghost use Rattle.osc_message.specs.Heard.{AnswersAlone, IsSendableHeard, heard as heard_as};
+ghost use Rattle.osc_message.specs.Received.{Receives};
+ghost use Rattle.osc_message.specs.Sending.{AreSendable, is_confirmable as is_confirmable_of, rejection};
+ghost use Rattle.osc_message.specs.declared.received.Received.{Received as AnyReceived};
 ghost use Rattle.osc_message.specs.declared.handling.Handling.TheVariants as handling;
 ghost use Rattle.osc_message.specs.declared.heard.Heard.TheVariants as heard;
-ghost use Rattle.osc_proxy.specs.Inner.Bounds.{AsksFor, CanCount, IsNamed, names_one};
-ghost use Rattle.osc_proxy.specs.Case.{IsAnswered};
+ghost use Rattle.osc_proxy.specs.Inner.Bounds.{AsksFor, CanCount, HeardFits, IsApart, IsNamed, names_one};
+ghost use Rattle.osc_proxy.specs.Case.{IsNewAnswered, case_of as case_in, ended_by as ended_by_of};
 ghost use Rattle.osc_proxy.specs.Ends.{EachHasItsExchange};
-ghost use Rattle.osc_proxy.specs.Exchanges.{HasOwnTokens, count, get, is_overdue, none_open};
+ghost use Rattle.osc_proxy.specs.Exchanges.{HasOwnTokens, count, first_key, get, is_named, is_overdue, none_open};
 ghost use Rattle.osc_proxy.specs.Inner.Going.{Acknowledges, CanClose, IsOwn};
 ghost use Rattle.osc_proxy.specs.Hearing.{Hears, MayBeAnswered};
+ghost use Rattle.osc_proxy.specs.ProxyUri.{HostAndPort};
+ghost use Rattle.osc_proxy.specs.Route.{Names};
 ghost use Rattle.osc_proxy.specs.State.{restarted};
-ghost use Rattle.osc_proxy.specs.Table.{Answers, Counts, Ends, ForwardsBy, IsForwarded, IsRefused, forwarded_by, key_for as key_for_of};
+ghost use Rattle.osc_proxy.specs.Table.{Answers, AnswersMessage, AnswersNew, Counts, Ends, ForwardsBy, IsAnswered, Settles, IsForwarded, IsRefused, forwarded_by, key_for as key_for_of};
 ghost use Rattle.osc_proxy.specs.Ticks.{AreOfExchanges, Ticks, acts};
 ghost use Rattle.osc_proxy.specs.declared.exchanges.Exchange.{Exchange as AnyExchange};
 
 use crate::Endpoint;
 use crate::answering::{answer_back, failing};
-use crate::case::{Case, case_of};
+use crate::case::{Case, case_of, ended_by};
 use crate::deadline::{first_of, messages_deadline};
 use crate::exchanges::{Exchanges, FailureRoom};
 use crate::forwarding::{forwarded_message, forwarded_token};
@@ -32,9 +38,7 @@ use crate::targets::Targets;
 use crate::ticking::tick;
 use osc_coap::{Kind, MessageBuilder, MessageRef};
 use osc_message::laws::{ticks_send_few, what_nodes_send};
-use osc_message::{
-    Arrival, Handling, Heard, MessageName, Outbox, is_confirmable, noted, sending_reset,
-};
+use osc_message::{Arrival, Handling, Heard, MessageName, Outbox, is_confirmable, noted};
 use osc_model::{Code, Datagrams, Draw, Moment, Peer, RefusedRequest, Step};
 use std::alloc::{AllocError, Global};
 use std::marker::Model;
@@ -119,65 +123,163 @@ impl Proxy {
         // What isn't answered takes no memory; nor does a repeat, where nothing was answered before.
         ensures needs_memory { OnErr result (MayBeAnswered self.old (record { at = now; from = from; draw = draw.now; what = bytes.now })) }
     {
-        let heard = self.endpoint.on_datagram(now, from, bytes);
-        let case = case_of(&self.targets, &self.exchanges, from, heard);
-        let step = self.answer(alloc, now, from, draw, case);
+        let step = self.step_for(alloc, now, from, bytes, draw);
         // For the proof alone: the call tells what always holds of a proxy.
         let _open = self.open_exchanges();
         step
     }
 
-    /// What is sent in this case, and what is kept after it.
+    /// The same, without what always holds of a proxy.
+    fn step_for(
+        &mut self,
+        alloc: Global,
+        now: Moment,
+        from: Peer,
+        bytes: &[u8],
+        draw: &Draw,
+    ) -> Result<Step, AllocError>
+        ensures heard { IfOk result (λ step. Hears self.old (record { at = now; from = from; draw = draw.now; what = bytes.now }) step self.new) }
+        ensures few { IfOk result (λ step. length step.out ≤ 2) }
+        ensures err { OnErr result (self.new ≡ self.old) }
+        ensures needs_memory { OnErr result (MayBeAnswered self.old (record { at = now; from = from; draw = draw.now; what = bytes.now })) }
+    {
+        let heard = self.hear(alloc, now, from, bytes)?;
+        self.answer(alloc, now, from, draw, heard)
+    }
+
+    /// What these bytes are to the message layer.
+    fn hear<'a>(
+        &self,
+        alloc: Global,
+        now: Moment,
+        from: Peer,
+        bytes: &'a [u8],
+    ) -> Result<Heard<'a>, AllocError>
+        ensures heard { IfOk result (λ heard. (received : AnyReceived) × Receives bytes.now received × (heard ≡ heard_as self.now.endpoint.seen now from received)) }
+        ensures alone { IfOk result (AnswersAlone self.now.endpoint.seen now from) }
+        ensures fits { IfOk result IsSendableHeard }
+        ensures short { IfOk result HeardFits }
+        ensures apart { IfOk result IsApart }
+        ensures needs_memory { OnErr result ((received : AnyReceived) × Receives bytes.now received × IsAnswered self.now from (heard_as self.now.endpoint.seen now from received)) }
+    {
+        self.endpoint.on_datagram(alloc, now, from, bytes)
+    }
+
+    /// What is sent for what is heard, and what is kept after it.
     fn answer(
         &mut self,
         alloc: Global,
         now: Moment,
         from: Peer,
         draw: &Draw,
-        case: Case<'_>,
+        heard: Heard<'_>,
     ) -> Result<Step, AllocError>
-        requires { AsksFor self.old.exchanges from case }
-        ensures answered { IfOk result (λ step. (bytes : List ℕ) → Answers self.old (record { at = now; from = from; draw = draw.now; what = bytes }) case.entry step self.new) }
+        requires fits { IsSendableHeard heard }
+        requires short { HeardFits heard }
+        requires apart { IsApart heard }
+        ensures answered { IfOk result (λ step. (bytes : List ℕ) → Answers self.old (record { at = now; from = from; draw = draw.now; what = bytes }) heard.entry step self.new) }
         ensures fits { IfOk result (λ step. AreSendable step.out) }
         ensures err { OnErr result (self.new ≡ self.old) }
-        ensures needs_memory { OnErr result (IsAnswered self.old.endpoint now from case.entry) }
+        ensures needs_memory { OnErr result (IsAnswered self.old from heard.entry) }
     {
-        let came = |message| Arrival {
-            at: now,
-            from,
-            draw,
-            message,
-        };
-        match case {
-            Case::Ignored => Ok(Step::sending(Datagrams::new(alloc))),
-            Case::Reset(id) => sending_reset(alloc, from, id),
-            Case::Repeated(id) => self.endpoint.repeat(alloc, now, from, id),
-            Case::Empty(kind, id) => Ok(self.settle_empty(alloc, now, from, kind, id)),
-            Case::Ended(id, key) => self.end(alloc, now, draw, MessageName { peer: from, id }, key),
-            Case::Refused(message, why) => self.refuse(alloc, came(message), why),
-            Case::Forwarded(message, to) => self.forward(alloc, came(message), to),
-            Case::Counted(message, key) => self.count(alloc, came(message), key),
-            Case::Rejected(message) => sending_reset(alloc, from, message.id()),
-            Case::Dropped(message) => Ok(self.ignore(alloc, now, from, message)),
+        match heard {
+            Heard::Alone(out) => Ok(Step::sending(out)),
+            Heard::Empty(kind, id) => {
+                self.settle_empty(alloc, now, draw, kind, MessageName { peer: from, id })
+            }
+            Heard::Message(message) => self.answer_new(
+                alloc,
+                Arrival {
+                    at: now,
+                    from,
+                    draw,
+                    message,
+                },
+            ),
         }
     }
 
-    /// Settles what an empty acknowledgement or Reset names.
-    fn settle_empty(&mut self, alloc: Global, now: Moment, from: Peer, kind: Kind, id: u16) -> Step
-        ensures step { result ≡ sends [] }
-        ensures kept { self.new ≡ record self.old { endpoint = settled self.old.endpoint now from (heard.Empty kind id) handling.Dropped } }
+    /// What is sent for a new message, and what is kept after it.
+    fn answer_new(&mut self, alloc: Global, came: Arrival<'_>) -> Result<Step, AllocError>
+        requires short { length (spelling came.what) ≤ datagram_limit }
+        requires apart { is_request_code came.what.code ≡ true → names_one came.what.kind ≡ false }
+        ensures answered { IfOk result (λ step. AnswersMessage self.old came.entry step self.new) }
+        ensures fits { IfOk result (λ step. AreSendable step.out) }
+        ensures err { OnErr result (self.new ≡ self.old) }
+        ensures needs_memory { OnErr result ((named : Option HostAndPort) × Names came.entry.what.options named
+            × IsNewAnswered came.entry.what (case_in self.old.targets self.old.exchanges came.entry.from named came.entry.what)) }
     {
-        self.endpoint.settle_empty(now, from, kind, id);
+        let case = case_of(&self.targets, &self.exchanges, came.from, &came.message);
+        self.answer_in(alloc, came, case)
+    }
+
+    /// What is sent for a new message in this case, and what is kept after it.
+    fn answer_in(
+        &mut self,
+        alloc: Global,
+        came: Arrival<'_>,
+        case: Case,
+    ) -> Result<Step, AllocError>
+        requires { AsksFor self.old.exchanges came.from came.what case }
+        ensures answered { IfOk result (λ step. AnswersNew self.old came.entry case step self.new) }
+        ensures fits { IfOk result (λ step. AreSendable step.out) }
+        ensures err { OnErr result (self.new ≡ self.old) }
+        ensures needs_memory { OnErr result (IsNewAnswered came.entry.what case) }
+    {
+        match case {
+            Case::Refused(why) => self.refuse(alloc, came, why),
+            Case::Forwarded(to) => self.forward(alloc, came, to),
+            Case::Counted(key) => self.count(alloc, came, key),
+            Case::Unused => self.pass_over(alloc, came),
+        }
+    }
+
+    /// Settles what an empty acknowledgement or Reset of this kind names, and ends the exchange that it ends.
+    fn settle_empty(
+        &mut self,
+        alloc: Global,
+        now: Moment,
+        draw: &Draw,
+        kind: Kind,
+        named: MessageName,
+    ) -> Result<Step, AllocError>
+        ensures settled { IfOk result (λ step. Settles (ended_by_of kind (first_key (is_named named.peer named.id) self.old.exchanges)) kind self.old
+            (record { at = now; from = named.peer; draw = draw.now; what = named.id }) step self.new) }
+        ensures fits { IfOk result (λ step. AreSendable step.out) }
+        ensures err { OnErr result (self.new ≡ self.old) }
+        ensures needs_memory { OnErr result (ended_by_of kind (first_key (is_named named.peer named.id) self.old.exchanges) ≢ None) }
+    {
+        match ended_by(&self.exchanges, kind, named) {
+            Some(key) => self.end(alloc, now, draw, named, key),
+            None => Ok(self.acknowledge(alloc, now, kind, named)),
+        }
+    }
+
+    /// What an empty acknowledgement or Reset names is acknowledged, and no more.
+    fn acknowledge(&mut self, alloc: Global, now: Moment, kind: Kind, named: MessageName) -> Step
+        ensures step { result ≡ sends [] }
+        ensures kept { self.new ≡ record self.old { endpoint = settled self.old.endpoint now named.peer (heard.Empty kind named.id) handling.Dropped } }
+    {
+        self.endpoint.settle_empty(now, named.peer, kind, named.id);
         Step::sending(Datagrams::new(alloc))
     }
 
-    /// Ignores a message; an acknowledgement acknowledges all the same.
-    fn ignore(&mut self, alloc: Global, now: Moment, from: Peer, message: MessageRef<'_>) -> Step
-        ensures step { result ≡ sends [] }
-        ensures kept { self.new ≡ record self.old { endpoint = settled self.old.endpoint now from (heard.Message message.entry) handling.Dropped } }
+    /// Rejects a message that is for no exchange, where it is confirmable, and else ignores it; an acknowledgement acknowledges all the same.
+    fn pass_over(&mut self, alloc: Global, came: Arrival<'_>) -> Result<Step, AllocError>
+        ensures sent { IfOk result (λ step. step ≡ sends (rejection came.entry.from came.entry.what.kind came.entry.what.id)) }
+        ensures kept { OnOk result (self.new ≡ record self.old { endpoint = settled self.old.endpoint came.entry.at came.entry.from (heard.Message came.entry.what) handling.Dropped }) }
+        ensures fits { IfOk result (λ step. AreSendable step.out) }
+        ensures err { OnErr result (self.new ≡ self.old) }
+        ensures needs_memory { OnErr result (is_confirmable_of came.entry.what.kind ≡ true) }
     {
-        self.endpoint.settle_dropped(now, from, message);
-        Step::sending(Datagrams::new(alloc))
+        let Arrival {
+            at,
+            from,
+            message,
+            ..
+        } = came;
+        let step = self.endpoint.pass_over(alloc, at, from, message)?;
+        Ok(step)
     }
 
     /// Answers a request that isn't forwarded by this code, and notes it for a repeat.

@@ -54,27 +54,33 @@ fn end(
     send_back(endpoint, now, draw, own)
 }
 
-/// Ends each exchange that is over by 5.04. The datagrams go behind the others where there is room for them, and are lost elsewhere.
+/// A tick: when it comes, what is drawn for it, and the confirmable messages that it gave up.
+#[derive(Clone, Copy)]
+struct AtTick<'a> {
+    at: Moment,
+    draw: &'a Draw,
+    given_up: &'a [MessageName],
+}
+
+/// Ends each exchange that is over by 5.04. The datagrams go after the others where there is room for them, and are lost elsewhere.
 /// Takes no memory.
 fn all_end(
     exchanges: &mut Exchanges,
     endpoint: &mut Endpoint,
     out: &mut Vec<Datagram>,
     room: bool,
-    now: Moment,
-    draw: &Draw,
-    given_up: &[MessageName],
+    tick: AtTick<'_>,
 )
     requires { room ≡ true → vec_len out.old + count exchanges.old ≤ vec_capacity out.old }
     ensures { (answers : List AnyDatagram) × (out.new.items ≡ out.old.items ++ (if room then answers else []))
-        × ((targets : List AnyTarget) → AllEnd now draw.now given_up.now (record { targets = targets; exchanges = exchanges.old; endpoint = endpoint.old }) answers
+        × ((targets : List AnyTarget) → AllEnd tick.entry.at tick.entry.draw.now tick.entry.given_up.now (record { targets = targets; exchanges = exchanges.old; endpoint = endpoint.old }) answers
         (record { targets = targets; exchanges = exchanges.new; endpoint = endpoint.new })) × AreSendable answers }
 {
     for _ in 0..exchanges.count() {
-        let Some(key) = exchanges.find_over(now, given_up) else {
+        let Some(key) = exchanges.find_over(tick.at, tick.given_up) else {
             return;
         };
-        let sent = end(exchanges, endpoint, now, draw, key);
+        let sent = end(exchanges, endpoint, tick.at, tick.draw, key);
         put(out, room, sent);
     }
 }
@@ -107,14 +113,11 @@ pub(crate) fn tick(
     let Ticked { out, given_up } = endpoint.on_tick(alloc, now);
     let mut out = out.into_vec();
     let room = make_room(exchanges, &mut out, now, given_up.as_slice());
-    all_end(
-        exchanges,
-        endpoint,
-        &mut out,
-        room,
-        now,
+    let tick = AtTick {
+        at: now,
         draw,
-        given_up.as_slice(),
-    );
+        given_up: given_up.as_slice(),
+    };
+    all_end(exchanges, endpoint, &mut out, room, tick);
     Step::sending(Datagrams::from_vec(out))
 }

@@ -22,6 +22,7 @@ use Rattle.osc_message.specs.Confirmables.{same_peer}
 use Rattle.osc_message.specs.Heard.{heard}
 use Rattle.osc_message.specs.Received.{Receives}
 use Rattle.osc_message.specs.Sending.{acknowledgement, sent_to}
+use Rattle.osc_message.specs.declared.heard.Heard.{Heard}
 use Rattle.osc_message.specs.declared.heard.Heard.TheVariants as heard_as
 use Rattle.osc_message.specs.declared.received.Received.{Received}
 use Rattle.osc_message.specs.declared.received.Received.TheVariants as received
@@ -29,17 +30,17 @@ use Rattle.osc_context.specs.Algorithm.{algorithm_of}
 use Rattle.osc_context.specs.Derivation.{key_of}
 use Rattle.osc_context.specs.Nonce.{greatest_number}
 use Rattle.osc_protect.specs.Aad.{aad_of}
-use Rattle.osc_protect.specs.Ciphers.{Sealings}
+use Rattle.osc_ccm.specs.Ciphers.{Sealings}
 use Rattle.osc_protect.specs.Protection.{IsProtectedResponse, IsResponse, SealedResponse, plain_bytes, response_nonce, response_value}
 use Rattle.osc_protect.specs.Value.{Compressed, SpellsValue}
 use Rattle.osc_authz.specs.Begun.{ClientContextState}
 use Rattle.osc_run.specs.ClientKinds.{response_note}
-use Rattle.osc_run.specs.Texts.{IsReplyIn, IsWithinRanges, reply_text}
+use Rattle.osc_options.specs.Texts.{IsReplyIn, IsWithinRanges, reply_text}
 use Rattle.osc_client.specs.Answering.{AskComes, Comes, IsSealedFor, context_after, notes_of, waits_after}
 use Rattle.osc_client.specs.Answering as comes
 use Rattle.osc_client.specs.Case.{case_of as client_case}
 use Rattle.osc_client.specs.State.{State as Client}
-use Rattle.osc_client.specs.Table.{Answers as ClientAnswers, Counts}
+use Rattle.osc_client.specs.Table.{Answers as ClientAnswers, AnswersNew as ClientAnswersNew, Counts}
 use Rattle.osc_client.specs.declared.answering.Outcome.{Outcome}
 use Rattle.osc_client.specs.declared.answering.Outcome.TheVariants.{Answers}
 use Rattle.osc_client.specs.declared.case.Case.{Case}
@@ -98,20 +99,25 @@ heard_as_message client now from request m options sealed (in_confirmable kind u
 
 counts_for : (client : Client) (now : Moment) (from : Peer) (waiting : Waiting) (request m : Message) (v sealed : List ℕ)
     → length v ≤ 255 → same_peer client.next_hop from ≡ true → ComesBack client now from request m → waiting.id ≡ request.id → waiting.token ≡ m.token
-    → client_case client.next_hop from (Some waiting) (heard_as.Message (in_place m 68 ((9, v) ∷ []) sealed)) ≡ Counted (in_place m 68 ((9, v) ∷ []) sealed)
+    → client_case client.next_hop from (Some waiting) (in_place m 68 ((9, v) ∷ []) sealed) ≡ Counted
 counts_for client now from waiting request m v sealed short peer (in_acknowledgement kind id) sent token =
     rw (one_option v short, peer, kind, sent, id, token, same_bytes m.token, same_number request.id) refl
 counts_for client now from waiting request m v sealed short peer (in_confirmable kind unheard) sent token =
     rw (one_option v short, peer, kind, token, same_bytes m.token) refl
 
+reply_heard : (client : Client) (now : Moment) (from : Peer) (request m : Message) (v sealed : List ℕ) → ComesBack client now from request m
+    → heard client.endpoint.seen now from (received.Message (protected m 68 v sealed)) ≡ heard_as.Message (protected m 68 v sealed)
+reply_heard client now from request m v sealed comes =
+    let options : List NumberAndValue = merge (outer_options m.options) ((9, v) ∷ []) in
+    heard_as_message client now from request m options sealed comes
+
 reply_case : (client : Client) (now : Moment) (from : Peer) (waiting : Waiting) (request m : Message) (v sealed : List ℕ)
     → outer_options m.options ≡ [] → length v ≤ 255 → same_peer client.next_hop from ≡ true → ComesBack client now from request m
     → waiting.id ≡ request.id → waiting.token ≡ m.token
-    → client_case client.next_hop from (Some waiting) (heard client.endpoint.seen now from (received.Message (protected m 68 v sealed))) ≡ Counted (protected m 68 v sealed)
+    → client_case client.next_hop from (Some waiting) (protected m 68 v sealed) ≡ Counted
 reply_case client now from waiting request m v sealed inside short peer comes id token =
     let options : merge (outer_options m.options) ((9, v) ∷ []) ≡ (9, v) ∷ [] = ap (λ (outer : List NumberAndValue). merge outer ((9, v) ∷ [])) inside in
-    rw options (ap (client_case client.next_hop from (Some waiting)) (heard_as_message client now from request m ((9, v) ∷ []) sealed comes)
-    ∙ counts_for client now from waiting request m v sealed short peer comes id token)
+    rw options (counts_for client now from waiting request m v sealed short peer comes id token)
 
 protects : (m : Message) (v sealed : List ℕ) → outer_options m.options ≡ [] → has_oscore (protected m 68 v sealed).options ≡ true
 protects m v sealed inside = rw inside refl
@@ -272,10 +278,15 @@ module _ (is_sealing : Sealings) (laws : ReplyLaws is_sealing)
       let v = response_value None in
       let as_it : hears.received ≡ received.Message (protected m 68 v made.sealed) =
       received_as laws.one_reception p hears.received sendable hears.receives ∙ ap received.Message made.whole in
-      let case_is : client_case old.next_hop from old.waiting (heard old.endpoint.seen now from hears.received) ≡ Counted p =
-      ap (λ (r : Received). client_case old.next_hop from old.waiting (heard old.endpoint.seen now from r)) as_it
-      ∙ ap (λ (w : Option Waiting). client_case old.next_hop from w (heard old.endpoint.seen now from (received.Message (protected m 68 v made.sealed)))) awaits.waits
+      let heard_is : heard old.endpoint.seen now from hears.received ≡ heard_as.Message p =
+      ap (λ (r : Received). heard old.endpoint.seen now from r) as_it
+      ∙ reply_heard old now from request m v made.sealed carries.comes
+      ∙ ap heard_as.Message (sym made.whole) in
+      let case_is : client_case old.next_hop from old.waiting p ≡ Counted =
+      ap (client_case old.next_hop from old.waiting) made.whole
+      ∙ ap (λ (w : Option Waiting). client_case old.next_hop from w (protected m 68 v made.sealed)) awaits.waits
       ∙ reply_case old now from awaits.waiting request m v made.sealed carries.inside laws.value_short awaits.peer carries.comes
-      awaits.id (awaits.token ∙ sym carries.token)
-      ∙ ap Counted (sym made.whole) in
-      counted (subst (λ (c : Case). ClientAnswers is_sealing old (in_bytes came) c step new) case_is hears.answers)
+      awaits.id (awaits.token ∙ sym carries.token) in
+      let so : ClientAnswersNew is_sealing old came (client_case old.next_hop from old.waiting p) step new =
+      subst (λ (h : Heard). ClientAnswers is_sealing old (in_bytes came) h step new) heard_is hears.answers in
+      counted (subst (λ (c : Case). ClientAnswersNew is_sealing old came c step new) case_is so)

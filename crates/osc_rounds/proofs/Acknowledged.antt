@@ -10,15 +10,14 @@ use Rattle.osc_message.specs.Confirmables.{acknowledged}
 use Rattle.osc_message.specs.Heard.{heard}
 use Rattle.osc_message.specs.Received.{Receives}
 use Rattle.osc_message.specs.Sending.{empty_acknowledgement}
+use Rattle.osc_message.specs.declared.heard.Heard.{Heard}
+use Rattle.osc_message.specs.declared.heard.Heard.TheVariants.{Empty}
 use Rattle.osc_message.specs.declared.received.Received.{Received}
 use Rattle.osc_message.specs.declared.received.Received.TheVariants as received
-use Rattle.osc_protect.specs.Ciphers.{Sealings}
-use Rattle.osc_client.specs.Case.{case_of as client_case}
+use Rattle.osc_ccm.specs.Ciphers.{Sealings}
 use Rattle.osc_client.specs.Hearing.{Hears as ClientHears}
 use Rattle.osc_client.specs.State.{State as Client}
 use Rattle.osc_client.specs.Table.{Answers as ClientAnswers}
-use Rattle.osc_client.specs.declared.case.Case.{Case}
-use Rattle.osc_client.specs.declared.case.Case.TheVariants.{Empty}
 use Rattle.osc_rounds.proofs.Asking.{received_as}
 
 module _ (is_sealing : Sealings)
@@ -32,6 +31,6 @@ module _ (is_sealing : Sealings)
       let id = came.what in
       let as_it : hears.received ≡ received.Message (empty_acknowledgement id) =
       received_as one_reception (empty_acknowledgement id) hears.received (record { lawful = lawful id few; short = short id }) hears.receives in
-      let case_is : client_case old.next_hop came.from old.waiting (heard old.endpoint.seen came.at came.from hears.received) ≡ Empty Acknowledgement id =
-      ap (λ (r : Received). client_case old.next_hop came.from old.waiting (heard old.endpoint.seen came.at came.from r)) as_it in
-      subst (λ (c : Case). ClientAnswers is_sealing old (read_as came (spelling (empty_acknowledgement id))) c step new) case_is hears.answers
+      let heard_is : heard old.endpoint.seen came.at came.from hears.received ≡ Empty Acknowledgement id =
+      ap (λ (r : Received). heard old.endpoint.seen came.at came.from r) as_it in
+      subst (λ (h : Heard). ClientAnswers is_sealing old (read_as came (spelling (empty_acknowledgement id))) h step new) heard_is hears.answers

@@ -32,10 +32,11 @@ use Rattle.osc_message.specs.Endpoint.{EndpointState}
 use Rattle.osc_message.specs.Heard.{heard}
 use Rattle.osc_message.specs.Received.{Receives}
 use Rattle.osc_message.specs.Sending.{acknowledgement, datagram, sent_to}
+use Rattle.osc_message.specs.declared.heard.Heard.{Heard}
 use Rattle.osc_message.specs.declared.heard.Heard.TheVariants as heard_as
 use Rattle.osc_message.specs.declared.received.Received.{Received}
 use Rattle.osc_message.specs.declared.received.Received.TheVariants as received
-use Rattle.osc_protect.specs.Ciphers.{Sealings}
+use Rattle.osc_ccm.specs.Ciphers.{Sealings}
 use Rattle.osc_protect.specs.Protection.{HasShortContext}
 use Rattle.osc_scope.specs.Entries.{Entry, scope_of}
 use Rattle.osc_token.specs.Minted.{HasLawfulParts}
@@ -58,7 +59,7 @@ use Rattle.osc_authz.specs.declared.post.PostAnswer.{PostAnswer}
 use Rattle.osc_server.specs.Case.{case_of as server_case}
 use Rattle.osc_server.specs.Hearing.{Hears as ServerHears}
 use Rattle.osc_server.specs.State.{State as Server}
-use Rattle.osc_server.specs.Table.{Answers as ServerAnswers, AnswersPost, post_reply, reply_to}
+use Rattle.osc_server.specs.Table.{Answers as ServerAnswers, AnswersNew as ServerAnswersNew, AnswersPost, post_reply, reply_to}
 use Rattle.osc_server.specs.declared.case.Case.{Case as ServerCase}
 use Rattle.osc_server.specs.declared.case.Case.TheVariants.{Posted}
 use Rattle.osc_client.specs.Answering.{Comes, ExchangeComes, context_after, ended_by, notes_of, waits_after}
@@ -67,7 +68,7 @@ use Rattle.osc_client.specs.Case.{case_of as client_case}
 use Rattle.osc_client.specs.Hearing.{Hears as ClientHears}
 use Rattle.osc_client.specs.Sending.{post_with}
 use Rattle.osc_client.specs.State.{State as Client}
-use Rattle.osc_client.specs.Table.{Answers as ClientAnswers, Counts}
+use Rattle.osc_client.specs.Table.{Answers as ClientAnswers, AnswersNew as ClientAnswersNew, Counts}
 use Rattle.osc_client.specs.Way.{IsHost}
 use Rattle.osc_client.specs.declared.answering.Outcome.{Outcome}
 use Rattle.osc_client.specs.declared.case.Case.{Case as ClientCase}
@@ -138,7 +139,7 @@ name_is_text : is_utf8 (codes "authz-info") ≡ true
 name_is_text = is_utf8-from_IsUtf8 (codes "authz-info") (IsUtf8-from_ascii (codes "authz-info") name_is_ascii)
 
 pub case_post : (open_scope : Scope) (host : Option (List ℕ)) (id : ℕ) (token body : List ℕ) → AreLawful host
-    → server_case open_scope (heard_as.Message (post_to host id token body)) ≡ Posted (post_to host id token body)
+    → server_case open_scope (post_to host id token body) ≡ Posted
 case_post open_scope None id token body lawful = rw name_is_text refl
 case_post open_scope (Some host) id token body lawful = rw (le-leb 1 (length host) lawful.0, le-leb (length host) 255 lawful.1, name_is_text) refl
 
@@ -148,12 +149,24 @@ payload_again (b ∷ bytes) = refl
 
 -- ---- the answer at the client
 
+-- the client hears it as a message that counts for what waits
+pub record IsCounted (next_hop from : Peer) (waiting : Waiting) (seen : List Noted) (now : Moment) (message : Message) : Type 0 where
+  pub heard_so : heard seen now from (received.Message message) ≡ heard_as.Message message
+  pub counts : client_case next_hop from (Some waiting) message ≡ Counted
+
 -- in the acknowledgement of the post
+case_acknowledged : (next_hop from : Peer) (waiting : Waiting) (id : ℕ) (token : List ℕ) (answer : PostAnswer)
+    → same_peer next_hop from ≡ true → waiting.id ≡ id → waiting.token ≡ token
+    → client_case next_hop from (Some waiting) (agreement Acknowledgement id token answer) ≡ Counted
+case_acknowledged next_hop from waiting id token answer peer same_id same_token = rw (peer, same_id, same_token, same_bytes token, same_number id) refl
+
 pub counts_acknowledged : (next_hop from : Peer) (waiting : Waiting) (seen : List Noted) (now : Moment) (id : ℕ) (token : List ℕ) (answer : PostAnswer)
     → same_peer next_hop from ≡ true → waiting.id ≡ id → waiting.token ≡ token
-    → client_case next_hop from (Some waiting) (heard seen now from (received.Message (agreement Acknowledgement id token answer))) ≡ Counted (agreement Acknowledgement id token answer)
-counts_acknowledged next_hop from waiting seen now id token answer peer same_id same_token =
-    rw (peer, same_id, same_token, same_bytes token, same_number id) refl
+    → IsCounted next_hop from waiting seen now (agreement Acknowledgement id token answer)
+counts_acknowledged next_hop from waiting seen now id token answer peer same_id same_token = record {
+  heard_so = refl;
+  counts = case_acknowledged next_hop from waiting id token answer peer same_id same_token;
+}
 
 -- in a confirmable message
 heard_confirmable : (from : Peer) (seen : List Noted) (now : Moment) (id : ℕ) (token : List ℕ) (answer : PostAnswer) → looked now from id seen ≡ None
@@ -162,15 +175,16 @@ heard_confirmable from seen now id token answer unheard = rw unheard refl
 
 case_confirmable : (next_hop from : Peer) (waiting : Waiting) (id : ℕ) (token : List ℕ) (answer : PostAnswer)
     → same_peer next_hop from ≡ true → waiting.token ≡ token
-    → client_case next_hop from (Some waiting) (heard_as.Message (agreement Confirmable id token answer)) ≡ Counted (agreement Confirmable id token answer)
+    → client_case next_hop from (Some waiting) (agreement Confirmable id token answer) ≡ Counted
 case_confirmable next_hop from waiting id token answer peer same_token = rw (peer, same_token, same_bytes token) refl
 
 pub counts_confirmable : (next_hop from : Peer) (waiting : Waiting) (seen : List Noted) (now : Moment) (id : ℕ) (token : List ℕ) (answer : PostAnswer)
     → same_peer next_hop from ≡ true → looked now from id seen ≡ None → waiting.token ≡ token
-    → client_case next_hop from (Some waiting) (heard seen now from (received.Message (agreement Confirmable id token answer))) ≡ Counted (agreement Confirmable id token answer)
-counts_confirmable next_hop from waiting seen now id token answer peer unheard same_token =
-    ap (client_case next_hop from (Some waiting)) (heard_confirmable from seen now id token answer unheard)
-    ∙ case_confirmable next_hop from waiting id token answer peer same_token
+    → IsCounted next_hop from waiting seen now (agreement Confirmable id token answer)
+counts_confirmable next_hop from waiting seen now id token answer peer unheard same_token = record {
+  heard_so = heard_confirmable from seen now id token answer unheard;
+  counts = case_confirmable next_hop from waiting id token answer peer same_token;
+}
 
 abbrev pub made_of : Held → ClientContextState
 made_of held = record { name = held.name; next = 0 }
@@ -243,11 +257,12 @@ module _ (is_sealing : Sealings) (laws : ExchangeLaws is_sealing)
       let message = post_to host id token body in
       let as_it : hears.received ≡ received.Message message =
       received_as laws.one_reception came.what hears.received sendable hears.receives ∙ ap received.Message is_post in
-      let case_is : server_case server.open_scope (heard server.endpoint.seen came.at came.from hears.received) ≡ Posted message =
-      ap (λ (r : Received). server_case server.open_scope (heard server.endpoint.seen came.at came.from r)) as_it
-      ∙ ap (server_case server.open_scope) (heard_post host server.endpoint.seen came.at came.from id token body awaits.unheard)
-      ∙ case_post server.open_scope host id token body lawful in
-      agreed_to (subst (λ (k : ServerCase). ServerAnswers is_sealing server (in_bytes came) k step new) case_is hears.answers)
+      let heard_is : heard server.endpoint.seen came.at came.from hears.received ≡ heard_as.Message message =
+      ap (λ (r : Received). heard server.endpoint.seen came.at came.from r) as_it
+      ∙ heard_post host server.endpoint.seen came.at came.from id token body awaits.unheard in
+      let so : ServerAnswersNew is_sealing server (read_as came message) (server_case server.open_scope message) step new =
+      subst (λ (h : Heard). ServerAnswers is_sealing server (in_bytes came) h step new) heard_is hears.answers in
+      agreed_to (subst (λ (k : ServerCase). ServerAnswersNew is_sealing server (read_as came message) k step new) (case_post server.open_scope host id token body lawful) so)
 
 -- ---- the client has a context
 
@@ -351,13 +366,15 @@ module _ (is_sealing : Sealings) (laws : ExchangeLaws is_sealing)
           )
 
       pub hears_agreement : IsCarried response
-          → client_case old.next_hop hop (Some waits.waiting) (heard old.endpoint.seen later hop (received.Message response)) ≡ Counted response
+          → IsCounted old.next_hop hop waits.waiting old.endpoint.seen later response
           → ClientHears is_sealing old (in_bytes back) third after
           → (held : Held) × IsHeld agreed now entries held × IsEnded old hop response held third after
-      hears_agreement sendable counts hears =
+      hears_agreement sendable is hears =
           let as_it : hears.received ≡ received.Message response = received_as laws.one_reception response hears.received sendable hears.receives in
-          let case_is : client_case old.next_hop hop old.waiting (heard old.endpoint.seen later hop hears.received) ≡ Counted response =
-          ap (λ (r : Received). client_case old.next_hop hop old.waiting (heard old.endpoint.seen later hop r)) as_it
-          ∙ ap (λ (w : Option Waiting). client_case old.next_hop hop w (heard old.endpoint.seen later hop (received.Message response))) waits.waits
-          ∙ counts in
-          counted (subst (λ (k : ClientCase). ClientAnswers is_sealing old (in_bytes back) k third after) case_is hears.answers)
+          let heard_is : heard old.endpoint.seen later hop hears.received ≡ heard_as.Message response =
+          ap (λ (r : Received). heard old.endpoint.seen later hop r) as_it ∙ is.heard_so in
+          let case_is : client_case old.next_hop hop old.waiting response ≡ Counted =
+          ap (λ (w : Option Waiting). client_case old.next_hop hop w response) waits.waits ∙ is.counts in
+          let so : ClientAnswersNew is_sealing old back (client_case old.next_hop hop old.waiting response) third after =
+          subst (λ (h : Heard). ClientAnswers is_sealing old (in_bytes back) h third after) heard_is hears.answers in
+          counted (subst (λ (k : ClientCase). ClientAnswersNew is_sealing old back k third after) case_is so)

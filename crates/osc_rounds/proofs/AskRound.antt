@@ -34,7 +34,7 @@ use Rattle.osc_message.specs.Confirmables.{same_peer}
 use Rattle.osc_message.specs.Endpoint.{EndpointState, own_id}
 use Rattle.osc_message.specs.Sending.{acknowledgement, empty_acknowledgement, is_confirmable, reply_start, sent_to}
 use Rattle.osc_context.specs.Nonce.{longest_id}
-use Rattle.osc_protect.specs.Ciphers.{Sealings, Tags, IsLongerBy}
+use Rattle.osc_ccm.specs.Ciphers.{Sealings, Tags, IsLongerBy}
 use Rattle.osc_protect.specs.Protection.{HasShortContext, IsProtectedRequest, longest_message, plain_bytes, request_length, request_value}
 use Rattle.osc_authz.specs.Begun.{ClientContextState}
 use Rattle.osc_authz.specs.Contexts.{IsLive}
@@ -44,7 +44,7 @@ use Rattle.osc_authz.specs.Table.{IsLawfulContext, IsTable, contexts, meant}
 use Rattle.osc_authz.specs.declared.holding.Holding.{Holding}
 use Rattle.osc_run.specs.ClientKinds.{request_note}
 use Rattle.osc_run.specs.ServerKinds.{Replies as AppliesTo}
-use Rattle.osc_run.specs.Texts.{read_request}
+use Rattle.osc_options.specs.Texts.{read_request}
 use Rattle.osc_server.specs.State.{State as Server}
 use Rattle.osc_server.specs.Hearing.{Hears as ServerHears}
 use Rattle.osc_server.specs.Table.{answered, reply_to}

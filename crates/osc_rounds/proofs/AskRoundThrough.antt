@@ -12,7 +12,7 @@ use Rattle.osc_dedup.specs.Table.{Entry, looked}
 use Rattle.osc_message.specs.Confirmables.{acknowledged}
 use Rattle.osc_message.specs.Endpoint.{EndpointState}
 use Rattle.osc_message.specs.Sending.{empty_acknowledgement}
-use Rattle.osc_protect.specs.Ciphers.{Sealings}
+use Rattle.osc_ccm.specs.Ciphers.{Sealings}
 use Rattle.osc_authz.specs.Held.{Held}
 use Rattle.osc_server.specs.Hearing.{Hears as ServerHears}
 use Rattle.osc_server.specs.State.{State as Server}

@@ -19,7 +19,7 @@ use Rattle.osc_message.specs.Confirmables.{same_peer}
 use Rattle.osc_message.specs.Endpoint.{EndpointState, own_id}
 use Rattle.osc_message.specs.Sending.{datagram, empty_acknowledgement}
 use Rattle.osc_context.specs.Nonce.{longest_id}
-use Rattle.osc_protect.specs.Ciphers.{Sealings, Tags}
+use Rattle.osc_ccm.specs.Ciphers.{Sealings, Tags}
 use Rattle.osc_protect.specs.Protection.{HasShortContext, plain_bytes, request_value, response_value}
 use Rattle.osc_authz.specs.Begun.{ClientContextState}
 use Rattle.osc_authz.specs.Held.{Held}

@@ -16,14 +16,14 @@ use Rattle.osc_dedup.specs.Table.{looked}
 use Rattle.osc_message.specs.Endpoint.{EndpointState, own_id}
 use Rattle.osc_message.specs.Sending.{datagram, empty_acknowledgement}
 use Rattle.osc_context.specs.Nonce.{greatest_number}
-use Rattle.osc_protect.specs.Ciphers.{Sealings}
+use Rattle.osc_ccm.specs.Ciphers.{Sealings}
 use Rattle.osc_protect.specs.Protection.{IsProtectedRequest, plain_bytes}
 use Rattle.osc_authz.specs.Begun.{ClientContextState}
 use Rattle.osc_authz.specs.Held.{Held}
 use Rattle.osc_authz.specs.Table.{accepted}
 use Rattle.osc_run.specs.ClientKinds.{request_note}
 use Rattle.osc_run.specs.ServerKinds.{Replies as AppliesTo}
-use Rattle.osc_run.specs.Texts.{read_request}
+use Rattle.osc_options.specs.Texts.{read_request}
 use Rattle.osc_server.specs.Hearing.{Hears as ServerHears}
 use Rattle.osc_server.specs.State.{State as Server}
 use Rattle.osc_server.specs.Table.{notes_of_request}

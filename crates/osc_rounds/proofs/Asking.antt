@@ -21,6 +21,7 @@ use Rattle.osc_options.specs.Split.{outer_options, protected, merge}
 use Rattle.osc_dedup.specs.Table.{Entry, looked}
 use Rattle.osc_message.specs.Heard.{heard}
 use Rattle.osc_message.specs.Received.{Receives}
+use Rattle.osc_message.specs.declared.heard.Heard.{Heard}
 use Rattle.osc_message.specs.declared.heard.Heard.TheVariants as heard_as
 use Rattle.osc_message.specs.declared.received.Received.{Received}
 use Rattle.osc_message.specs.declared.received.Received.TheVariants as received
@@ -29,16 +30,16 @@ use Rattle.osc_context.specs.Derivation.{key_of}
 use Rattle.osc_context.specs.Nonce.{greatest_number, longest_id}
 use Rattle.osc_window.specs.Window.{IsFresh}
 use Rattle.osc_protect.specs.Aad.{aad_of}
-use Rattle.osc_protect.specs.Ciphers.{Sealings}
+use Rattle.osc_ccm.specs.Ciphers.{Sealings}
 use Rattle.osc_protect.specs.Protection.{HasShortContext, IsFor, IsProtectedRequest, IsProtectedResponse, IsRequest, SealedRequest, plain_bytes, request_nonce, request_value}
 use Rattle.osc_protect.specs.Value.{Compressed, SpellsValue}
 use Rattle.osc_authz.specs.Held.{Held}
 use Rattle.osc_authz.specs.Table.{meant, accepted}
 use Rattle.osc_run.specs.ServerKinds.{Replies as AppliesTo}
-use Rattle.osc_run.specs.Texts.{read_request, IsWithinRanges}
+use Rattle.osc_options.specs.Texts.{read_request, IsWithinRanges}
 use Rattle.osc_server.specs.Case.{case_of as server_case}
 use Rattle.osc_server.specs.State.{State as Server}
-use Rattle.osc_server.specs.Table.{Answers as ServerAnswers, AnswersProtected, IsMeant, IsRefused, IsSealed, Sends, Serves, notes_of_request, refused, reply_to, served}
+use Rattle.osc_server.specs.Table.{Answers as ServerAnswers, AnswersNew as ServerAnswersNew, AnswersProtected, IsMeant, IsRefused, IsSealed, Sends, Serves, notes_of_request, refused, reply_to, served}
 use Rattle.osc_server.specs.declared.case.Case.{Case}
 use Rattle.osc_server.specs.declared.case.Case.TheVariants.{Protected}
 use Rattle.osc_server.specs.declared.refusal.Refusal.{Refusal}
@@ -85,11 +86,11 @@ abbrev pub in_place : Message → ℕ → List NumberAndValue → List ℕ → M
 in_place m code options sealed = record m { code = code; options = options; payload = payload_of sealed }
 
 case_by_options : (open_scope : Scope) (m : Message) (v sealed : List ℕ) → length v ≤ 255
-    → server_case open_scope (heard_as.Message (in_place m 2 ((9, v) ∷ []) sealed)) ≡ Protected (in_place m 2 ((9, v) ∷ []) sealed)
+    → server_case open_scope (in_place m 2 ((9, v) ∷ []) sealed) ≡ Protected
 case_by_options open_scope m v sealed short = rw (one_option v short) refl
 
 case_with_host : (open_scope : Scope) (m : Message) (host v sealed : List ℕ) → IsHost host → length v ≤ 255
-    → server_case open_scope (heard_as.Message (in_place m 2 ((3, host) ∷ (9, v) ∷ []) sealed)) ≡ Protected (in_place m 2 ((3, host) ∷ (9, v) ∷ []) sealed)
+    → server_case open_scope (in_place m 2 ((3, host) ∷ (9, v) ∷ []) sealed) ≡ Protected
 case_with_host open_scope m host v sealed is short = rw (with_host host v is short) refl
 
 heard_by_kind : (seen : List Entry) (now : Moment) (from : Peer) (m : Message) (options : List NumberAndValue) (sealed : List ℕ)
@@ -98,17 +99,19 @@ heard_by_kind : (seen : List Entry) (now : Moment) (from : Peer) (m : Message) (
 heard_by_kind seen now from m options sealed kind unheard = rw (kind, unheard) refl
 
 case_by_outside : (open_scope : Scope) (m : Message) (outer : List NumberAndValue) (v sealed : List ℕ) → AreForServer outer → length v ≤ 255
-    → server_case open_scope (heard_as.Message (in_place m 2 (merge outer ((9, v) ∷ [])) sealed)) ≡ Protected (in_place m 2 (merge outer ((9, v) ∷ [])) sealed)
+    → server_case open_scope (in_place m 2 (merge outer ((9, v) ∷ [])) sealed) ≡ Protected
 case_by_outside open_scope m outer v sealed (nothing is) short = rw is (case_by_options open_scope m v sealed short)
 case_by_outside open_scope m outer v sealed (a_uri_host host lawful is) short = rw is (case_with_host open_scope m host v sealed lawful short)
 
-protected_case : (open_scope : Scope) (seen : List Entry) (now : Moment) (from : Peer) (m : Message) (v sealed : List ℕ)
-    → IsForServer m → length v ≤ 255 → looked now from m.id seen ≡ None
-    → server_case open_scope (heard seen now from (received.Message (protected m 2 v sealed))) ≡ Protected (protected m 2 v sealed)
-protected_case open_scope seen now from m v sealed is short unheard =
+protected_heard : (seen : List Entry) (now : Moment) (from : Peer) (m : Message) (v sealed : List ℕ) → IsForServer m → looked now from m.id seen ≡ None
+    → heard seen now from (received.Message (protected m 2 v sealed)) ≡ heard_as.Message (protected m 2 v sealed)
+protected_heard seen now from m v sealed is unheard =
     let options : List NumberAndValue = merge (outer_options m.options) ((9, v) ∷ []) in
-    ap (server_case open_scope) (heard_by_kind seen now from m options sealed is.kind unheard)
-    ∙ case_by_outside open_scope m (outer_options m.options) v sealed is.outside short
+    heard_by_kind seen now from m options sealed is.kind unheard
+
+protected_case : (open_scope : Scope) (m : Message) (v sealed : List ℕ) → IsForServer m → length v ≤ 255
+    → server_case open_scope (protected m 2 v sealed) ≡ Protected
+protected_case open_scope m v sealed is short = case_by_outside open_scope m (outer_options m.options) v sealed is.outside short
 
 -- ---- what it says
 
@@ -271,8 +274,13 @@ module _ (is_sealing : Sealings) (laws : RequestLaws is_sealing)
       let v = request_value name number in
       let as_it : hears.received ≡ received.Message (protected m 2 v made.sealed) =
       received_as laws.one_reception p hears.received sendable hears.receives ∙ ap received.Message made.whole in
-      let case_is : server_case old.open_scope (heard old.endpoint.seen now came.from hears.received) ≡ Protected p =
-      ap (λ (r : Received). server_case old.open_scope (heard old.endpoint.seen now came.from r)) as_it
-      ∙ protected_case old.open_scope old.endpoint.seen now came.from m v made.sealed for_server (laws.value_short name number awaits.lawful.context awaits.lawful.client_id) awaits.unheard
-      ∙ ap Protected (sym made.whole) in
-      answered_so (subst (λ (c : Case). ServerAnswers is_sealing old (in_bytes came) c step new) case_is hears.answers)
+      let heard_is : heard old.endpoint.seen now came.from hears.received ≡ heard_as.Message p =
+      ap (λ (r : Received). heard old.endpoint.seen now came.from r) as_it
+      ∙ protected_heard old.endpoint.seen now came.from m v made.sealed for_server awaits.unheard
+      ∙ ap heard_as.Message (sym made.whole) in
+      let case_is : server_case old.open_scope p ≡ Protected =
+      ap (server_case old.open_scope) made.whole
+      ∙ protected_case old.open_scope m v made.sealed for_server (laws.value_short name number awaits.lawful.context awaits.lawful.client_id) in
+      let so : ServerAnswersNew is_sealing old came (server_case old.open_scope p) step new =
+      subst (λ (h : Heard). ServerAnswers is_sealing old (in_bytes came) h step new) heard_is hears.answers in
+      answered_so (subst (λ (c : Case). ServerAnswersNew is_sealing old came c step new) case_is so)

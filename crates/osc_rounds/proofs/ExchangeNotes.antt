@@ -20,11 +20,13 @@ use Rattle.osc_cose.specs.Encrypt0.{enc_structure, object_item}
 use Rattle.osc_dedup.specs.Table.{looked}
 use Rattle.osc_message.specs.Endpoint.{own_id}
 use Rattle.osc_message.specs.Heard.{heard}
+use Rattle.osc_message.specs.declared.heard.Heard.{Heard}
+use Rattle.osc_message.specs.declared.heard.Heard.TheVariants as heard_as
 use Rattle.osc_message.specs.Received.{Receives}
 use Rattle.osc_message.specs.Sending.{datagram}
 use Rattle.osc_message.specs.declared.received.Received.{Received}
 use Rattle.osc_message.specs.declared.received.Received.TheVariants as received
-use Rattle.osc_protect.specs.Ciphers.{Sealings}
+use Rattle.osc_ccm.specs.Ciphers.{Sealings}
 use Rattle.osc_protect.specs.Protection.{longest_message}
 use Rattle.osc_scope.specs.Entries.{Entry}
 use Rattle.osc_token.specs.Token.{IsToken, algorithm_header, claims_item, token_note, token_object}
@@ -42,9 +44,8 @@ use Rattle.osc_authz.specs.declared.post.PostAnswer.{PostAnswer}
 use Rattle.osc_server.specs.Case.{case_of as server_case}
 use Rattle.osc_server.specs.Hearing.{Hears as ServerHears}
 use Rattle.osc_server.specs.State.{State as Server}
-use Rattle.osc_server.specs.Table.{Answers as ServerAnswers, AnswersPost, nonce_of_post, notes_of_post, refusal_of_post}
+use Rattle.osc_server.specs.Table.{Answers as ServerAnswers, AnswersNew as ServerAnswersNew, AnswersPost, nonce_of_post, notes_of_post, refusal_of_post}
 use Rattle.osc_server.specs.declared.case.Case.{Case as ServerCase}
-use Rattle.osc_server.specs.declared.case.Case.TheVariants.{Posted}
 use Rattle.osc_client.specs.Lawful.{IsLawfulClient}
 use Rattle.osc_client.specs.Sending.{Exchanges, begins, begun_by, busy, post_by, post_with}
 use Rattle.osc_client.specs.Sending as sending
@@ -202,11 +203,12 @@ module _ (is_sealing : Sealings)
       subst (λ (b : List ℕ). ServerHears is_sealing server (read_as came b) second agreed) posting.bytes hears in
       let sendable : IsCarried message = record { lawful = posting.spelled.lawful; short = posting.short } in
       let as_it : it.received ≡ received.Message message = received_as one_reception message it.received sendable it.receives in
-      let case_is : server_case server.open_scope (heard server.endpoint.seen now at it.received) ≡ Posted message =
-      ap (λ (r : Received). server_case server.open_scope (heard server.endpoint.seen now at r)) as_it
-      ∙ ap (server_case server.open_scope) (heard_post None server.endpoint.seen now at id (token_drawn draw) body straight.unheard)
-      ∙ case_post server.open_scope None id (token_drawn draw) body tt in
-      subst (λ (k : ServerCase). ServerAnswers is_sealing server (in_bytes came) k second agreed) case_is it.answers
+      let heard_is : heard server.endpoint.seen now at it.received ≡ heard_as.Message message =
+      ap (λ (r : Received). heard server.endpoint.seen now at r) as_it
+      ∙ heard_post None server.endpoint.seen now at id (token_drawn draw) body straight.unheard in
+      let so : ServerAnswersNew is_sealing server came (server_case server.open_scope message) second agreed =
+      subst (λ (h : Heard). ServerAnswers is_sealing server (in_bytes came) h second agreed) heard_is it.answers in
+      subst (λ (k : ServerCase). ServerAnswersNew is_sealing server came k second agreed) (case_post server.open_scope None id (token_drawn draw) body tt) so
 
   -- of what the server heard from there only the post is new
   pub exchange_heard : (later : Moment) (other : ℕ) → other ≢ own_id draw client.endpoint.next_id → looked later at other server.endpoint.seen ≡ None

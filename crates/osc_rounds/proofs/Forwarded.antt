@@ -15,7 +15,7 @@ use Rattle.osc_options.specs.declared.table.Class.TheVariants.{E, U}
 use Rattle.osc_context.specs.Algorithm.{algorithm_of}
 use Rattle.osc_context.specs.Derivation.{key_of}
 use Rattle.osc_protect.specs.Aad.{aad_of}
-use Rattle.osc_protect.specs.Ciphers.{Sealings}
+use Rattle.osc_ccm.specs.Ciphers.{Sealings}
 use Rattle.osc_protect.specs.Protection.{IsProtectedRequest, IsProtectedResponse, plain_bytes, request_nonce, request_value}
 use Rattle.osc_proxy.specs.Forwarding.{answer, forwarded, forwarded_options, has_proxy_uri, is_taken_out}
 

@@ -15,7 +15,7 @@ use Rattle.osc_run.specs.Notes.{Noted}
 use Rattle.osc_run.specs.Premise.{HasFreshDraws, IsDrawn, IsGenuine, IsGenuineOpening, IsMinted, IsVouched, Premise}
 use Rattle.osc_run.specs.ServerKinds.{opening_note, reply_note}
 use Rattle.osc_run.specs.States.{Minted}
-use Rattle.osc_run.specs.Texts.{reply_text}
+use Rattle.osc_options.specs.Texts.{reply_text}
 use Rattle.osc_rounds.specs.Asked.{OpenedRequest}
 use Rattle.osc_rounds.specs.RoundNotes.{AreAmongQuiet, AreNotesOfExchange, AreNotesOfRequest, Draws}
 

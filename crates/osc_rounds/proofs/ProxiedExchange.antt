@@ -17,7 +17,7 @@ use Rattle.osc_dedup.specs.Table.{looked}
 use Rattle.osc_message.specs.Confirmables.{same_peer}
 use Rattle.osc_message.specs.Endpoint.{EndpointState, own_id}
 use Rattle.osc_message.specs.Sending.{datagram, empty_acknowledgement}
-use Rattle.osc_protect.specs.Ciphers.{Sealings}
+use Rattle.osc_ccm.specs.Ciphers.{Sealings}
 use Rattle.osc_protect.specs.Protection.{longest_message}
 use Rattle.osc_authz.specs.Begun.{Begun}
 use Rattle.osc_authz.specs.Held.{Held}

@@ -17,9 +17,9 @@ use Rattle.osc_options.specs.Split.{merge, outer_options, plaintext_of, protecte
 use Rattle.osc_context.specs.Algorithm.{algorithm_of}
 use Rattle.osc_context.specs.Derivation.{key_of}
 use Rattle.osc_protect.specs.Aad.{aad_of}
-use Rattle.osc_protect.specs.Ciphers.{Sealings, Tags, IsLongerBy}
+use Rattle.osc_ccm.specs.Ciphers.{Sealings, Tags, IsLongerBy}
 use Rattle.osc_protect.specs.Protection.{request_nonce, response_nonce, IsProtectedRequest, IsProtectedResponse, longest_message, plain_bytes, request_length, request_value, response_value}
-use Rattle.osc_run.specs.Texts.{reply_text}
+use Rattle.osc_options.specs.Texts.{reply_text}
 use Rattle.osc_proxy.specs.ThereAndBack.{IsCarried}
 use Rattle.osc_rounds.proofs.Asking.{in_place}
 

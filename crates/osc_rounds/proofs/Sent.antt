@@ -12,7 +12,7 @@ use Rattle.osc_coap.specs.Message.{Message, Spells, spelling}
 use Rattle.osc_message.specs.Endpoint.{own_id}
 use Rattle.osc_message.specs.Sending.{datagram}
 use Rattle.osc_context.specs.Nonce.{greatest_number}
-use Rattle.osc_protect.specs.Ciphers.{Sealings, Tags}
+use Rattle.osc_ccm.specs.Ciphers.{Sealings, Tags}
 use Rattle.osc_protect.specs.Protection.{HasShortContext, IsProtectedRequest, plain_bytes}
 use Rattle.osc_authz.specs.Begun.{ClientContextState}
 use Rattle.osc_run.specs.ClientKinds.{request_note}

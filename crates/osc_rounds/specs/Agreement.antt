@@ -18,7 +18,7 @@ use Rattle.osc_message.specs.Confirmables.{same_peer}
 use Rattle.osc_message.specs.Sending.{datagram}
 use Rattle.osc_scope.specs.Entries.{Entry}
 use Rattle.osc_token.specs.declared.claims.Claims.{Claims}
-use Rattle.osc_protect.specs.Ciphers.{Sealings}
+use Rattle.osc_ccm.specs.Ciphers.{Sealings}
 use Rattle.osc_authz.specs.Begun.{Begun}
 use Rattle.osc_authz.specs.Exchange.{post_item}
 use Rattle.osc_authz.specs.Post.{Posts}

@@ -9,7 +9,7 @@ use Rattle.osc_model.specs.declared.step.ClientResult.TheVariants as result
 use Rattle.osc_model.specs.declared.step.Step.{Step}
 use Rattle.osc_coap.specs.Message.{Message}
 use Rattle.osc_message.specs.Sending.{datagram}
-use Rattle.osc_protect.specs.Ciphers.{Sealings}
+use Rattle.osc_ccm.specs.Ciphers.{Sealings}
 use Rattle.osc_protect.specs.Protection.{HasShortContext}
 use Rattle.osc_scope.specs.Entries.{Entry, scope_of}
 use Rattle.osc_authz.specs.Contexts.{IsLive}

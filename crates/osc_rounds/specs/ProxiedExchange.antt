@@ -21,7 +21,7 @@ use Rattle.osc_message.specs.Sending.{datagram, empty_acknowledgement}
 use Rattle.osc_scope.specs.Entries.{Entry}
 use Rattle.osc_token.specs.Token.{claims_item}
 use Rattle.osc_token.specs.declared.claims.Claims.{Claims}
-use Rattle.osc_protect.specs.Ciphers.{Sealings}
+use Rattle.osc_ccm.specs.Ciphers.{Sealings}
 use Rattle.osc_authz.specs.Held.{Held}
 use Rattle.osc_authz.specs.Welcome.{IsWelcome}
 use Rattle.osc_server.specs.Hearing.{Hears as ServerHears}

@@ -12,7 +12,7 @@ use Rattle.osc_context.specs.Nonce.{greatest_number}
 use Rattle.osc_window.specs.Window.{IsFresh}
 use Rattle.osc_scope.specs.Entries.{Entry}
 use Rattle.osc_token.specs.declared.claims.Claims.{Claims}
-use Rattle.osc_protect.specs.Ciphers.{Sealings}
+use Rattle.osc_ccm.specs.Ciphers.{Sealings}
 use Rattle.osc_authz.specs.Begun.{ClientContextState}
 use Rattle.osc_authz.specs.Contexts.{IsLive}
 use Rattle.osc_authz.specs.Held.{Held}

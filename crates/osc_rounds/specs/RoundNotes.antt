@@ -9,7 +9,7 @@ use Rattle.osc_model.specs.declared.step.ClientResult.TheVariants as result
 use Rattle.osc_token.specs.Token.{token_note}
 use Rattle.osc_run.specs.ClientKinds.{request_note, response_note}
 use Rattle.osc_run.specs.Notes.{Noted}
-use Rattle.osc_run.specs.Texts.{reply_text}
+use Rattle.osc_options.specs.Texts.{reply_text}
 use Rattle.osc_server.specs.Table.{notes_of_request}
 use Rattle.osc_rounds.specs.Asked.{OpenedRequest}
 

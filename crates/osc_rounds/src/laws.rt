@@ -1,6 +1,7 @@
 //! Laws of the definitions, for the crates above. These functions do nothing: whoever calls one has its clauses for a proof.
 
 ghost use Rattle.std.specs.Prelude.{◌≡◌, ◌≢◌, ◌<◌, ◌^◌, ℕ, false, List, [], Option, Some, None, ◌≤◌, length, ◌∷◌, ◌++◌};
+ghost use Rattle.osc_model.specs.Refusals as refusal;
 ghost use Rattle.osc_model.specs.Arrival.{Arrival, read_as};
 ghost use Rattle.osc_model.specs.Step.{sends};
 ghost use Rattle.osc_model.specs.StepNotes.{StepNotes, quiet};
@@ -56,16 +57,17 @@ use osc_authz::laws::{
     held_contexts_are_meant, lengths_of_answers, one_name, one_payload, posts_that_agree,
     welcome_posts, what_is_written,
 };
+use osc_ccm::Ciphers;
 use osc_coap::laws::{fewer_options, length_of_spelling, one_plaintext};
 use osc_message::laws::{one_peer, one_reception, what_nodes_send};
 use osc_options::laws::{
     a_reply_is_read_again, a_written_reply, option_of_a_protected_message, requests_are_encrypted,
 };
+use osc_protect::TokenCipher;
 use osc_protect::laws::{
     lengths_of_values, one_value, unprotecting_a_protected_request,
     unprotecting_a_protected_response,
 };
-use osc_protect::{Ciphers, TokenCipher};
 use osc_proxy::laws::{a_request_goes_there_and_back, forwarding_adds_nothing};
 use osc_run::laws::codes_of_replies;
 use osc_server::laws::lengths_of_replies;
@@ -115,7 +117,7 @@ pub fn a_request_is_answered<A: Ciphers>()
         (first : AnyStep)
         → IsLawfulServer server → IsLawfulClient asked
         → IsStraight client server now asks.draw at server_at → MayAsk client server now context held
-        → first.notes.result ≢ Some (result_as.Refused 14)
+        → first.notes.result ≢ Some (result_as.Refused refusal.datagram_too_long)
         → Asks A.is_sealing A.TAG client asks first asked
         → IsAskedAndAnswered A.is_sealing (record {
           asked = asked;
@@ -152,7 +154,7 @@ pub fn an_exchange_is_made<A: Ciphers>()
     ensures { (client begun : Client) (server : Server) (asked_at now : AnyMoment) (draw : AnyDraw) (at server_at : AnyPeer)
         (claims : AnyClaims) (entries : List Entry) (first : AnyStep)
         → IsLawfulClient begun → IsStraight client server now draw at server_at → MayExchange A.is_sealing client server now claims entries
-        → first.notes.result ≢ Some (result_as.Refused 14)
+        → first.notes.result ≢ Some (result_as.Refused refusal.datagram_too_long)
         → Exchanges client asked_at draw first begun
         → IsBegunAndMade A.is_sealing (record { begun = begun; server = server; at = at; server_at = server_at; now = now; entries = entries }) client draw first }
 {
@@ -196,7 +198,7 @@ pub fn an_acknowledgement_is_heard<A: Ciphers>()
 pub fn what_is_posted_through_a_proxy()
     ensures { (old new : Client) (now : AnyMoment) (draw : AnyDraw) (origin : HostAndPort) (step : AnyStep)
         → old.origin ≡ Some origin → IsLawfulOrigin origin → old.waiting ≡ None → length draw.0 ≡ 32
-        → step.notes.result ≢ Some (result_as.Refused 14)
+        → step.notes.result ≢ Some (result_as.Refused refusal.datagram_too_long)
         → Exchanges old now draw step new → IsPostedThrough origin old draw step }
 {}
 
@@ -248,7 +250,7 @@ pub fn an_answer_sent_back_makes_a_context<A: Ciphers>()
 pub fn an_exchange_is_made_through_a_proxy<A: Ciphers>()
     ensures { (client begun : Client) (asked_at : AnyMoment) (exchange : ProxiedExchange) (first : AnyStep)
         → MayExchangeThrough A.is_sealing client exchange
-        → first.notes.result ≢ Some (result_as.Refused 14)
+        → first.notes.result ≢ Some (result_as.Refused refusal.datagram_too_long)
         → Exchanges client asked_at exchange.draw first begun
         → IsBegunAndMadeThrough A.is_sealing client exchange first begun }
 {
@@ -274,7 +276,7 @@ pub fn a_request_goes_through_a_proxy<A: Ciphers>()
     ensures { (client asked : Client) (proxy : Proxy) (server : Server) (asks : Asked) (hops : Hops) (context : ClientContextState) (held : Held) (first : AnyStep)
         → IsLawfulServer server → IsLawfulProxy proxy → IsLawfulClient asked → length hops.proxy_draw.0 ≡ 32
         → (way : IsThrough client proxy server asks.draw hops) → MayAsk client server hops.now context held
-        → first.notes.result ≢ Some (result_as.Refused 14)
+        → first.notes.result ≢ Some (result_as.Refused refusal.datagram_too_long)
         → Asks A.is_sealing A.TAG client asks first asked
         → (message : Message)
         × IsAskedAndServedThrough A.is_sealing (record {
@@ -322,7 +324,7 @@ pub fn an_exchange_goes_through_a_proxy<A: Ciphers>()
         (claims : AnyClaims) (entries : List Entry) (posts : AnyStep)
         → IsLawfulProxy proxy → IsLawfulClient begun → length hops.proxy_draw.0 ≡ 32
         → (way : IsThrough client proxy server draw hops) → MayExchange A.is_sealing client server hops.now claims entries
-        → posts.notes.result ≢ Some (result_as.Refused 14)
+        → posts.notes.result ≢ Some (result_as.Refused refusal.datagram_too_long)
         → Exchanges client begun_at draw posts begun
         → (message : Message)
         × IsPostedAndAgreedThrough A.is_sealing (record {

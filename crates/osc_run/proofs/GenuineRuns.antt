@@ -13,7 +13,7 @@ use Rattle.osc_authz.specs.Contexts.{OfToken, confirmed_by}
 use Rattle.osc_authz.specs.Members.{In}
 use Rattle.osc_run.specs.Notes.{Noted, ByClient, by_server, by_client, by_proxy}
 use Rattle.osc_run.specs.States.{ServerState, ClientState, Minted, grants_of, WorldState}
-use Rattle.osc_run.specs.Texts.{read_request}
+use Rattle.osc_options.specs.Texts.{read_request}
 use Rattle.osc_run.specs.ServerKinds.{opening_note, IsServed, ServerStep, ServerIdle, Posted, Served, ServerRestarted}
 use Rattle.osc_run.specs.ClientKinds.{request_note, response_note, IsEnding, IsAnswered, ClientStep, ClientIdle, Started, Made, Asked, Answered, Ended, Lied, ClientRestarted}
 use Rattle.osc_run.specs.Runs.{IsTextOf, IsStart, WorldStep, OfServer, OfClient, OfProxy, Skipped, IsRun}

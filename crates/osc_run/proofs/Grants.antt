@@ -20,7 +20,7 @@ use Rattle.osc_authz.specs.Held.{Held}
 use Rattle.osc_authz.specs.Members.{In}
 use Rattle.osc_run.specs.Notes.{Noted}
 use Rattle.osc_run.specs.States.{ServerState, Minted, grants_of}
-use Rattle.osc_run.specs.Texts.{read_request}
+use Rattle.osc_options.specs.Texts.{read_request}
 use Rattle.osc_run.specs.ServerKinds.{Replies, Applied, OutOfMemory, IsPosted, IsServed}
 use Rattle.osc_run.specs.Runs.{IsTextOf}
 use Rattle.osc_run.specs.Premise.{IsGenuineOpening, HasOwnSecrets}

@@ -19,4 +19,3 @@ mod OneRound
 mod ServerDoes
 mod ClientDoes
 mod Read
-mod Plaintexts

@@ -33,7 +33,7 @@ use Rattle.osc_authz.specs.declared.granted.ClientDesk.{ClientDesk}
 use Rattle.osc_authz.specs.declared.post.PostAnswer.{PostAnswer}
 use Rattle.osc_run.specs.Notes.{Noted, by_server, by_client}
 use Rattle.osc_run.specs.States.{ClientState, Nothing, Exchange, Ask, Minted, WorldState}
-use Rattle.osc_run.specs.Texts.{read_request, reply_text, IsReplyIn}
+use Rattle.osc_options.specs.Texts.{read_request, reply_text, IsReplyIn}
 use Rattle.osc_run.specs.ServerKinds.{opening_note, reply_note, Replies, Applied, Posted, Served}
 use Rattle.osc_run.specs.ClientKinds.{request_note, response_note, Started, Made, Asked, Answered}
 use Rattle.osc_run.specs.Runs.{IsTextOf, IsStart, IsNewClient, WorldStep, OfServer, OfClient, IsReached}

@@ -11,7 +11,7 @@ use Rattle.osc_authz.specs.Contexts.{OfToken}
 use Rattle.osc_authz.specs.Members.{In}
 use Rattle.osc_run.specs.Notes.{Noted, ByServer, ByClient, ByProxy}
 use Rattle.osc_run.specs.States.{ClientState, OpenAsk, Exchange, Ask, Minted}
-use Rattle.osc_run.specs.Texts.{IsWithinRanges}
+use Rattle.osc_options.specs.Texts.{IsWithinRanges}
 use Rattle.osc_run.specs.ServerKinds.{reply_note}
 use Rattle.osc_run.specs.ClientKinds.{request_note}
 use Rattle.osc_run.specs.Runs.{Holds}

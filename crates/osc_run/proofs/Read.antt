@@ -10,7 +10,7 @@ use Rattle.osc_options.specs.PlaintextRequests.{request_of_plaintext}
 use Rattle.osc_options.specs.Replies.{with_reply}
 use Rattle.osc_options.specs.Split.{plaintext_of}
 use Rattle.osc_protect.specs.Protection.{plain_bytes}
-use Rattle.osc_run.specs.Texts.{or_code, request_or_code, read_request, reply_text}
+use Rattle.osc_options.specs.Texts.{or_code, request_or_code, read_request, reply_text}
 
 pub read_is : ((text : List ℕ) (p : Plaintext) → SpellsPlaintext text p → plaintext_at text ≡ Some p)
     → (text : List ℕ) (p : Plaintext) → SpellsPlaintext text p → read_request text ≡ or_code (request_of_plaintext p)

@@ -14,7 +14,7 @@ use Rattle.osc_protect.specs.Protection.{request_nonce}
 use Rattle.osc_authz.specs.Members.{In}
 use Rattle.osc_run.specs.Notes.{Noted, Actor, ByServer, ByClient, ByProxy}
 use Rattle.osc_run.specs.States.{OpenAsk, Minted}
-use Rattle.osc_run.specs.Texts.{reply_text, IsReplyIn}
+use Rattle.osc_options.specs.Texts.{reply_text, IsReplyIn}
 use Rattle.osc_run.specs.ClientKinds.{request_note}
 use Rattle.osc_run.specs.Runs.{Holds}
 use Rattle.osc_run.specs.Premise.{IsOfToken, HasOwnSecrets}

@@ -12,7 +12,7 @@ use Rattle.osc_coap.specs.Reading.{plaintext_at}
 use Rattle.osc_options.specs.PlaintextRequests.{request_of_plaintext}
 use Rattle.osc_options.specs.declared.error.PlaintextError.{PlaintextError}
 use Rattle.osc_options.specs.declared.error.PlaintextError.TheVariants.{Format, BadOption, Memory}
-use Rattle.osc_run.specs.Texts.{code_of, or_code, request_or_code, read_request}
+use Rattle.osc_options.specs.Texts.{code_of, or_code, request_or_code, read_request}
 use Rattle.osc_run.specs.ServerKinds.{Replies, Applied, OutOfMemory}
 use Rattle.osc_run.proofs.LawsBelow.{Laws}
 

@@ -22,7 +22,7 @@ use Rattle.osc_authz.specs.declared.error.PostError.{PostError}
 use Rattle.osc_authz.specs.declared.holding.Holding.{Holding}
 use Rattle.osc_authz.specs.declared.post.Post.{Post}
 use Rattle.osc_authz.specs.declared.post.PostAnswer.{PostAnswer}
-use Rattle.osc_run.specs.Texts.{read_request, IsWithinRanges}
+use Rattle.osc_options.specs.Texts.{read_request, IsWithinRanges}
 use Rattle.osc_run.specs.ServerKinds.{opening_note, reply_note, Replies, IsServerIdle, IsPosted, IsServed}
 
 -- ---- a post

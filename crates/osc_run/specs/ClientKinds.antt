@@ -13,7 +13,7 @@ use Rattle.osc_protect.specs.Protection.{request_nonce, response_nonce, note_of}
 use Rattle.osc_authz.specs.Begun.{Begun, ClientContextState}
 use Rattle.osc_authz.specs.Client.{offered_id, made_name}
 use Rattle.osc_run.specs.States.{ClientState, OpenAsk, Nothing, Exchange, Ask}
-use Rattle.osc_run.specs.Texts.{IsReplyIn}
+use Rattle.osc_options.specs.Texts.{IsReplyIn}
 
 -- ---- words
 

@@ -1,7 +1,6 @@
 -- Definitions that the contracts cite.
 pub mod Notes
 pub mod States
-pub mod Texts
 pub mod Seals
 pub mod ServerKinds
 pub mod ClientKinds

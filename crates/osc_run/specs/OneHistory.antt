@@ -6,7 +6,7 @@ use Rattle.osc_model.specs.declared.step.Entry.{Entry}
 use Rattle.osc_authz.specs.Members.{In}
 use Rattle.osc_run.specs.Notes.{Noted}
 use Rattle.osc_run.specs.States.{Minted, grants_of, WorldState}
-use Rattle.osc_run.specs.Texts.{read_request}
+use Rattle.osc_options.specs.Texts.{read_request}
 use Rattle.osc_run.specs.Runs.{Holds}
 use Rattle.osc_run.specs.History.{history, questions, Acceptance, acceptances}
 

@@ -6,7 +6,7 @@ use Rattle.osc_coap.specs.Building.{payload_of}
 use Rattle.osc_coap.specs.Message.{Message, Spells, spelling}
 use Rattle.osc_context.specs.Algorithm.{algorithm_of}
 use Rattle.osc_context.specs.Derivation.{key_of, other_side}
-use Rattle.osc_protect.specs.Ciphers.{Sealings}
+use Rattle.osc_ccm.specs.Ciphers.{Sealings}
 
 -- `is_sealing algorithm` is the relation of the algorithm's cipher
 module _ (is_sealing : Sealings) where

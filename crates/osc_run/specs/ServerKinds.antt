@@ -23,7 +23,7 @@ use Rattle.osc_authz.specs.Contexts.{OfToken, IsLive, AreKept, HasAdded, HasTake
 use Rattle.osc_authz.specs.Members.{In}
 use Rattle.osc_authz.specs.declared.post.PostAnswer.{PostAnswer}
 use Rattle.osc_run.specs.States.{ServerState}
-use Rattle.osc_run.specs.Texts.{read_request, reply_text, IsWithinRanges}
+use Rattle.osc_options.specs.Texts.{read_request, reply_text, IsWithinRanges}
 
 -- ---- words
 

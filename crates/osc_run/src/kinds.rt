@@ -40,7 +40,7 @@ ghost use Rattle.osc_authz.specs.declared.post.Post.{Post as AnyPost};
 ghost use Rattle.osc_authz.specs.declared.post.PostAnswer.{PostAnswer as AnyAnswer};
 ghost use Rattle.osc_model.specs.declared.step.RefusedRequest.{RefusedRequest as AnyRefused};
 ghost use Rattle.osc_run.specs.States.{ClientState, Exchange, Nothing};
-ghost use Rattle.osc_run.specs.Texts.{or_code, read_request, reply_text, IsWithinRanges};
+ghost use Rattle.osc_options.specs.Texts.{or_code, read_request, reply_text, IsWithinRanges};
 ghost use Rattle.osc_run.specs.ServerKinds.{opening_note, reply_note, Replies, IsServerIdle, IsPosted, IsServed};
 ghost use Rattle.osc_run.specs.ClientKinds.{IsStarted, IsMade};
 ghost use Rattle.osc_run.specs.Runs.{IsTextOf};

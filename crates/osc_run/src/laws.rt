@@ -13,7 +13,7 @@ ghost use Rattle.osc_token.specs.Minted.{HasLawfulParts};
 ghost use Rattle.osc_token.specs.declared.claims.Claims.{Claims as AnyClaims};
 ghost use Rattle.osc_run.specs.States.{WorldState, grants_of};
 ghost use Rattle.osc_run.specs.ServerKinds.{Replies};
-ghost use Rattle.osc_run.specs.Texts.{read_request};
+ghost use Rattle.osc_options.specs.Texts.{read_request};
 ghost use Rattle.osc_run.specs.Runs.{IsReached};
 ghost use Rattle.osc_run.specs.Premise.{Premise, HasFreshDraws};
 ghost use Rattle.osc_run.specs.History.{history, acceptances};

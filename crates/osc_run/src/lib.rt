@@ -10,11 +10,9 @@ mod noted;
 mod notes;
 mod premise;
 mod readers;
-mod reading;
 
 pub use minted::{Grant, Minted};
 pub use node::Node;
 pub use noted::{Actor, Noted};
 pub use notes::Notes;
 pub use readers::{Acceptance, Question};
-pub use reading::request_in;

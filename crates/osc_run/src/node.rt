@@ -4,8 +4,8 @@ ghost use Rattle.osc_model.specs.declared.node.Moment.{Moment as AnyMoment};
 ghost use Rattle.osc_model.specs.declared.step.Step.{Step as AnyStep};
 ghost use Rattle.osc_run.specs.Nodes.{Came, Cause, Due};
 
+use osc_ccm::Ciphers;
 use osc_model::{Draw, Moment, Peer, Step};
-use osc_protect::Ciphers;
 use std::alloc::{AllocError, Global};
 
 /// A node, which takes a step for each datagram that comes to it and for each time at which something is due. Protected messages are

@@ -24,7 +24,7 @@ same_pairs texts more (place ∷ places) h = λ i.
     same_pair texts more place (All-head (IsWithin (length texts)) place places h) i
     ∷ same_pairs texts more places (All-tail (IsWithin (length texts)) place places h) i
 
-own_pair : (texts text : List ℕ) (place : Place) → place.start ≡ length texts → place.end ≡ length (texts ++ text)
+pub own_pair : (texts text : List ℕ) (place : Place) → place.start ≡ length texts → place.end ≡ length (texts ++ text)
     → pair_at (texts ++ text) place ≡ (text, place.mask)
 own_pair texts text place from to =
     let size : length text ≤ place.end - place.start = omega (arith, from, to, length-append texts text) in

@@ -11,4 +11,6 @@ mod LookupLemmas
 mod Spelled
 mod SharedPaths
 mod KeptLemmas
+mod OrderLemmas
+mod InOrder
 mod BelowLemmas

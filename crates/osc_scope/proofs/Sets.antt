@@ -9,7 +9,10 @@ use Rattle.osc_model.specs.declared.code.Method.{Method}
 use Rattle.osc_model.specs.declared.code.Method.TheVariants.{Get, Post, Put, Delete}
 use Rattle.osc_scope.specs.Entries.{bit_of, permissions, scope_of}
 use Rattle.osc_scope.specs.Reading.{entry_with}
+use Rattle.std.specs.List.{list_any, insert}
 use Rattle.std.proofs.lemmas.List.{map-append, flat_map_more}
+use Rattle.std.proofs.lemmas.List.Sorted.{IsPermutation-insert, IsPermutation-to_front, list_any-IsPermutation}
+use Rattle.osc_scope.proofs.Grants.{any-map, any-flat_map}
 
 absorbed : (a b : Bool) → (a ≡ true → b ≡ true) → (a || b) ≡ b
 absorbed true true h = refl
@@ -40,3 +43,27 @@ scope_push total exact pairs path m =
     ∙ ap set.from_list (sym (flat_map_more permissions [] entries (entry_with (path, bit_of m))))
     ∙ ap (λ more. set.from_list (flat_map permissions entries ++ more)) (one_permission path m)
     ∙ set.from_list_push total exact (flat_map permissions entries) (exactly path m)
+
+-- wherever it is added
+pub scope_insert : IsTotalOrder permission_cmp → IsAntisymmetric permission_cmp → (pairs : List (List ℕ × ℕ)) (i : ℕ) (path : List ℕ) (m : Method)
+    → scope_of (map entry_with (insert pairs i (path, bit_of m))) ≡ set.insert (scope_of (map entry_with pairs)) (exactly path m)
+scope_insert total exact pairs i path m = set.same_set total exact _ _ same ∙ scope_push total exact pairs path m
+  where
+    pair : List ℕ × ℕ
+    pair = (path, bit_of m)
+
+    is_in : Permission → List ℕ × ℕ → Bool
+    is_in q pair = list_any (eq_by_cmp permission_cmp q) (permissions (entry_with pair))
+
+    contains_is : (q : Permission) (pairs : List (List ℕ × ℕ)) → set.contains (scope_of (map entry_with pairs)) q ≡ list_any (is_in q) pairs
+    contains_is q pairs =
+        set.contains-from_list total (flat_map permissions (map entry_with pairs)) q
+        ∙ any-flat_map (eq_by_cmp permission_cmp q) permissions (map entry_with pairs)
+        ∙ any-map (λ entry. list_any (eq_by_cmp permission_cmp q) (permissions entry)) entry_with pairs
+
+    same : (q : Permission) → set.contains (scope_of (map entry_with (insert pairs i pair))) q ≡ set.contains (scope_of (map entry_with (pairs ++ pair ∷ []))) q
+    same q =
+        contains_is q (insert pairs i pair)
+        ∙ sym (list_any-IsPermutation (is_in q) (pair ∷ pairs) (insert pairs i pair) (IsPermutation-insert pairs i pair))
+        ∙ sym (list_any-IsPermutation (is_in q) (pairs ++ pair ∷ []) (pair ∷ pairs) (IsPermutation-to_front pairs pair))
+        ∙ sym (contains_is q (pairs ++ pair ∷ []))

@@ -4,6 +4,7 @@ ghost use Rattle.std.specs.Prelude.{◌≡◌};
 ghost use Rattle.osc_scope.specs.Errors.{number_of};
 ghost use Rattle.osc_scope.specs.declared.error.ScopeError.TheVariants as scope_variants;
 
+use osc_model::refusals;
 use std::alloc::{AllocError, AllocFailed};
 use thiserror::Error;
 
@@ -24,8 +25,8 @@ impl ScopeError {
         ensures { result ≡ number_of self }
     {
         match self {
-            ScopeError::BadScope => 24,
-            ScopeError::Memory => 9,
+            ScopeError::BadScope => refusals::BAD_SCOPE,
+            ScopeError::Memory => refusals::MEMORY,
         }
     }
 }

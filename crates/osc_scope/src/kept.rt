@@ -1,7 +1,9 @@
 //! Entries as a scope keeps them: in two blocks of memory, however many they are.
 
-ghost use Rattle.std.specs.Prelude.{◌≡◌, [], ◌∷◌, ◌++◌, OnOk, OnErr};
+ghost use Rattle.std.specs.Prelude.{◌≡◌, ◌≤◌, [], ◌∷◌, ◌++◌, length, drop, OnOk, OnErr};
 ghost use Rattle.std.specs.Iterator.{YieldsFirstBy, item_count};
+ghost use Rattle.std.specs.List.{insert};
+ghost use Rattle.osc_scope.specs.Inner.Kept.{AreInOrder, IsPlaceOf, is_before, pair_at};
 
 use std::alloc::{AllocError, Global};
 use std::marker::Model;
@@ -60,12 +62,54 @@ impl Entries {
         Ok(())
     }
 
+    /// Adds an entry at this place, before those from there on; the text is copied. Without memory for it all stays as it was.
+    pub(crate) fn insert(&mut self, index: usize, text: &[u8], mask: u64) -> Result<(), AllocError>
+        requires { index ≤ length self.old }
+        ensures ok { OnOk result (self.new ≡ insert self.old index (text.now, mask)) }
+        ensures err { OnErr result (self.new ≡ self.old) }
+    {
+        let start = self.texts.len();
+        self.texts.extend_from_slice(text)?;
+        let end = self.texts.len();
+        self.places.insert(index, Place { start, end, mask })?;
+        Ok(())
+    }
+
+    /// How many entries there are.
+    pub(crate) fn len(&self) -> usize
+        ensures { result ≡ length self.now }
+    {
+        self.places.len()
+    }
+
+    /// The place behind the entries whose path is before this one, where all are in order; found by bisection.
+    pub(crate) fn place_of(&self, path: &[u8]) -> usize
+        requires { AreInOrder self.now }
+        ensures { IsPlaceOf path.now self.now result }
+    {
+        let texts = self.texts.as_slice();
+        self.places
+            .partition_point(|place| is_before_at(texts, place, path))
+    }
+
     /// Gives back the memory that no entry takes.
     pub(crate) fn shrink_to_fit(&mut self)
         ensures { self.new ≡ self.old }
     {
         self.texts.shrink_to_fit();
         self.places.shrink_to_fit();
+    }
+
+    /// The entries from this place on, lent.
+    pub(crate) fn iter_from(&self, index: usize) -> EntryRefs<'_>
+        requires { index ≤ length self.now }
+        ensures { result ≡ drop index self.now }
+    {
+        let (_, left) = self.places.split_at(index);
+        EntryRefs {
+            texts: &self.texts,
+            left,
+        }
     }
 
     /// The entries in order, lent.
@@ -77,6 +121,22 @@ impl Entries {
             left: &self.places,
         }
     }
+}
+
+/// The text that stands at this place; none of it lies past the end.
+fn text_at<'a>(texts: &'a [u8], place: &Place) -> &'a [u8]
+    ensures { result.now ≡ (pair_at texts.now place.now).0 }
+{
+    let (_, text) = texts.split_at(place.start.min(texts.len()));
+    let size = place.end.saturating_sub(place.start);
+    &text[..size.min(text.len())]
+}
+
+/// Whether the text that stands there is before this path.
+fn is_before_at(texts: &[u8], place: &Place, path: &[u8]) -> bool
+    ensures { result ≡ is_before path.now (pair_at texts.now place.now) }
+{
+    text_at(texts, place).cmp(path).is_lt()
 }
 
 /// The entries that are left, in order.

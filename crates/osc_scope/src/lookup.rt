@@ -1,9 +1,10 @@
 //! Look-ups in entries, each a path and a set of methods.
-ghost use Rattle.std.specs.Prelude.{◌≡◌, Some, IsTrue, map, take, bytes_eq, not, ◌&&◌, ◌==◌};
+ghost use Rattle.std.specs.Prelude.{◌≡◌, ◌≤◌, false, length, Some, IsTrue, map, take, bytes_eq, not, ◌&&◌, ◌==◌};
 ghost use Rattle.std.specs.List.{All, list_all, list_any};
 ghost use Rattle.osc_model.specs.Path.{IsPath, segments_of, begins_with};
 ghost use Rattle.osc_scope.specs.Entries as spec;
 ghost use Rattle.osc_scope.specs.Entries.{IsLawful, scope_of};
+ghost use Rattle.osc_scope.specs.Inner.Kept.{AreInOrder, IsPlaceOf};
 ghost use Rattle.osc_scope.specs.Reading.{entry_with, grants};
 ghost use Rattle.osc_scope.specs.Verdict.{verdict_of};
 
@@ -34,6 +35,42 @@ pub(crate) fn goes_below(entries: &Entries) -> bool
         }
     }
     false
+}
+
+/// Where an entry of this path is added: among entries in order where it keeps them so, and else at the end.
+pub(crate) fn place_for(entries: &Entries, in_order: bool, path: &Path) -> usize
+    requires { IsTrue in_order → AreInOrder entries.now }
+    ensures within { result ≤ length entries.now }
+    ensures in_order { IsTrue in_order → IsPlaceOf path.now entries.now result }
+{
+    if in_order {
+        entries.place_of(path.text())
+    } else {
+        entries.len()
+    }
+}
+
+/// What entries in order, each for its path alone, say of a request with this path and this code; finds those of the path by bisection.
+pub(crate) fn verdict_in_order(entries: &Entries, path: &Path, code: Code) -> Verdict
+    requires lawful { All IsLawful (map entry_with entries.now) }
+    requires below { false ≡ list_any (λ entry. spec.is_below entry.1) entries.now }
+    requires in_order { AreInOrder entries.now }
+    ensures { result ≡ verdict_of (scope_of (map entry_with entries.now)) (Some path.now) code }
+{
+    osc_model::laws::any_permission();
+    osc_model::laws::paths_are_ordered();
+    let method = Method::from_code(code);
+    let mut said = Verdict::NoPath;
+    for entry in entries.iter_from(entries.place_of(path.text())) {
+        if !has_path::<false>(entry, path) {
+            return said;
+        }
+        if has_named(entry.1, method) {
+            return Verdict::Granted;
+        }
+        said = Verdict::NoMethod;
+    }
+    said
 }
 
 /// What the entries say of a request with this path and this code; goes over them once.

@@ -8,7 +8,7 @@ ghost use Rattle.osc_scope.specs.Reading.{entry_with};
 ghost use Rattle.osc_scope.specs.Verdict.{verdict_of};
 
 use crate::kept::Entries;
-use crate::lookup::{goes_below, has_exactly, verdict_on};
+use crate::lookup::{goes_below, has_exactly, place_for, verdict_in_order, verdict_on};
 use crate::methods::bit_of;
 use crate::verdict::Verdict;
 use osc_model::{Code, Method, Path};
@@ -16,14 +16,17 @@ use std::alloc::{AllocError, Global};
 use std::marker::Model;
 
 /// Which methods a holder may use on which paths, as contracts see it: a set of permissions, each of a method on a path, or on that
-/// path and each path below it. It is kept as entries of a path and a set of methods (RFC 9237 section 3), in two blocks of memory;
-/// a look-up goes over them once, so it takes time linear in their number, and no memory.
+/// path and each path below it. It is kept as entries of a path and a set of methods (RFC 9237 section 3), in two blocks of memory.
+/// Those that were allowed one by one are in the order of their paths, so that a look-up finds them by bisection, in logarithmic time;
+/// those that were read stand as they came, and a look-up goes over them once. It takes no memory.
 #[derive(Debug, Drop)]
 pub struct Scope {
     // Each with some method; a path may stand in several.
     entries: Entries,
     // Whether one of them counts on the paths below its own, too.
     goes_below: bool,
+    // Whether they are in the order of their paths, and none counts on the paths below its own.
+    in_order: bool,
 }
 
 impl Model for Scope {
@@ -40,7 +43,11 @@ impl Model for Scope {
 
     ghost view = { λ s. scope_of (map entry_with s.entries) };
 
-    ghost invariant = { λ s. All IsLawful (map entry_with s.entries) × (s.goes_below ≡ list_any (λ entry. is_below entry.1) s.entries) };
+    ghost use Rattle.std.specs.Prelude.{IsTrue, false};
+    ghost use Rattle.osc_scope.specs.Inner.Kept.{AreInOrder};
+
+    ghost invariant = { λ s. All IsLawful (map entry_with s.entries) × (s.goes_below ≡ list_any (λ entry. is_below entry.1) s.entries)
+        × (IsTrue s.in_order → (s.goes_below ≡ false) × AreInOrder s.entries) };
 }
 
 impl Scope {
@@ -51,6 +58,7 @@ impl Scope {
         Scope {
             entries: Entries::new(alloc),
             goes_below: false,
+            in_order: true,
         }
     }
 
@@ -63,6 +71,7 @@ impl Scope {
         Scope {
             entries,
             goes_below,
+            in_order: false,
         }
     }
 
@@ -75,16 +84,18 @@ impl Scope {
     {
         osc_model::laws::permissions_are_ordered();
         if !self.has_exactly(&path, method) {
-            self.entries.push(path.text(), bit_of(method))?;
+            let place = place_for(&self.entries, self.in_order, &path);
+            self.entries.insert(place, path.text(), bit_of(method))?;
         }
         Ok(())
     }
 
-    /// What the scope says of a request with this path, or with none, and this code; takes linear time and no memory.
+    /// What the scope says of a request with this path, or with none, and this code; takes no memory.
     pub fn verdict(&self, path: Option<&Path>, code: Code) -> Verdict
         ensures { result ≡ verdict_of self.now (option_map (λ p. p.now) path.entry) code }
     {
         match path {
+            Some(path) if self.in_order => verdict_in_order(&self.entries, path, code),
             Some(path) => verdict_on(&self.entries, self.goes_below, path, code),
             None => Verdict::NoPath,
         }

@@ -5,4 +5,5 @@ pub mod Node
 pub mod Line
 pub mod Grants
 pub mod Script
+pub mod Forms
 pub mod Inner

@@ -4,6 +4,7 @@
 mod client_name;
 mod clients;
 mod datagrams;
+mod forms;
 mod grants;
 pub mod laws;
 mod line;
@@ -21,6 +22,7 @@ pub mod values;
 mod words;
 
 pub use client_name::ClientName;
+pub use forms::form_of;
 pub use grants::{TOKEN_KEY, grant_claims, token_iv};
 pub use line::{Change, Changes, Line, Script};
 pub use node::Node;

@@ -18,6 +18,13 @@ pub fn number(text: &str) -> Option<u64>
     words::number(text.as_bytes())
 }
 
+/// The same, as the bytes of its digits.
+pub fn decimal(word: &[u8]) -> Option<u64>
+    ensures { Reads (SpellsNumber word.now) result }
+{
+    words::number(word)
+}
+
 /// The same of 16 bits.
 pub fn short_number(text: &str) -> Option<u16>
     ensures { Reads (SpellsShortNumber text.now) result }

@@ -1,4 +1,3 @@
-pub mod Came
 pub mod Cases
 pub mod Gets
 pub mod Notes

@@ -1,5 +1,5 @@
 -- What answered each message that is noted was a message.
-use Rattle.std.proofs.Common.{◌≡◌, ℕ, ◌+◌, ◌-◌, Bool, true, false, cond, List, [], ◌∷◌, length, find, drop, Option, Some, None, refl, subst, inl, inr, ◌∙◌, arith}
+use Rattle.std.proofs.Common.{◌≡◌, ℕ, ◌+◌, ◌-◌, Bool, true, false, cond, List, [], ◌∷◌, length, find, drop, Option, Some, None, refl, subst, sym, inl, inr, ◌∙◌, arith}
 use Rattle.std.specs.Prelude.{not, ◌&&◌, if◌then◌else◌, option_and_then}
 use Rattle.std.specs.List.{All}
 use Rattle.std.specs.Option.{ForSome, option_map}
@@ -7,7 +7,7 @@ use Rattle.std.proofs.lemmas.List.Elements.{All-nil, All-head, All-tail, All-pus
 use Rattle.std.proofs.lemmas.Option.{same_Some}
 use Rattle.osc_coap.specs.declared.kind.Kind.{Kind}
 use Rattle.osc_coap.specs.declared.kind.Kind.TheVariants.{Confirmable, NonConfirmable, Acknowledgement, Reset}
-use Rattle.osc_coap.specs.Message.{Message}
+use Rattle.osc_coap.specs.Message.{HasSpelling, Message, spelling}
 use Rattle.osc_dedup.specs.declared.table.Noted.{Noted}
 use Rattle.osc_dedup.specs.Table.{most_entries, Entry, is_alive, is_of, staying, with_note, alive}
 use Rattle.osc_model.specs.Arrival.{Arrival}
@@ -21,9 +21,10 @@ use Rattle.osc_message.specs.declared.heard.Heard.TheVariants as heard
 use Rattle.osc_message.specs.Confirmables.{Open}
 use Rattle.osc_message.specs.Endpoint.{EndpointState, id_taken, noted, settled, acknowledged_by, after_tick}
 use Rattle.osc_message.specs.Ticks.{acts, tick_sends}
-use Rattle.osc_message.specs.Heard.{noted_reply}
-use Rattle.osc_message.specs.Sending.{AreSendable, FitsDatagram, GoesOut, again, is_confirmable, replied}
-use Rattle.osc_server.specs.Inner.Parts.{IsMessage, IsQuiet, KeepsMessages, SendsTo, noted_by}
+use Rattle.osc_message.specs.Heard.{AnswersAlone, IsAlone, IsSendableHeard, ignores, noted_reply, rejects, repeats}
+use Rattle.osc_message.specs.declared.heard.Heard.{Heard}
+use Rattle.osc_message.specs.Sending.{AreSendable, FitsDatagram, GoesOut, again, datagram, is_confirmable, rejection, replied, reset}
+use Rattle.osc_server.specs.Inner.Parts.{HeardSendsTo, IsMessage, IsQuiet, KeepsMessages, SendsTo, noted_by}
 
 abbrev IsKept : Entry → Type 0
 IsKept entry = ForSome entry.noted.reply IsMessage
@@ -149,6 +150,32 @@ repeat_sends peer None message fits = record {
   addressed = All-nil (λ sent. sent.to ≡ peer);
 }
 repeat_sends peer (Some bytes) message fits = sent_again peer bytes (message bytes refl) (All-head (λ sent. FitsDatagram sent.bytes) (record { to = peer; bytes = bytes }) [] fits)
+
+nothing_sends : (peer : Peer) → SendsTo peer []
+nothing_sends peer = repeat_sends peer None (λ bytes e. absurd (cc)) (All-nil (λ sent. FitsDatagram sent.bytes))
+
+reset_sends : (peer : Peer) (id : ℕ) → HasSpelling (reset id) → AreSendable (datagram peer (reset id) ∷ []) → SendsTo peer (datagram peer (reset id) ∷ [])
+reset_sends peer id spelled fits =
+    sent_again peer (spelling (reset id)) (reset id, record { lawful = spelled; whole = refl }) (All-head (λ sent. FitsDatagram sent.bytes) (datagram peer (reset id)) [] fits)
+
+-- what rejects a message goes to its sender
+pub rejection_sends : (peer : Peer) (kind : Kind) (id : ℕ) → HasSpelling (reset id) → AreSendable (rejection peer kind id) → SendsTo peer (rejection peer kind id)
+rejection_sends peer Confirmable id spelled fits = reset_sends peer id spelled fits
+rejection_sends peer NonConfirmable id spelled fits = nothing_sends peer
+rejection_sends peer Acknowledgement id spelled fits = nothing_sends peer
+rejection_sends peer Reset id spelled fits = nothing_sends peer
+
+alone_sends : (seen : List Entry) (now : Moment) (peer : Peer) (out : List Datagram) → KeepsMessages seen → IsAlone seen now peer out → AreSendable out → SendsTo peer out
+alone_sends seen now peer out kept (ignores is) fits = rw is (nothing_sends peer)
+alone_sends seen now peer out kept (rejects id spelled is) fits = subst (SendsTo peer) (sym is) (reset_sends peer id spelled (subst AreSendable is fits))
+alone_sends seen now peer out kept (repeats id is) fits =
+    subst (SendsTo peer) (sym is) (repeat_sends peer (noted_reply seen now peer id) (noted_message seen now peer id kept) (subst AreSendable is fits))
+
+-- what the message layer answers goes to its sender
+pub heard_sends : (seen : List Entry) (now : Moment) (peer : Peer) (it : Heard) → KeepsMessages seen → AnswersAlone seen now peer it → IsSendableHeard it → HeardSendsTo peer it
+heard_sends seen now peer (heard.Alone out) kept alone fits = alone_sends seen now peer out kept alone fits
+heard_sends seen now peer (heard.Empty kind id) kept alone fits = tt
+heard_sends seen now peer (heard.Message message) kept alone fits = tt
 
 -- nothing is due, so nothing goes out
 pub nothing_goes : (due out : List Datagram) → due ≡ [] → GoesOut due out → out ≡ []

@@ -8,7 +8,7 @@ use Rattle.osc_context.specs.Algorithm.{algorithm_of}
 use Rattle.osc_authz.specs.Desk.{DeskState}
 use Rattle.osc_authz.specs.Held.{Held}
 use Rattle.osc_authz.specs.Table.{meant}
-use Rattle.osc_protect.specs.Ciphers.{Sealings, SealsOneText}
+use Rattle.osc_ccm.specs.Ciphers.{Sealings, SealsOneText}
 use Rattle.osc_protect.specs.Protection.{SealedRequest, IsRequest}
 use Rattle.osc_window.specs.Window.{IsFresh}
 use Rattle.osc_server.specs.Table.{IsMeant, IsOpened, IsRefused, IsSealed}

@@ -27,7 +27,7 @@ use Rattle.osc_options.specs.Split.{merge, outer_options}
 use Rattle.osc_message.specs.Endpoint.{EndpointState}
 use Rattle.osc_protect.specs.Protection.{longest_message, plain_bytes, response_length, response_value, response_with}
 use Rattle.osc_protect.specs.Value.{value_spelling}
-use Rattle.osc_run.specs.Texts.{reply_text}
+use Rattle.osc_options.specs.Texts.{reply_text}
 use Rattle.osc_authz.specs.Post.{code_of}
 use Rattle.osc_authz.specs.declared.error.PostError.{PostError}
 use Rattle.osc_authz.specs.declared.error.PostError.TheVariants.{Fields, Token, Full}

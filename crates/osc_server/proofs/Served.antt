@@ -11,10 +11,10 @@ use Rattle.osc_coap.specs.Message.{Message}
 use Rattle.osc_authz.specs.Desk.{DeskState}
 use Rattle.osc_authz.specs.Held.{Held}
 use Rattle.osc_authz.specs.Table.{accepted, taking}
-use Rattle.osc_protect.specs.Ciphers.{Sealings}
+use Rattle.osc_ccm.specs.Ciphers.{Sealings}
 use Rattle.osc_protect.specs.Protection.{SealedRequest}
 use Rattle.osc_run.specs.ServerKinds.{opening_note, Replies as AppliesTo}
-use Rattle.osc_run.specs.Texts.{read_request}
+use Rattle.osc_options.specs.Texts.{read_request}
 use Rattle.osc_message.specs.Sending.{datagram}
 use Rattle.osc_server.specs.Inner.Parts.{IsReplied, IsServedAs, Standing, noted_by}
 use Rattle.osc_server.specs.State.{State}

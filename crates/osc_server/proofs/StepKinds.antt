@@ -1,6 +1,5 @@
 -- Each step is one of the kinds that a run has.
 use Rattle.std.proofs.Common.{◌≡◌, ℕ, ◌≤◌, List, length, Option, Some, None, Result, Ok, Err, refl, sym, subst, ap}
-use Rattle.std.specs.Prelude.{[]}
 use Rattle.osc_model.specs.Apply.{apply_read}
 use Rattle.osc_model.specs.Arrival.{Arrival, read_as}
 use Rattle.osc_model.specs.StepNotes.{StepNotes, quiet}
@@ -11,10 +10,11 @@ use Rattle.osc_model.specs.declared.reply.Reply.{Reply}
 use Rattle.osc_model.specs.declared.step.RefusedRequest.{RefusedRequest}
 use Rattle.osc_model.specs.declared.step.Step.{Step}
 use Rattle.osc_coap.specs.Message.{Message}
-use Rattle.osc_message.specs.Endpoint.{fresh}
+use Rattle.osc_message.specs.declared.heard.Heard.{Heard}
+use Rattle.osc_message.specs.declared.heard.Heard.TheVariants as heard
 use Rattle.osc_context.specs.Nonce.{greatest_number}
 use Rattle.osc_window.specs.Window.{IsFresh}
-use Rattle.osc_protect.specs.Ciphers.{Sealings}
+use Rattle.osc_ccm.specs.Ciphers.{Sealings}
 use Rattle.osc_authz.specs.Contexts.{of_tokens}
 use Rattle.osc_authz.specs.Desk.{DeskState}
 use Rattle.osc_authz.specs.Held.{Held}
@@ -26,9 +26,11 @@ use Rattle.osc_authz.specs.declared.holding.Holding.{Holding}
 use Rattle.osc_authz.specs.declared.post.Post.{Post}
 use Rattle.osc_authz.specs.declared.post.PostAnswer.{PostAnswer}
 use Rattle.osc_run.specs.ServerKinds.{opening_note, reply_note, Replies as AppliesTo, IsServerIdle, IsPosted, IsServed, ServerStep, ServerIdle, Posted, Served, ServerRestarted}
-use Rattle.osc_run.specs.Texts.{read_request, IsWithinRanges}
+use Rattle.osc_options.specs.Texts.{read_request, IsWithinRanges}
+use Rattle.osc_server.specs.Case.{case_of}
 use Rattle.osc_server.specs.State.{State, core}
-use Rattle.osc_server.specs.Table.{Answers, AnswersPost, AnswersProtected, Sends, Serves, nonce_of_post, notes_of_post, posting, notes_of_request, refusal_of_post, refused, served}
+use Rattle.osc_server.specs.Steps.{again}
+use Rattle.osc_server.specs.Table.{Answers, AnswersNew, AnswersPost, AnswersProtected, Sends, Serves, nonce_of_post, notes_of_post, posting, notes_of_request, refusal_of_post, refused, served}
 use Rattle.osc_server.specs.declared.case.Case.{Case}
 use Rattle.osc_server.specs.declared.case.Case.TheVariants as case
 
@@ -78,7 +80,7 @@ pub quietly : (old : State) (now : Moment) (step : Step) (new : State) → step.
 quietly old now step new noted tree desk = refusing old now None step new noted tree desk
 
 -- a server that starts again
-pub restarts : (old new : State) (now : Moment) → new ≡ record old { desk = record old.desk { table = [] }; endpoint = fresh } → ServerStep (core old) now quiet (core new)
+pub restarts : (old new : State) (now : Moment) → new ≡ again old → ServerStep (core old) now quiet (core new)
 restarts old new now e = ServerRestarted (record { noted = refl; is = ap core e })
 
 sends_idly : (old : State) (came : Arrival Message) (answer : Message) (why : Option RefusedRequest) (step : Step) (new : State) → Sends old came answer (record quiet { refused = why }) step new → ServerStep (core old) came.at step.notes (core new)
@@ -111,15 +113,17 @@ module _ (is_sealing : Sealings) (laws : Laws is_sealing) (old : State) (step : 
   protected_kind came (refused refusal why sends) = sends_idly old came _ _ step new sends
   protected_kind came (served it) = served_kind came it
 
-  pub kind_of : (came : Arrival (List ℕ)) (it : Case) → length came.draw.0 ≡ 32 → Answers is_sealing old came it step new → ServerStep (core old) came.at step.notes (core new)
-  kind_of came case.Ignored drawn (e, same) = quietly old came.at step new (ap (λ s. s.notes) e) (ap (λ s. s.tree) same) (ap (λ s. s.desk) same)
-  kind_of came (case.Reset id) drawn (e, same) = quietly old came.at step new (ap (λ s. s.notes) e) (ap (λ s. s.tree) same) (ap (λ s. s.desk) same)
-  kind_of came (case.Repeated id) drawn (e, same) = quietly old came.at step new (ap (λ s. s.notes) e) (ap (λ s. s.tree) same) (ap (λ s. s.desk) same)
-  kind_of came (case.Empty kind id) drawn (e, same) = quietly old came.at step new (ap (λ s. s.notes) e) (ap (λ s. s.tree) same) (ap (λ s. s.desk) same)
-  kind_of came (case.BadOption message) drawn it = sends_idly old (read_as came message) _ _ step new it
-  kind_of came (case.ProxyAsked message) drawn it = sends_idly old (read_as came message) _ _ step new it
-  kind_of came (case.Protected message) drawn it = protected_kind (read_as came message) it
-  kind_of came (case.Posted message) drawn it = posted_kind (read_as came message) drawn it
-  kind_of came (case.NotPosted message) drawn it = sends_idly old (read_as came message) _ _ step new it
-  kind_of came (case.OpenGet message request) drawn it = sends_idly old (read_as came message) _ _ step new it.replies
-  kind_of came (case.Unauthorised message) drawn it = sends_idly old (read_as came message) _ _ step new it
+  new_kind : (came : Arrival Message) (it : Case) → length came.draw.0 ≡ 32 → AnswersNew is_sealing old came it step new → ServerStep (core old) came.at step.notes (core new)
+  new_kind came case.Unused drawn (e, same) = quietly old came.at step new (ap (λ s. s.notes) e) (ap (λ s. s.tree) same) (ap (λ s. s.desk) same)
+  new_kind came case.BadOption drawn it = sends_idly old came _ _ step new it
+  new_kind came case.ProxyAsked drawn it = sends_idly old came _ _ step new it
+  new_kind came case.Protected drawn it = protected_kind came it
+  new_kind came case.Posted drawn it = posted_kind came drawn it
+  new_kind came case.NotPosted drawn it = sends_idly old came _ _ step new it
+  new_kind came (case.OpenGet request) drawn it = sends_idly old came _ _ step new it.replies
+  new_kind came case.Unauthorised drawn it = sends_idly old came _ _ step new it
+
+  pub kind_of : (came : Arrival (List ℕ)) (it : Heard) → length came.draw.0 ≡ 32 → Answers is_sealing old came it step new → ServerStep (core old) came.at step.notes (core new)
+  kind_of came (heard.Alone out) drawn (e, same) = quietly old came.at step new (ap (λ s. s.notes) e) (ap (λ s. s.tree) same) (ap (λ s. s.desk) same)
+  kind_of came (heard.Empty kind id) drawn (e, same) = quietly old came.at step new (ap (λ s. s.notes) e) (ap (λ s. s.tree) same) (ap (λ s. s.desk) same)
+  kind_of came (heard.Message message) drawn it = new_kind (read_as came message) (case_of old.open_scope message) drawn it

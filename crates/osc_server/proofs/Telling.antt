@@ -20,23 +20,28 @@ use Rattle.osc_authz.specs.declared.post.Post.{Post}
 use Rattle.osc_coap.specs.Message.{Message, Spells}
 use Rattle.osc_context.specs.Algorithm.{algorithm_of}
 use Rattle.osc_context.specs.Derivation.{key_of}
-use Rattle.osc_message.specs.Heard.{noted_reply}
-use Rattle.osc_message.specs.Sending.{reply_start, reset, again, datagram}
+use Rattle.osc_coap.specs.declared.kind.Kind.{Kind}
+use Rattle.osc_coap.specs.declared.kind.Kind.TheVariants.{Confirmable, NonConfirmable, Acknowledgement, Reset}
+use Rattle.osc_message.specs.Heard.{AnswersAlone, IsAlone, ignores, noted_reply, rejects, repeats}
+use Rattle.osc_message.specs.declared.heard.Heard.{Heard}
+use Rattle.osc_message.specs.declared.heard.Heard.TheVariants as heard
+use Rattle.osc_model.specs.Step.{sends}
+use Rattle.osc_message.specs.Sending.{reply_start, reset, rejection, again, datagram}
 use Rattle.osc_options.specs.Replies.{etag_option, format_option, max_age_option, with_reply}
 use Rattle.osc_options.specs.Split.{has_oscore}
 use Rattle.osc_protect.specs.Aad.{aad_of}
-use Rattle.osc_protect.specs.Ciphers.{Sealings}
+use Rattle.osc_ccm.specs.Ciphers.{Sealings}
 use Rattle.osc_protect.specs.Protection.{plain_bytes, request_nonce}
 use Rattle.osc_run.specs.Seals.{IsOpenOf, IsSealOf}
 use Rattle.osc_run.specs.ServerKinds.{opening_note, reply_note}
 use Rattle.osc_token.specs.Token.{token_note}
-use Rattle.osc_run.specs.Texts.{reply_text}
+use Rattle.osc_options.specs.Texts.{reply_text}
+use Rattle.osc_server.specs.Case.{case_of}
 use Rattle.osc_server.specs.State.{State}
-use Rattle.osc_server.specs.Table.{Answers, AnswersProtected, Serves, notes_of_post, post_reply, posting, refusal_age, refusal_code, refusal_number, refused_for, reply_to, refused, served}
+use Rattle.osc_server.specs.Table.{Answers, AnswersNew, AnswersProtected, Serves, notes_of_post, post_reply, posting, refusal_age, refusal_code, refusal_number, refused_for, reply_to, refused, served}
 use Rattle.osc_server.specs.Told.{AreTold, IsOpenedOf, IsToldOf, request_came, sealed_now, sent_before, token_came, unprotected}
 use Rattle.osc_server.specs.declared.case.Case.{Case}
 use Rattle.osc_server.specs.declared.case.Case.TheVariants as case
-use Rattle.osc_server.proofs.Came.{SpelledBy}
 
 -- ---- replies without protection have no option 9
 
@@ -129,15 +134,32 @@ module _ (is_sealing : Sealings)
       let some : post.opened ≡ Some (token_note old.desk.key its.protected its.iv its.text) = ap (λ (p : Post). p.opened) is in
       token_came message nonce1 client_id its spelled opens (same_Some note (token_note old.desk.key its.protected its.iv its.text) (sym e ∙ some))
 
-  pub told : (it : Case) (step : Step) (new : State) → SpelledBy came.what it → Answers is_sealing old came it step new → AreTold is_sealing old came step
-  told case.Ignored step new spelled (e, same) = as_sent step _ e told_nothing
-  told (case.Reset id) step new spelled (e, same) = as_sent step _ e (told_plain quiet (reset id) refl opens_nothing refl)
-  told (case.Repeated id) step new spelled (e, same) = as_sent step _ e (told_again id (noted_reply old.endpoint.seen came.at came.from id) refl)
-  told (case.Empty kind id) step new spelled (e, same) = as_sent step _ e told_nothing
-  told (case.BadOption message) step new spelled it = replied_told message (bare (code 4 2)) (refused_for (code 4 2) None) step refl opens_nothing it.sent
-  told (case.ProxyAsked message) step new spelled it = replied_told message (bare (code 5 5)) (refused_for (code 5 5) None) step refl opens_nothing it.sent
-  told (case.Protected message) step new spelled it = protected_told message step new spelled it
-  told (case.Posted message) step new spelled it = replied_told message (post_reply it.post.answer) (notes_of_post it.post) step refl (posted_opens message it.post new.desk spelled it.posts) it.sent.sent
-  told (case.NotPosted message) step new spelled it = replied_told message (bare (code 4 5)) (refused_for (code 4 5) None) step refl opens_nothing it.sent
-  told (case.OpenGet message request) step new spelled it = replied_told message it.reply quiet step refl opens_nothing it.replies.sent
-  told (case.Unauthorised message) step new spelled it = replied_told message (bare (code 4 1)) (refused_for (code 4 1) None) step refl opens_nothing it.sent
+  told_of : (out : List Datagram) → IsAlone old.endpoint.seen came.at came.from out → AreTold is_sealing old came (sends out)
+  told_of out (ignores is) = rw is told_nothing
+  told_of out (rejects id spelled is) = rw is (told_plain quiet (reset id) refl opens_nothing refl)
+  told_of out (repeats id is) = rw is (told_again id (noted_reply old.endpoint.seen came.at came.from id) refl)
+
+  rejection_told : (kind : Kind) (id : ℕ) → AreTold is_sealing old came (sends (rejection came.from kind id))
+  rejection_told Confirmable id = told_plain quiet (reset id) refl opens_nothing refl
+  rejection_told NonConfirmable id = told_nothing
+  rejection_told Acknowledgement id = told_nothing
+  rejection_told Reset id = told_nothing
+
+  told_new : (message : Message) (it : Case) (step : Step) (new : State) → Spells came.what message → AnswersNew is_sealing old (read_as came message) it step new
+      → AreTold is_sealing old came step
+  told_new message case.Unused step new spelled (e, same) = as_sent step _ e (rejection_told message.kind message.id)
+  told_new message case.BadOption step new spelled it = replied_told message (bare (code 4 2)) (refused_for (code 4 2) None) step refl opens_nothing it.sent
+  told_new message case.ProxyAsked step new spelled it = replied_told message (bare (code 5 5)) (refused_for (code 5 5) None) step refl opens_nothing it.sent
+  told_new message case.Protected step new spelled it = protected_told message step new spelled it
+  told_new message case.Posted step new spelled it =
+      replied_told message (post_reply it.post.answer) (notes_of_post it.post) step refl (posted_opens message it.post new.desk spelled it.posts) it.sent.sent
+  told_new message case.NotPosted step new spelled it = replied_told message (bare (code 4 5)) (refused_for (code 4 5) None) step refl opens_nothing it.sent
+  told_new message (case.OpenGet request) step new spelled it = replied_told message it.reply quiet step refl opens_nothing it.replies.sent
+  told_new message case.Unauthorised step new spelled it = replied_told message (bare (code 4 1)) (refused_for (code 4 1) None) step refl opens_nothing it.sent
+
+  -- what the message layer answers is one of its three answers; a message is the one that came
+  pub told : (it : Heard) (step : Step) (new : State) → AnswersAlone old.endpoint.seen came.at came.from it
+      → ((message : Message) → it ≡ heard.Message message → Spells came.what message) → Answers is_sealing old came it step new → AreTold is_sealing old came step
+  told (heard.Alone out) step new alone spelled (e, same) = as_sent step _ e (told_of out alone)
+  told (heard.Empty kind id) step new alone spelled (e, same) = as_sent step _ e told_nothing
+  told (heard.Message message) step new alone spelled it = told_new message (case_of old.open_scope message) step new (spelled message refl) it

@@ -1,8 +1,9 @@
--- Which case a datagram is to a server: the first test that holds, read from the top.
-use Rattle.std.specs.Prelude.{ℕ, Bool, true, false, ◌==◌, ◌&&◌, ◌||◌, if◌then◌else◌, List, bytes_eq, Option, Some, None, IsSome, is_some, codes}
+-- Which case a new message is to a server: the first test that holds, read from the top.
+use Rattle.std.specs.Prelude.{◌≡◌, ◌≢◌, ℕ, Bool, true, false, ◌==◌, ◌&&◌, ◌||◌, if◌then◌else◌, List, [], bytes_eq, Option, Some, None, is_some, codes}
 use Rattle.std.specs.List.{list_any}
-use Rattle.osc_model.specs.Arrival.{Arrival}
+use Rattle.osc_model.specs.Code.{method_number}
 use Rattle.osc_model.specs.Scope.{Scope}
+use Rattle.osc_model.specs.declared.code.Method.TheVariants.{Get, Post}
 use Rattle.osc_model.specs.declared.request.Request.{Request}
 use Rattle.osc_coap.specs.Code.{is_request_code}
 use Rattle.osc_coap.specs.Message.{NumberAndValue, Message as CoapMessage}
@@ -15,11 +16,9 @@ use Rattle.osc_scope.specs.declared.verdict.Verdict.{Verdict}
 use Rattle.osc_scope.specs.declared.verdict.Verdict.TheVariants.{Granted}
 use Rattle.osc_message.specs.declared.heard.Heard.{Heard}
 use Rattle.osc_message.specs.declared.heard.Heard.TheVariants as heard
-use Rattle.osc_dedup.specs.Table.{Entry}
-use Rattle.osc_message.specs.Heard.{noted_reply}
 use Rattle.osc_message.specs.Sending.{is_confirmable}
 use Rattle.osc_server.specs.declared.case.Case.{Case}
-use Rattle.osc_server.specs.declared.case.Case.TheVariants.{Ignored, Reset, Repeated, Empty, BadOption, ProxyAsked, Protected, Posted, NotPosted, OpenGet, Unauthorised}
+use Rattle.osc_server.specs.declared.case.Case.TheVariants.{Unused, BadOption, ProxyAsked, Protected, Posted, NotPosted, OpenGet, Unauthorised}
 
 abbrev pub has_option : ℕ → List NumberAndValue → Bool
 has_option number options = list_any (λ option. option.0 == number) options
@@ -35,51 +34,41 @@ is_granted verdict = false
 
 -- a GET on a path that the open scope has
 abbrev pub is_open_get : Scope → Request → Bool
-is_open_get open_scope request = (request.code.0 == 1) && is_granted (verdict_of open_scope request.path request.code)
+is_open_get open_scope request = (request.code.0 == method_number Get) && is_granted (verdict_of open_scope request.path request.code)
 
 -- an option that isn't understood is refused where the request is confirmable, and the request ignored otherwise
 -- (RFC 7252 section 5.4.1)
 abbrev pub refused_option : CoapMessage → Case
-refused_option message = if is_confirmable message.kind then BadOption message else Ignored
+refused_option message = if is_confirmable message.kind then BadOption else Unused
 
 -- An unprotected request that wants no proxy: at authz-info a POST or another method; elsewhere a GET that needs no protection,
 -- or any other request.
-abbrev pub unprotected_case : Scope → CoapMessage → Request → Case
-unprotected_case open_scope message request =
-    if is_authz_info request.path then (if request.code.0 == 2 then Posted message else NotPosted message)
-    else if is_open_get open_scope request then OpenGet message request
-    else Unauthorised message
+abbrev pub unprotected_case : Scope → Request → Case
+unprotected_case open_scope request =
+    if is_authz_info request.path then (if request.code.0 == method_number Post then Posted else NotPosted)
+    else if is_open_get open_scope request then OpenGet request
+    else Unauthorised
 
 -- A critical option that isn't recognised; a wish for a proxy (section 5.10.2); OSCORE's option, whatever the code and the
 -- path outside are (RFC 8613 section 8.2); a request without protection.
 abbrev pub request_case : Scope → CoapMessage → Case
 request_case open_scope message =
     if is_some (unrecognised_critical 0 message.options) then refused_option message
-    else if has_option proxy_uri message.options || has_option proxy_scheme message.options then ProxyAsked message
-    else if has_oscore message.options then Protected message
-    else unprotected_case open_scope message (request_of message)
+    else if has_option proxy_uri message.options || has_option proxy_scheme message.options then ProxyAsked
+    else if has_oscore message.options then Protected
+    else unprotected_case open_scope (request_of message)
 
--- A server sends no request, so it waits for no response: a confirmable one is rejected (RFC 7252 sections 4.2 and 5.3.2).
-abbrev pub message_case : Scope → CoapMessage → Case
-message_case open_scope message =
-    if is_request_code message.code then request_case open_scope message
-    else if is_confirmable message.kind then Reset message.id else Ignored
+-- A server sends no request, so it waits for no response (RFC 7252 section 5.3.2).
+abbrev pub case_of : Scope → CoapMessage → Case
+case_of open_scope message = if is_request_code message.code then request_case open_scope message else Unused
 
-abbrev pub case_of : Scope → Heard → Case
-case_of open_scope heard.Ignored = Ignored
-case_of open_scope (heard.Reset id) = Reset id
-case_of open_scope (heard.Repeat id) = Repeated id
-case_of open_scope (heard.Empty kind id) = Empty kind id
-case_of open_scope (heard.Message message) = message_case open_scope message
+-- whether a new message is answered: one of no use is where it is rejected
+abbrev pub IsNewAnswered : CoapMessage → Case → Type 0
+IsNewAnswered message Unused = is_confirmable message.kind ≡ true
+IsNewAnswered message case = Unit {0}
 
--- whether it is answered by a message of its own
-abbrev pub IsAnsweredAnew : Case → Type 0
-IsAnsweredAnew Ignored = ⊥
-IsAnsweredAnew (Repeated id) = ⊥
-IsAnsweredAnew (Empty kind id) = ⊥
-IsAnsweredAnew case = Unit {0}
-
--- whether anything is sent: of a repeat, where the message was answered before
-abbrev pub IsAnswered : List Entry → Arrival (List ℕ) → Case → Type 0
-IsAnswered seen came (Repeated id) = IsSome (noted_reply seen came.at came.from id)
-IsAnswered seen came case = IsAnsweredAnew case
+-- whether anything is sent
+abbrev pub IsAnswered : Scope → Heard → Type 0
+IsAnswered open_scope (heard.Alone out) = out ≢ []
+IsAnswered open_scope (heard.Empty kind id) = ⊥
+IsAnswered open_scope (heard.Message message) = IsNewAnswered message (case_of open_scope message)

@@ -9,8 +9,7 @@ use Rattle.osc_message.specs.Heard.{heard}
 use Rattle.osc_message.specs.Received.{Receives}
 use Rattle.osc_message.specs.Sending.{AreSendable}
 use Rattle.osc_message.specs.declared.received.Received.{Received}
-use Rattle.osc_protect.specs.Ciphers.{Sealings}
-use Rattle.osc_server.specs.Case.{case_of}
+use Rattle.osc_ccm.specs.Ciphers.{Sealings}
 use Rattle.osc_server.specs.State.{State}
 use Rattle.osc_server.specs.Table.{Answers}
 use Rattle.osc_server.specs.Told.{AreTold}
@@ -22,11 +21,11 @@ pub record Ticks (old : State) (now : Moment) (step : Step) (new : State) : Type
 
 -- `is_sealing algorithm` is the relation of the algorithm's cipher
 module _ (is_sealing : Sealings) where
-  -- this datagram comes: what its bytes are received as, what the table makes of that, what the notes tell of the datagrams, and
-  -- that what is sent can be
+  -- this datagram comes: what its bytes are received as, what the table makes of what is heard, what the notes tell of the datagrams,
+  -- and that what is sent can be
   pub record Hears (old : State) (came : Arrival (List ℕ)) (step : Step) (new : State) : Type 0 where
     pub received : Received
     pub receives : Receives came.what received
-    pub answers : Answers is_sealing old came (case_of old.open_scope (heard old.endpoint.seen came.at came.from received)) step new
+    pub answers : Answers is_sealing old came (heard old.endpoint.seen came.at came.from received) step new
     pub told : AreTold is_sealing old came step
     pub fits : AreSendable step.out

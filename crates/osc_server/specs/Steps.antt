@@ -3,7 +3,7 @@ use Rattle.std.specs.Prelude.{Bool, false, []}
 use Rattle.osc_model.specs.declared.node.Moment.{Moment}
 use Rattle.osc_model.specs.declared.step.Step.{Step}
 use Rattle.osc_message.specs.Endpoint.{fresh}
-use Rattle.osc_protect.specs.Ciphers.{Sealings}
+use Rattle.osc_ccm.specs.Ciphers.{Sealings}
 use Rattle.osc_run.specs.Nodes.{Cause, Came, Due, moment_of}
 use Rattle.osc_run.specs.ServerKinds.{ServerStep}
 use Rattle.osc_server.specs.Hearing.{Hears, Ticks}

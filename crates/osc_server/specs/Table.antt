@@ -1,5 +1,6 @@
--- What a server sends in each case, and what it keeps after it.
+-- What a server sends for each thing that it hears, and what it keeps after it.
 use Rattle.std.specs.Prelude.{◌≡◌, ℕ, List, [], ◌∷◌, Option, Some, None, Result, Ok, Err, codes, unwrap_or}
+use Rattle.osc_model.specs.Refusals as refusal
 use Rattle.osc_model.specs.Apply.{apply, apply_read, MayReply}
 use Rattle.osc_model.specs.Arrival.{Arrival, read_as}
 use Rattle.osc_model.specs.Code.{code}
@@ -17,17 +18,16 @@ use Rattle.osc_model.specs.declared.step.Step.{Step}
 use Rattle.osc_cbor.specs.Spelling.{spelling as item_spelling}
 use Rattle.osc_coap.specs.Message.{Message, Spells, spelling}
 use Rattle.osc_options.specs.Replies.{with_reply, with_error}
+use Rattle.osc_message.specs.declared.heard.Heard.{Heard}
 use Rattle.osc_message.specs.declared.heard.Heard.TheVariants as heard
 use Rattle.osc_message.specs.declared.handling.Handling.TheVariants.{Dropped, Answered}
-use Rattle.osc_message.specs.Heard.{noted_reply}
 use Rattle.osc_message.specs.Endpoint.{EndpointState, settled}
-use Rattle.osc_message.specs.Sending.{reset, reply_start, replied, again, datagram}
+use Rattle.osc_message.specs.Sending.{rejection, reply_start, replied, datagram}
 use Rattle.osc_context.specs.Algorithm.{algorithm_of}
 use Rattle.osc_context.specs.Derivation.{key_of}
 use Rattle.osc_window.specs.Window.{IsFresh}
 use Rattle.osc_protect.specs.Aad.{aad_of}
-use Rattle.osc_protect.specs.Ciphers.{Sealings}
-use Rattle.osc_protect.specs.Errors.{malformed, not_genuine}
+use Rattle.osc_ccm.specs.Ciphers.{Sealings}
 use Rattle.osc_protect.specs.Protection.{SealedRequest, IsRequest, IsProtectedResponse, request_nonce}
 use Rattle.osc_authz.specs.Desk.{DeskState}
 use Rattle.osc_authz.specs.Errors.{post_number}
@@ -40,10 +40,11 @@ use Rattle.osc_authz.specs.declared.error.PostError.{PostError}
 use Rattle.osc_authz.specs.declared.post.Post.{Post}
 use Rattle.osc_authz.specs.declared.post.PostAnswer.{PostAnswer}
 use Rattle.osc_run.specs.ServerKinds.{opening_note, reply_note, Replies as AppliesTo}
-use Rattle.osc_run.specs.Texts.{read_request, IsWithinRanges}
+use Rattle.osc_options.specs.Texts.{read_request, IsWithinRanges}
+use Rattle.osc_server.specs.Case.{case_of}
 use Rattle.osc_server.specs.State.{State}
 use Rattle.osc_server.specs.declared.case.Case.{Case}
-use Rattle.osc_server.specs.declared.case.Case.TheVariants.{Ignored, Reset, Repeated, Empty, BadOption, ProxyAsked, Protected, Posted, NotPosted, OpenGet, Unauthorised}
+use Rattle.osc_server.specs.declared.case.Case.TheVariants.{Unused, BadOption, ProxyAsked, Protected, Posted, NotPosted, OpenGet, Unauthorised}
 use Rattle.osc_server.specs.declared.refusal.Refusal.{Refusal}
 use Rattle.osc_server.specs.declared.refusal.Refusal.TheVariants.{Malformed, NoContext, Replayed, NotGenuine}
 
@@ -92,13 +93,17 @@ pub record AnswersGet (old : State) (came : Arrival Message) (request : Request)
 abbrev pub posting : Arrival Message → Posting
 posting came = record { at = came.at; body = unwrap_or came.what.payload []; draw = came.draw }
 
+-- the Content-Format application/ace+cbor (RFC 9200 section 8.16)
+abbrev pub ace_cbor : ℕ
+ace_cbor = 19
+
 -- 2.01 with the nonce and the recipient ID of the server as application/ace+cbor (RFC 9203 section 4.2), or the code of the
 -- refusal (RFC 9200 section 5.10.1)
 abbrev pub post_reply : Result PostAnswer PostError → Reply
 post_reply (Ok answer) = record {
   code = code 2 1;
   etag = None;
-  format = Some 19;
+  format = Some ace_cbor;
   payload = item_spelling (answer_item answer.nonce2 (answer.recipient_id ∷ []));
 }
 post_reply (Err error) = bare (code_of error)
@@ -127,10 +132,10 @@ refusal_code NotGenuine = code 4 0
 
 -- the number by which programs name it
 abbrev pub refusal_number : Refusal → ℕ
-refusal_number Malformed = malformed
-refusal_number NoContext = 22
-refusal_number Replayed = 23
-refusal_number NotGenuine = not_genuine
+refusal_number Malformed = refusal.malformed
+refusal_number NoContext = refusal.no_context
+refusal_number Replayed = refusal.replay
+refusal_number NotGenuine = refusal.not_genuine
 
 abbrev pub refusal_age : Refusal → Option ℕ
 refusal_age Malformed = None
@@ -214,18 +219,21 @@ module _ (is_sealing : Sealings) where
 
   -- ---- the table
 
-  -- 4.02 Bad Option, 5.05 Proxying Not Supported, 4.05 Method Not Allowed and 4.01 Unauthorized go without payload. Of the tree
-  -- nothing goes out unprotected but what answers a GET on an open path.
-  abbrev pub Answers : State → Arrival (List ℕ) → Case → Step → State → Type 0
-  Answers old came Ignored step new = (step ≡ sends []) × (new ≡ old)
-  Answers old came (Reset id) step new = (step ≡ sends (datagram came.from (reset id) ∷ [])) × (new ≡ old)
-  Answers old came (Repeated id) step new = (step ≡ sends (again came.from (noted_reply old.endpoint.seen came.at came.from id))) × (new ≡ old)
-  Answers old came (Empty kind id) step new =
+  -- A new message, in each case. 4.02 Bad Option, 5.05 Proxying Not Supported, 4.05 Method Not Allowed and 4.01 Unauthorized go without
+  -- payload. Of the tree nothing goes out unprotected but what answers a GET on an open path.
+  abbrev pub AnswersNew : State → Arrival Message → Case → Step → State → Type 0
+  AnswersNew old came Unused step new = (step ≡ sends (rejection came.from came.what.kind came.what.id)) × (new ≡ old)
+  AnswersNew old came BadOption step new = Refuses old came (code 4 2) step new
+  AnswersNew old came ProxyAsked step new = Refuses old came (code 5 5) step new
+  AnswersNew old came Protected step new = AnswersProtected old came step new
+  AnswersNew old came Posted step new = AnswersPost old came step new
+  AnswersNew old came NotPosted step new = Refuses old came (code 4 5) step new
+  AnswersNew old came (OpenGet request) step new = AnswersGet old came request step new
+  AnswersNew old came Unauthorised step new = Refuses old came (code 4 1) step new
+
+  -- What the message layer answers by itself changes nothing; an empty message is settled there; a new message is answered as its case says.
+  abbrev pub Answers : State → Arrival (List ℕ) → Heard → Step → State → Type 0
+  Answers old came (heard.Alone out) step new = (step ≡ sends out) × (new ≡ old)
+  Answers old came (heard.Empty kind id) step new =
       (step ≡ sends []) × (new ≡ record old { endpoint = settled old.endpoint came.at came.from (heard.Empty kind id) Dropped })
-  Answers old came (BadOption message) step new = Refuses old (read_as came message) (code 4 2) step new
-  Answers old came (ProxyAsked message) step new = Refuses old (read_as came message) (code 5 5) step new
-  Answers old came (Protected message) step new = AnswersProtected old (read_as came message) step new
-  Answers old came (Posted message) step new = AnswersPost old (read_as came message) step new
-  Answers old came (NotPosted message) step new = Refuses old (read_as came message) (code 4 5) step new
-  Answers old came (OpenGet message request) step new = AnswersGet old (read_as came message) request step new
-  Answers old came (Unauthorised message) step new = Refuses old (read_as came message) (code 4 1) step new
+  Answers old came (heard.Message message) step new = AnswersNew old (read_as came message) (case_of old.open_scope message) step new

@@ -14,7 +14,7 @@ use Rattle.osc_authz.specs.Posting.{OpenedToken}
 use Rattle.osc_message.specs.Heard.{noted_reply}
 use Rattle.osc_run.specs.Seals.{IsOpenOf, IsSealOf}
 use Rattle.osc_token.specs.Token.{token_note}
-use Rattle.osc_protect.specs.Ciphers.{Sealings}
+use Rattle.osc_ccm.specs.Ciphers.{Sealings}
 use Rattle.osc_server.specs.State.{State}
 
 -- `is_sealing algorithm` is the relation of the algorithm's cipher

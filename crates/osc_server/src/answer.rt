@@ -1,6 +1,8 @@
 //! The messages that answer.
 ghost use Rattle.std.specs.Prelude.{◌≡◌, ◌≤◌, length};
 ghost use Rattle.osc_coap.specs.Message.{spelling};
+ghost use Rattle.osc_model.specs.declared.reply.Reply.{Reply as AnyReply};
+ghost use Rattle.osc_protect.specs.Protection.{reply_with_header};
 ghost use Rattle.osc_server.specs.Inner.Parts.{FitsAResource, IsSentAs};
 ghost use Rattle.osc_server.specs.Table.{reply_to as reply_to_of, refusal_to as refusal_to_of};
 
@@ -11,6 +13,21 @@ use osc_coap::laws::length_of_spelling;
 use osc_message::{Arrival, ReplyRoom, reply_kind};
 use osc_model::{Bytes, Datagrams, Peer, Reply};
 use osc_options::{error_message, reply_message};
+use osc_protect::Header;
+
+/// The header of what answers a request: of the acknowledgement of a confirmable one (RFC 7252 section 5.2.1), and of a message of the
+/// server's own for another (section 5.2.3).
+pub fn header_to<'a>(endpoint: &Endpoint, came: &Arrival<'a>) -> Header<'a>
+    ensures header { (reply : AnyReply) → reply_with_header result reply ≡ reply_to_of endpoint.now came.now reply }
+    ensures token { length result.token.now ≤ 8 }
+{
+    let request = &came.message;
+    Header {
+        kind: reply_kind(request.kind()),
+        id: endpoint.reply_id(came.draw, request),
+        token: request.token(),
+    }
+}
 
 /// The message that carries the reply: the acknowledgement of a confirmable request (RFC 7252 section 5.2.1), and a message
 /// of the server's own for another (section 5.2.3).

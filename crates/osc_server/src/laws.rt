@@ -11,12 +11,12 @@ ghost use Rattle.osc_model.specs.Tree.{Tree, IsWithinLimits};
 ghost use Rattle.osc_model.specs.declared.reply.Reply.{Reply as AnyReply};
 ghost use Rattle.osc_protect.specs.Protection.{SealedRequest};
 ghost use Rattle.osc_run.specs.ServerKinds.{Replies as AppliesTo};
-ghost use Rattle.osc_run.specs.Texts.{read_request, reply_text};
+ghost use Rattle.osc_options.specs.Texts.{read_request, reply_text};
 ghost use Rattle.osc_server.specs.Table.{IsOpened, IsRefused};
 ghost use Rattle.osc_server.specs.declared.refusal.Refusal.{Refusal as AnyRefusal};
 
+use osc_ccm::Ciphers;
 use osc_coap::laws::length_of_plaintext;
-use osc_protect::Ciphers;
 use osc_protect::laws::one_request;
 
 /// What answers a protected request has at most 512 bytes of payload, and a reply that does has a plaintext of at most 526 bytes.

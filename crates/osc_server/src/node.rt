@@ -3,8 +3,8 @@ ghost use Rattle.std.specs.Prelude.{ℕ};
 ghost use Rattle.osc_server.specs.Steps.{IsStep, acts, again};
 
 use crate::server::Server;
+use osc_ccm::Ciphers;
 use osc_model::{Draw, Moment, Peer, Step};
-use osc_protect::Ciphers;
 use osc_run::Node;
 use std::alloc::{AllocError, Global};
 

@@ -2,7 +2,7 @@
 ghost use Rattle.std.specs.Prelude.{◌≡◌};
 ghost use Rattle.osc_server.specs.Table.{refusal_age, refusal_code, refusal_number, refusal_text, refused_for as refused_for_of};
 
-use osc_model::{Code, RefusedRequest, StepNotes};
+use osc_model::{Code, RefusedRequest, StepNotes, refusals};
 
 /// Why a protected request isn't served: the first of these that stands.
 #[derive(Clone, Copy, Debug, PartialEq, Eq)]
@@ -23,10 +23,10 @@ impl Refusal {
         ensures { result ≡ refusal_number self }
     {
         match self {
-            Refusal::Malformed => 21,
-            Refusal::NoContext => 22,
-            Refusal::Replayed => 23,
-            Refusal::NotGenuine => 3,
+            Refusal::Malformed => refusals::MALFORMED,
+            Refusal::NoContext => refusals::NO_CONTEXT,
+            Refusal::Replayed => refusals::REPLAY,
+            Refusal::NotGenuine => refusals::NOT_GENUINE,
         }
     }
 

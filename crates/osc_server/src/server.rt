@@ -1,10 +1,10 @@
 //! The server.
-ghost use Rattle.std.specs.Prelude.{◌≡◌, ◌≤◌, ◌<◌, ℕ, List, [], ◌∷◌, length, false, IsErr, IsOk, IsSome, IfOk, None, OnErr, Some};
+ghost use Rattle.std.specs.Prelude.{◌≡◌, ◌≤◌, ◌<◌, ℕ, List, [], ◌∷◌, length, false, true, IsOk, IfOk, None, OnErr, Some};
 ghost use Rattle.std.specs.List.{All};
 ghost use Rattle.osc_authz.specs.Table.{IsTable};
 ghost use Rattle.osc_coap.specs.Message.{Message, Spells, spelling};
 ghost use Rattle.osc_message.specs.Endpoint.{fresh};
-ghost use Rattle.osc_message.specs.Heard.{heard as heard_as, noted_reply as noted_reply_of};
+ghost use Rattle.osc_message.specs.Heard.{AnswersAlone, heard as heard_as};
 ghost use Rattle.osc_message.specs.Received.{Receives};
 ghost use Rattle.osc_message.specs.declared.received.Received.{Received as AnyReceived};
 ghost use Rattle.osc_model.specs.Apply.{apply, MayReply};
@@ -12,13 +12,14 @@ ghost use Rattle.osc_model.specs.Step.{sends};
 ghost use Rattle.osc_model.specs.StepNotes.{quiet};
 ghost use Rattle.osc_model.specs.declared.node.Moment.{Moment as AnyMoment};
 ghost use Rattle.osc_run.specs.ServerKinds.{ServerStep};
-ghost use Rattle.osc_message.specs.Sending.{FitsDatagram, again, datagram};
-ghost use Rattle.osc_server.specs.Case.{IsAnswered, case_of as case_in};
+ghost use Rattle.osc_message.specs.Sending.{FitsDatagram, datagram, is_confirmable as is_confirmable_of, rejection as rejection_of};
+ghost use Rattle.osc_server.specs.Case.{IsAnswered, IsNewAnswered, case_of as case_in};
 ghost use Rattle.osc_message.specs.Ticks.{acts};
 ghost use Rattle.osc_server.specs.Hearing.{Hears, Ticks};
-ghost use Rattle.osc_server.specs.Inner.Parts.{AsksGet, FitsAResource, IsMessage, SendsTo, noted_by};
+ghost use Rattle.osc_server.specs.Inner.Parts.{AsksGet, FitsAResource, HeardSendsTo, IsMessage, SendsTo, noted_by};
 ghost use Rattle.osc_server.specs.State.{core};
-ghost use Rattle.osc_server.specs.Table.{Answers, AnswersGet, AnswersPost, AnswersProtected, AnswersWith, Refuses, Sends, answered, refusal_code, refusal_number, refusal_to as refusal_to_of, refused_for as refused_for_of};
+ghost use Rattle.osc_server.specs.Steps.{again};
+ghost use Rattle.osc_server.specs.Table.{Answers, AnswersNew, AnswersGet, AnswersPost, AnswersProtected, AnswersWith, Refuses, Sends, answered, refusal_code, refusal_number, refusal_to as refusal_to_of, refused_for as refused_for_of};
 
 use crate::Endpoint;
 use crate::answer::{refusal_to, reply_to, sent_as};
@@ -27,11 +28,12 @@ use crate::posting::{POST_ANSWER, POST_PAYLOAD, notes_of, post_answer};
 use crate::refusal::{Refusal, refused_for};
 use crate::serving::{ProtectedRequest, Served, serve};
 use osc_authz::{Post, ServerDesk};
+use osc_ccm::Ciphers;
 use osc_coap::MessageBuilder;
-use osc_message::laws::what_is_heard;
-use osc_message::{Arrival, Buffer, Handling, Heard, ReplyRoom, Ticked, sending_reset};
+use osc_message::laws::{what_is_heard, what_nodes_send};
+use osc_message::{Arrival, Buffer, Handling, Heard, ReplyRoom, Ticked, rejection};
 use osc_model::{Bytes, Code, Datagrams, Draw, Moment, Peer, Reply, Request, Step, StepNotes};
-use osc_protect::{Ciphers, TokenCipher, read_request};
+use osc_protect::{TokenCipher, read_request};
 use osc_run::kinds;
 use osc_scope::Scope;
 use osc_tree::Tree;
@@ -136,8 +138,7 @@ impl Server {
 
         // What isn't answered takes no memory.
         ensures needs_memory { OnErr result ((received : AnyReceived) × Receives bytes.now received
-            × IsAnswered self.old.endpoint.seen (record { at = now; from = from; draw = draw.now; what = bytes.now })
-            (case_in self.old.open_scope (heard_as self.old.endpoint.seen now from received))) }
+            × IsAnswered self.old.open_scope (heard_as self.old.endpoint.seen now from received)) }
     {
         what_is_heard();
         kinds::posts_that_agree::<TokenCipher<A>>();
@@ -146,56 +147,85 @@ impl Server {
         kinds::what_is_sealed();
         drawn(draw);
         self.desk.has_a_table();
-        let heard = self.endpoint.on_datagram(now, from, bytes);
-        let case = case_of(alloc, &self.open_scope, heard)?;
-        let step = self.answer::<A>(alloc, now, from, draw, case)?;
+        let heard = self.hear(alloc, now, from, bytes)?;
+        let step = self.answer::<A>(alloc, now, from, draw, heard)?;
         self.desk.has_a_table();
         Ok(step)
     }
 
-    /// What is sent in this case.
+    /// What these bytes are to the message layer.
+    fn hear<'a>(
+        &self,
+        alloc: Global,
+        now: Moment,
+        from: Peer,
+        bytes: &'a [u8],
+    ) -> Result<Heard<'a>, AllocError>
+        ensures heard { IfOk result (λ heard. (received : AnyReceived) × Receives bytes.now received × (heard ≡ heard_as self.now.endpoint.seen now from received)) }
+        ensures alone { IfOk result (AnswersAlone self.now.endpoint.seen now from) }
+        ensures sent { IfOk result (HeardSendsTo from) }
+        ensures needs_memory { OnErr result ((received : AnyReceived) × Receives bytes.now received
+            × IsAnswered self.now.open_scope (heard_as self.now.endpoint.seen now from received)) }
+    {
+        self.endpoint.on_datagram(alloc, now, from, bytes)
+    }
+
+    /// What is sent for what is heard.
     fn answer<A: Ciphers>(
         &mut self,
         alloc: Global,
         now: Moment,
         from: Peer,
         draw: &Draw,
-        case: Case<'_>,
+        heard: Heard<'_>,
     ) -> Result<Step, AllocError>
-        requires { AsksGet case }
+        requires { HeardSendsTo from heard }
         ensures answered { (bytes : List ℕ)
-            → IfOk result (λ step. Answers A.is_sealing self.old (record { at = now; from = from; draw = draw.now; what = bytes }) case.entry step self.new) }
+            → IfOk result (λ step. Answers A.is_sealing self.old (record { at = now; from = from; draw = draw.now; what = bytes }) heard.entry step self.new) }
         ensures sent { IfOk result (λ step. SendsTo from step.out) }
         ensures same { self.new.open_scope ≡ self.old.open_scope }
         ensures err { OnErr result (self.new ≡ self.old) }
-        ensures needs_memory { (bytes : List ℕ)
-            → OnErr result (IsAnswered self.old.endpoint.seen (record { at = now; from = from; draw = draw.now; what = bytes }) case.entry) }
+        ensures needs_memory { OnErr result (IsAnswered self.old.open_scope heard.entry) }
     {
-        let came = |message| Arrival {
-            at: now,
-            from,
-            draw,
-            message,
-        };
-        match case {
-            Case::Ignored => Ok(Step::sending(Datagrams::new(alloc))),
-            Case::Reset(id) => sending_reset(alloc, from, id),
-            Case::Repeated(id) => self.repeat(alloc, now, from, id),
-            Case::Empty(kind, id) => {
+        match heard {
+            Heard::Alone(out) => Ok(Step::sending(out)),
+            Heard::Empty(kind, id) => {
                 self.endpoint.settle_empty(now, from, kind, id);
                 Ok(Step::sending(Datagrams::new(alloc)))
             }
-            Case::BadOption(message) => self.refuse(alloc, came(message), Code::BAD_OPTION),
-            Case::ProxyAsked(message) => {
-                self.refuse(alloc, came(message), Code::PROXYING_NOT_SUPPORTED)
-            }
-            Case::Protected(message) => self.protected::<A>(alloc, came(message)),
-            Case::Posted(message) => self.posted::<A>(alloc, came(message)),
-            Case::NotPosted(message) => {
-                self.refuse(alloc, came(message), Code::METHOD_NOT_ALLOWED)
-            }
-            Case::OpenGet(message, request) => self.get(alloc, came(message), &request),
-            Case::Unauthorised(message) => self.refuse(alloc, came(message), Code::UNAUTHORIZED),
+            Heard::Message(message) => self.answer_new::<A>(
+                alloc,
+                Arrival {
+                    at: now,
+                    from,
+                    draw,
+                    message,
+                },
+            ),
+        }
+    }
+
+    /// What is sent for a new message, in the case that it is.
+    fn answer_new<A: Ciphers>(
+        &mut self,
+        alloc: Global,
+        came: Arrival<'_>,
+    ) -> Result<Step, AllocError>
+        ensures answered { IfOk result (λ step. AnswersNew A.is_sealing self.old came.entry (case_in self.old.open_scope came.entry.what) step self.new) }
+        ensures sent { IfOk result (λ step. SendsTo came.entry.from step.out) }
+        ensures same { self.new.open_scope ≡ self.old.open_scope }
+        ensures err { OnErr result (self.new ≡ self.old) }
+        ensures needs_memory { OnErr result (IsNewAnswered came.entry.what (case_in self.old.open_scope came.entry.what)) }
+    {
+        match case_of(alloc, &self.open_scope, &came.message)? {
+            Case::Unused => pass_over(alloc, &came),
+            Case::BadOption => self.refuse(alloc, came, Code::BAD_OPTION),
+            Case::ProxyAsked => self.refuse(alloc, came, Code::PROXYING_NOT_SUPPORTED),
+            Case::Protected => self.protected::<A>(alloc, came),
+            Case::Posted => self.posted::<A>(alloc, came),
+            Case::NotPosted => self.refuse(alloc, came, Code::METHOD_NOT_ALLOWED),
+            Case::OpenGet(request) => self.get(alloc, came, &request),
+            Case::Unauthorised => self.refuse(alloc, came, Code::UNAUTHORIZED),
         }
     }
 
@@ -225,15 +255,6 @@ impl Server {
         ensures same { self.new ≡ self.old }
     {
         open_reply(alloc, &mut self.tree, &self.open_scope, request)
-    }
-
-    /// Sends again what answered the message of this ID, if anything did.
-    fn repeat(&self, alloc: Global, now: Moment, from: Peer, id: u16) -> Result<Step, AllocError>
-        ensures again { IfOk result (λ step. step ≡ sends (again from (noted_reply_of self.now.endpoint.seen now from id))) }
-        ensures sent { IfOk result (λ step. SendsTo from step.out) }
-        ensures needs_memory { IsErr result → IsSome (noted_reply_of self.now.endpoint.seen now from id) }
-    {
-        self.endpoint.repeat(alloc, now, from, id)
     }
 
     /// Answers the request, which isn't served, with a reply of this code alone.
@@ -408,11 +429,24 @@ impl Server {
     /// memory.
     pub fn restart(&mut self)
         ensures kind { (now : AnyMoment) → ServerStep (core self.old) now quiet (core self.new) }
-        ensures restarted { self.new ≡ record self.old { desk = record self.old.desk { table = [] }; endpoint = fresh } }
+        ensures restarted { self.new ≡ again self.old }
     {
         self.desk.clear();
         self.endpoint.clear();
     }
+}
+
+/// A message that a server has no use for: a confirmable one is rejected by a Reset, any other is ignored. Nothing that a server sends waits
+/// for an acknowledgement, so there is nothing to settle.
+fn pass_over(alloc: Global, came: &Arrival<'_>) -> Result<Step, AllocError>
+    ensures step { IfOk result (λ step. step ≡ sends (rejection_of came.now.from came.now.what.kind came.now.what.id)) }
+    ensures sent { IfOk result (λ step. SendsTo came.now.from step.out) }
+    ensures needs_memory { OnErr result (is_confirmable_of came.now.what.kind ≡ true) }
+{
+    what_nodes_send();
+    let message = &came.message;
+    let out = rejection(alloc, came.from, message.kind(), message.id())?;
+    Ok(Step::sending(out))
 }
 
 /// For proofs: how many bytes are drawn. Does nothing.

@@ -11,28 +11,28 @@ ghost use Rattle.osc_model.specs.Apply.{apply_read};
 ghost use Rattle.osc_protect.specs.Aad.{aad_of};
 ghost use Rattle.osc_protect.specs.Protection.{IsFor, IsRequest, IsProtectedResponse};
 ghost use Rattle.osc_run.specs.ServerKinds.{opening_note, reply_note, Replies as AppliesTo};
-ghost use Rattle.osc_run.specs.Texts.{read_request, IsWithinRanges};
+ghost use Rattle.osc_options.specs.Texts.{read_request, IsWithinRanges};
 ghost use Rattle.osc_model.specs.Tree.{Tree as AnyTree};
-ghost use Rattle.osc_server.specs.Inner.Parts.{FitsAResource, IsReplyOf, IsSentAs, IsServedAs, IsTakenFor, reply_length, read_length as read_length_of};
+ghost use Rattle.osc_server.specs.Inner.Parts.{FitsAResource, IsReplyOf, IsSentAs, IsServedAs, IsTakenFor, message_beside_sealed, reply_length, read_length as read_length_of, text_beside_payload};
 ghost use Rattle.osc_server.specs.Table.{IsMeant, IsOpened, IsRefused, IsSealed, notes_of_request, reply_to as reply_to_of};
 ghost use Rattle.osc_window.specs.Window.{IsFresh};
 
 use crate::Endpoint;
-use crate::answer::{reply_to, sent_as};
+use crate::answer::{header_to, sent_as};
 use crate::case::GET;
 use crate::refusal::Refusal;
 use osc_authz::laws::meant_contexts;
 use osc_authz::{ServerContext, ServerDesk};
+use osc_ccm::Ciphers;
 use osc_coap::laws::{length_of_plaintext, length_of_spelling};
 use osc_context::AcceptedNumber;
 use osc_message::{Arrival, ReplyRoom};
 use osc_model::{
     Bytes, Code, Datagrams, Entry, Note, Path, Peer, Reply, Request, SharedName, StepNotes,
 };
-use osc_protect::{
-    Ciphers, ProtectedResponse, Room, SealedRequestRef, open_request, protect_reply,
-};
-use osc_run::{kinds, request_in};
+use osc_options::request_in;
+use osc_protect::{ProtectedResponse, Room, SealedRequestRef, open_request, seal_reply};
+use osc_run::kinds;
 use osc_scope::Scope;
 use osc_tree::Tree;
 use std::alloc::{AllocError, Global};
@@ -138,6 +138,15 @@ fn applied(alloc: Global, tree: &mut Tree, scope: &Scope, read: &Result<Request,
     }
 }
 
+/// The memory of a protected reply, taken before anything changes.
+#[derive(Drop)]
+struct AnswerRoom {
+    /// For its seal.
+    seal: Room,
+    /// For its datagram, and for the copy that answers a repeat.
+    datagram: ReplyRoom,
+}
+
 /// What an opened request asks, and the memory of all that follows, taken before anything changes.
 #[derive(Drop)]
 struct Taken {
@@ -148,10 +157,8 @@ struct Taken {
     /// The name and the text, for the entry.
     context: SharedName,
     plaintext: Bytes,
-    /// For the reply's seal.
-    room: Room,
     /// For the protected reply.
-    reply: ReplyRoom,
+    room: AnswerRoom,
 }
 
 /// The reply to a request that was opened, protected under its nonce: it fits, since no reply has more than 512 bytes. Takes no
@@ -168,35 +175,46 @@ fn protected<A: Ciphers>(
     requires name { room.name ≡ context.now.name }
     requires about { room.number ≡ number.number }
     requires short { FitsAResource reply.now }
-    requires room { 14 + length reply.now.payload ≤ room.most }
+    requires room { text_beside_payload + length reply.now.payload ≤ room.most }
     ensures protected { IsProtectedResponse A.is_sealing context.now.name number.number None
         (reply_to_of endpoint.now came.now reply.now) result.message }
     ensures noted { result.note ≡ reply_note context.now.name number.number reply.now }
-    ensures short { length (spelling result.message) ≤ 28 + length reply.now.payload + A.TAG (algorithm_of context.now.name) }
+    ensures short { length (spelling result.message)
+        ≤ message_beside_sealed + text_beside_payload + length reply.now.payload + A.TAG (algorithm_of context.now.name) }
 {
     kinds::what_is_sealed();
     length_of_spelling();
     length_of_plaintext();
-    // For the proof alone: the call tells how long the token is.
-    let _token = came.message.token();
-    protect_reply::<A>(
-        room,
-        number,
-        context.sender(),
-        &reply_to(endpoint, came, reply).message(),
-    )
-    .unwrap()
+    let header = header_to(endpoint, came);
+    seal_reply::<A>(room, number, context.sender(), header, reply).unwrap()
 }
 
 /// The protected reply, as it goes to the peer and as its bytes are kept for a repeat, and the note of its seal; takes no memory.
 #[inline(never)]
-fn sent(room: ReplyRoom, peer: Peer, sealed: ProtectedResponse) -> ((Datagrams, Bytes), Note)
-    requires { length (spelling sealed.message) ≤ room }
-    ensures sent { IsSentAs peer sealed.message result.0.0 result.0.1 }
-    ensures noted { result.1 ≡ sealed.note }
+fn sent<A: Ciphers>(
+    room: AnswerRoom,
+    number: AcceptedNumber,
+    context: &ServerContext,
+    endpoint: &Endpoint,
+    came: &Arrival<'_>,
+    reply: &Reply,
+) -> ((Datagrams, Bytes), Note)
+    requires number { number ≡ accepted_of context.now.name Server number.number }
+    requires name { room.seal.name ≡ context.now.name }
+    requires about { room.seal.number ≡ number.number }
+    requires short { FitsAResource reply.now }
+    requires seal { text_beside_payload + length reply.now.payload ≤ room.seal.most }
+    requires datagram { message_beside_sealed + text_beside_payload + length reply.now.payload + A.TAG (algorithm_of context.now.name) ≤ room.datagram }
+    ensures sent { (answer : AnyMessage) × IsProtectedResponse A.is_sealing context.now.name number.number None
+        (reply_to_of endpoint.now came.now reply.now) answer
+        × IsSentAs came.now.from answer result.0.0 result.0.1 }
+    ensures noted { result.1 ≡ reply_note context.now.name number.number reply.now }
 {
-    let sent = sent_as(room, peer, &sealed.message);
-    (sent, sealed.note)
+    let AnswerRoom { seal, datagram } = room;
+    let ProtectedResponse { message, note } = protected::<A>(
+        seal, number, context, endpoint, came, reply,
+    );
+    (sent_as(datagram, came.from, &message), note)
 }
 
 impl Taken {
@@ -212,14 +230,16 @@ impl Taken {
         let tag = A::tag(osc_context::algorithm_of(&note.context));
         let context = note.context.clone()?;
         let plaintext = note.plaintext.clone()?;
-        let room = Room::answering(alloc, &note, most)?;
+        let room = AnswerRoom {
+            seal: Room::answering(alloc, &note, most)?,
+            datagram: ReplyRoom::new(alloc, MESSAGE_BESIDE_SEALED + most + tag)?,
+        };
         Ok(Taken {
             note,
             read,
             context,
             plaintext,
             room,
-            reply: ReplyRoom::new(alloc, MESSAGE_BESIDE_SEALED + most + tag)?,
         })
     }
 
@@ -246,14 +266,9 @@ impl Taken {
             context: name,
             plaintext,
             room,
-            reply: reply_room,
         } = self;
         let accepted = number.get();
-        let ((out, bytes), sealed) = sent(
-            reply_room,
-            came.from,
-            protected::<A>(room, number, context, endpoint, came, &reply),
-        );
+        let ((out, bytes), sealed) = sent::<A>(room, number, context, endpoint, came, &reply);
         let entry = Entry {
             context: name,
             number: accepted,

@@ -5,3 +5,4 @@ pub mod Listed
 pub mod NoSettings
 pub mod Parts
 pub mod Spelled
+pub mod Resources

@@ -84,7 +84,7 @@ unlisted key Stands document error none is =
 
 -- ---- targets
 
-each_length : {X : Type 0} (Stands : Data → X → Type 0) (ds : List Value) (xs : List X) → StandForEach Stands (items_view ds) xs → length xs ≡ length ds
+pub each_length : {X : Type 0} (Stands : Data → X → Type 0) (ds : List Value) (xs : List X) → StandForEach Stands (items_view ds) xs → length xs ≡ length ds
 each_length Stands [] [] h = refl
 each_length Stands [] (x ∷ xs) h = absurd h
 each_length Stands (d ∷ ds) [] h = absurd h

@@ -57,7 +57,13 @@ server_fault document fault s h a = elim h [
       | inl secret ↦ no_spelled key.Key (SpellsBytes 16 16) document fault s.key secret a.key
       | inr keyed ↦ elim keyed.1 [
         | inl audience ↦ no_text key.Audience document fault s.audience audience a.audience
-        | inr named ↦ no_list key.Open IsPathText document fault s.open.items named.1 a.open_paths
+        | inr named ↦ elim named.1 [
+          | inl paths ↦ no_list key.Open IsPathText document fault s.open.items paths a.open_paths
+          | inr listed ↦ elim a.resources [
+            | inl there ↦ listed.1.1 s.resources.items there
+            | inr out ↦ some_there (get_member (name_of key.Resource) document) listed.1.0 out.0
+          ]
+        ]
       ]
     ]
   ]

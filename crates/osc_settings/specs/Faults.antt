@@ -6,7 +6,7 @@ use Rattle.toml.specs.Parse.{parse_document}
 use Rattle.osc_model.specs.declared.node.Peer.{Peer}
 use Rattle.osc_settings.specs.Document.{other_key, IsLeftOut, SpelledAt, IsAlgorithmAt, IsPortAt, ListedAt}
 use Rattle.osc_settings.specs.Keys.{name_of}
-use Rattle.osc_settings.specs.Settings.{server_keys, proxy_keys, target_keys, client_keys, IsOrigin, IsPathText, IsTargetTable}
+use Rattle.osc_settings.specs.Settings.{server_keys, proxy_keys, target_keys, client_keys, AreResourcesAt, IsOrigin, IsPathText, IsTargetTable}
 use Rattle.osc_settings.specs.Values.{IsAddress, IsHost, IsOpenAddress, SpellsHex, SpellsBytes}
 use Rattle.osc_settings.specs.declared.error.KeyFault.{KeyFault}
 use Rattle.osc_settings.specs.declared.error.KeyFault.TheVariants.{Unknown, Missing, Wrong}
@@ -57,7 +57,8 @@ IsServerFault document =
     (KeyThen key.Bind (λ key. SpelledAt key IsAddress) document
     (KeyThen key.Key (λ key. SpelledAt key (SpellsBytes 16 16)) document
     (KeyThen key.Audience IsTextAt document
-    (IsFaultAt key.Open (λ key. ListedAt key IsPathText) document))))
+    (KeyThen key.Open (λ key. ListedAt key IsPathText) document
+    (IsWrongAt key.Resource AreResourcesAt document)))))
 
 -- ---- of a proxy
 

@@ -1,7 +1,8 @@
 -- Which settings a document stands for, program by program. A key that isn't named here is in none of them.
-use Rattle.std.specs.Prelude.{◌≡◌, ◌⊎◌, ℕ, List, [], ◌∷◌, Option, Some, None, codes}
-use Rattle.toml.specs.Data.{Data, Members, string, table, get_member}
+use Rattle.std.specs.Prelude.{◌≡◌, ◌⊎◌, ◌≤◌, ℕ, pos, List, [], ◌∷◌, length, Option, Some, None, codes}
+use Rattle.toml.specs.Data.{Data, Members, string, integer, table, get_member}
 use Rattle.osc_model.specs.Path.{IsPath}
+use Rattle.osc_model.specs.Tree.{longest_payload, most_resources}
 use Rattle.osc_model.specs.declared.algorithm.Algorithm.{Algorithm}
 use Rattle.osc_model.specs.declared.algorithm.Algorithm.TheVariants.{EightByteTag}
 use Rattle.osc_settings.specs.Document.{other_key, IsLeftOut, SpelledAt, MaySpellAt, IsAlgorithmAt, IsPortAt, ListedAt}
@@ -11,12 +12,51 @@ use Rattle.osc_settings.specs.declared.key.SettingsKey.{SettingsKey}
 use Rattle.osc_settings.specs.declared.key.SettingsKey.TheVariants as key
 use Rattle.osc_settings.specs.declared.proxy.ProxySettings.{ProxySettings}
 use Rattle.osc_settings.specs.declared.proxy.TargetSetting.{TargetSetting}
+use Rattle.osc_settings.specs.declared.resource.ResourceSetting.{ResourceSetting}
 use Rattle.osc_settings.specs.declared.server.ServerSettings.{ServerSettings}
 
 -- ---- of a server
 
 abbrev pub server_keys : List SettingsKey
-server_keys = key.Audience ∷ key.Bind ∷ key.Key ∷ key.Open ∷ []
+server_keys = key.Audience ∷ key.Bind ∷ key.Key ∷ key.Open ∷ key.Resource ∷ []
+
+abbrev pub resource_keys : List SettingsKey
+resource_keys = key.Format ∷ key.Hex ∷ key.Path ∷ key.Text ∷ []
+
+-- the path of a resource, by what stands there
+abbrev pub IsPathOf : Option Data → List ℕ → Type 0
+IsPathOf (Some (string text)) path = (path ≡ text) × IsPath path
+IsPathOf found path = ⊥
+
+-- its Content-Format: a number of 16 bits, or none
+abbrev pub IsFormatOf : Option Data → Option ℕ → Type 0
+IsFormatOf None None = Unit {0}
+IsFormatOf (Some (integer number)) (Some format) = (number ≡ pos format) × (format ≤ 65535)
+IsFormatOf found format = ⊥
+
+-- its payload, by what stands at `text` and at `hex`: one of them does, with at most 512 bytes
+abbrev pub IsContentOf : Option Data → Option Data → List ℕ → Type 0
+IsContentOf (Some (string text)) None payload = (payload ≡ text) × (length payload ≤ longest_payload)
+IsContentOf None (Some (string text)) payload = SpellsBytes 0 longest_payload text payload
+IsContentOf text hex payload = ⊥
+
+pub record IsResource (document : Members) (resource : ResourceSetting) : Type 0 where
+  pub keys : other_key resource_keys document ≡ None
+  pub path : IsPathOf (get_member (codes "path") document) resource.path
+  pub format : IsFormatOf (get_member (codes "format") document) resource.format
+  pub payload : IsContentOf (get_member (codes "text") document) (get_member (codes "hex") document) resource.payload
+
+-- a resource, as a table of its own
+abbrev pub IsResourceTable : Data → ResourceSetting → Type 0
+IsResourceTable value resource = (document : Members) × (value ≡ table document) × IsResource document resource
+
+-- as many as a server holds, at the key
+abbrev pub AreResourcesAt : List ℕ → Members → List ResourceSetting → Type 0
+AreResourcesAt name document resources = ListedAt name IsResourceTable document resources × (length resources ≤ most_resources)
+
+-- what a server has at first; it may be left out
+abbrev pub AreResources : Members → List ResourceSetting → Type 0
+AreResources document resources = AreResourcesAt (codes "resource") document resources ⊎ (IsLeftOut (codes "resource") document × (resources ≡ []))
 
 -- a path, as its text
 abbrev pub IsPathText : Data → List ℕ → Type 0
@@ -28,6 +68,7 @@ pub record AreServerSettings (document : Members) (settings : ServerSettings) : 
   pub key : SpelledAt (codes "key") (SpellsBytes 16 16) document settings.key
   pub audience : get_member (codes "audience") document ≡ Some (string settings.audience)
   pub open_paths : ListedAt (codes "open") IsPathText document settings.open.items
+  pub resources : AreResources document settings.resources.items
 
 -- ---- of a proxy
 

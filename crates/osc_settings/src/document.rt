@@ -51,8 +51,8 @@ fn unknown(alloc: Global, name: &str) -> Result<SettingsError, AllocError>
     Ok(SettingsError::Key(KeyFault::Unknown(name)))
 }
 
-// The first other key of a table.
-fn other_key<'a>(keys: &[SettingsKey], table: &'a Table) -> Option<&'a str>
+/// The first other key of a table.
+pub(crate) fn other_key<'a>(keys: &[SettingsKey], table: &'a Table) -> Option<&'a str>
     ensures { option_map (λ name. name.now) result ≡ spec.other_key keys.now (table_view table.now) }
 {
     match first_other(keys, table) {
@@ -96,7 +96,7 @@ fn value_of<'a>(name: &str, table: &'a Table) -> Option<&'a Value>
     table.get(name)
 }
 
-// The text at a key.
+/// The text at a key.
 pub(crate) fn text_at<'a>(key: SettingsKey, table: &'a Table) -> Option<&'a str>
     ensures { option_map (λ text. text.now) result ≡ text_at (name_of key) (table_view table.now) }
 {

@@ -9,14 +9,19 @@ pub enum SettingsKey {
     Audience,
     Bind,
     Context,
+    Format,
+    Hex,
     Host,
     Key,
     Open,
+    Path,
     Peer,
     Port,
+    Resource,
     Salt,
     Secret,
     Target,
+    Text,
     To,
     Token,
 }
@@ -31,14 +36,19 @@ impl SettingsKey {
             SettingsKey::Audience => "audience",
             SettingsKey::Bind => "bind",
             SettingsKey::Context => "context",
+            SettingsKey::Format => "format",
+            SettingsKey::Hex => "hex",
             SettingsKey::Host => "host",
             SettingsKey::Key => "key",
             SettingsKey::Open => "open",
+            SettingsKey::Path => "path",
             SettingsKey::Peer => "peer",
             SettingsKey::Port => "port",
+            SettingsKey::Resource => "resource",
             SettingsKey::Salt => "salt",
             SettingsKey::Secret => "secret",
             SettingsKey::Target => "target",
+            SettingsKey::Text => "text",
             SettingsKey::To => "to",
             SettingsKey::Token => "token",
         }
@@ -57,13 +67,19 @@ impl SettingsKey {
             SettingsKey::Context | SettingsKey::Salt => {
                 "a text of at most 64 bytes in hexadecimal"
             }
+            SettingsKey::Format => "a number from 0 to 65535",
             SettingsKey::Host => "a text of 1 to 255 bytes",
             SettingsKey::Key => "a text of 16 bytes in hexadecimal",
             SettingsKey::Open => "an array of paths, as ['/e', '/log']",
+            SettingsKey::Path => "a path, as '/e'",
             SettingsKey::Port => "a number from 1 to 65535",
+            SettingsKey::Resource => {
+                "at most 1024 tables [[resource]] of path, format where it has one, and text or hex, of at most 512 bytes"
+            }
             SettingsKey::Secret => "a text of 1 to 64 bytes in hexadecimal",
             SettingsKey::Target => "tables [[target]] of host, port and to",
-            SettingsKey::Token => "a text of bytes in hexadecimal",
+            SettingsKey::Text => "a text",
+            SettingsKey::Hex | SettingsKey::Token => "a text of bytes in hexadecimal",
         }
     }
 }

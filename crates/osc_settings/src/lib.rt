@@ -6,6 +6,7 @@ mod document;
 mod error;
 mod key;
 mod proxy;
+mod resource;
 mod server;
 mod values;
 
@@ -13,4 +14,5 @@ pub use client::{ClientSettings, read_client_settings};
 pub use error::{KeyFault, SettingsError};
 pub use key::SettingsKey;
 pub use proxy::{ProxySettings, TargetSetting, read_proxy_settings};
+pub use resource::ResourceSetting;
 pub use server::{ServerSettings, read_server_settings};

@@ -13,6 +13,7 @@ use crate::document::{
 };
 use crate::error::{SettingsError, ValueError};
 use crate::key::SettingsKey;
+use crate::resource::{ResourceSetting, resources};
 use crate::values;
 use osc_model::{Path, Peer};
 use osc_token::Audience;
@@ -21,11 +22,12 @@ use std::fmt;
 use toml::{Table, Value};
 
 /// The keys of its settings.
-const KEYS: [SettingsKey; 4] = [
+const KEYS: [SettingsKey; 5] = [
     SettingsKey::Audience,
     SettingsKey::Bind,
     SettingsKey::Key,
     SettingsKey::Open,
+    SettingsKey::Resource,
 ];
 
 /// What a server is told.
@@ -39,6 +41,8 @@ pub struct ServerSettings {
     pub audience: Audience,
     /// The paths whose resources everyone may GET: `open`, an array of their texts.
     pub open: Vec<Path>,
+    /// What it has at first: a table `[[resource]]` each, at most 1024. Of several with one path the last counts.
+    pub resources: Vec<ResourceSetting>,
 }
 
 // The key isn't printed.
@@ -48,11 +52,12 @@ impl fmt::Debug for ServerSettings {
     }
 }
 
-/// Reads the settings of a server: a document with the keys `bind`, `key`, `audience` and `open`, and no other.
+/// Reads the settings of a server: a document with the keys `bind`, `key`, `audience` and `open`, if need be with `resource`, and with no
+/// other. A resource has the keys `path`, and `text` or `hex`, if need be `format`, and no other.
 ///
 /// # Errors
 ///
-/// The first fault where the text is no such document, `bind` before `key`, `audience` and `open`, and `Memory` for want of memory.
+/// The first fault where the text is no such document, `bind` before `key`, `audience`, `open` and `resource`, and `Memory` for want of memory.
 pub fn read_server_settings(alloc: Global, text: &str) -> Result<ServerSettings, SettingsError>
     ensures read { IfOk result (StandsFor AreServerSettings text.now) }
     ensures lacks { IfErr result (Lacks (λ document. IsKeyFault (IsServerFault document)) text.now) }
@@ -71,6 +76,7 @@ fn settings_in(alloc: Global, table: &Table) -> Result<ServerSettings, SettingsE
         key: array_at(SettingsKey::Key, table)?,
         audience: audience(alloc, table)?,
         open: open_paths(alloc, table)?,
+        resources: resources(alloc, table)?,
     })
 }
 

@@ -10,11 +10,11 @@ use Rattle.osc_ccm.specs.Ccm.{IsSealing}
 use Rattle.osc_client.specs.Way.{HostAndPort}
 use Rattle.osc_client.specs.declared.way.Way.{Way}
 use Rattle.osc_proxy.specs.declared.targets.Target.{Target}
-use Rattle.osc_protect.specs.Ciphers.{Sealing, Sealings, Tags, chosen_sealing, chosen_tag}
+use Rattle.osc_ccm.specs.Ciphers.{Sealing, Sealings, Tags, chosen_sealing, chosen_tag}
 use Rattle.osc_run.specs.History.{history}
 use Rattle.osc_run.specs.Premise.{Premise}
 use Rattle.osc_run.specs.States.{grants_of}
-use Rattle.osc_run.specs.Texts.{read_request}
+use Rattle.osc_options.specs.Texts.{read_request}
 use Rattle.osc_world.specs.Log.{settled}
 use Rattle.osc_world.specs.Nodes.{skipped}
 use Rattle.osc_world.specs.Quiet.{Rounds}

@@ -11,9 +11,9 @@ ghost use Rattle.osc_simulation.specs.Simulation as spec;
 ghost use Rattle.osc_simulation.specs.SetUp.{CanPut, CanPutAll};
 
 use crate::names::Names;
+use osc_ccm::Suite;
 use osc_client::{Origin, Way};
 use osc_model::{Bytes, Method};
-use osc_protect::Suite;
 use osc_proxy::{Target, Targets};
 use osc_scope::Scope;
 use osc_script::laws::key_of_tokens;

@@ -47,6 +47,13 @@ pub fn trace_script<W: Write>(
     traced
 }
 
+// What is wanted of a trace: its form, and the client whose entries are answered alone, if there is one.
+#[derive(Clone, Copy)]
+struct Wanted {
+    form: TraceForm,
+    only: Option<ClientName>,
+}
+
 // The trace of these lines.
 fn trace_lines<W: Write>(
     alloc: Global,
@@ -63,7 +70,8 @@ fn trace_lines<W: Write>(
     let names = Names::of(alloc, lines)?;
     let world = first_world(alloc, &names, lines)?;
     let mut stage = Stage::first(world);
-    let traced = trace_from(alloc, &mut stage, &names, lines, form, only, writer);
+    let wanted = Wanted { form, only };
+    let traced = trace_from(alloc, &mut stage, &names, lines, wanted, writer);
     drop(stage);
     traced
 }
@@ -74,20 +82,19 @@ fn trace_from<W: Write>(
     stage: &mut Stage,
     names: &Names,
     lines: &[Line],
-    form: TraceForm,
-    only: Option<ClientName>,
+    wanted: Wanted,
     writer: &mut W,
 ) -> Result<(), TraceError>
-    ensures done { OnOk result ((printed end : List ℕ) × spec.Prints (record { form = form; names = names.now }) 1 stage.old lines.now printed stage.new
+    ensures done { OnOk result ((printed end : List ℕ) × spec.Prints (record { form = wanted.form; names = names.now }) 1 stage.old lines.now printed stage.new
         × spec.IsEnd stage.new.world end
-        × Appends (W.contents writer.old) (W.contents writer.new) (printed ++ end ++ spec.only_text names.now stage.new.world only)) }
+        × Appends (W.contents writer.old) (W.contents writer.new) (printed ++ end ++ spec.only_text names.now stage.new.world wanted.only)) }
     ensures bad { (n : ℕ) → result ≢ Err (TraceError.BadLine n) }
     ensures cut { result ≡ Err TraceError.OutOfMemory
-        → (printed : List ℕ) × spec.IsFront (record { form = form; names = names.now }) stage.old lines.now printed × Appends (W.contents writer.old) (W.contents writer.new) printed }
+        → (printed : List ℕ) × spec.IsFront (record { form = wanted.form; names = names.now }) stage.old lines.now printed × Appends (W.contents writer.old) (W.contents writer.new) printed }
 {
-    trace_events(alloc, stage, names, lines, form, writer)?;
+    trace_events(alloc, stage, names, lines, wanted.form, writer)?;
     trace_end(alloc, stage.world(), writer)?;
-    trace_alone(alloc, stage.world(), names, only, writer)
+    trace_alone(alloc, stage.world(), names, wanted.only, writer)
 }
 
 // Does what the lines say.

@@ -1,9 +1,10 @@
 //! Tests of `osc_message`.
-ghost use Rattle.osc_message.specs.Sending.{IsSendableHandling};
+ghost use Rattle.std.specs.Prelude.{IfOk};
+ghost use Rattle.osc_message.specs.Sending.{FitsDatagram, IsSendableHandling};
 
-use osc_coap::{Kind, MessageBuilder};
+use osc_coap::{Kind, MessageBuilder, MessageRef};
 use osc_message::*;
-use osc_model::{Bytes, Draw, Moment, Peer};
+use osc_model::{Bytes, Datagrams, Draw, Moment, Peer};
 use std::alloc::{AllocError, Global};
 
 /// A message layer with places for as many confirmable messages as are ever open.
@@ -29,36 +30,68 @@ enum Is {
     Message,
 }
 
+/// What the message layer sends by itself: nothing, a Reset of a message of this ID, or else what answered it before.
+fn shape_of(out: &Datagrams) -> (Is, u16) {
+    let Some(sent) = out.as_slice().first() else {
+        return (Is::Ignored, 7);
+    };
+    match MessageRef::parse(sent.bytes.as_slice()) {
+        Ok(message) if message.kind() == Kind::Reset => (Is::Reset, message.id()),
+        _ => (Is::Repeat, 7),
+    }
+}
+
 fn shape(heard: &Heard<'_>) -> (Is, u16) {
     match heard {
-        Heard::Ignored => (Is::Ignored, 7),
-        Heard::Reset(id) => (Is::Reset, *id),
-        Heard::Repeat(id) => (Is::Repeat, *id),
+        Heard::Alone(out) => shape_of(out),
         Heard::Empty(_, id) => (Is::Empty, *id),
         Heard::Message(message) => (Is::Message, message.id()),
     }
 }
 
-fn hear(endpoint: &Endpoint, at: u32, from: Peer, datagram: &[u8]) -> (Is, u16) {
-    shape(&endpoint.on_datagram(Moment { ms: u64::from(at) }, from, datagram))
-}
-
-/// What was done with a message that nothing answers: it may count for a request.
-fn handling_of(request: Option<u16>) -> Handling
-    ensures { IsSendableHandling result }
-{
-    match request {
-        Some(request) => Handling::Counted(request, None),
-        None => Handling::Answered(None),
-    }
-}
-
-/// Answers the datagram by nothing; it may count for a request.
-fn settle(endpoint: &mut Endpoint, at: u32, from: Peer, datagram: &[u8], request: Option<u16>) {
+fn hear(
+    alloc: Global,
+    endpoint: &Endpoint,
+    at: u32,
+    from: Peer,
+    datagram: &[u8],
+) -> Result<(Is, u16), AllocError> {
     let now = Moment { ms: u64::from(at) };
-    let handling = handling_of(request);
-    let heard = endpoint.on_datagram(now, from, datagram);
+    Ok(shape(&endpoint.on_datagram(alloc, now, from, datagram)?))
+}
+
+/// What answers a message of ID 7 here: 2.05 in its acknowledgement.
+fn reply(alloc: Global) -> Result<Bytes, AllocError>
+    ensures { IfOk result FitsDatagram }
+{
+    Bytes::from_slice(alloc, b"\x60\x45\x00\x07")
+}
+
+/// What was done with a message that was answered so: it may count for a request.
+fn handling_of(alloc: Global, request: Option<u16>) -> Result<Handling, AllocError>
+    ensures { IfOk result IsSendableHandling }
+{
+    let reply = reply(alloc)?;
+    Ok(match request {
+        Some(request) => Handling::Counted(request, Some(reply)),
+        None => Handling::Answered(Some(reply)),
+    })
+}
+
+/// Answers the datagram; it may count for a request.
+fn settle(
+    alloc: Global,
+    endpoint: &mut Endpoint,
+    at: u32,
+    from: Peer,
+    datagram: &[u8],
+    request: Option<u16>,
+) -> Result<(), AllocError> {
+    let now = Moment { ms: u64::from(at) };
+    let handling = handling_of(alloc, request)?;
+    let heard = endpoint.on_datagram(alloc, now, from, datagram)?;
     endpoint.settle(now, from, &heard, handling);
+    Ok(())
 }
 
 /// Datagrams of ID 7, or of none: what each is where nothing was heard, and where a message of that ID was.
@@ -105,24 +138,38 @@ const ROWS: [(&[u8], Is, Is); 30] = [
 
 /// Whether each datagram of the rows is what it is where nothing was heard, and whether each is what it is where a message of
 /// that ID was.
-fn all_are(endpoint: &Endpoint, at: u32, from: Peer) -> (bool, bool) {
+fn all_are(
+    alloc: Global,
+    endpoint: &Endpoint,
+    at: u32,
+    from: Peer,
+) -> Result<(bool, bool), AllocError> {
     let (mut all_new, mut all_repeated) = (true, true);
     for &(datagram, new, repeated) in &ROWS {
-        let is = hear(endpoint, at, from, datagram);
+        let is = hear(alloc, endpoint, at, from, datagram)?;
         all_new = is == (new, 7) && all_new;
         all_repeated = is == (repeated, 7) && all_repeated;
     }
-    (all_new, all_repeated)
+    Ok((all_new, all_repeated))
+}
+
+/// The same, before a request of ID 7 is answered at 0, just before its note's lifetime ends, when it has ended, and of another peer.
+fn before_and_after(alloc: Global) -> Result<[(bool, bool); 4], AllocError> {
+    let mut endpoint = Endpoint::new(alloc)?;
+    let before = all_are(alloc, &endpoint, 0, PEER)?;
+    settle(alloc, &mut endpoint, 0, PEER, b"\x40\x01\x00\x07", None)?;
+    Ok([
+        before,
+        all_are(alloc, &endpoint, 246_999, PEER)?,
+        all_are(alloc, &endpoint, 247_000, PEER)?,
+        all_are(alloc, &endpoint, 0, OTHER)?,
+    ])
 }
 
 #[test]
 fn each_datagram_before_and_after_one_was_heard(rt: HostRuntime) {
-    let mut endpoint = Endpoint::new(rt.alloc()).expect(&rt, "memory");
-    assert!(rt; all_are(&endpoint, 0, PEER) == (true, false));
-    settle(&mut endpoint, 0, PEER, b"\x40\x01\x00\x07", None);
-    assert!(rt; all_are(&endpoint, 246_999, PEER) == (false, true));
-    assert!(rt; all_are(&endpoint, 247_000, PEER) == (true, false));
-    assert!(rt; all_are(&endpoint, 0, OTHER) == (true, false));
+    let all = before_and_after(rt.alloc()).expect(&rt, "memory");
+    assert!(rt; all == [(true, false), (false, true), (true, false), (true, false)]);
 }
 
 /// A request without options, with 1147 bytes of payload and with one more.
@@ -131,8 +178,10 @@ fn a_datagram_has_at_most_1152_bytes(rt: HostRuntime) {
     let endpoint = Endpoint::new(rt.alloc()).expect(&rt, "memory");
     let mut datagram = [0x61; 1153];
     datagram[..5].copy_from_slice(b"\x40\x01\x00\x07\xff");
-    assert!(rt; hear(&endpoint, 0, PEER, &datagram[..1152]) == (Is::Message, 7));
-    assert!(rt; hear(&endpoint, 0, PEER, &datagram).0 == Is::Ignored);
+    let longest = hear(rt.alloc(), &endpoint, 0, PEER, &datagram[..1152]);
+    let longer = hear(rt.alloc(), &endpoint, 0, PEER, &datagram);
+    assert!(rt; longest.ok() == Some((Is::Message, 7)));
+    assert!(rt; longer.ok() == Some((Is::Ignored, 7)));
 }
 
 /// Messages of ID 7, and until when each is noted once it was answered.
@@ -146,8 +195,8 @@ const LIVES: [(&[u8], u32); 4] = [
 /// What a confirmable message of that ID is at that moment, after this one was answered at 0.
 fn heard_after(alloc: Global, datagram: &[u8], at: u32) -> Result<(Is, u16), AllocError> {
     let mut endpoint = Endpoint::new(alloc)?;
-    settle(&mut endpoint, 0, PEER, datagram, None);
-    Ok(hear(&endpoint, at, PEER, b"\x40\x01\x00\x07"))
+    settle(alloc, &mut endpoint, 0, PEER, datagram, None)?;
+    hear(alloc, &endpoint, at, PEER, b"\x40\x01\x00\x07")
 }
 
 #[test]
@@ -170,7 +219,7 @@ fn noted_bytes(endpoint: &Endpoint, at: u32, from: Peer) -> Option<usize> {
 fn answer(alloc: Global, endpoint: &mut Endpoint) -> Result<(), AllocError> {
     let now = Moment { ms: 0 };
     let reply = Bytes::from_slice(alloc, b"reply")?;
-    let heard = endpoint.on_datagram(now, PEER, b"\x50\x01\x00\x07");
+    let heard = endpoint.on_datagram(alloc, now, PEER, b"\x50\x01\x00\x07")?;
     endpoint.settle(now, PEER, &heard, Handling::Answered(Some(reply)));
     Ok(())
 }
@@ -313,7 +362,15 @@ fn sends_to_64(endpoint: &mut Endpoint, alloc: Global) -> Result<bool, AllocErro
 fn sixty_four_peers_have_one_open(rt: HostRuntime) {
     let mut endpoint = Endpoint::new(rt.alloc()).expect(&rt, "memory");
     assert!(rt; sends_to_64(&mut endpoint, rt.alloc()).ok() == Some(true));
-    settle(&mut endpoint, 0, at_port(0), b"\x60\x00\x00\x07", None);
+    let ended = settle(
+        rt.alloc(),
+        &mut endpoint,
+        0,
+        at_port(0),
+        b"\x60\x00\x00\x07",
+        None,
+    );
+    assert!(rt; ended.is_ok());
     let sent = send(&mut endpoint, rt.alloc(), OTHER, 7, &Draw([0; 32]));
     assert!(rt; sent.ok() == Some(1));
 }
@@ -376,7 +433,7 @@ fn left_open(
 ) -> Result<usize, AllocError> {
     let mut endpoint = Endpoint::new(alloc)?;
     send(&mut endpoint, alloc, PEER, 7, &Draw([0; 32]))?;
-    settle(&mut endpoint, 0, from, datagram, request);
+    settle(alloc, &mut endpoint, 0, from, datagram, request)?;
     Ok(endpoint.open_messages())
 }
 
@@ -447,7 +504,7 @@ fn responses_are_acknowledged(rt: HostRuntime) {
 /// Has heard a message, sent one and taken an ID of its own, and forgets all.
 fn forgets(alloc: Global, endpoint: &mut Endpoint) -> Result<(), AllocError> {
     let draw = Draw([0; 32]);
-    settle(endpoint, 0, PEER, b"\x40\x01\x00\x07", None);
+    settle(alloc, endpoint, 0, PEER, b"\x40\x01\x00\x07", None)?;
     send(endpoint, alloc, PEER, 7, &draw)?;
     let _id = endpoint.take_id(&draw);
     endpoint.clear();
@@ -458,7 +515,8 @@ fn forgets(alloc: Global, endpoint: &mut Endpoint) -> Result<(), AllocError> {
 fn all_is_forgotten(rt: HostRuntime) {
     let mut endpoint = Endpoint::new(rt.alloc()).expect(&rt, "memory");
     forgets(rt.alloc(), &mut endpoint).expect(&rt, "memory");
-    assert!(rt; hear(&endpoint, 0, PEER, b"\x40\x01\x00\x07") == (Is::Message, 7));
+    let heard = hear(rt.alloc(), &endpoint, 0, PEER, b"\x40\x01\x00\x07");
+    assert!(rt; heard.ok() == Some((Is::Message, 7)));
     assert!(rt; endpoint.open_messages() == 0);
     assert!(rt; endpoint.own_id(&Draw([1; 32])) == 257);
     let sent = send(&mut endpoint, rt.alloc(), PEER, 7, &Draw([0; 32]));

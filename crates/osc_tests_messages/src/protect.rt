@@ -5,10 +5,11 @@ ghost use Rattle.osc_context.specs.Derivation.{taken_of, recipient_of};
 ghost use Rattle.osc_context.specs.Nonce.{longest_id};
 ghost use Rattle.osc_protect.specs.Protection.{HasShortContext, IsFor, note_of, request_nonce};
 
+use osc_ccm::Suite;
 use osc_coap::{DATAGRAM_LIMIT, MessageRef};
 use osc_context::{ID_LIMIT, RecipientContext, SendNumber, derive};
 use osc_model::{Algorithm, Bytes, ContextName, Note, SharedName, Side};
-use osc_protect::{Suite, *};
+use osc_protect::*;
 use std::alloc::{AllocError, Global};
 use std::fmt;
 use std::process::Abort;

@@ -1,7 +1,7 @@
 //! A client and a server, each by the datagrams of the other.
 ghost use Rattle.std.specs.Prelude.{◌<◌};
 
-use osc_ccm::{Aead, Ccm};
+use osc_ccm::{Aead, Ccm, Suite};
 use osc_client::Client;
 use osc_context::{derive, nonce_for};
 use osc_fixtures::{
@@ -9,7 +9,6 @@ use osc_fixtures::{
     sent_in, shared_name, straight,
 };
 use osc_model::{ClientResult, Code, Moment, Request, SharedName, Side, Step};
-use osc_protect::Suite;
 use osc_server::Server;
 use std::alloc::{AllocError, Global};
 use std::process::Abort;

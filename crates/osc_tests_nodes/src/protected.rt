@@ -5,12 +5,13 @@ ghost use Rattle.osc_context.specs.Derivation.{taken_of};
 ghost use Rattle.osc_context.specs.Nonce.{greatest_number};
 ghost use Rattle.osc_protect.specs.Protection.{HasShortContext};
 
+use osc_ccm::Suite;
 use osc_coap::{Kind, MessageBuilder, MessageRef};
 use osc_context::{SendNumber, derive};
 use osc_fixtures::{CLIENT, empty_server, sent_in, shared_name};
 use osc_model::{Draw, Moment, SharedName, Side, Step};
 use osc_protect::{
-    MessageTooLong, ProtectedRequest, Room, Suite, open_response, protect_request, read_response,
+    MessageTooLong, ProtectedRequest, Room, open_response, protect_request, read_response,
 };
 use osc_server::Server;
 use std::alloc::{AllocError, Global};

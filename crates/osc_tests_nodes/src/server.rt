@@ -1,7 +1,7 @@
 //! Datagrams to a small server, and what it sends for each.
+use osc_ccm::Suite;
 use osc_fixtures::{CLIENT, at, put, scope_of, sent};
 use osc_model::{Draw, Moment, Peer};
-use osc_protect::Suite;
 use osc_server::Server;
 use osc_tree::Tree;
 use std::alloc::{AllocError, Global};

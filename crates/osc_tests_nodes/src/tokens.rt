@@ -1,6 +1,6 @@
 //! Tokens with dates, posted to a server whose table of contexts is full.
+use osc_ccm::Suite;
 use osc_fixtures::{CLIENT, GET_AND_POST, Right, at, drawn, empty_server, own, sent, token};
-use osc_protect::Suite;
 use osc_server::Server;
 use std::alloc::{AllocError, Global};
 use std::process::Abort;

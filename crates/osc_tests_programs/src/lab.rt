@@ -1,5 +1,6 @@
 //! Labs: scripts whose nodes have sockets of this machine.
-use osc_programs::{Ended, lab, running_fault};
+use osc_lab::lab;
+use osc_programs::{Ended, running_fault};
 use std::alloc::AllocError;
 use std::test::Fail;
 

@@ -1,8 +1,8 @@
 //! Settings of the three programs: what a good text gives, and texts that are bad.
 use osc_model::{Algorithm, Path, Peer};
 use osc_settings::{
-    ClientSettings, KeyFault, ProxySettings, ServerSettings, SettingsError, SettingsKey,
-    TargetSetting, read_client_settings, read_proxy_settings, read_server_settings,
+    ClientSettings, KeyFault, ProxySettings, ResourceSetting, ServerSettings, SettingsError,
+    SettingsKey, TargetSetting, read_client_settings, read_proxy_settings, read_server_settings,
 };
 use std::alloc::{AllocError, Global};
 use std::test::Fail;
@@ -37,6 +37,76 @@ fn a_server(rt: HostRuntime) -> Result<(), Fail> {
     assert!(rt; settings.key == KEY);
     assert!(rt; settings.audience.as_str() == "s");
     assert!(rt; are_open(&settings));
+    Ok(())
+}
+
+const RESOURCES: &str =
+    "[[resource]]\npath = '/e'\ntext = 'hi'\n[[resource]]\npath = '/t'\nformat = 65535\nhex = '00fF'\n";
+
+fn is_resource(
+    resource: &ResourceSetting,
+    path: &str,
+    format: Option<u16>,
+    payload: &[u8],
+) -> bool {
+    is_path(&resource.path, path)
+        && resource.format == format
+        && resource.payload.as_slice() == payload
+}
+
+#[test]
+fn a_server_has_resources_at_first(rt: HostRuntime) -> Result<(), Fail> {
+    let text = format!(in rt.alloc(); "{SERVER}{RESOURCES}")?;
+    let settings = read_server_settings(rt.alloc(), text.as_str())?;
+    assert!(rt;
+        matches!(settings.resources.as_slice(), [a, b]
+        if is_resource(a, "/e", None, b"hi") && is_resource(b, "/t", Some(65535), b"\x00\xff"))
+    );
+    let settings = read_server_settings(rt.alloc(), SERVER)?;
+    assert!(rt; settings.resources.is_empty());
+    Ok(())
+}
+
+#[test]
+fn resources_that_are_none(rt: HostRuntime) -> Result<(), Fail> {
+    for &lines in &[
+        "resource = []\n[[resource]]\n",
+        "[resource]\npath = '/e'\ntext = ''\n",
+        "[[resource]]\ntext = ''\n",
+        "[[resource]]\npath = 'e'\ntext = ''\n",
+        "[[resource]]\npath = '/e'\n",
+        "[[resource]]\npath = '/e'\ntext = ''\nhex = ''\n",
+        "[[resource]]\npath = '/e'\nhex = '0'\n",
+        "[[resource]]\npath = '/e'\ntext = 1\n",
+        "[[resource]]\npath = '/e'\ntext = ''\nformat = 65536\n",
+        "[[resource]]\npath = '/e'\ntext = ''\nformat = -1\n",
+        "[[resource]]\npath = '/e'\ntext = ''\nformat = '0'\n",
+        "[[resource]]\npath = '/e'\ntext = ''\nfrmat = 0\n",
+    ] {
+        assert!(rt; is_bad_for_a_server(rt.alloc(), SERVER, lines)?, "{lines}");
+    }
+    Ok(())
+}
+
+#[test]
+fn the_length_of_a_resource(rt: HostRuntime) -> Result<(), Fail> {
+    let longest = "a".repeat(rt.alloc(), 512)?;
+    for &(more, bad) in &[("", false), ("a", true)] {
+        let lines = format!(in rt.alloc();
+            "[[resource]]\npath = '/e'\ntext = '{longest}{more}'\n"
+        )?;
+        assert_eq!(rt;
+            is_bad_for_a_server(rt.alloc(), SERVER, lines.as_str())?,
+            bad
+        );
+        let lines = format!(in rt.alloc();
+            "[[resource]]\npath = '/e'\nhex = '{longest}{longest}{more}{more}'\n"
+        )?;
+        assert_eq!(rt;
+            is_bad_for_a_server(rt.alloc(), SERVER, lines.as_str())?,
+            bad
+        );
+    }
     Ok(())
 }
 

@@ -55,7 +55,7 @@ fn run(
     let Some(asked) = asked(alloc) else {
         return Ok((Ended::BadLine(0), Vec::new(alloc)));
     };
-    match filled(alloc, asked, key_file, secret_file) {
+    match filled(alloc, asked, 0, key_file, secret_file) {
         Ok(words) => {
             let mut written = Vec::new(alloc);
             let ended = run_words(alloc, &words, &mut written);
@@ -172,7 +172,7 @@ fn files_that_are_not_read_fail(rt: HostRuntime) -> Result<(), Fail> {
 // How a token ends whose secret's file breaks off.
 fn broken(alloc: Global) -> Option<Ended> {
     let secret_file = BrokenReader { bytes: SECRET };
-    match filled(alloc, asked(alloc)?, Some(KEY), Some(secret_file)) {
+    match filled(alloc, asked(alloc)?, 0, Some(KEY), Some(secret_file)) {
         Ok(_) => None,
         Err(error) => Some(ended_by(&error)),
     }
@@ -200,30 +200,63 @@ const FOREVER: [&str; 12] = [
     "/log:GET",
 ];
 
-const FOR_A_TIME: [&str; 14] = [
-    "osc",
-    "token",
-    "--key",
-    "404142434445464748494a4b4c4d4e4f",
-    "--aud",
-    "s",
-    "--id",
-    "01",
-    "--secret",
-    "01",
-    "--scope",
-    "/log:GET",
-    "--exp",
-    "0",
-];
-
-// Whether there is a warning of a token.
-fn warns(alloc: Global, words: &[&str]) -> Option<bool> {
-    Some(token_warning(&given_words(alloc, words)?).is_some())
+// The warning of a token that is issued at second 1000, with these options more.
+fn warned(alloc: Global, more: &[&'static str]) -> Result<Option<&'static str>, AllocError> {
+    let mut words = Vec::from_slice(alloc, &FOREVER)?;
+    words.extend_from_slice(more)?;
+    match given_words(alloc, &words) {
+        Some(words) => Ok(token_warning(&words, 1000)),
+        None => Ok(Some("no words")),
+    }
 }
 
 #[test]
-fn a_token_without_an_end_is_warned_of(rt: HostRuntime) {
-    assert_eq!(rt; warns(rt.alloc(), &FOREVER), Some(true));
-    assert_eq!(rt; warns(rt.alloc(), &FOR_A_TIME), Some(false));
+fn a_token_that_never_counts_or_never_ends_is_warned_of(rt: HostRuntime) -> Result<(), Fail> {
+    let without_end =
+        "warning: without --exp the token never expires, and keeps one of the server's 64 places";
+    for &(more, warning) in &[
+        ([].as_slice(), Some(without_end)),
+        (["--exp", "1001"].as_slice(), None),
+        (
+            ["--exp", "1000"].as_slice(),
+            Some("warning: the token is over already"),
+        ),
+        (
+            ["--exp", "2000", "--nbf", "2000"].as_slice(),
+            Some("warning: the token is over before it begins"),
+        ),
+        (["--exp", "2000", "--nbf", "1999"].as_slice(), None),
+    ] {
+        assert_eq!(rt; warned(rt.alloc(), more)?, warning);
+    }
+    Ok(())
+}
+
+// When a token is over that is issued at second 1000 and lasts so long, or that there is none.
+fn lasts(alloc: Global, time: &'static str) -> Result<Option<u64>, AllocError> {
+    let mut words = Vec::from_slice(alloc, &FOREVER)?;
+    words.extend_from_slice(&["--for", time])?;
+    match read_words(alloc, &words) {
+        Ok(Words::Token(asked)) => Ok(asked.claims.expires.map(|expiry| expiry.second(1000))),
+        _ => Ok(None),
+    }
+}
+
+#[test]
+fn a_token_lasts_for_a_time(rt: HostRuntime) -> Result<(), Fail> {
+    for &(time, second) in &[
+        ("90s", Some(1090)),
+        ("15m", Some(1900)),
+        ("12h", Some(44200)),
+        ("30d", Some(2593000)),
+        ("18446744073709551615s", Some(u64::MAX)),
+        ("213503982334602d", None),
+        ("30", None),
+        ("d", None),
+        ("1w", None),
+        ("-1s", None),
+    ] {
+        assert_eq!(rt; lasts(rt.alloc(), time)?, second, "{time}");
+    }
+    Ok(())
 }

@@ -73,7 +73,7 @@ fn run_given<W: Write>(alloc: Global, asked: TokenAsked, writer: &mut W) -> Ende
 pub(crate) fn given(alloc: Global, asked: TokenAsked) -> Result<TokenWords, WordsError> {
     let no_key_file: Option<&[u8]> = None;
     let no_secret_file: Option<&[u8]> = None;
-    filled(alloc, asked, no_key_file, no_secret_file)
+    filled(alloc, asked, 0, no_key_file, no_secret_file)
 }
 
 /// How `osc token` ends for these words, which have an IV.

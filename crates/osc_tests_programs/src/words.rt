@@ -3,7 +3,7 @@ use clap::error::ErrorKind::{DisplayHelp, DisplayVersion};
 use osc_model::Request;
 use osc_programs::{Ended, ended_by};
 use osc_script::ClientName;
-use osc_words::{Words, WordsError, fault_line, read_words};
+use osc_words::{FileName, Words, WordsError, fault_line, read_words};
 use std::alloc::{AllocError, Global};
 use std::test::Fail;
 
@@ -61,8 +61,8 @@ fn turns_asked(alloc: Global, words: &[&str]) -> Option<(&'static str, u64)> {
 
 fn turns_of(words: &Words) -> Option<(&'static str, u64)> {
     match words {
-        Words::Server { turns, .. } => Some(("server", *turns)),
-        Words::Proxy { turns, .. } => Some(("proxy", *turns)),
+        Words::Server(words) => Some(("server", words.turns)),
+        Words::Proxy(words) => Some(("proxy", words.turns)),
         Words::Client(words) => Some(("client", words.turns)),
         Words::Lab { turns } => Some(("lab", *turns)),
         _ => None,
@@ -99,7 +99,7 @@ fn a_server_and_a_proxy_go_on_by_default(rt: HostRuntime) {
 // Whether the words want a log.
 fn log_asked(alloc: Global, words: &[&str]) -> Option<bool> {
     match read_words(alloc, words) {
-        Ok(Words::Server { log, .. }) | Ok(Words::Proxy { log, .. }) => Some(log),
+        Ok(Words::Server(words)) | Ok(Words::Proxy(words)) => Some(words.log),
         _ => None,
     }
 }
@@ -314,6 +314,114 @@ fn values_of_a_client_beyond_their_bounds(rt: HostRuntime) -> Result<(), Fail> {
     Ok(())
 }
 
+// What a client waits for, sends and prints, and where its settings come from.
+fn is_client(
+    alloc: Global,
+    words: &[&str],
+    turns: u64,
+    payload: &[u8],
+    files: (Option<&str>, Option<&str>),
+    flags: (bool, bool),
+) -> bool {
+    match read_words(alloc, words) {
+        Ok(Words::Client(words)) => words.turns == turns
+            && words.request.payload.as_slice() == payload
+            && is_file(&words.payload_file, files.0)
+            && is_file(&words.config, files.1)
+            && (words.raw, words.check) == flags,
+        _ => false,
+    }
+}
+
+fn is_file(file: &Option<FileName>, name: Option<&str>) -> bool {
+    match (file, name) {
+        (Some(file), Some(name)) => file.as_str() == name,
+        (None, None) => true,
+        _ => false,
+    }
+}
+
+#[test]
+fn a_client_has_further_words(rt: HostRuntime) -> Result<(), Fail> {
+    let alloc = rt.alloc();
+    let plain = [
+        "osc",
+        "client",
+        "--timeout",
+        "3",
+        "--method",
+        "PUT",
+        "--path",
+        "/a",
+    ];
+    assert!(rt; is_client(alloc, &plain, 150, b"", (None, None), (false, false)));
+    for &(more, payload, files, flags) in &[
+        (
+            ["--text", "hi"],
+            b"hi".as_slice(),
+            (None, None),
+            (false, false),
+        ),
+        (
+            ["--payload-file", "f"],
+            b"".as_slice(),
+            (Some("f"), None),
+            (false, false),
+        ),
+        (
+            ["--config", "c"],
+            b"".as_slice(),
+            (None, Some("c")),
+            (false, false),
+        ),
+        (
+            ["--raw", "--check"],
+            b"".as_slice(),
+            (None, None),
+            (true, true),
+        ),
+    ] {
+        let mut words = Vec::from_slice(alloc, &plain)?;
+        words.extend_from_slice(&more)?;
+        assert!(rt;
+            is_client(alloc, &words, 150, payload, files, flags),
+            "{}",
+            more[0]
+        );
+    }
+    Ok(())
+}
+
+// The file that the settings of a node stand in, and whether they are only read.
+fn node_asked(alloc: Global, words: &[&str], name: Option<&str>, check: bool) -> bool {
+    match read_words(alloc, words) {
+        Ok(Words::Server(words)) | Ok(Words::Proxy(words)) => {
+            is_file(&words.config, name) && words.check == check
+        }
+        _ => false,
+    }
+}
+
+#[test]
+fn a_node_has_a_file_of_settings(rt: HostRuntime) {
+    for &subcommand in &["server", "proxy"] {
+        assert!(rt; node_asked(rt.alloc(), &["osc", subcommand], None, false));
+        assert!(rt;
+            node_asked(
+                rt.alloc(),
+                &["osc", subcommand, "--config", "f", "--check"],
+                Some("f"),
+                true
+            )
+        );
+    }
+}
+
+#[test]
+fn a_key_is_asked_for(rt: HostRuntime) {
+    assert!(rt; matches!(read_words(rt.alloc(), &["osc", "key"]), Ok(Words::Key)));
+}
+
 // ---- words that aren't heeded
 
 /// How the command ends on words that aren't heeded, and what it says: what help or the version says, or the line of the fault.
@@ -344,10 +452,16 @@ fn is_told(alloc: Global, words: &[&str], line: &str) -> Result<bool, AllocError
     }
 }
 
-const WRONG: [(&[&str], &str); 24] = [
+// The words of a token but for when it is over.
+const AND_LASTING: [&str; 16] = [
+    "osc", "token", "--key", "40", "--secret", "40", "--aud", "s", "--id", "01", "--scope",
+    "/a:GET", "--exp", "1", "--for", "1s",
+];
+
+const WRONG: [(&[&str], &str); 29] = [
     (
         &["osc"],
-        "error: 'osc' requires a subcommand but one was not provided [subcommands: sim, token, server, proxy, client, lab, help]",
+        "error: 'osc' requires a subcommand but one was not provided [subcommands: sim, token, key, server, proxy, client, lab, help]",
     ),
     (
         &["osc", "sever"],
@@ -473,13 +587,77 @@ const WRONG: [(&[&str], &str); 24] = [
     ),
     (
         &["osc", "client"],
-        "error: the following required arguments were not provided: --turns <N> --method <METHOD> --path <PATH>",
+        "error: the following required arguments were not provided: --method <METHOD> --path <PATH>",
+    ),
+    (
+        &["osc", "client", "--method", "GET", "--path", "/a"],
+        "error: exactly one of --turns and --timeout has to be given",
+    ),
+    (
+        &[
+            "osc",
+            "client",
+            "--turns",
+            "1",
+            "--timeout",
+            "1",
+            "--method",
+            "GET",
+            "--path",
+            "/a",
+        ],
+        "error: exactly one of --turns and --timeout has to be given",
+    ),
+    (
+        &[
+            "osc",
+            "client",
+            "--turns",
+            "1",
+            "--method",
+            "PUT",
+            "--path",
+            "/a",
+            "--payload",
+            "61",
+            "--text",
+            "a",
+        ],
+        "error: at most one of --payload, --text and --payload-file may be given",
+    ),
+    (
+        &[
+            "osc",
+            "client",
+            "--turns",
+            "1",
+            "--method",
+            "PUT",
+            "--path",
+            "/a",
+            "--text",
+            "a",
+            "--payload-file",
+            "a",
+        ],
+        "error: at most one of --payload, --text and --payload-file may be given",
+    ),
+    (
+        &["osc", "key", "--id", "01"],
+        "error: unexpected argument '--id' found",
     ),
     (
         &["osc", "client", "--turns", "1", "--path", "/a"],
         "error: the following required arguments were not provided: --method <METHOD>",
     ),
 ];
+
+#[test]
+fn a_token_is_over_at_one_time(rt: HostRuntime) -> Result<(), Fail> {
+    let line = "error: --key is not 16 bytes in hexadecimal";
+    assert!(rt; is_told(rt.alloc(), &AND_LASTING, line)?);
+    Ok(())
+}
 
 #[test]
 fn one_line_tells_of_wrong_words(rt: HostRuntime) -> Result<(), Fail> {
@@ -514,11 +692,11 @@ const SHOWN: [(&[&str], &str); 20] = [
     (&["osc", "server", "--help"], "\nExample: osc server"),
     (
         &["osc", "server", "--help"],
-        "\n      --log        Tells of each request",
+        "\n      --log            Tells of each request",
     ),
     (
         &["osc", "help", "proxy"],
-        "\n      --log        Tells of each request",
+        "\n      --log            Tells of each request",
     ),
     (&["osc", "help", "proxy"], "\nExample: osc proxy"),
     (&["osc", "help", "client"], "      --format <N>"),

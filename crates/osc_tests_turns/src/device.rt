@@ -1,10 +1,10 @@
 //! A device that asks its own server, and what others see of it.
 ghost use Rattle.std.specs.Prelude.{◌<◌};
 
+use osc_ccm::Suite;
 use osc_device::{Device, NewError, OwnToken, Round, ServerParts};
 use osc_fixtures::{CLIENT, GET, KEY, POST, PUT, at, drawn, request, sent_in};
 use osc_model::{Bytes, ClientResult, Path};
-use osc_protect::Suite;
 use osc_scope::Scope;
 use osc_token::Audience;
 use osc_tree::Tree;

@@ -2,9 +2,9 @@
 ghost use Rattle.std.specs.Prelude.{None};
 
 use crate::stage::{FORWARDS, goes};
+use osc_ccm::Suite;
 use osc_fixtures::{CLIENT, SERVER, STRANGER, at, drawn, proxy};
 use osc_model::Peer;
-use osc_protect::Suite;
 use osc_proxy::Proxy;
 use osc_turn::{Pace, Port, PortFault, paced_turn};
 use std::alloc::Global;

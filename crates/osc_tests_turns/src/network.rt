@@ -3,10 +3,10 @@ ghost use Rattle.std.specs.Prelude.{◌<◌};
 
 use crate::queues::Queues;
 use crate::telling::{sends, takes};
+use osc_ccm::Suite;
 use osc_client::Client;
 use osc_fixtures::{CLIENT, PROXY, SERVER, at, drawn};
 use osc_model::{Bytes, Datagram, Peer, Request};
-use osc_protect::Suite;
 use osc_proxy::Proxy;
 use osc_server::Server;
 use std::alloc::Global;

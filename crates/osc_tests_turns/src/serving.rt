@@ -2,9 +2,9 @@
 
 use crate::nodes::server;
 use crate::queues::Queues;
+use osc_ccm::Suite;
 use osc_fixtures::{CLIENT, at, drawn};
 use osc_model::Bytes;
-use osc_protect::Suite;
 use osc_server::Server;
 use osc_turn::{TurnError, Turned, turn};
 use std::alloc::Global;

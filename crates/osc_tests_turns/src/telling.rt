@@ -1,9 +1,9 @@
 //! One turn, and whether it tells what the queues know of it.
 
 use crate::queues::Queues;
+use osc_ccm::Suite;
 use osc_fixtures::{at, drawn};
 use osc_model::{ClientResult, Step};
-use osc_protect::Suite;
 use osc_run::Node;
 use osc_turn::{PortFault, TurnError, Turned, send_all, turn};
 use std::alloc::{AllocError, Global};

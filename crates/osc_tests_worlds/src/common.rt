@@ -1,11 +1,11 @@
 //! Worlds, and what happens in them.
 
+use osc_ccm::Suite;
 use osc_client::Way;
 use osc_fixtures::{
     KEY, PROXY, Right, SERVER, claims, drawn, iv_of, own, place, request, straight,
 };
 use osc_model::{Bytes, Moment, Path, Peer};
-use osc_protect::Suite;
 use osc_proxy::Targets;
 use osc_run::Actor;
 use osc_scope::Scope;

@@ -3,9 +3,9 @@
 use crate::common::{SCOPE, counts, exchanges, start};
 use crate::quiet::settles;
 use osc_authz::GrantError;
+use osc_ccm::Suite;
 use osc_fixtures::{CLIENT, PROXY, SERVER, straight};
 use osc_model::{Algorithm, Bytes, Peer};
-use osc_protect::Suite;
 use osc_proxy::Targets;
 use osc_token::{Audience, Claims, InputMaterial};
 use osc_tree::Tree;

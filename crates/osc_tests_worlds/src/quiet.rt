@@ -2,9 +2,9 @@
 ghost use Rattle.std.specs.Prelude.{◌%◌, replicate};
 
 use crate::common::{GREATEST, accepted, asks, counts, exchanges, has, takes_place, world};
+use osc_ccm::Suite;
 use osc_fixtures::{POST, at, drawn};
 use osc_model::Draw;
-use osc_protect::Suite;
 use osc_run::Actor;
 use osc_world::{Draws, Event, What, World};
 use std::alloc::Global;

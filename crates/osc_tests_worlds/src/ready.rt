@@ -41,7 +41,7 @@ pub(crate) fn at(client: usize, ms: u64, number: u8) -> Next {
 
 fn client_of(world: &World, number: usize) -> Option<&Client> {
     match world.client(number) {
-        Some(placed) => Some(&placed.client),
+        Some(placed) => Some(&placed.node),
         None => None,
     }
 }

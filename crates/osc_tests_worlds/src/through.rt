@@ -50,7 +50,7 @@ fn is_free(proxy: &Proxy) -> bool {
 
 fn proxy_of(world: &World) -> Option<&Proxy> {
     match world.proxy(0) {
-        Some(placed) => Some(&placed.proxy),
+        Some(placed) => Some(&placed.node),
         None => None,
     }
 }

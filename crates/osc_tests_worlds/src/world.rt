@@ -3,8 +3,8 @@
 use crate::common::{
     asks, counts, delivers, event, exchanges, has, injects, lies, restarts, world,
 };
+use osc_ccm::Suite;
 use osc_fixtures::{GET, POST, SERVER, STRANGER, request};
-use osc_protect::Suite;
 use osc_run::Actor;
 use osc_world::{Event, What, World};
 use std::alloc::{AllocError, Global};

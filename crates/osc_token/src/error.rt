@@ -4,6 +4,7 @@ ghost use Rattle.std.specs.Prelude.{◌≡◌};
 ghost use Rattle.osc_token.specs.Errors.{token_number, mint_number};
 ghost use Rattle.osc_token.specs.declared.error.MintError.TheVariants as mint_variants;
 
+use osc_model::refusals;
 use std::alloc::AllocError;
 use thiserror::Error;
 
@@ -37,12 +38,12 @@ impl TokenError {
         ensures { result ≡ token_number self }
     {
         match self {
-            TokenError::NotGenuine => 25,
-            TokenError::BadClaims => 29,
-            TokenError::NotYet => 27,
-            TokenError::Expired => 26,
-            TokenError::Audience => 28,
-            TokenError::BadScope => 24,
+            TokenError::NotGenuine => refusals::TOKEN_NOT_GENUINE,
+            TokenError::BadClaims => refusals::BAD_CLAIMS,
+            TokenError::NotYet => refusals::NOT_YET,
+            TokenError::Expired => refusals::EXPIRED,
+            TokenError::Audience => refusals::AUDIENCE,
+            TokenError::BadScope => refusals::BAD_SCOPE,
         }
     }
 }
@@ -64,8 +65,8 @@ impl MintError {
         ensures { result ≡ mint_number self }
     {
         match self {
-            MintError::TooLong => 1,
-            MintError::Memory => 9,
+            MintError::TooLong => refusals::TOO_LONG,
+            MintError::Memory => refusals::MEMORY,
         }
     }
 }

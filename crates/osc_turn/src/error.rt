@@ -4,6 +4,7 @@ ghost use Rattle.osc_turn.specs.Errors.{turn_number};
 ghost use Rattle.osc_turn.specs.declared.error.TurnError.TheVariants as turn_error;
 
 use crate::port::PortFault;
+use osc_model::refusals;
 use thiserror::Error;
 
 /// Why a turn made no step: the node is as before, and nothing was sent.
@@ -24,7 +25,7 @@ impl TurnError {
     {
         match self {
             TurnError::Port(fault) => fault.number(),
-            TurnError::Memory => 9,
+            TurnError::Memory => refusals::MEMORY,
         }
     }
 }

@@ -1,13 +1,17 @@
-//! Turns of a running node: a port takes what came, the node makes one step of it, and the port sends what the step sends. No socket, no
-//! clock and no generator is known here: what a port is stands in its contract, and the moment and the draw are handed in.
+//! Turns of a running node: a port takes what came, the node makes one step of it, and the port sends what the step sends. No socket is known
+//! here: what a port is stands in its contract. The moment and the draw of each turn are handed in, and `Supply` has both, by a clock and a generator.
 #![tactic(auto)]
 
 mod error;
 mod pace;
 mod port;
+mod supply;
 mod turning;
+mod watch;
 
 pub use error::TurnError;
 pub use pace::{Pace, paced_turn};
 pub use port::{Port, PortFault};
+pub use supply::{Supply, not_before};
 pub use turning::{Turned, send_all, turn};
+pub use watch::{SystemWatch, Watch};

@@ -6,8 +6,8 @@ ghost use Rattle.osc_turn.specs.Ports.{CountsFault, Received, cause_of, grown};
 use crate::error::TurnError;
 use crate::port::Port;
 use crate::turning::{Turned, send_all, turn};
+use osc_ccm::Ciphers;
 use osc_model::{Draw, Moment};
-use osc_protect::Ciphers;
 use osc_run::Node;
 use std::alloc::Global;
 

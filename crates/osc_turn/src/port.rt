@@ -1,9 +1,10 @@
 //! What takes datagrams and gives them.
 ghost use Rattle.std.specs.Prelude.{◌≡◌, ◌≤◌, ◌<◌, [], ◌∷◌, ℕ, List, Option, IfOk, IfSome, OnErr, OnOk};
+ghost use Rattle.osc_model.specs.Refusals as refusal;
 ghost use Rattle.osc_model.specs.declared.step.Datagram.{Datagram};
 ghost use Rattle.osc_turn.specs.Ports.{Received, grown, received_in};
 
-use osc_model::Peer;
+use osc_model::{Peer, refusals};
 use thiserror::Error;
 
 /// A receive or a send that failed.
@@ -14,9 +15,9 @@ pub struct PortFault;
 impl PortFault {
     /// The number by which programs name the refusal.
     pub fn number(self) -> u8
-        ensures { result ≡ 32 }
+        ensures { result ≡ refusal.port_fault }
     {
-        32
+        refusals::PORT_FAULT
     }
 }
 

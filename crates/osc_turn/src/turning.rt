@@ -5,8 +5,8 @@ ghost use Rattle.osc_turn.specs.Turns.{IsRefusedBy};
 
 use crate::error::TurnError;
 use crate::port::{Port, PortFault};
+use osc_ccm::Ciphers;
 use osc_model::{Datagram, Draw, Moment, Peer, Step};
-use osc_protect::Ciphers;
 use osc_run::Node;
 use std::alloc::{AllocError, Global};
 

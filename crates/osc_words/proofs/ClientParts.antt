@@ -1,5 +1,5 @@
 -- What the options of a client say, one by one, and which of them say nothing.
-use Rattle.std.proofs.Common.{◌≡◌, ◌<◌, ℕ, List, Option, Some, None, subst, sym, arith}
+use Rattle.std.proofs.Common.{◌≡◌, ◌<◌, ℕ, List, Option, Some, None, codes, subst, sym, arith}
 use Rattle.clap.specs.Words.{Row}
 use Rattle.osc_model.specs.Code.{code, method_number}
 use Rattle.osc_model.specs.Path.{IsPath}
@@ -7,28 +7,38 @@ use Rattle.osc_model.specs.declared.code.Code.{Code}
 use Rattle.osc_model.specs.declared.code.Method.{Method as AnyMethod}
 use Rattle.osc_model.specs.declared.code.Method.TheVariants as method
 use Rattle.osc_script.specs.Values.{SpellsNumber}
-use Rattle.osc_words.specs.ClientWords.{AreClientWords, AreRequest, Says, SpellsMethod}
+use Rattle.osc_words.specs.ClientWords.{AreClientWords, AreRequest, Says, SaysPatience, SaysPayload, SpellsMethod}
 use Rattle.osc_words.specs.NamedOptions.{value_of}
+use Rattle.osc_words.specs.Options.{is_set}
 use Rattle.osc_words.specs.Inner.Reading.{IsClientRefusal, IsRefusalOf}
 use Rattle.osc_words.specs.Values.{IsGiven, SpellsTurns}
 use Rattle.osc_words.specs.declared.client_option.ClientOption.{ClientOption}
-use Rattle.osc_words.specs.declared.client_option.ClientOption.TheVariants.{Turns, Method, Path, Payload, Format}
+use Rattle.osc_words.specs.declared.client_option.ClientOption.TheVariants.{Turns, Timeout, Method, Path, Payload, Text, PayloadFile, Format, Config}
 use Rattle.osc_words.specs.declared.client_words.ClientWords.{ClientWords}
 use Rattle.osc_words.specs.declared.named_option.NamedOption.{NamedOption}
 use Rattle.osc_words.specs.declared.named_option.NamedOption.TheVariants.{Client}
 use Rattle.osc_words.specs.declared.words.WordsError.{WordsError}
 use Rattle.osc_words.specs.declared.words.WordsError.TheVariants as words_error
 
-pub client_said : (rows : List Row) (words : ClientWords) → IsGiven SpellsNumber (value_of (Client Turns) rows) (Some words.turns) → AreRequest rows words.request
-    → AreClientWords rows words
-client_said rows words turns request = (each, request.1)
+pub client_said : (rows : List Row) (words : ClientWords) (payload : List ℕ) → SaysPatience rows words.turns → SaysPayload rows payload words.payload_file
+    → AreRequest rows payload words.request → words.config ≡ value_of (Client Config) rows → words.raw ≡ is_set (codes "raw") rows
+    → words.check ≡ is_set (codes "check") rows → AreClientWords rows words
+client_said rows words payload turns paid request config raw check =
+    record { options = each; plain = request.1; raw = raw; check = check }
   where
+    says_payload : SaysPayload rows words.request.payload words.payload_file
+    says_payload = subst (λ (bytes : List ℕ). SaysPayload rows bytes words.payload_file) (sym request.2) paid
+
     each : (option : ClientOption) → Says rows option words
     each Turns = turns
+    each Timeout = turns
     each Method = request.0 Method
     each Path = request.0 Path
-    each Payload = request.0 Payload
+    each Payload = says_payload
+    each Text = says_payload
+    each PayloadFile = says_payload
     each Format = request.0 Format
+    each Config = config
 
 -- a path that can't be read
 pub path_refused : (rows : List Row) (error : WordsError)

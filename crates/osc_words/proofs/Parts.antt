@@ -9,7 +9,7 @@ use Rattle.osc_words.specs.TokenWords.{SaysClaims, Says, AreClaims}
 use Rattle.osc_words.specs.declared.hidden_option.HiddenOption.TheVariants as hidden
 use Rattle.osc_words.specs.declared.named_option.NamedOption.TheVariants as named
 use Rattle.osc_words.specs.declared.token_option.TokenOption.{TokenOption}
-use Rattle.osc_words.specs.declared.token_option.TokenOption.TheVariants.{Key, KeyFile, Audience, Id, Secret, SecretFile, Salt, Context, Algorithm, Scope, Expires, NotBefore, Iv}
+use Rattle.osc_words.specs.declared.token_option.TokenOption.TheVariants.{Key, KeyFile, Audience, Id, Secret, SecretFile, Salt, Context, Algorithm, Scope, Expires, Lasts, NotBefore, Iv}
 use Rattle.osc_words.specs.declared.token_words.OpenClaims.{OpenClaims}
 use Rattle.osc_words.specs.declared.token_words.TokenAsked.{TokenAsked}
 use Rattle.osc_words.specs.declared.words.WordsError.{WordsError}
@@ -30,6 +30,7 @@ claims_said rows claims audience nbf exp id salt context alg scope Context = con
 claims_said rows claims audience nbf exp id salt context alg scope Algorithm = alg
 claims_said rows claims audience nbf exp id salt context alg scope Scope = scope
 claims_said rows claims audience nbf exp id salt context alg scope Expires = exp
+claims_said rows claims audience nbf exp id salt context alg scope Lasts = exp
 claims_said rows claims audience nbf exp id salt context alg scope NotBefore = nbf
 claims_said rows claims audience nbf exp id salt context alg scope Iv = tt
 
@@ -47,6 +48,7 @@ token_said rows asked key secret iv claims Context = claims Context
 token_said rows asked key secret iv claims Algorithm = claims Algorithm
 token_said rows asked key secret iv claims Scope = claims Scope
 token_said rows asked key secret iv claims Expires = claims Expires
+token_said rows asked key secret iv claims Lasts = claims Lasts
 token_said rows asked key secret iv claims NotBefore = claims NotBefore
 token_said rows asked key secret iv claims Iv = iv
 

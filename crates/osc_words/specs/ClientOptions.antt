@@ -3,19 +3,22 @@ use Rattle.std.specs.Prelude.{ℕ, Bool, true, false, List, codes}
 use Rattle.clap.specs.Words.{Rule}
 use Rattle.osc_words.specs.Options.{value_rule}
 use Rattle.osc_words.specs.declared.client_option.ClientOption.{ClientOption}
-use Rattle.osc_words.specs.declared.client_option.ClientOption.TheVariants.{Turns, Method, Path, Payload, Format}
+use Rattle.osc_words.specs.declared.client_option.ClientOption.TheVariants.{Turns, Timeout, Method, Path, Payload, Text, PayloadFile, Format, Config}
 
 -- --turns, --method, ..
 abbrev pub name_of : ClientOption → List ℕ
 name_of Turns = codes "turns"
+name_of Timeout = codes "timeout"
 name_of Method = codes "method"
 name_of Path = codes "path"
 name_of Payload = codes "payload"
+name_of Text = codes "text"
+name_of PayloadFile = codes "payload-file"
 name_of Format = codes "format"
+name_of Config = codes "config"
 
--- nothing is asked without it
+-- nothing is asked without it, whatever else is given
 abbrev pub is_required : ClientOption → Bool
-is_required Turns = true
 is_required Method = true
 is_required Path = true
 is_required option = false
@@ -26,7 +29,11 @@ option_rule option = value_rule (name_of option) (is_required option)
 -- what a value has to be
 abbrev pub form_of : ClientOption → List ℕ
 form_of Turns = codes "a number of 64 bits in decimal digits"
+form_of Timeout = codes "a number of seconds in decimal digits"
 form_of Method = codes "GET, POST, PUT or DELETE"
 form_of Path = codes "a path of 1 to 8 segments of 1 to 32 bytes, as /a/b"
 form_of Payload = codes "bytes in hexadecimal"
+form_of Text = codes "a text"
+form_of PayloadFile = codes "a file"
 form_of Format = codes "a number of 16 bits in decimal digits"
+form_of Config = codes "a file of settings"

@@ -1,10 +1,13 @@
 pub mod Options
 pub mod Values
 pub mod Sources
+pub mod Choices
+pub mod Times
 pub mod Filled
 pub mod TokenWords
 pub mod ClientOptions
 pub mod ClientWords
 pub mod NamedOptions
+pub mod NodeWords
 pub mod Command
 pub mod Inner

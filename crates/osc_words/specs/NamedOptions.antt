@@ -4,10 +4,11 @@ use Rattle.clap.specs.Words.{Row, first_of}
 use Rattle.osc_words.specs.ClientOptions as client
 use Rattle.osc_words.specs.Options as token
 use Rattle.osc_words.specs.declared.named_option.NamedOption.{NamedOption}
-use Rattle.osc_words.specs.declared.named_option.NamedOption.TheVariants.{SimOnly, Client, Token}
+use Rattle.osc_words.specs.declared.named_option.NamedOption.TheVariants.{SimOnly, NodeConfig, Client, Token}
 
 abbrev pub name_of : NamedOption → List ℕ
 name_of SimOnly = codes "only"
+name_of NodeConfig = codes "config"
 name_of (Client option) = client.name_of option
 name_of (Token option) = token.name_of option
 name_of turns = codes "turns"
@@ -19,6 +20,7 @@ value_of option rows = first_of (name_of option) rows
 -- what a value has to be
 abbrev pub form_of : NamedOption → List ℕ
 form_of SimOnly = codes "a client, c1 to c9"
+form_of NodeConfig = codes "a file of settings"
 form_of (Client option) = client.form_of option
 form_of (Token option) = token.form_of option
 form_of turns = codes "a number of 64 bits in decimal digits"
@@ -26,3 +28,7 @@ form_of turns = codes "a number of 64 bits in decimal digits"
 -- what is said where it isn't
 abbrev pub refusal_text : NamedOption → List ℕ
 refusal_text option = codes "error: --" ++ name_of option ++ codes " is not " ++ form_of option
+
+-- what is said where the file that it names can't be read
+abbrev pub unread_text : NamedOption → List ℕ
+unread_text option = codes "error: the file of --" ++ name_of option ++ codes " can't be read"

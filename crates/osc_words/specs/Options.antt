@@ -1,8 +1,11 @@
 -- The options of `osc token`.
 use Rattle.std.specs.Prelude.{ℕ, Bool, true, false, List, codes, Option, Some}
-use Rattle.clap.specs.Words.{Row, Rule, first_of, new_rule}
+use Rattle.std.specs.Option.{option_map_or}
+use Rattle.std.specs.Str.{bytes_eq}
+use Rattle.clap.specs.Words.{Row, Rule, Text, first_of, new_rule}
+use Rattle.clap.specs.declared.builder.ArgAction.TheVariants.{SetTrue}
 use Rattle.osc_words.specs.declared.token_option.TokenOption.{TokenOption}
-use Rattle.osc_words.specs.declared.token_option.TokenOption.TheVariants.{Key, KeyFile, Audience, Id, Secret, SecretFile, Salt, Context, Algorithm, Scope, Expires, NotBefore, Iv}
+use Rattle.osc_words.specs.declared.token_option.TokenOption.TheVariants.{Key, KeyFile, Audience, Id, Secret, SecretFile, Salt, Context, Algorithm, Scope, Expires, Lasts, NotBefore, Iv}
 
 -- --key, --aud, ..
 abbrev pub name_of : TokenOption → List ℕ
@@ -17,6 +20,7 @@ name_of Context = codes "context"
 name_of Algorithm = codes "alg"
 name_of Scope = codes "scope"
 name_of Expires = codes "exp"
+name_of Lasts = codes "for"
 name_of NotBefore = codes "nbf"
 name_of Iv = codes "iv"
 
@@ -30,6 +34,14 @@ is_required option = false
 -- --NAME VALUE
 abbrev pub value_rule : List ℕ → Bool → Rule
 value_rule name required = record (new_rule name) { long = Some name; value_names = 1; required = required }
+
+-- --NAME
+abbrev pub flag_rule : Text → Rule
+flag_rule name = record (new_rule name) { long = Some name; action = Some SetTrue }
+
+-- a flag was given
+abbrev pub is_set : Text → List Row → Bool
+is_set flag rows = option_map_or (λ text. bytes_eq text (codes "true")) (first_of flag rows) false
 
 abbrev pub option_rule : TokenOption → Rule
 option_rule option = value_rule (name_of option) (is_required option)
@@ -49,7 +61,8 @@ form_of SecretFile = codes "a file of 1 to 64 bytes in hexadecimal"
 form_of Salt = codes "0 to 64 bytes in hexadecimal"
 form_of Context = codes "0 to 64 bytes in hexadecimal"
 form_of Algorithm = codes "10 or 30"
-form_of Scope = codes "a scope"
+form_of Scope = codes "paths with methods, as /e:GET+PUT,/log:GET"
 form_of Expires = codes "a number of 64 bits in decimal digits"
+form_of Lasts = codes "a time in seconds, minutes, hours or days, as 90s, 15m, 12h or 30d"
 form_of NotBefore = codes "a number of 64 bits in decimal digits"
 form_of Iv = codes "13 bytes in hexadecimal"

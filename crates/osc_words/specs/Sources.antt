@@ -1,8 +1,8 @@
 -- Values that others should not see: they are given, or stand in a file.
-use Rattle.std.specs.Prelude.{◌≡◌, ◌-◌, ◌∷◌, [], ℕ, Bool, List, ◌++◌, Option, Some, None, codes, if◌then◌else◌, is_some, length, take, drop}
+use Rattle.std.specs.Prelude.{◌≡◌, ◌-◌, ◌∷◌, [], ℕ, Bool, List, Option, Some, None, if◌then◌else◌, length, take, drop}
 use Rattle.std.specs.Str.{bytes_eq}
 use Rattle.clap.specs.Words.{Row}
-use Rattle.osc_words.specs.Options.{name_of, value_of}
+use Rattle.osc_words.specs.Options.{value_of}
 use Rattle.osc_words.specs.Values.{IsGiven}
 use Rattle.osc_words.specs.declared.hidden_option.HiddenOption.{HiddenOption}
 use Rattle.osc_words.specs.declared.hidden_option.HiddenOption.TheVariants as hidden
@@ -30,19 +30,6 @@ option_of hidden.Secret = Secret
 abbrev pub file_option_of : HiddenOption → TokenOption
 file_option_of hidden.Key = KeyFile
 file_option_of hidden.Secret = SecretFile
-
--- both of the two are given, or neither is
-abbrev pub IsNotOne : List Row → HiddenOption → Type 0
-IsNotOne rows option = is_some (value_of (option_of option) rows) ≡ is_some (value_of (file_option_of option) rows)
-
--- what is said where they are
-abbrev pub not_one_text : HiddenOption → List ℕ
-not_one_text option =
-    codes "error: exactly one of --" ++ name_of (option_of option) ++ codes " and --" ++ name_of (file_option_of option) ++ codes " has to be given"
-
--- what is said of a file that can't be read
-abbrev pub unread_text : HiddenOption → List ℕ
-unread_text option = codes "error: the file of --" ++ name_of (file_option_of option) ++ codes " can't be read"
 
 -- what the two options say of the value: the one spells it where it is given, the other names the file where it stands in one
 abbrev pub IsSource : {X : Type 0} → (List ℕ → X → Type 0) → HiddenOption → List Row → Source X → Type 0

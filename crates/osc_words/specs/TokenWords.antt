@@ -5,16 +5,18 @@ use Rattle.osc_model.specs.Algorithm.{algorithm_number}
 use Rattle.osc_script.specs.Values.{SpellsHexWithin, SpellsNumber, SpellsScope}
 use Rattle.osc_words.specs.Options.{value_of}
 use Rattle.osc_words.specs.Sources.{file_of, given_of}
+use Rattle.osc_words.specs.Times.{IsExpiry}
 use Rattle.osc_words.specs.Values.{IsGiven}
 use Rattle.osc_words.specs.declared.token_option.TokenOption.{TokenOption}
-use Rattle.osc_words.specs.declared.token_option.TokenOption.TheVariants.{Key, KeyFile, Audience, Id, Secret, SecretFile, Salt, Context, Algorithm, Scope, Expires, NotBefore, Iv}
+use Rattle.osc_words.specs.declared.token_option.TokenOption.TheVariants.{Key, KeyFile, Audience, Id, Secret, SecretFile, Salt, Context, Algorithm, Scope, Expires, Lasts, NotBefore, Iv}
 use Rattle.osc_words.specs.declared.token_words.OpenClaims.{OpenClaims}
 use Rattle.osc_words.specs.declared.token_words.TokenAsked.{TokenAsked}
 
 -- what an option says of the claims; an absent salt is an empty one, and an absent algorithm is that of number 10
 abbrev pub SaysClaims : List Row → TokenOption → OpenClaims → Type 0
 SaysClaims rows Audience claims = value_of Audience rows ≡ Some claims.audience
-SaysClaims rows Expires claims = IsGiven SpellsNumber (value_of Expires rows) claims.expires
+SaysClaims rows Expires claims = IsExpiry (value_of Expires rows) (value_of Lasts rows) claims.expires
+SaysClaims rows Lasts claims = IsExpiry (value_of Expires rows) (value_of Lasts rows) claims.expires
 SaysClaims rows NotBefore claims = IsGiven SpellsNumber (value_of NotBefore rows) claims.not_before
 SaysClaims rows Id claims = IsGiven (SpellsHexWithin 0 64) (value_of Id rows) (Some claims.id)
 SaysClaims rows Salt claims = SpellsHexWithin 0 64 (unwrap_or (value_of Salt rows) []) claims.salt

@@ -7,24 +7,36 @@ ghost use Rattle.osc_words.specs.ClientOptions as spec;
 pub enum ClientOption {
     /// `--turns`: after how many turns it gives up.
     Turns,
+    /// `--timeout`: after how many seconds it gives up at the latest, at 50 turns a second.
+    Timeout,
     /// `--method`: what is to be done with the resource.
     Method,
     /// `--path`: the resource.
     Path,
-    /// `--payload`: the request's payload.
+    /// `--payload`: the request's payload, in hexadecimal.
     Payload,
+    /// `--text`: the request's payload, as it is.
+    Text,
+    /// `--payload-file`: the file that the request's payload stands in.
+    PayloadFile,
     /// `--format`: the Content-Format of the payload.
     Format,
+    /// `--config`: the file that the settings stand in.
+    Config,
 }
 
 impl ClientOption {
     /// All of them, those first that a request needs.
-    pub(crate) const ALL: [ClientOption; 5] = [
+    pub(crate) const ALL: [ClientOption; 9] = [
         ClientOption::Turns,
+        ClientOption::Timeout,
         ClientOption::Method,
         ClientOption::Path,
         ClientOption::Payload,
+        ClientOption::Text,
+        ClientOption::PayloadFile,
         ClientOption::Format,
+        ClientOption::Config,
     ];
 
     /// Its name on the command line, without the hyphens.
@@ -33,21 +45,22 @@ impl ClientOption {
     {
         match self {
             ClientOption::Turns => "turns",
+            ClientOption::Timeout => "timeout",
             ClientOption::Method => "method",
             ClientOption::Path => "path",
             ClientOption::Payload => "payload",
+            ClientOption::Text => "text",
+            ClientOption::PayloadFile => "payload-file",
             ClientOption::Format => "format",
+            ClientOption::Config => "config",
         }
     }
 
-    /// Whether nothing is asked without it.
+    /// Whether nothing is asked without it, whatever else is given.
     pub fn is_required(self) -> bool
         ensures { result ≡ spec.is_required self }
     {
-        matches!(
-            self,
-            ClientOption::Turns | ClientOption::Method | ClientOption::Path
-        )
+        matches!(self, ClientOption::Method | ClientOption::Path)
     }
 
     /// What a value of it has to be.
@@ -56,10 +69,14 @@ impl ClientOption {
     {
         match self {
             ClientOption::Turns => "a number of 64 bits in decimal digits",
+            ClientOption::Timeout => "a number of seconds in decimal digits",
             ClientOption::Method => "GET, POST, PUT or DELETE",
             ClientOption::Path => "a path of 1 to 8 segments of 1 to 32 bytes, as /a/b",
             ClientOption::Payload => "bytes in hexadecimal",
+            ClientOption::Text => "a text",
+            ClientOption::PayloadFile => "a file",
             ClientOption::Format => "a number of 16 bits in decimal digits",
+            ClientOption::Config => "a file of settings",
         }
     }
 
@@ -67,9 +84,12 @@ impl ClientOption {
     pub(crate) fn value_name(self) -> &'static str {
         match self {
             ClientOption::Turns | ClientOption::Format => "N",
+            ClientOption::Timeout => "SECONDS",
             ClientOption::Method => "METHOD",
             ClientOption::Path => "PATH",
             ClientOption::Payload => "HEX",
+            ClientOption::Text => "TEXT",
+            ClientOption::PayloadFile | ClientOption::Config => "FILE",
         }
     }
 
@@ -78,11 +98,17 @@ impl ClientOption {
         match self {
             ClientOption::Turns =>
                 "The most turns that it takes, each a datagram or 10 ms without one",
+            ClientOption::Timeout =>
+                "The most seconds that it takes, at 50 turns a second; this or --turns is to be given",
             ClientOption::Method => "GET, POST, PUT or DELETE",
             ClientOption::Path => "The resource, as /a/b: 1 to 8 segments of 1 to 32 bytes",
             ClientOption::Payload => "The bytes of the payload; none by default",
+            ClientOption::Text => "The payload as a text, in place of --payload",
+            ClientOption::PayloadFile => "A file that the payload stands in, in place of --payload",
             ClientOption::Format =>
                 "The Content-Format of the payload: 0 to 65535; none by default",
+            ClientOption::Config =>
+                "A file that the settings stand in; the standard input by default",
         }
     }
 }

@@ -1,29 +1,39 @@
 //! What the options of `osc client` stand for.
-ghost use Rattle.std.specs.Prelude.{◌≡◌, MatchResult, [], Some, unwrap_or};
+ghost use Rattle.std.specs.Prelude.{◌≡◌, MatchResult, Some};
 ghost use Rattle.clap.specs.Words.{found_of, rows_of};
 ghost use Rattle.osc_model.specs.Path.{IsPath};
-ghost use Rattle.osc_script.specs.Values.{SpellsHex, SpellsShortNumber};
+ghost use Rattle.osc_script.specs.Values.{SpellsShortNumber};
 ghost use Rattle.osc_words.specs.ClientWords as spec;
 ghost use Rattle.osc_words.specs.NamedOptions.{value_of};
 ghost use Rattle.osc_words.specs.Inner.Reading.{IsClientRefusal, IsRefusalOf};
 ghost use Rattle.osc_words.specs.Values.{IsGiven};
 
+use crate::choice::Choice;
 use crate::client_option::ClientOption;
-use crate::given;
 use crate::named_option::NamedOption;
+use crate::source::FileName;
 use crate::words::WordsError;
+use crate::{given, times};
 use clap::ArgMatches;
 use osc_model::{Bytes, Code, ETags, Path, Request};
 use osc_script::values;
 use std::alloc::Global;
 
-/// What `osc client` is asked for.
+/// What `osc client` is asked for, before the file is read that the payload may stand in.
 #[derive(Debug, PartialEq, Eq, Drop)]
 pub struct ClientWords {
     /// The most turns that it takes.
     pub turns: u64,
-    /// What it asks for, under the context of its token. The code is a method's, 1 to 4.
+    /// What it asks for, under the context of its token. The code is a method's, 1 to 4. The payload is empty where it stands in a file.
     pub request: Request,
+    /// The file that the payload stands in, if it does.
+    pub payload_file: Option<FileName>,
+    /// Whether only the bytes of an answer's payload are printed.
+    pub raw: bool,
+    /// Whether it only reads its settings, and says what it understood.
+    pub check: bool,
+    /// The file that its settings stand in; they come on the standard input where there is none.
+    pub config: Option<FileName>,
 }
 
 /// What the options say of a client.
@@ -33,24 +43,69 @@ pub(crate) fn client_words(
 ) -> Result<ClientWords, WordsError>
     ensures { MatchResult result (spec.AreClientWords (rows_of (found_of options.now))) (IsClientRefusal (rows_of (found_of options.now))) }
 {
+    let turns = patience(options)?;
+    let (payload, payload_file) = payload(alloc, options)?;
     Ok(ClientWords {
-        turns: given::required_number(options, NamedOption::Client(ClientOption::Turns))?,
-        request: request(alloc, options)?,
+        turns,
+        request: request(alloc, options, payload)?,
+        payload_file,
+        raw: given::is_set(options, "raw"),
+        check: given::is_set(options, "check"),
+        config: given::file(alloc, options, NamedOption::Client(ClientOption::Config))?,
     })
 }
 
-fn request(alloc: Global, options: &ArgMatches<'_>) -> Result<Request, WordsError>
-    ensures { MatchResult result (spec.AreRequest (rows_of (found_of options.now))) (IsClientRefusal (rows_of (found_of options.now))) }
+fn request(alloc: Global, options: &ArgMatches<'_>, payload: Bytes) -> Result<Request, WordsError>
+    ensures { MatchResult result (spec.AreRequest (rows_of (found_of options.now)) payload) (IsClientRefusal (rows_of (found_of options.now))) }
 {
     Ok(Request {
         code: code(options)?,
         format: format(options)?,
         path: Some(path(alloc, options)?),
-        payload: payload(alloc, options)?,
+        payload,
         accept: None,
         if_match: ETags::new(alloc),
         if_none_match: false,
     })
+}
+
+// ---- one of several options
+
+// The most turns: so many, or 50 for each second.
+fn patience(options: &ArgMatches<'_>) -> Result<u64, WordsError>
+    ensures { MatchResult result (spec.SaysPatience (rows_of (found_of options.now))) (IsClientRefusal (rows_of (found_of options.now))) }
+{
+    let turns = given::text(options, NamedOption::Client(ClientOption::Turns));
+    let seconds = given::text(options, NamedOption::Client(ClientOption::Timeout));
+    match (turns, seconds) {
+        (Some(text), None) => match values::number(text) {
+            Some(turns) => Ok(turns),
+            None => Err(WordsError::Value(NamedOption::Client(ClientOption::Turns))),
+        },
+        (None, Some(text)) => match times::timeout(text) {
+            Some(turns) => Ok(turns),
+            None => Err(WordsError::Value(NamedOption::Client(ClientOption::Timeout))),
+        },
+        (Some(_), Some(_)) | (None, None) => Err(WordsError::NotOne(Choice::Patience)),
+    }
+}
+
+// The payload, or the file that it stands in; one that no option gives is empty.
+fn payload(alloc: Global, options: &ArgMatches<'_>) -> Result<(Bytes, Option<FileName>), WordsError>
+    ensures { MatchResult result (λ read. spec.SaysPayload (rows_of (found_of options.now)) read.0 read.1) (IsClientRefusal (rows_of (found_of options.now))) }
+{
+    let hex = given::text(options, NamedOption::Client(ClientOption::Payload));
+    let text = given::text(options, NamedOption::Client(ClientOption::Text));
+    let file = given::text(options, NamedOption::Client(ClientOption::PayloadFile));
+    match (hex, text, file) {
+        (None, None, Some(name)) => Ok((Bytes::new(alloc), Some(FileName::new(alloc, name)?))),
+        (None, Some(text), None) => Ok((Bytes::from_slice(alloc, text.as_bytes())?, None)),
+        (hex, None, None) => match values::bytes(alloc, hex.unwrap_or(""))? {
+            Some(bytes) => Ok((bytes, None)),
+            None => Err(WordsError::Value(NamedOption::Client(ClientOption::Payload))),
+        },
+        _ => Err(WordsError::NotOne(Choice::Payload)),
+    }
 }
 
 // ---- one option
@@ -79,17 +134,6 @@ fn path(alloc: Global, options: &ArgMatches<'_>) -> Result<Path, WordsError>
         return Err(WordsError::Value(option));
     };
     Ok(path)
-}
-
-// The payload; an absent one is empty.
-fn payload(alloc: Global, options: &ArgMatches<'_>) -> Result<Bytes, WordsError>
-    ensures { MatchResult result
-        (SpellsHex (unwrap_or (value_of (NamedOption.Client ClientOption.Payload) (rows_of (found_of options.now))) []))
-        (IsRefusalOf (NamedOption.Client ClientOption.Payload) (SpellsHex (unwrap_or (value_of (NamedOption.Client ClientOption.Payload) (rows_of (found_of options.now))) []))) }
-{
-    let option = NamedOption::Client(ClientOption::Payload);
-    let text = given::text(options, option).unwrap_or("");
-    values::bytes(alloc, text)?.ok_or(WordsError::Value(option))
 }
 
 // The format, where it is given.

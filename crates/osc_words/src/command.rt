@@ -1,18 +1,20 @@
 //! The words of the command line.
-ghost use Rattle.std.specs.Prelude.{◌≡◌, IfOk, MatchResult, Err, Some, true, false, [], map, option_map, codes};
-ghost use Rattle.clap.specs.Words.{FailsBy, app_of, fault_of, first_of, found_of, rows_of, subcommand_of, subcommand_rows_of, with_rule, with_subcommand};
+ghost use Rattle.std.specs.Prelude.{◌≡◌, IfOk, MatchResult, Err, Some, true, false, [], map, option_map, codes, fold};
+ghost use Rattle.clap.specs.Words.{FailsBy, app_of, fault_of, first_of, found_of, new_app, rows_of, subcommand_of, subcommand_rows_of, with_rule, with_subcommand};
 ghost use Rattle.clap.specs.declared.builder.command.Command.TheViews.{out-Command};
 ghost use Rattle.osc_words.specs.Command as spec;
 ghost use Rattle.osc_words.specs.NamedOptions.{name_of};
-ghost use Rattle.osc_words.specs.Options.{value_rule};
+ghost use Rattle.osc_words.specs.ClientOptions.{option_rule};
+ghost use Rattle.osc_words.specs.Options.{flag_rule, value_rule};
 ghost use Rattle.osc_words.specs.Inner.Reading.{IsKnown, IsReadFrom};
-ghost use Rattle.osc_words.specs.declared.hidden_option.HiddenOption.{HiddenOption as AnyHidden};
+ghost use Rattle.osc_words.specs.declared.choice.Choice.{Choice as AnyChoice};
 ghost use Rattle.osc_words.specs.declared.named_option.NamedOption.{NamedOption as AnyOption};
 ghost use Rattle.osc_words.specs.declared.words.Words.{Words as AnyWords};
 
 use crate::client_option::ClientOption;
 use crate::client_words::client_words;
 use crate::named_option::NamedOption;
+use crate::node_words::node_words;
 use crate::token_option::TokenOption;
 use crate::words::{Words, WordsError};
 use crate::{given, token_words};
@@ -24,6 +26,10 @@ const TOKEN_EXAMPLE: &str =
 
 const LINES_HELP: &str = "Prints the number of the script's line before each line that it prints";
 
+const CHECK_HELP: &str = "Reads the settings, says what they are but for what is secret, and ends";
+
+const RAW_HELP: &str = "Prints the bytes of the answer's payload, and nothing else";
+
 const LOG_HELP: &str = "Tells of each request that is served or refused, on the standard error";
 
 /// Reads a command line, the program's own name first.
@@ -31,7 +37,7 @@ const LOG_HELP: &str = "Tells of each request that is served or refused, on the 
 /// # Errors
 ///
 /// `Clap` for a fault of the words and for a wish for help or the version, then `Value` for an option whose value is none
-/// that it may have, or `NotOne` for a value with both of its options or neither; `Memory` for want of memory.
+/// that it may have, or `NotOne` for a value whose options aren't given as they have to be; `Memory` for want of memory.
 pub fn read_words(alloc: Global, words: &[&str]) -> Result<Words, WordsError>
     // What is read is what the words stand for ..
     ensures read { IfOk result (λ read. spec.StandFor (map (λ word. word.now) words.now) read) }
@@ -42,7 +48,7 @@ pub fn read_words(alloc: Global, words: &[&str]) -> Result<Words, WordsError>
     ensures method { IfOk result spec.AsksByMethod }
     ensures nothing { (option : AnyOption) → result ≡ Err (WordsError.Value option)
         → (read : AnyWords) → ¬ spec.StandFor (map (λ word. word.now) words.now) read }
-    ensures not_one { (option : AnyHidden) → result ≡ Err (WordsError.NotOne option)
+    ensures not_one { (choice : AnyChoice) → result ≡ Err (WordsError.NotOne choice)
         → (read : AnyWords) → ¬ spec.StandFor (map (λ word. word.now) words.now) read }
 {
     let matches = read_matches(alloc, words)?;
@@ -57,8 +63,9 @@ fn words_in(alloc: Global, matches: &ArgMatches<'_>) -> Result<Words, WordsError
     match matches.subcommand() {
         Some(("sim", options)) => sim_asked(options),
         Some(("token", options)) => token_asked(alloc, options),
-        Some(("server", options)) => server_asked(options),
-        Some(("proxy", options)) => proxy_asked(options),
+        Some(("key", _)) => Ok(Words::Key),
+        Some(("server", options)) => server_asked(alloc, options),
+        Some(("proxy", options)) => proxy_asked(alloc, options),
         Some(("client", options)) => client_asked(alloc, options),
         Some(("lab", options)) => lab_asked(options),
         _ => unreachable!(),
@@ -70,8 +77,8 @@ fn sim_asked(options: &ArgMatches<'_>) -> Result<Words, WordsError>
     ensures { IsReadFrom (Some (codes "sim", rows_of (found_of options.now))) result }
 {
     Ok(Words::Sim {
-        bytes: is_set(options, "bytes"),
-        lines: is_set(options, "lines"),
+        bytes: given::is_set(options, "bytes"),
+        lines: given::is_set(options, "lines"),
         only: given::client(options, NamedOption::SimOnly)?,
     })
 }
@@ -84,23 +91,17 @@ fn token_asked(alloc: Global, options: &ArgMatches<'_>) -> Result<Words, WordsEr
 }
 
 // What `osc server` asks for.
-fn server_asked(options: &ArgMatches<'_>) -> Result<Words, WordsError>
+fn server_asked(alloc: Global, options: &ArgMatches<'_>) -> Result<Words, WordsError>
     ensures { IsReadFrom (Some (codes "server", rows_of (found_of options.now))) result }
 {
-    Ok(Words::Server {
-        turns: given::turns(options, NamedOption::ServerTurns)?,
-        log: is_set(options, "log"),
-    })
+    Ok(Words::Server(node_words(alloc, options, NamedOption::ServerTurns)?))
 }
 
 // What `osc proxy` asks for.
-fn proxy_asked(options: &ArgMatches<'_>) -> Result<Words, WordsError>
+fn proxy_asked(alloc: Global, options: &ArgMatches<'_>) -> Result<Words, WordsError>
     ensures { IsReadFrom (Some (codes "proxy", rows_of (found_of options.now))) result }
 {
-    Ok(Words::Proxy {
-        turns: given::turns(options, NamedOption::ProxyTurns)?,
-        log: is_set(options, "log"),
-    })
+    Ok(Words::Proxy(node_words(alloc, options, NamedOption::ProxyTurns)?))
 }
 
 // What `osc client` asks for.
@@ -136,11 +137,13 @@ fn program<'a>(alloc: Global) -> Result<Command<'a>, AllocError>
 
 // The program with the subcommands that open no socket.
 fn with_tools<'a>(alloc: Global) -> Result<Command<'a>, AllocError>
-    ensures { IfOk result (λ command. app_of command ≡ with_subcommand (with_subcommand spec.bare_program spec.sim_app.top) spec.token_app.top) }
+    ensures { IfOk result (λ command. app_of command
+        ≡ with_subcommand (with_subcommand (with_subcommand spec.bare_program spec.sim_app.top) spec.token_app.top) spec.key_app.top) }
 {
     bare_program(alloc)
         .subcommand(sim_command(alloc)?)?
-        .subcommand(token_command(alloc)?)
+        .subcommand(token_command(alloc)?)?
+        .subcommand(key_command(alloc))
 }
 
 // The command with the subcommands of the nodes that are asked.
@@ -206,16 +209,25 @@ fn token_command<'a>(alloc: Global) -> Result<Command<'a>, AllocError>
     Ok(command)
 }
 
+// The subcommand that prints a key.
+fn key_command<'a>(alloc: Global) -> Command<'a>
+    ensures app { app_of result ≡ spec.key_app }
+    ensures local { (out-Command result).has_globals ≡ false }
+{
+    Command::new(alloc, "key")
+        .about("Prints 16 bytes in hexadecimal, drawn at random: a key, or a secret")
+        .after_help("Example: osc key > KEY-FILE")
+}
+
 // The subcommand that runs a server.
 fn server_command<'a>(alloc: Global) -> Result<Command<'a>, AllocError>
     ensures app { IfOk result (λ command. app_of command ≡ spec.node_app (codes "server")) }
     ensures local { IfOk result (λ command. (out-Command command).has_globals ≡ false) }
 {
     let command = Command::new(alloc, "server")
-        .about("Runs a server on a UDP socket, by the settings on the standard input")
-        .after_help("Example: osc server --log < SETTINGS");
-    let command = with_option(alloc, command, NamedOption::ServerTurns, false)?;
-    with_flag(alloc, command, "log", LOG_HELP)
+        .about("Runs a server on a UDP socket, by settings in a file or on the standard input")
+        .after_help("Example: osc server --log --config SETTINGS");
+    with_node_options(alloc, command, NamedOption::ServerTurns)
 }
 
 // The subcommand that runs a forward proxy.
@@ -224,9 +236,26 @@ fn proxy_command<'a>(alloc: Global) -> Result<Command<'a>, AllocError>
     ensures local { IfOk result (λ command. (out-Command command).has_globals ≡ false) }
 {
     let command = Command::new(alloc, "proxy")
-        .about("Runs a forward proxy on a UDP socket, by the settings on the standard input")
+        .about(
+            "Runs a forward proxy on a UDP socket, by settings in a file or on the standard input",
+        )
         .after_help("Example: osc proxy --turns 1000 < SETTINGS");
-    let command = with_option(alloc, command, NamedOption::ProxyTurns, false)?;
+    with_node_options(alloc, command, NamedOption::ProxyTurns)
+}
+
+// A command with the options of a node.
+fn with_node_options<'a>(
+    alloc: Global,
+    command: Command<'a>,
+    turns: NamedOption,
+) -> Result<Command<'a>, AllocError>
+    ensures app { IfOk result (λ more. app_of more ≡ with_rule (with_rule (with_rule (with_rule (app_of command.entry)
+        (value_rule (codes "config") false)) (flag_rule (codes "check"))) (value_rule (name_of turns) false)) (flag_rule (codes "log"))) }
+    ensures local { IfOk result (λ more. (out-Command more).has_globals ≡ (out-Command command.entry).has_globals) }
+{
+    let command = with_option(alloc, command, NamedOption::NodeConfig, false)?;
+    let command = with_flag(alloc, command, "check", CHECK_HELP)?;
+    let command = with_option(alloc, command, turns, false)?;
     with_flag(alloc, command, "log", LOG_HELP)
 }
 
@@ -235,10 +264,22 @@ fn client_command<'a>(alloc: Global) -> Result<Command<'a>, AllocError>
     ensures app { IfOk result (λ command. app_of command ≡ spec.client_app) }
     ensures local { IfOk result (λ command. (out-Command command).has_globals ≡ false) }
 {
+    let command = client_options(alloc)?;
+    let command = with_flag(alloc, command, "raw", RAW_HELP)?;
+    with_flag(alloc, command, "check", CHECK_HELP)
+}
+
+// The same without its flags.
+fn client_options<'a>(alloc: Global) -> Result<Command<'a>, AllocError>
+    ensures app { IfOk result (λ command. app_of command ≡ fold (λ app option. with_rule app (option_rule option)) (new_app (codes "client")) spec.client_options) }
+    ensures local { IfOk result (λ command. (out-Command command).has_globals ≡ false) }
+{
     let mut command = Command::new(alloc, "client")
-        .about("Posts a token and asks for a resource, by the settings on the standard input")
+        .about(
+            "Posts a token and asks for a resource, by settings in a file or on the standard input",
+        )
         .after_help(
-            "Example: osc client --turns 1000 --method POST --path /log --payload 61 < SETTINGS",
+            "Example: osc client --timeout 10 --method POST --path /log --text a --config SETTINGS",
         );
     for option in ClientOption::ALL {
         command = with_option(
@@ -271,7 +312,7 @@ fn with_flag<'a>(
     name: &'a str,
     help: &'a str,
 ) -> Result<Command<'a>, AllocError>
-    ensures app { IfOk result (λ more. app_of more ≡ with_rule (app_of command.entry) (spec.flag_rule name.entry.now)) }
+    ensures app { IfOk result (λ more. app_of more ≡ with_rule (app_of command.entry) (flag_rule name.entry.now)) }
     ensures local { IfOk result (λ more. (out-Command more).has_globals ≡ (out-Command command.entry).has_globals) }
 {
     let arg = Arg::new(alloc, name)
@@ -318,16 +359,6 @@ fn with_value<'a>(
         .help(help)
         .required(is_required);
     command.arg(arg)
-}
-
-// Whether a flag was given.
-fn is_set(options: &ArgMatches<'_>, flag: &str) -> bool
-    ensures { result ≡ spec.is_set flag.now (rows_of (found_of options.now)) }
-{
-    match text_of(options, flag) {
-        Some(text) => text == "true",
-        None => false,
-    }
 }
 
 /// The first value of an argument.

@@ -1,22 +1,49 @@
 //! The values that options were given.
-ghost use Rattle.std.specs.Prelude.{◌≡◌, MatchResult, Some, None, option_map};
+ghost use Rattle.std.specs.Prelude.{◌≡◌, IfOk, MatchResult, Some, None, option_map};
 ghost use Rattle.clap.specs.Words.{found_of, rows_of};
 ghost use Rattle.osc_script.specs.Values.{SpellsNumber};
 ghost use Rattle.osc_words.specs.NamedOptions.{value_of};
+ghost use Rattle.osc_words.specs.Options as options_spec;
 ghost use Rattle.osc_words.specs.Inner.Reading.{IsRefusalOf};
 ghost use Rattle.osc_words.specs.Values.{IsGiven, SpellsClient, SpellsTurns};
 
 use crate::command::text_of;
 use crate::named_option::NamedOption;
+use crate::source::FileName;
 use crate::words::WordsError;
 use clap::ArgMatches;
 use osc_script::{ClientName, values};
+use std::alloc::{AllocError, Global};
 
 /// The value that an option was given.
 pub(crate) fn text<'a>(options: &ArgMatches<'a>, option: NamedOption) -> Option<&'a str>
     ensures { option_map (λ text. text.now) result ≡ value_of option (rows_of (found_of options.now)) }
 {
     text_of(options, option.name())
+}
+
+/// Whether a flag was given.
+pub(crate) fn is_set(options: &ArgMatches<'_>, flag: &str) -> bool
+    ensures { result ≡ options_spec.is_set flag.now (rows_of (found_of options.now)) }
+{
+    match text_of(options, flag) {
+        Some(text) => text == "true",
+        None => false,
+    }
+}
+
+/// The file that an option names, if it is given.
+pub(crate) fn file(
+    alloc: Global,
+    options: &ArgMatches<'_>,
+    option: NamedOption,
+) -> Result<Option<FileName>, AllocError>
+    ensures { IfOk result (λ file. file ≡ value_of option (rows_of (found_of options.now))) }
+{
+    match text(options, option) {
+        Some(name) => Ok(Some(FileName::new(alloc, name)?)),
+        None => Ok(None),
+    }
 }
 
 /// The value of an option that has to be given.

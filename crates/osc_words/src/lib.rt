@@ -1,6 +1,7 @@
 //! The words of the command line: what each subcommand asks for, and why a command line can't be heeded.
 #![tactic(auto)]
 
+mod choice;
 mod client_option;
 mod client_words;
 mod command;
@@ -8,18 +9,22 @@ mod given;
 mod held;
 mod hidden_option;
 mod named_option;
+mod node_words;
 mod source;
+mod times;
 mod token_option;
 mod token_words;
 mod words;
 
+pub use choice::Choice;
 pub use client_option::ClientOption;
 pub use client_words::ClientWords;
 pub use command::read_words;
 pub use held::{held_key, held_secret};
 pub use hidden_option::HiddenOption;
 pub use named_option::NamedOption;
+pub use node_words::NodeWords;
 pub use source::{FileName, Source};
 pub use token_option::TokenOption;
-pub use token_words::{OpenClaims, TokenAsked, TokenWords};
+pub use token_words::{Expiry, OpenClaims, TokenAsked, TokenWords};
 pub use words::{Words, WordsError, fault_line};

@@ -15,6 +15,8 @@ pub enum NamedOption {
     ServerTurns,
     /// `--turns` of `osc proxy`: the same.
     ProxyTurns,
+    /// `--config` of `osc server` and `osc proxy`: the file that the settings stand in.
+    NodeConfig,
     /// An option of `osc client`.
     Client(ClientOption),
     /// `--turns` of `osc lab`: how many turns follow each exchange and each request at most.
@@ -31,6 +33,7 @@ impl NamedOption {
         match self {
             NamedOption::ServerTurns | NamedOption::ProxyTurns | NamedOption::LabTurns => "turns",
             NamedOption::SimOnly => "only",
+            NamedOption::NodeConfig => "config",
             NamedOption::Client(option) => option.name(),
             NamedOption::Token(option) => option.name(),
         }
@@ -45,6 +48,7 @@ impl NamedOption {
                 "a number of 64 bits in decimal digits"
             }
             NamedOption::SimOnly => "a client, c1 to c9",
+            NamedOption::NodeConfig => "a file of settings",
             NamedOption::Client(option) => option.form(),
             NamedOption::Token(option) => option.form(),
         }
@@ -57,11 +61,19 @@ impl NamedOption {
         format!(in alloc; "error: --{} is not {}", self.name(), self.form())
     }
 
+    /// The line that says that the file that it names can't be read.
+    pub(crate) fn unread(self, alloc: Global) -> Result<String, AllocError>
+        ensures { IfOk result (λ line. string_bytes line ≡ spec.unread_text self) }
+    {
+        format!(in alloc; "error: the file of --{} can't be read", self.name())
+    }
+
     /// What help calls its value.
     pub(crate) fn value_name(self) -> &'static str {
         match self {
             NamedOption::ServerTurns | NamedOption::ProxyTurns | NamedOption::LabTurns => "N",
             NamedOption::SimOnly => "CLIENT",
+            NamedOption::NodeConfig => "FILE",
             NamedOption::Client(option) => option.value_name(),
             NamedOption::Token(option) => option.value_name(),
         }
@@ -76,6 +88,8 @@ impl NamedOption {
                 "The most turns after each exchange and request, each a datagram or 10 ms without one",
             NamedOption::SimOnly =>
                 "Prints how each entry of this client, c1 to c9, is answered where no other client asks",
+            NamedOption::NodeConfig =>
+                "A file that the settings stand in; the standard input by default",
             NamedOption::Client(option) => option.help(),
             NamedOption::Token(option) => option.help(),
         }

@@ -27,6 +27,8 @@ pub enum TokenOption {
     Scope,
     /// `--exp`: the second from which on the token counts no more.
     Expires,
+    /// `--for`: how long the token counts from when it is issued.
+    Lasts,
     /// `--nbf`: the first second at which the token counts.
     NotBefore,
     /// `--iv`: the IV under which the token is sealed.
@@ -35,7 +37,7 @@ pub enum TokenOption {
 
 impl TokenOption {
     /// All of them, those first that a token needs.
-    pub(crate) const ALL: [TokenOption; 13] = [
+    pub(crate) const ALL: [TokenOption; 14] = [
         TokenOption::Key,
         TokenOption::KeyFile,
         TokenOption::Audience,
@@ -47,6 +49,7 @@ impl TokenOption {
         TokenOption::Context,
         TokenOption::Algorithm,
         TokenOption::Expires,
+        TokenOption::Lasts,
         TokenOption::NotBefore,
         TokenOption::Iv,
     ];
@@ -67,6 +70,7 @@ impl TokenOption {
             TokenOption::Algorithm => "alg",
             TokenOption::Scope => "scope",
             TokenOption::Expires => "exp",
+            TokenOption::Lasts => "for",
             TokenOption::NotBefore => "nbf",
             TokenOption::Iv => "iv",
         }
@@ -96,10 +100,12 @@ impl TokenOption {
                 "0 to 64 bytes in hexadecimal"
             }
             TokenOption::Algorithm => "10 or 30",
-            TokenOption::Scope => "a scope",
+            TokenOption::Scope => "paths with methods, as /e:GET+PUT,/log:GET",
             TokenOption::Expires | TokenOption::NotBefore => {
                 "a number of 64 bits in decimal digits"
             }
+            TokenOption::Lasts =>
+                "a time in seconds, minutes, hours or days, as 90s, 15m, 12h or 30d",
             TokenOption::Iv => "13 bytes in hexadecimal",
         }
     }
@@ -109,6 +115,7 @@ impl TokenOption {
         match self {
             TokenOption::Audience | TokenOption::Scope => "TEXT",
             TokenOption::KeyFile | TokenOption::SecretFile => "FILE",
+            TokenOption::Lasts => "TIME",
             TokenOption::Algorithm | TokenOption::Expires | TokenOption::NotBefore => "N",
             _ => "HEX",
         }
@@ -132,6 +139,8 @@ impl TokenOption {
             TokenOption::Scope =>
                 "What the holder may do, as /log:GET+POST,/t:GET+SUB; SUB takes in the paths below",
             TokenOption::Expires => "The second from which on the token counts no more",
+            TokenOption::Lasts =>
+                "How long the token counts from now on, in place of --exp: 90s, 15m, 12h or 30d",
             TokenOption::NotBefore => "The first second at which the token counts",
             TokenOption::Iv =>
                 "The IV: 13 bytes, of which no other token under the key has the same; random by default",

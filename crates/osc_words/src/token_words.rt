@@ -6,16 +6,18 @@ ghost use Rattle.osc_script.specs.Values.{SpellsHexWithin, SpellsNumber, SpellsS
 ghost use Rattle.osc_words.specs.Options.{value_of};
 ghost use Rattle.osc_words.specs.Inner.Reading.{IsInOne, IsNotOneOf, IsRefusal, IsRefusalOf};
 ghost use Rattle.osc_words.specs.Sources.{IsSource};
+ghost use Rattle.osc_words.specs.Times as times_spec;
 ghost use Rattle.osc_words.specs.Filled.{with_secret};
 ghost use Rattle.osc_words.specs.TokenWords as spec;
 ghost use Rattle.osc_words.specs.Values.{IsGiven};
 
-use crate::given;
+use crate::choice::Choice;
 use crate::hidden_option::HiddenOption;
 use crate::named_option::NamedOption;
 use crate::source::{FileName, Source};
 use crate::token_option::TokenOption;
 use crate::words::WordsError;
+use crate::{given, times};
 use clap::ArgMatches;
 use osc_model::{Algorithm, Bytes};
 use osc_script::values;
@@ -39,12 +41,33 @@ pub struct TokenAsked {
     pub iv: Option<[u8; 13]>,
 }
 
+/// When a token is over.
+#[derive(Clone, Copy, Debug, PartialEq, Eq)]
+pub enum Expiry {
+    /// From this second on, counted from 1970.
+    At(u64),
+    /// So many seconds after it is issued.
+    After(u64),
+}
+
+impl Expiry {
+    /// The second from which on a token is over that is issued at this second, both counted from 1970.
+    pub fn second(self, now: u64) -> u64
+        ensures { result ≡ times_spec.second_of now self }
+    {
+        match self {
+            Expiry::At(second) => second,
+            Expiry::After(seconds) => now.saturating_add(seconds),
+        }
+    }
+}
+
 /// What a token claims, but for the secret.
 #[derive(PartialEq, Eq, Drop)]
 pub struct OpenClaims {
     pub audience: Audience,
     pub not_before: Option<u64>,
-    pub expires: Option<u64>,
+    pub expires: Option<Expiry>,
     pub id: Bytes,
     pub salt: Bytes,
     pub id_context: Option<Bytes>,
@@ -78,14 +101,17 @@ impl fmt::Debug for TokenWords {
 }
 
 impl OpenClaims {
-    /// All the claims, with this secret.
-    pub fn with(self, secret: Bytes) -> Claims
-        ensures { result ≡ with_secret self secret }
+    /// All the claims of a token that is issued at this second, counted from 1970, with this secret.
+    pub fn with(self, now: u64, secret: Bytes) -> Claims
+        ensures { result ≡ with_secret self now secret }
     {
         Claims {
             audience: self.audience,
             not_before: self.not_before,
-            expires: self.expires,
+            expires: match self.expires {
+                Some(expiry) => Some(expiry.second(now)),
+                None => None,
+            },
             material: InputMaterial {
                 id: self.id,
                 secret,
@@ -116,7 +142,7 @@ fn claims(alloc: Global, options: &ArgMatches<'_>) -> Result<OpenClaims, WordsEr
     Ok(OpenClaims {
         audience: audience(alloc, options)?,
         not_before: number(options, TokenOption::NotBefore)?,
-        expires: number(options, TokenOption::Expires)?,
+        expires: expires(options)?,
         id: required_bytes(alloc, options, TokenOption::Id, 0)?,
         salt: salt(alloc, options)?,
         id_context: bytes(alloc, options, TokenOption::Context, 0)?,
@@ -164,7 +190,7 @@ fn name_of_file(
     match (value, file) {
         (Some(_), None) => Ok(None),
         (None, Some(name)) => Ok(Some(FileName::new(alloc, name)?)),
-        (Some(_), Some(_)) | (None, None) => Err(WordsError::NotOne(option)),
+        (Some(_), Some(_)) | (None, None) => Err(WordsError::NotOne(Choice::Hidden(option))),
     }
 }
 
@@ -268,6 +294,28 @@ fn algorithm(options: &ArgMatches<'_>) -> Result<Algorithm, WordsError>
         return Err(WordsError::Value(option));
     };
     Algorithm::from_number(number).ok_or(WordsError::Value(option))
+}
+
+// When the token is over, where one of the two options says so.
+fn expires(options: &ArgMatches<'_>) -> Result<Option<Expiry>, WordsError>
+    ensures { MatchResult result
+        (times_spec.IsExpiry (value_of TokenOption.Expires (rows_of (found_of options.now))) (value_of TokenOption.Lasts (rows_of (found_of options.now))))
+        (IsRefusal (rows_of (found_of options.now))) }
+{
+    let second = given::text(options, NamedOption::Token(TokenOption::Expires));
+    let time = given::text(options, NamedOption::Token(TokenOption::Lasts));
+    match (second, time) {
+        (Some(text), None) => match values::number(text) {
+            Some(second) => Ok(Some(Expiry::At(second))),
+            None => Err(WordsError::Value(NamedOption::Token(TokenOption::Expires))),
+        },
+        (None, Some(text)) => match times::time(text) {
+            Some(seconds) => Ok(Some(Expiry::After(seconds))),
+            None => Err(WordsError::Value(NamedOption::Token(TokenOption::Lasts))),
+        },
+        (None, None) => Ok(None),
+        (Some(_), Some(_)) => Err(WordsError::NotOne(Choice::Expiry)),
+    }
 }
 
 // A number, where it is given.

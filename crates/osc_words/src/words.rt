@@ -4,9 +4,10 @@ ghost use Rattle.clap.specs.Words.{kind_of};
 ghost use Rattle.osc_words.specs.Command as spec;
 ghost use Rattle.osc_words.specs.declared.words.WordsError.TheVariants as words_error;
 
+use crate::choice::Choice;
 use crate::client_words::ClientWords;
-use crate::hidden_option::HiddenOption;
 use crate::named_option::NamedOption;
+use crate::node_words::NodeWords;
 use crate::token_words::TokenAsked;
 use clap::error::ErrorKind;
 use osc_script::ClientName;
@@ -24,17 +25,12 @@ pub enum Words {
     },
     /// `osc token`: print a token.
     Token(TokenAsked),
-    /// `osc server [--turns N] [--log]`: run a server for so many turns, and tell of each where `log` says so. Where no turns are
-    /// given, there are `u64::MAX`.
-    Server {
-        turns: u64,
-        log: bool,
-    },
-    /// `osc proxy [--turns N] [--log]`: run a forward proxy likewise.
-    Proxy {
-        turns: u64,
-        log: bool,
-    },
+    /// `osc key`: print a key, drawn at random.
+    Key,
+    /// `osc server [--config FILE] [--check] [--turns N] [--log]`: run a server.
+    Server(NodeWords),
+    /// `osc proxy [--config FILE] [--check] [--turns N] [--log]`: run a forward proxy.
+    Proxy(NodeWords),
     /// `osc client`: post a token and send a request.
     Client(ClientWords),
     /// `osc lab --turns N`: run a script over sockets, with at most so many turns after each exchange and request.
@@ -50,10 +46,10 @@ pub enum WordsError {
     Clap(clap::Error),
     /// The value of this option is none that it may have.
     Value(NamedOption),
-    /// A value is both given and said to stand in a file, or neither.
-    NotOne(HiddenOption),
-    /// The file that this value is to stand in can't be read.
-    Unread(HiddenOption),
+    /// Not exactly one of two options of a value is given, or more than one where none has to be.
+    NotOne(Choice),
+    /// The file that this option names can't be read.
+    Unread(NamedOption),
     /// There was no memory.
     Memory,
 }
@@ -84,7 +80,7 @@ pub fn fault_line(alloc: Global, error: &WordsError) -> Result<String, AllocErro
     match error {
         WordsError::Clap(error) => told(alloc, error.to_string(alloc)?.as_str()),
         WordsError::Value(option) => option.refusal(alloc),
-        WordsError::NotOne(option) => option.not_one(alloc),
+        WordsError::NotOne(choice) => choice.not_one(alloc),
         WordsError::Unread(option) => option.unread(alloc),
         WordsError::Memory => "out of memory".to_string(alloc),
     }

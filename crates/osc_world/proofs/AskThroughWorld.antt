@@ -15,7 +15,7 @@ use Rattle.osc_model.specs.declared.step.Step.{Step}
 use Rattle.osc_coap.specs.Message.{Message, spelling}
 use Rattle.osc_message.specs.Confirmables.{same_peer}
 use Rattle.osc_message.specs.Sending.{datagram, empty_acknowledgement}
-use Rattle.osc_protect.specs.Ciphers.{Sealings, Tags}
+use Rattle.osc_ccm.specs.Ciphers.{Sealings, Tags}
 use Rattle.osc_authz.specs.Begun.{ClientContextState}
 use Rattle.osc_authz.specs.Held.{Held}
 use Rattle.osc_authz.specs.Table.{taking}
@@ -23,7 +23,7 @@ use Rattle.osc_run.specs.ClientKinds.{request_note}
 use Rattle.osc_run.specs.History.{history}
 use Rattle.osc_run.specs.Notes.{Noted, by_client, by_proxy, by_server}
 use Rattle.osc_run.specs.ServerKinds.{Replies as AppliesTo}
-use Rattle.osc_run.specs.Texts.{read_request}
+use Rattle.osc_options.specs.Texts.{read_request}
 use Rattle.osc_server.specs.State.{State as Server}
 use Rattle.osc_client.specs.Lawful.{IsLawfulClient}
 use Rattle.osc_client.specs.Sending.{Asked, Asks}
@@ -45,7 +45,6 @@ use Rattle.osc_world.specs.Ready.{AskedRequest, ClientRound, GoesTheSameWay, Has
 use Rattle.osc_world.specs.Ready as ready_as
 use Rattle.osc_world.specs.Worlds.{Happens, State}
 use Rattle.osc_world.specs.declared.nodes.Placed.{Placed}
-use Rattle.osc_world.specs.declared.nodes.PlacedProxy.{PlacedProxy}
 use Rattle.osc_world.proofs.AskWorld.{AnswersStraight, KeepsByNotes, answered_straight, left_unheard, opened_of}
 use Rattle.osc_world.proofs.Asked.{IsAsked, is_asked, lawful_after, one_goes_out}
 use Rattle.osc_world.proofs.Deliveries.{still_minted}
@@ -161,9 +160,9 @@ module _ (is_sealing : Sealings) (tag : Tags) where
       (lawful : IsLawfulServer w1.nodes.server)
       (lawful_proxies : AreLawfulProxies w1.nodes.proxies)
       (lawful_clients : AreLawfulClients w1.nodes.clients)
-      (proxy_number : ℕ) (proxy : PlacedProxy)
+      (proxy_number : ℕ) (proxy : Placed Proxy)
       (proxy_here : slice_get begins.before.nodes.proxies proxy_number ≡ Some proxy)
-      (goes : IsThrough begins.placed.client proxy.proxy begins.before.nodes.server begins.what.draw
+      (goes : IsThrough begins.placed.node proxy.node begins.before.nodes.server begins.what.draw
       (hops_through proxy begins.before begins.placed (round_of deliveries begins.what.draw w1)))
       (rounds : Rounds (Happens is_sealing tag) deliveries (suc (suc (suc (suc (suc (suc left)))))) w1 is_quiet new) where
     abbrev old : State
@@ -172,7 +171,7 @@ module _ (is_sealing : Sealings) (tag : Tags) where
     abbrev number : ℕ
     number = begins.client
 
-    abbrev placed : Placed
+    abbrev placed : Placed Client
     placed = begins.placed
 
     abbrev draw : Draw
@@ -199,8 +198,8 @@ module _ (is_sealing : Sealings) (tag : Tags) where
     abbrev text : List ℕ
     text = request.text
 
-    abbrev after : Placed
-    after = record placed { client = asks.client }
+    abbrev after : Placed Client
+    after = record placed { node = asks.client }
 
     abbrev nodes : NodeStates
     nodes = record old.nodes { clients = slice_set old.nodes.clients number after }
@@ -222,13 +221,13 @@ module _ (is_sealing : Sealings) (tag : Tags) where
     lawful_server : IsLawfulServer old.nodes.server
     lawful_server = subst IsLawfulServer (ap (λ (n : NodeStates). n.server) asks.nodes) lawful
 
-    lawful_proxy : IsLawfulProxy proxy.proxy
+    lawful_proxy : IsLawfulProxy proxy.node
     lawful_proxy = lawful_proxies proxy_number proxy (ap (λ (n : NodeStates). slice_get n.proxies proxy_number) asks.nodes ∙ proxy_here)
 
     lawful_client : IsLawfulClient asks.client
     lawful_client = lawful_after number placed asks.client old w1 begins.ready.here asks.nodes lawful_clients
 
-    to_proxy : (message : Message) → asks.step.out ≡ datagram placed.client.next_hop message ∷ [] → queue w1 ≡ from_to placed.at proxy.at (spelling message) ∷ []
+    to_proxy : (message : Message) → asks.step.out ≡ datagram placed.node.next_hop message ∷ [] → queue w1 ≡ from_to placed.at proxy.at (spelling message) ∷ []
     to_proxy message out =
         asks.waits
         ∙ ap (λ (out : List Datagram). map (sent_from placed.at) out) out
@@ -236,25 +235,25 @@ module _ (is_sealing : Sealings) (tag : Tags) where
 
     whole : IsWhole first
     whole =
-        let one : (message : Message) × (asks.step.out ≡ datagram placed.client.next_hop message ∷ []) =
-        one_goes_out is_sealing tag placed.client asks.client begins.what asks.step context begins.may.idle begins.may.has begins.may.number asks.fits asks.asks in
+        let one : (message : Message) × (asks.step.out ≡ datagram placed.node.next_hop message ∷ []) =
+        one_goes_out is_sealing tag placed.node asks.client begins.what asks.step context begins.may.idle begins.may.has begins.may.number asks.fits asks.asks in
         first_is_whole is_sealing tag deliveries itself route (spelling one.0) (suc (suc (suc (suc (suc left))))) w1 new is_quiet sizes asks.nodes apart (to_proxy one.0 one.1) rounds
 
     abbrev hops : Hops
     hops = hops_through proxy old placed (round_of deliveries draw w1)
 
     abbrev way_of : Message → OnItsWay
-    way_of message = on_its_way asks.client proxy.proxy old.nodes.server hops request message goes.key
+    way_of message = on_its_way asks.client proxy.node old.nodes.server hops request message goes.key
 
-    it : (message : Message) × IsAskedAndServedThrough is_sealing (way_of message) placed.client draw begins.what.request asks.step
+    it : (message : Message) × IsAskedAndServedThrough is_sealing (way_of message) placed.node draw begins.what.request asks.step
     it =
-        law placed.client asks.client proxy.proxy old.nodes.server begins.what hops context held asks.step
+        law placed.node asks.client proxy.node old.nodes.server begins.what hops context held asks.step
         lawful_server lawful_proxy lawful_client whole goes begins.may asks.fits asks.asks
 
     abbrev way : OnItsWay
     way = way_of it.0
 
-    abbrev is : IsAskedAndServedThrough is_sealing way placed.client draw begins.what.request asks.step
+    abbrev is : IsAskedAndServedThrough is_sealing way placed.node draw begins.what.request asks.step
     is = it.1
 
     alone : queue w1 ≡ from_to placed.at proxy.at (spelling it.0) ∷ []
@@ -262,7 +261,7 @@ module _ (is_sealing : Sealings) (tag : Tags) where
 
     -- ---- there and back
 
-    abbrev coming : (step : Step) (passed : Proxy) → IsWhole first → ProxyHears proxy.proxy (coming_from now placed.at first (spelling it.0)) step passed
+    abbrev coming : (step : Step) (passed : Proxy) → IsWhole first → ProxyHears proxy.node (coming_from now placed.at first (spelling it.0)) step passed
         → IsForwarded is_sealing now placed.at proxy.at old.nodes.server_at asks.client old.nodes.server passed step
     coming step passed good hears = passes is_sealing way step passed (is.passed step passed hears)
 
@@ -284,7 +283,7 @@ module _ (is_sealing : Sealings) (tag : Tags) where
     abbrev answered : IsAnsweredAndEnds is_sealing way round.proxy_4 served.reply round.step_5 round.client_5
     answered = brought.answered round.draw_5 round.step_5 round.client_5 round.hears_5
 
-    ended : IsAtRest proxy.proxy (passage_of way) round.step_6 round.proxy_6
+    ended : IsAtRest proxy.node (passage_of way) round.step_6 round.proxy_6
     ended = answered.ends round.draw_6 round.step_6 round.proxy_6 round.hears_6
 
     -- ---- what is kept of it
@@ -345,7 +344,7 @@ module _ (is_sealing : Sealings) (tag : Tags) where
 
     notes_are : AreNotesOfRequest now request served.reply asks.step.notes round.step_3.notes round.step_5.notes
     notes_are = record {
-      asked_is = asks_notes is_sealing tag placed.client asks.client begins.what asks.step (request_note held.name context.next text) asks.asks is.sealed;
+      asked_is = asks_notes is_sealing tag placed.node asks.client begins.what asks.step (request_note held.name context.next text) asks.asks is.sealed;
       served_is = served.entry;
       answered_is = ap (λ (s : Step). s.notes) answered.is_answered.told;
     }
@@ -361,8 +360,8 @@ module _ (is_sealing : Sealings) (tag : Tags) where
     server_is : new.nodes.server ≡ round.server_3
     server_is = ap (λ (n : NodeStates). n.server) round.nodes_are
 
-    abbrev last : Placed
-    last = record after { client = round.client_5 }
+    abbrev last : Placed Client
+    last = record after { node = round.client_5 }
 
     last_there : slice_get new.nodes.clients number ≡ Some last
     last_there = ap (λ (n : NodeStates). slice_get n.clients number) round.nodes_are ∙ got_back nodes.clients number after last there
@@ -372,11 +371,11 @@ module _ (is_sealing : Sealings) (tag : Tags) where
         subst (λ (s : Server). HoldsStill s held context.next (taking context.next held)) (sym server_is)
         (holds_still takes_numbers now old.nodes.server round.server_3 held context.next lawful_server.table begins.may.here served.kept)
 
-    same_way : (before : Placed) → slice_get old.nodes.clients number ≡ Some before → GoesTheSameWay before last
+    same_way : (before : Placed Client) → slice_get old.nodes.clients number ≡ Some before → GoesTheSameWay before last
     same_way before stood =
         let same : placed ≡ before = same_Some placed before (sym begins.ready.here ∙ stood) in
-        let sent = asks_same is_sealing tag placed.client begins.what asks.step asks.client asks.asks in
-        subst (λ (p : Placed). GoesTheSameWay p last) same
+        let sent = asks_same is_sealing tag placed.node begins.what asks.step asks.client asks.asks in
+        subst (λ (p : Placed Client). GoesTheSameWay p last) same
         (record { at = refl; next_hop = answered.is_answered.next_hop ∙ sent.0; origin = answered.is_answered.origin ∙ sent.1 })
 
     pub answered_through : IsRound 6 w1 is_quiet new × HasAnswered old number now request new × KeepsThePremise old new
@@ -443,7 +442,7 @@ module _ (is_sealing : Sealings) (tag : Tags) (itself : (a : Peer) → same_peer
           sizes apart lawful lawful_proxies lawful_clients proxy_number proxy there goes
           (rounds_of (suc (suc (suc (suc (suc (suc (limit - 6))))))) more))
 
-  pub unheard_round : count ≡ 2 → (standing : Placed) → slice_get new.nodes.clients begins.client ≡ Some standing
+  pub unheard_round : count ≡ 2 → (standing : Placed Client) → slice_get new.nodes.clients begins.client ≡ Some standing
       → LeavesUnheard begins.before new begins.what.draw begins.placed standing
   unheard_round is_two standing stands = by begins.ready.way
     where

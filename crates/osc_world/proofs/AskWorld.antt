@@ -16,7 +16,7 @@ use Rattle.osc_dedup.specs.Table.{looked}
 use Rattle.osc_message.specs.Confirmables.{same_peer}
 use Rattle.osc_message.specs.Endpoint.{own_id}
 use Rattle.osc_message.specs.Sending.{datagram}
-use Rattle.osc_protect.specs.Ciphers.{Sealings, Tags}
+use Rattle.osc_ccm.specs.Ciphers.{Sealings, Tags}
 use Rattle.osc_authz.specs.Begun.{ClientContextState}
 use Rattle.osc_authz.specs.Held.{Held}
 use Rattle.osc_authz.specs.Members.{In}
@@ -28,7 +28,7 @@ use Rattle.osc_run.specs.Notes.{Noted, by_client, by_server}
 use Rattle.osc_run.specs.Premise.{Premise}
 use Rattle.osc_run.specs.ServerKinds.{Replies as AppliesTo}
 use Rattle.osc_run.specs.States.{Minted}
-use Rattle.osc_run.specs.Texts.{read_request}
+use Rattle.osc_options.specs.Texts.{read_request}
 use Rattle.osc_server.specs.Hearing.{Hears as ServerHears}
 use Rattle.osc_server.specs.State.{State as Server}
 use Rattle.osc_client.specs.Lawful.{IsLawfulClient}
@@ -74,14 +74,14 @@ module _ (is_sealing : Sealings) (tag : Tags) where
 
   -- what was asked, as it is served
   abbrev pub opened_of : (deliveries : Deliveries) (count : ℕ) (w1 : State) → AskedRequest is_sealing tag deliveries count w1 → OpenedRequest
-  opened_of deliveries count w1 it = record { held = it.held; number = it.context.next; text = asked_text it.placed.client it.what.draw it.what.request }
+  opened_of deliveries count w1 it = record { held = it.held; number = it.context.next; text = asked_text it.placed.node it.what.draw it.what.request }
 
   module _ (itself : (a : Peer) → same_peer a a ≡ true) (law : AnswersStraight) (premises : KeepsByNotes) (takes_numbers : TakesNumbers)
       (deliveries : Deliveries) (count : ℕ) (w1 new : State) (it : AskedRequest is_sealing tag deliveries count w1) (left : ℕ) (is_quiet : Bool)
       (apart : StandApart w1.nodes)
       (lawful : IsLawfulServer w1.nodes.server)
       (lawful_clients : AreLawfulClients w1.nodes.clients)
-      (goes : IsStraight it.placed.client it.before.nodes.server deliveries.at it.what.draw it.placed.at it.before.nodes.server_at)
+      (goes : IsStraight it.placed.node it.before.nodes.server deliveries.at it.what.draw it.placed.at it.before.nodes.server_at)
       (rounds : Rounds (Happens is_sealing tag) deliveries (suc (suc left)) w1 is_quiet new) where
     abbrev old : State
     old = it.before
@@ -89,7 +89,7 @@ module _ (is_sealing : Sealings) (tag : Tags) where
     abbrev number : ℕ
     number = it.client
 
-    abbrev placed : Placed
+    abbrev placed : Placed Client
     placed = it.placed
 
     abbrev draw : Draw
@@ -113,8 +113,8 @@ module _ (is_sealing : Sealings) (tag : Tags) where
     abbrev text : List ℕ
     text = request.text
 
-    abbrev after : Placed
-    after = record placed { client = asks.client }
+    abbrev after : Placed Client
+    after = record placed { node = asks.client }
 
     abbrev nodes : NodeStates
     nodes = record old.nodes { clients = slice_set old.nodes.clients number after }
@@ -134,9 +134,9 @@ module _ (is_sealing : Sealings) (tag : Tags) where
       text = text;
     }
 
-    is : IsAskedAndAnswered is_sealing way placed.client draw asks.step
+    is : IsAskedAndAnswered is_sealing way placed.node draw asks.step
     is =
-        law placed.client asks.client old.nodes.server it.what now placed.at old.nodes.server_at context held asks.step
+        law placed.node asks.client old.nodes.server it.what now placed.at old.nodes.server_at context held asks.step
         lawful_server (lawful_after number placed asks.client old w1 it.ready.here asks.nodes lawful_clients) goes it.may asks.fits asks.asks
 
     alone : queue w1 ≡ from_to placed.at old.nodes.server_at (spelling is.message) ∷ []
@@ -176,8 +176,8 @@ module _ (is_sealing : Sealings) (tag : Tags) where
     server_is : new.nodes.server ≡ round.server
     server_is = ap (λ (n : NodeStates). n.server) round.nodes_are
 
-    abbrev last : Placed
-    last = record after { client = round.client }
+    abbrev last : Placed Client
+    last = record after { node = round.client }
 
     last_there : slice_get new.nodes.clients number ≡ Some last
     last_there = ap (λ (n : NodeStates). slice_get n.clients number) round.nodes_are ∙ got_back nodes.clients number after last there
@@ -189,11 +189,11 @@ module _ (is_sealing : Sealings) (tag : Tags) where
         subst (λ (s : Server). HoldsStill s held context.next (taking context.next held)) (sym server_is)
         (holds_still takes_numbers now old.nodes.server round.server held context.next lawful_server.table it.may.here served.kept)
 
-    same_way : (before : Placed) → slice_get old.nodes.clients number ≡ Some before → GoesTheSameWay before last
+    same_way : (before : Placed Client) → slice_get old.nodes.clients number ≡ Some before → GoesTheSameWay before last
     same_way before stood =
         let same : placed ≡ before = same_Some placed before (sym it.ready.here ∙ stood) in
-        let sent = asks_same is_sealing tag placed.client it.what asks.step asks.client asks.asks in
-        subst (λ (p : Placed). GoesTheSameWay p last) same
+        let sent = asks_same is_sealing tag placed.node it.what asks.step asks.client asks.asks in
+        subst (λ (p : Placed Client). GoesTheSameWay p last) same
         (record { at = refl; next_hop = answered.next_hop ∙ sent.0; origin = answered.origin ∙ sent.1 })
 
     abbrev entry : Entry
@@ -219,7 +219,7 @@ module _ (is_sealing : Sealings) (tag : Tags) where
 
     notes_are : AreNotesOfRequest now request served.reply asks.step.notes round.serving.notes round.taking.notes
     notes_are = record {
-      asked_is = asks_notes is_sealing tag placed.client asks.client it.what asks.step (request_note held.name context.next text) asks.asks is.sealed;
+      asked_is = asks_notes is_sealing tag placed.node asks.client it.what asks.step (request_note held.name context.next text) asks.asks is.sealed;
       served_is = served.entry;
       answered_is = ap (λ (s : Step). s.notes) answered.told;
     }
@@ -257,18 +257,18 @@ module _ (is_sealing : Sealings) (tag : Tags) where
       goes_on,
     )
 
-    unheard_of : (later : Moment) (id : ℕ) → id ≢ own_id draw placed.client.endpoint.next_id → looked later placed.at id old.nodes.server.endpoint.seen ≡ None
+    unheard_of : (later : Moment) (id : ℕ) → id ≢ own_id draw placed.node.endpoint.next_id → looked later placed.at id old.nodes.server.endpoint.seen ≡ None
         → looked later placed.at id new.nodes.server.endpoint.seen ≡ None
     unheard_of later id other before =
         ap (λ (s : Server). looked later placed.at id s.endpoint.seen) server_is
         ∙ is.heard round.draw round.serving round.server round.served later id other before
 
-    next_id_is : round.client.endpoint.next_id ≡ Some ((own_id draw placed.client.endpoint.next_id + 1) % 65536)
+    next_id_is : round.client.endpoint.next_id ≡ Some ((own_id draw placed.node.endpoint.next_id + 1) % 65536)
     next_id_is =
         hears_id is_sealing asks.client (coming_from now old.nodes.server_at round.client_draw (spelling served.answer)) round.taking round.client round.taken
-        ∙ asks_id is_sealing tag placed.client it.what asks.step asks.client (datagram placed.client.next_hop is.message) asks.asks is.out
+        ∙ asks_id is_sealing tag placed.node it.what asks.step asks.client (datagram placed.node.next_hop is.message) asks.asks is.out
 
-    pub left_unheard : (standing : Placed) → slice_get new.nodes.clients number ≡ Some standing → LeavesUnheard old new draw placed standing
+    pub left_unheard : (standing : Placed Client) → slice_get new.nodes.clients number ≡ Some standing → LeavesUnheard old new draw placed standing
     left_unheard standing stands =
         let same : last ≡ standing = same_Some last standing (sym last_there ∙ stands) in
-        subst (λ (p : Placed). LeavesUnheard old new draw placed p) same (record { next_id = next_id_is; unheard = unheard_of })
+        subst (λ (p : Placed Client). LeavesUnheard old new draw placed p) same (record { next_id = next_id_is; unheard = unheard_of })

@@ -8,7 +8,7 @@ use Rattle.osc_coap.specs.Message.{Message}
 use Rattle.osc_message.specs.Sending.{datagram}
 use Rattle.osc_authz.specs.Begun.{ClientContextState}
 use Rattle.osc_context.specs.Nonce.{greatest_number}
-use Rattle.osc_protect.specs.Ciphers.{Sealings, Tags}
+use Rattle.osc_ccm.specs.Ciphers.{Sealings, Tags}
 use Rattle.osc_run.specs.Notes.{by_client}
 use Rattle.osc_client.specs.Lawful.{IsLawfulClient}
 use Rattle.osc_client.specs.Sending.{Asked, Asks, IsHindered, asks, hindered}
@@ -35,18 +35,20 @@ module _ (is_sealing : Sealings) (tag : Tags) where
     pub record IsAsked : Type 0 where
       pub step : Step
       pub client : Client
-      pub asks : Asks is_sealing tag it.placed.client it.what step client
+      pub asks : Asks is_sealing tag it.placed.node it.what step client
       pub steps : asked.steps ≡ by_client it.client false step.notes ∷ it.before.steps
-      pub nodes : asked.nodes ≡ record it.before.nodes { clients = slice_set it.before.nodes.clients it.client (record it.placed { client = client }) }
+      pub nodes : asked.nodes ≡ record it.before.nodes { clients = slice_set it.before.nodes.clients it.client (record it.placed { node = client }) }
       pub waits : queue asked ≡ map (sent_from it.placed.at) step.out
       pub fits : step.notes.result ≢ Some (result.Refused 14)
 
-    takes : ItTakes (ClientDoes is_sealing tag (Ask it.what)) false it.before.nodes it.client it.happens.taken it.happens.nodes it.placed
-    takes =
+    took : Takes is_sealing tag it.before.nodes (OfClient it.client (Ask it.what)) it.happens.taken it.happens.nodes
+    took =
         let some : (it.what.request.code.0 == 0) ≡ false = ne_eqb it.what.request.code.0 0 (λ none. omega (arith, none, it.code)) in
         let deed_is : deed_of it.before.nodes it.before.sent (asking it.client it.what) ≡ OfClient it.client (Ask it.what) = rw some refl in
-        it_takes (ClientDoes is_sealing tag (Ask it.what)) false it.before.nodes it.client it.happens.taken it.happens.nodes it.placed it.ready.here
-        (subst (λ (deed : Deed). Takes is_sealing tag it.before.nodes deed it.happens.taken it.happens.nodes) deed_is it.happens.takes)
+        subst (λ (deed : Deed). Takes is_sealing tag it.before.nodes deed it.happens.taken it.happens.nodes) deed_is it.happens.takes
+
+    takes : ItTakes (ClientDoes is_sealing tag (Ask it.what)) (by_client it.client false) it.before.nodes.clients it.client it.happens.taken took.0 it.placed
+    takes = it_takes (ClientDoes is_sealing tag (Ask it.what)) (by_client it.client false) it.before.nodes.clients it.client it.happens.taken took.0 it.placed it.ready.here took.1
 
     steps_are : asked.steps ≡ by_client it.client false takes.step.notes ∷ it.before.steps
     steps_are = ap (λ (w : State). w.steps) it.happens.is ∙ ap (λ (t : Option Taken). steps_with t it.before.steps) takes.taken_is
@@ -54,10 +56,10 @@ module _ (is_sealing : Sealings) (tag : Tags) where
     pub is_asked : IsAsked
     is_asked = record {
       step = takes.step;
-      client = takes.client;
+      client = takes.node;
       asks = takes.it_does.asks;
       steps = steps_are;
-      nodes = ap (λ (w : State). w.nodes) it.happens.is ∙ takes.is;
+      nodes = ap (λ (w : State). w.nodes) it.happens.is ∙ took.2 ∙ ap (λ (clients : List (Placed Client)). record it.before.nodes { clients = clients }) takes.is;
       waits = sent_behind is_sealing tag it.before asked (asking it.client it.what) it.happens refl
           ∙ ap (λ (all : List SentDatagram). all ++ sent_by it.happens.taken) (at_rest it.before it.ready.still)
           ∙ ap (λ (t : Option Taken). sent_by t) takes.taken_is;
@@ -82,9 +84,9 @@ module _ (is_sealing : Sealings) (tag : Tags) where
       wrong (sending.IsHindered.too_long e made waits holds least long) = fits (ap (λ (s : Step). s.notes.result) refused.told ∙ ap (λ (n : ℕ). Some (result.Refused n)) e)
 
 -- the client that took a step is one of those
-pub lawful_after : (number : ℕ) (placed : Placed) (client : Client) (old new : State) → slice_get old.nodes.clients number ≡ Some placed
-    → new.nodes ≡ record old.nodes { clients = slice_set old.nodes.clients number (record placed { client = client }) } → AreLawfulClients new.nodes.clients
+pub lawful_after : (number : ℕ) (placed : Placed Client) (client : Client) (old new : State) → slice_get old.nodes.clients number ≡ Some placed
+    → new.nodes ≡ record old.nodes { clients = slice_set old.nodes.clients number (record placed { node = client }) } → AreLawfulClients new.nodes.clients
     → IsLawfulClient client
 lawful_after number placed client old new here nodes lawful =
-    let after : Placed = record placed { client = client } in
+    let after : Placed Client = record placed { node = client } in
     lawful number after (ap (λ (n : NodeStates). slice_get n.clients number) nodes ∙ got_back old.nodes.clients number placed after here)

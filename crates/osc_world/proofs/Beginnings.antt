@@ -20,12 +20,13 @@ use Rattle.osc_rounds.specs.Ready.{MayExchange}
 use Rattle.osc_token.specs.Minted.{FitTheirTypes, HasLawfulParts}
 use Rattle.osc_token.specs.Token.{algorithm_header, claims_item}
 use Rattle.osc_token.specs.declared.claims.Claims.{Claims}
-use Rattle.osc_protect.specs.Ciphers.{Sealings, IsLongerBy}
+use Rattle.osc_ccm.specs.Ciphers.{Sealings, IsLongerBy}
+use Rattle.osc_proxy.specs.State.{State as Proxy}
+use Rattle.osc_world.specs.declared.nodes.Placed.{Placed}
 use Rattle.osc_world.specs.Ready.{ClientRound, IsReady}
 use Rattle.osc_world.specs.Ready as ready_as
 use Rattle.osc_world.specs.Refusals.{FitAToken}
 use Rattle.osc_world.specs.Starts.{Beginning, Enrols, begun, new_proxy}
-use Rattle.osc_world.specs.declared.nodes.PlacedProxy.{PlacedProxy}
 use Rattle.osc_world.specs.declared.start.Holder.{Holder}
 
 fit : (claims : Claims) → HasLawfulParts claims → FitTheirTypes claims
@@ -47,8 +48,8 @@ module _ (is_sealing : Sealings) (tag : ℕ)
     (key : start.key ≡ before.key)
     (lawful : HasLawfulParts holder.claims) (fits : FitAToken holder.claims) (audience : holder.claims.audience ≡ start.audience)
     (begins : HasBegun holder.claims.not_before now) (ends : IsNotOver holder.claims.expires now)
-    (iv_size : length holder.iv ≡ 13) (token_size : length enrols.placed.client.desk.token < 2 ^ 64) where
-  holds : HoldsToken (is_sealing EightByteTag) start.key holder.claims enrols.enrolled.entries enrols.placed.client.desk
+    (iv_size : length holder.iv ≡ 13) (token_size : length enrols.placed.node.desk.token < 2 ^ 64) where
+  holds : HoldsToken (is_sealing EightByteTag) start.key holder.claims enrols.enrolled.entries enrols.placed.node.desk
   holds =
       let is = enrols.enrolled in record {
         iv = holder.iv;
@@ -71,7 +72,7 @@ module _ (is_sealing : Sealings) (tag : ℕ)
         alg = is.client.desk.alg;
       }
 
-  welcome : IsWelcome (is_sealing EightByteTag) (begun start).nodes.server.desk now holder.claims enrols.enrolled.entries enrols.placed.client.desk
+  welcome : IsWelcome (is_sealing EightByteTag) (begun start).nodes.server.desk now holder.claims enrols.enrolled.entries enrols.placed.node.desk
   welcome = record {
     holds = holds;
     lawful = lawful;
@@ -81,7 +82,7 @@ module _ (is_sealing : Sealings) (tag : ℕ)
     room = λ full. absurd (omega (arith, full.many));
   }
 
-  pub may_exchange : MayExchange is_sealing enrols.placed.client (begun start).nodes.server now holder.claims enrols.enrolled.entries
+  pub may_exchange : MayExchange is_sealing enrols.placed.node (begun start).nodes.server now holder.claims enrols.enrolled.entries
   may_exchange = record { idle = enrols.enrolled.client.waiting; welcome = welcome }
 
 module _ (is_sealing : Sealings)
@@ -104,7 +105,7 @@ module _ (is_sealing : Sealings)
       → IsReady (begun start) (length before.clients) enrols.placed round 6
   ready_through origin number at targets there named next_hop stands target =
       let is = enrols.enrolled.client in
-      let proxy : PlacedProxy = new_proxy at targets in record {
+      let proxy : Placed Proxy = new_proxy at targets in record {
         still = refl;
         here = there;
         way = ready_as.Way.through refl number proxy stands
@@ -120,6 +121,6 @@ module _ (is_sealing : Sealings)
               none_to_client = refl;
               unheard = refl;
               new_at_server = refl;
-              new_at_client = ap (λ (endpoint : EndpointState). looked round.at at (answer_id proxy.proxy round.first) endpoint.seen) is.endpoint;
+              new_at_client = ap (λ (endpoint : EndpointState). looked round.at at (answer_id proxy.node round.first) endpoint.seen) is.endpoint;
             });
       }

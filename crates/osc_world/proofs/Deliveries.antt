@@ -7,12 +7,13 @@ use Rattle.osc_model.specs.StepNotes.{StepNotes}
 use Rattle.osc_model.specs.declared.node.Peer.{Peer}
 use Rattle.osc_model.specs.declared.step.Step.{Step}
 use Rattle.osc_message.specs.Confirmables.{same_peer}
-use Rattle.osc_protect.specs.Ciphers.{Sealings, Tags}
+use Rattle.osc_ccm.specs.Ciphers.{Sealings, Tags}
 use Rattle.osc_run.specs.Nodes.{Came}
 use Rattle.osc_run.specs.Notes.{Noted, by_client, by_proxy, by_server}
 use Rattle.osc_server.specs.Steps as of_server
-use Rattle.osc_proxy.specs.State.{restarted as proxy_again}
+use Rattle.osc_proxy.specs.State.{State as Proxy, restarted as proxy_again}
 use Rattle.osc_proxy.specs.Steps as of_proxy
+use Rattle.osc_client.specs.State.{State as Client}
 use Rattle.osc_world.specs.Log.{delivered, sent_by, sent_from, settled, settled_at, steps_with}
 use Rattle.osc_world.specs.Nodes.{Deed, Do, StandApart, Take, Task, deed_by, deed_of, delivering, node_at}
 use Rattle.osc_world.specs.Queue.{Delivery, IsHeardByClient, IsHeardByProxy, IsHeardByServer, IsKeptOf, came_by, queue}
@@ -22,13 +23,12 @@ use Rattle.osc_world.specs.Worlds.{Happens, State}
 use Rattle.osc_world.specs.declared.event.Event.{Event}
 use Rattle.osc_world.specs.declared.log.SentDatagram.{SentDatagram}
 use Rattle.osc_world.specs.declared.nodes.Placed.{Placed}
-use Rattle.osc_world.specs.declared.nodes.PlacedProxy.{PlacedProxy}
 use Rattle.osc_world.specs.declared.nodes.Taken.{Taken}
 use Rattle.osc_world.specs.declared.nodes.Whose.{Whose}
 use Rattle.osc_world.specs.declared.nodes.Whose.TheVariants as whose
 use Rattle.osc_world.proofs.Apart.{apart_after, proxy_stands_there, server_stands_there, stands_there}
 use Rattle.osc_world.proofs.Queue.{IsFirst, all_wait, first_of, first_place, none_first, none_waits, waits}
-use Rattle.osc_world.proofs.Taking.{ItTakes, ProxyItTakes, it_takes, proxy_it_takes}
+use Rattle.osc_world.proofs.Taking.{it_takes}
 
 -- ---- one delivery
 
@@ -79,33 +79,35 @@ module _ (is_sealing : Sealings) (tag : Tags) (one : Delivery) (old next : State
         kept = kept old.nodes.server_at by_server t.step t.taken_is;
       }
 
-  pub to_client : (number : ℕ) (placed : Placed) → node_at old.nodes one.first.to ≡ whose.Client number → slice_get old.nodes.clients number ≡ Some placed
+  pub to_client : (number : ℕ) (placed : Placed Client) → node_at old.nodes one.first.to ≡ whose.Client number → slice_get old.nodes.clients number ≡ Some placed
       → IsHeardByClient is_sealing number placed one old next
-  to_client number placed node_is there =
-      by (it_takes (ClientDoes is_sealing tag (Do task)) false old.nodes number happens.taken happens.nodes placed there (takes (whose.Client number) node_is))
+  to_client number placed node_is there = by (takes (whose.Client number) node_is)
     where
-      by : ItTakes (ClientDoes is_sealing tag (Do task)) false old.nodes number happens.taken happens.nodes placed → IsHeardByClient is_sealing number placed one old next
-      by t = record {
-        step = t.step;
-        client = t.client;
-        hears = t.it_does.makes;
-        nodes = nodes_after ∙ t.is;
-        kept = kept placed.at (by_client number false) t.step t.taken_is;
-      }
+      by : Takes is_sealing tag old.nodes (deed_by (whose.Client number) task) happens.taken happens.nodes → IsHeardByClient is_sealing number placed one old next
+      by takes =
+          let t = it_takes (ClientDoes is_sealing tag (Do task)) (by_client number false) old.nodes.clients number happens.taken takes.0 placed there takes.1 in
+          record {
+            step = t.step;
+            client = t.node;
+            hears = t.it_does.makes;
+            nodes = nodes_after ∙ takes.2 ∙ ap (λ (clients : List (Placed Client)). record old.nodes { clients = clients }) t.is;
+            kept = kept placed.at (by_client number false) t.step t.taken_is;
+          }
 
-  pub to_proxy : (number : ℕ) (placed : PlacedProxy) → node_at old.nodes one.first.to ≡ whose.Proxy number → slice_get old.nodes.proxies number ≡ Some placed
+  pub to_proxy : (number : ℕ) (placed : Placed Proxy) → node_at old.nodes one.first.to ≡ whose.Proxy number → slice_get old.nodes.proxies number ≡ Some placed
       → IsHeardByProxy number placed one old next
-  to_proxy number placed node_is there =
-      by (proxy_it_takes (Does of_proxy.IsStep proxy_again task) old.nodes number happens.taken happens.nodes placed there (takes (whose.Proxy number) node_is))
+  to_proxy number placed node_is there = by (takes (whose.Proxy number) node_is)
     where
-      by : ProxyItTakes (Does of_proxy.IsStep proxy_again task) old.nodes number happens.taken happens.nodes placed → IsHeardByProxy number placed one old next
-      by t = record {
-        step = t.step;
-        proxy = t.proxy;
-        hears = t.it_does.makes;
-        nodes = nodes_after ∙ t.is;
-        kept = kept placed.at (by_proxy number) t.step t.taken_is;
-      }
+      by : Takes is_sealing tag old.nodes (deed_by (whose.Proxy number) task) happens.taken happens.nodes → IsHeardByProxy number placed one old next
+      by takes =
+          let t = it_takes (Does of_proxy.IsStep proxy_again task) (by_proxy number) old.nodes.proxies number happens.taken takes.0 placed there takes.1 in
+          record {
+            step = t.step;
+            proxy = t.node;
+            hears = t.it_does.makes;
+            nodes = nodes_after ∙ takes.2 ∙ ap (λ (proxies : List (Placed Proxy)). record old.nodes { proxies = proxies }) t.is;
+            kept = kept placed.at (by_proxy number) t.step t.taken_is;
+          }
 
 -- ---- a quiet round begins with it
 
@@ -152,13 +154,13 @@ module _ (is_sealing : Sealings) (tag : Tags) (deliveries : Deliveries) where
         let node_is : node_at old.nodes first.to ≡ whose.Server = ap (node_at old.nodes) to ∙ server_stands_there itself old.nodes in
         (next.0, to_server is_sealing tag one old next.0 it apart next.1 node_is, next.2)
 
-    pub client_hears : (number : ℕ) (placed : Placed) → slice_get old.nodes.clients number ≡ Some placed → first.to ≡ placed.at
+    pub client_hears : (number : ℕ) (placed : Placed Client) → slice_get old.nodes.clients number ≡ Some placed → first.to ≡ placed.at
         → (next : State) × IsHeardByClient is_sealing number placed one old next × GoesOn left next is_quiet new
     client_hears number placed there to =
         let node_is : node_at old.nodes first.to ≡ whose.Client number = ap (node_at old.nodes) to ∙ stands_there itself old.nodes number placed apart there in
         (next.0, to_client is_sealing tag one old next.0 it apart next.1 number placed node_is there, next.2)
 
-    pub proxy_hears : (number : ℕ) (placed : PlacedProxy) → slice_get old.nodes.proxies number ≡ Some placed → first.to ≡ placed.at
+    pub proxy_hears : (number : ℕ) (placed : Placed Proxy) → slice_get old.nodes.proxies number ≡ Some placed → first.to ≡ placed.at
         → (next : State) × IsHeardByProxy number placed one old next × GoesOn left next is_quiet new
     proxy_hears number placed there to =
         let node_is : node_at old.nodes first.to ≡ whose.Proxy number = ap (node_at old.nodes) to ∙ proxy_stands_there itself old.nodes number placed apart there in

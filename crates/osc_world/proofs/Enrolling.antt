@@ -7,15 +7,15 @@ use Rattle.osc_authz.specs.Contexts.{of_tokens}
 use Rattle.osc_model.specs.Scope.{Scope}
 use Rattle.osc_model.specs.Tree.{Tree}
 use Rattle.osc_model.specs.declared.node.Peer.{Peer}
-use Rattle.osc_protect.specs.Ciphers.{Sealings}
+use Rattle.osc_ccm.specs.Ciphers.{Sealings}
 use Rattle.osc_run.specs.Runs.{Holds, IsNewClient, IsStart, IsTextOf}
 use Rattle.osc_run.specs.States.{ClientState, Minted}
-use Rattle.osc_client.specs.State.{core, outstanding}
+use Rattle.osc_client.specs.State.{State as Client, core, outstanding}
+use Rattle.osc_proxy.specs.State.{State as Proxy}
 use Rattle.osc_world.specs.Nodes.{NodeStates}
 use Rattle.osc_world.specs.Starts.{AreEnrolled, Beginning, Enrols, IsEnrolled}
 use Rattle.osc_world.specs.Worlds.{run_with}
 use Rattle.osc_world.specs.declared.nodes.Placed.{Placed}
-use Rattle.osc_world.specs.declared.nodes.PlacedProxy.{PlacedProxy}
 use Rattle.osc_world.specs.declared.start.Holder.{Holder}
 
 -- ---- one more at the end of a list
@@ -50,7 +50,7 @@ holds_more : (minted : List Minted) (one : Minted) (number : ℕ) (secret : List
 holds_more minted one number secret h =
     record { held = h.held; granted = in_front h.held minted (one ∷ []) h.granted; holder = h.holder; secret = h.secret }
 
-pub enrolled_more : (is_sealing : Sealings) (key : List ℕ) (holder : Holder) (minted : List Minted) (clients : List Placed) (one : Minted) (placed : Placed)
+pub enrolled_more : (is_sealing : Sealings) (key : List ℕ) (holder : Holder) (minted : List Minted) (clients : List (Placed Client)) (one : Minted) (placed : Placed Client)
     → AreEnrolled minted clients → IsEnrolled is_sealing key (length clients) holder one placed → IsTextOf one.grant one.text
     → AreEnrolled (minted ++ one ∷ []) (clients ++ placed ∷ [])
 enrolled_more is_sealing key holder minted clients one placed old is text = record { texts = texts; holders = holders }
@@ -61,7 +61,7 @@ enrolled_more is_sealing key holder minted clients one placed old is text = reco
         (λ (h : In m (one ∷ [])). ⊎_elim (λ (e : m ≡ one). subst (λ n. IsTextOf n.grant n.text) (sym e) text) (λ (e : ⊥). absurd e) h)
         (in_either m minted (one ∷ []) there)
 
-    new : IsNewClient (minted ++ one ∷ []) (length clients) (core placed.client)
+    new : IsNewClient (minted ++ one ∷ []) (length clients) (core placed.node)
     new = record {
       holds = record {
         held = one;
@@ -70,22 +70,22 @@ enrolled_more is_sealing key holder minted clients one placed old is text = reco
         secret = ap (λ m. m.grant.secret) is.granted ∙ sym is.client.desk.secret;
       };
       context = is.client.context;
-      outstanding = ap (outstanding placed.client.context) is.client.waiting;
+      outstanding = ap (outstanding placed.node.context) is.client.waiting;
     }
 
-    holders : (number : ℕ) (p : Placed) → slice_get (clients ++ placed ∷ []) number ≡ Some p → IsNewClient (minted ++ one ∷ []) number (core p.client)
+    holders : (number : ℕ) (p : Placed Client) → slice_get (clients ++ placed ∷ []) number ≡ Some p → IsNewClient (minted ++ one ∷ []) number (core p.node)
     holders number p there =
         ⊎_elim
         (λ (h : slice_get clients number ≡ Some p).
         let before = old.holders number p h in
-        record { holds = holds_more minted one number p.client.desk.secret before.holds; context = before.context; outstanding = before.outstanding })
+        record { holds = holds_more minted one number p.node.desk.secret before.holds; context = before.context; outstanding = before.outstanding })
         (λ (h : (number ≡ length clients) × (p ≡ placed)).
-        subst (λ n. IsNewClient (minted ++ one ∷ []) n (core p.client)) (sym h.0)
-        (subst (λ q. IsNewClient (minted ++ one ∷ []) (length clients) (core q.client)) (sym h.1) new))
+        subst (λ n. IsNewClient (minted ++ one ∷ []) n (core p.node)) (sym h.0)
+        (subst (λ q. IsNewClient (minted ++ one ∷ []) (length clients) (core q.node)) (sym h.1) new))
         (at_end clients placed p number there)
 
 pub enrols : (is_sealing : Sealings) (self : Beginning) (first : Tree) (open_scope : Scope) (key audience : List ℕ) (server_at : Peer)
-    (minted minted' : List Minted) (clients clients' : List Placed) (proxies : List PlacedProxy) (holder : Holder) (one : Minted) (placed : Placed)
+    (minted minted' : List Minted) (clients clients' : List (Placed Client)) (proxies : List (Placed Proxy)) (holder : Holder) (one : Minted) (placed : Placed Client)
     → record { first = first; open_scope = open_scope; key = key; audience = audience; server_at = server_at; minted = minted; clients = clients; proxies = proxies } ≡ self
     → IsEnrolled is_sealing key (length clients) holder one placed
     → minted' ≡ minted ++ one ∷ [] → clients' ≡ clients ++ placed ∷ []
@@ -105,14 +105,14 @@ enrols is_sealing self first open_scope key audience server_at minted minted' cl
 
 -- ---- the start
 
-abbrev core_of : Placed → ClientState
-core_of placed = core placed.client
+abbrev core_of : Placed Client → ClientState
+core_of placed = core placed.node
 
-of_map : (o : Option Placed) (client : ClientState) → option_map core_of o ≡ Some client → (placed : Placed) × (o ≡ Some placed) × (core_of placed ≡ client)
+of_map : (o : Option (Placed Client)) (client : ClientState) → option_map core_of o ≡ Some client → (placed : Placed Client) × (o ≡ Some placed) × (core_of placed ≡ client)
 of_map None client e = absurd (cc)
 of_map (Some placed) client e = (placed, refl, same_Some _ _ e)
 
-pub is_start : (minted : List Minted) (first : Tree) (clients : List Placed) (nodes : NodeStates)
+pub is_start : (minted : List Minted) (first : Tree) (clients : List (Placed Client)) (nodes : NodeStates)
     → AreEnrolled minted clients → nodes.clients ≡ clients → nodes.server.tree ≡ first → nodes.server.desk.table ≡ []
     → IsStart (run_with minted first nodes [])
 is_start minted first clients nodes enrolled same tree table = record {

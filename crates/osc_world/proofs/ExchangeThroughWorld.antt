@@ -28,7 +28,7 @@ use Rattle.osc_rounds.specs.Ready.{Hops, IsThrough, MayExchange}
 use Rattle.osc_rounds.specs.RoundNotes.{AreAmongQuiet, AreNotesOfAgreement, AreNotesOfExchange, Draws}
 use Rattle.osc_scope.specs.Entries.{Entry}
 use Rattle.osc_token.specs.declared.claims.Claims.{Claims}
-use Rattle.osc_protect.specs.Ciphers.{Sealings, Tags}
+use Rattle.osc_ccm.specs.Ciphers.{Sealings, Tags}
 use Rattle.osc_world.specs.Lawful.{AreLawfulClients, AreLawfulProxies}
 use Rattle.osc_world.specs.Log.{sent_from}
 use Rattle.osc_world.specs.Nodes.{NodeStates, StandApart}
@@ -38,7 +38,6 @@ use Rattle.osc_world.specs.Ready.{AreMinted, BegunExchange, ClientRound, GoesThe
 use Rattle.osc_world.specs.Ready as ready_as
 use Rattle.osc_world.specs.Worlds.{Happens, State}
 use Rattle.osc_world.specs.declared.nodes.Placed.{Placed}
-use Rattle.osc_world.specs.declared.nodes.PlacedProxy.{PlacedProxy}
 use Rattle.osc_world.proofs.Asked.{lawful_after}
 use Rattle.osc_world.proofs.Deliveries.{still_minted}
 use Rattle.osc_world.proofs.ExchangeWorld.{HearsNoOther, KeepsOverExchange, MakesStraight, NotesExchange, exchange_goes_on, left_unheard, made_straight}
@@ -127,9 +126,9 @@ module _ (is_sealing : Sealings) (tag : Tags) where
       (apart : StandApart w1.nodes)
       (lawful_proxies : AreLawfulProxies w1.nodes.proxies)
       (lawful_clients : AreLawfulClients w1.nodes.clients)
-      (proxy_number : ℕ) (proxy : PlacedProxy)
+      (proxy_number : ℕ) (proxy : Placed Proxy)
       (proxy_here : slice_get begins.before.nodes.proxies proxy_number ≡ Some proxy)
-      (goes : IsThrough begins.placed.client proxy.proxy begins.before.nodes.server begins.draw
+      (goes : IsThrough begins.placed.node proxy.node begins.before.nodes.server begins.draw
       (hops_through proxy begins.before begins.placed (round_of deliveries begins.draw w1)))
       (rounds : Rounds (Happens is_sealing tag) deliveries (suc (suc (suc (suc (suc (suc left)))))) w1 is_quiet new) where
     abbrev old : State
@@ -138,7 +137,7 @@ module _ (is_sealing : Sealings) (tag : Tags) where
     abbrev number : ℕ
     number = begins.client
 
-    abbrev placed : Placed
+    abbrev placed : Placed Client
     placed = begins.placed
 
     abbrev begun_at : Moment
@@ -162,8 +161,8 @@ module _ (is_sealing : Sealings) (tag : Tags) where
     posts : IsPosted is_sealing tag deliveries count w1 begins
     posts = is_posted is_sealing tag deliveries count w1 begins
 
-    abbrev after : Placed
-    after = record placed { client = posts.client }
+    abbrev after : Placed Client
+    after = record placed { node = posts.client }
 
     abbrev nodes : NodeStates
     nodes = record old.nodes { clients = slice_set old.nodes.clients number after }
@@ -182,26 +181,26 @@ module _ (is_sealing : Sealings) (tag : Tags) where
       proxy_there = proxy_here;
     }
 
-    lawful_proxy : IsLawfulProxy proxy.proxy
+    lawful_proxy : IsLawfulProxy proxy.node
     lawful_proxy = lawful_proxies proxy_number proxy (ap (λ (n : NodeStates). slice_get n.proxies proxy_number) posts.nodes ∙ proxy_here)
 
     lawful_client : IsLawfulClient posts.client
     lawful_client = lawful_after number placed posts.client old w1 begins.ready.here posts.nodes lawful_clients
 
-    to_proxy : queue w1 ≡ from_to placed.at proxy.at (spelling (post_by placed.client draw)) ∷ []
+    to_proxy : queue w1 ≡ from_to placed.at proxy.at (spelling (post_by placed.node draw)) ∷ []
     to_proxy =
         posts.waits
         ∙ ap (λ (out : List Datagram). map (sent_from placed.at) out)
-        (post_goes_out placed.client posts.client begun_at draw posts.step begins.may.idle posts.fits posts.exchanges)
-        ∙ ap (λ (to : Peer). from_to placed.at to (spelling (post_by placed.client draw)) ∷ []) goes.next_hop
+        (post_goes_out placed.node posts.client begun_at draw posts.step begins.may.idle posts.fits posts.exchanges)
+        ∙ ap (λ (to : Peer). from_to placed.at to (spelling (post_by placed.node draw)) ∷ []) goes.next_hop
 
     whole : IsWhole first
-    whole = first_is_whole is_sealing tag deliveries itself route (spelling (post_by placed.client draw)) (suc (suc (suc (suc (suc left))))) w1 new is_quiet sizes posts.nodes apart to_proxy rounds
+    whole = first_is_whole is_sealing tag deliveries itself route (spelling (post_by placed.node draw)) (suc (suc (suc (suc (suc left))))) w1 new is_quiet sizes posts.nodes apart to_proxy rounds
 
     abbrev way_of : Message → PostOnItsWay
     way_of message = record {
       begun = posts.client;
-      proxy = proxy.proxy;
+      proxy = proxy.node;
       server = old.nodes.server;
       at = placed.at;
       proxy_at = proxy.at;
@@ -217,7 +216,7 @@ module _ (is_sealing : Sealings) (tag : Tags) where
 
     it : (message : Message) × IsPostedAndAgreedThrough is_sealing (way_of message) posts.step
     it =
-        law placed.client posts.client proxy.proxy old.nodes.server begun_at draw (hops_through proxy old placed (round_of deliveries draw w1)) claims entries posts.step
+        law placed.node posts.client proxy.node old.nodes.server begun_at draw (hops_through proxy old placed (round_of deliveries draw w1)) claims entries posts.step
         lawful_proxy lawful_client whole goes begins.may posts.fits posts.exchanges
 
     abbrev way : PostOnItsWay
@@ -231,7 +230,7 @@ module _ (is_sealing : Sealings) (tag : Tags) where
 
     -- ---- there and back
 
-    abbrev coming : (step : Step) (passed : Proxy) → IsWhole first → ProxyHears proxy.proxy (coming_from now placed.at first (spelling it.0)) step passed
+    abbrev coming : (step : Step) (passed : Proxy) → IsWhole first → ProxyHears proxy.node (coming_from now placed.at first (spelling it.0)) step passed
         → IsForwarded is_sealing now placed.at proxy.at old.nodes.server_at posts.client old.nodes.server passed step
     coming step passed good hears = passes is_sealing way step passed (is.passed step passed hears)
 
@@ -254,22 +253,22 @@ module _ (is_sealing : Sealings) (tag : Tags) where
     abbrev made : IsMadeAndEnds is_sealing way round.server_3 round.proxy_4 round.step_5 round.client_5
     made = brought.made round.draw_5 round.step_5 round.client_5 round.hears_5
 
-    ended : IsAtRest proxy.proxy (post_passage way) round.step_6 round.proxy_6
+    ended : IsAtRest proxy.node (post_passage way) round.step_6 round.proxy_6
     ended = made.ends round.draw_6 round.step_6 round.proxy_6 round.hears_6
 
     -- ---- what is kept of it
 
-    abbrev last : Placed
-    last = record after { client = round.client_5 }
+    abbrev last : Placed Client
+    last = record after { node = round.client_5 }
 
     server_is : new.nodes.server ≡ round.server_3
     server_is = ap (λ (n : NodeStates). n.server) round.nodes_are
 
-    same_way : (before : Placed) → slice_get old.nodes.clients number ≡ Some before → GoesTheSameWay before last
+    same_way : (before : Placed Client) → slice_get old.nodes.clients number ≡ Some before → GoesTheSameWay before last
     same_way before stood =
         let same : placed ≡ before = same_Some placed before (sym begins.ready.here ∙ stood) in
-        let posting = exchanges_same placed.client begun_at draw posts.step posts.client posts.exchanges in
-        subst (λ (p : Placed). GoesTheSameWay p last) same
+        let posting = exchanges_same placed.node begun_at draw posts.step posts.client posts.exchanges in
+        subst (λ (p : Placed Client). GoesTheSameWay p last) same
         (record {
           at = refl;
           next_hop = ap (λ (c : Client). c.next_hop) made.is_made.kept ∙ posting.0;
@@ -387,7 +386,7 @@ module _ (is_sealing : Sealings) (tag : Tags) (itself : (a : Peer) → same_peer
           sizes apart lawful_proxies lawful_clients proxy_number proxy there goes
           (rounds_of (suc (suc (suc (suc (suc (suc (limit - 6))))))) more))
 
-  pub unheard_round : HearsNoOther is_sealing tag → count ≡ 2 → (standing : Placed) → slice_get new.nodes.clients begins.client ≡ Some standing
+  pub unheard_round : HearsNoOther is_sealing tag → count ≡ 2 → (standing : Placed Client) → slice_get new.nodes.clients begins.client ≡ Some standing
       → LeavesUnheard begins.before new begins.draw begins.placed standing
   unheard_round hears_no_other is_two standing stands = by begins.ready.way
     where

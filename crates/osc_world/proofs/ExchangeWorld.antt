@@ -29,7 +29,7 @@ use Rattle.osc_rounds.specs.Ready.{IsStraight, MayExchange}
 use Rattle.osc_rounds.specs.RoundNotes.{AreAmongQuiet, AreNotesOfExchange, Draws}
 use Rattle.osc_scope.specs.Entries.{Entry}
 use Rattle.osc_token.specs.declared.claims.Claims.{Claims}
-use Rattle.osc_protect.specs.Ciphers.{Sealings, Tags}
+use Rattle.osc_ccm.specs.Ciphers.{Sealings, Tags}
 use Rattle.osc_world.specs.Lawful.{AreLawfulClients}
 use Rattle.osc_world.specs.Log.{sent_from}
 use Rattle.osc_world.specs.Nodes.{NodeStates, StandApart}
@@ -92,7 +92,7 @@ module _ (is_sealing : Sealings) (tag : Tags) where
       (sizes : AreWhole deliveries.drawn w1 new)
       (apart : StandApart w1.nodes)
       (lawful_clients : AreLawfulClients w1.nodes.clients)
-      (goes : IsStraight it.placed.client it.before.nodes.server deliveries.at it.draw it.placed.at it.before.nodes.server_at)
+      (goes : IsStraight it.placed.node it.before.nodes.server deliveries.at it.draw it.placed.at it.before.nodes.server_at)
       (rounds : Rounds (Happens is_sealing tag) deliveries (suc (suc left)) w1 is_quiet new) where
     abbrev old : State
     old = it.before
@@ -100,7 +100,7 @@ module _ (is_sealing : Sealings) (tag : Tags) where
     abbrev number : ℕ
     number = it.client
 
-    abbrev placed : Placed
+    abbrev placed : Placed Client
     placed = it.placed
 
     abbrev begun_at : Moment
@@ -121,8 +121,8 @@ module _ (is_sealing : Sealings) (tag : Tags) where
     posts : IsPosted is_sealing tag deliveries count w1 it
     posts = is_posted is_sealing tag deliveries count w1 it
 
-    abbrev after : Placed
-    after = record placed { client = posts.client }
+    abbrev after : Placed Client
+    after = record placed { node = posts.client }
 
     abbrev nodes : NodeStates
     nodes = record old.nodes { clients = slice_set old.nodes.clients number after }
@@ -133,8 +133,8 @@ module _ (is_sealing : Sealings) (tag : Tags) where
     abbrev post : StraightPost
     post = record { begun = posts.client; server = old.nodes.server; at = placed.at; server_at = old.nodes.server_at; now = now; entries = entries }
 
-    is : IsBegunAndMade is_sealing post placed.client draw posts.step
-    is = law placed.client posts.client old.nodes.server begun_at now draw placed.at old.nodes.server_at claims entries posts.step lawful goes it.may posts.fits posts.exchanges
+    is : IsBegunAndMade is_sealing post placed.node draw posts.step
+    is = law placed.node posts.client old.nodes.server begun_at now draw placed.at old.nodes.server_at claims entries posts.step lawful goes it.may posts.fits posts.exchanges
 
     alone : queue w1 ≡ from_to placed.at old.nodes.server_at (spelling is.message) ∷ []
     alone =
@@ -165,8 +165,8 @@ module _ (is_sealing : Sealings) (tag : Tags) where
     made : (held : Held) × IsHeld round.server now entries held × IsMade held round.taking round.client
     made = agreed.made round.client_draw round.taking round.client round.taken
 
-    abbrev last : Placed
-    last = record after { client = round.client }
+    abbrev last : Placed Client
+    last = record after { node = round.client }
 
     last_there : slice_get new.nodes.clients number ≡ Some last
     last_there = ap (λ (n : NodeStates). slice_get n.clients number) round.nodes_are ∙ got_back nodes.clients number after last there
@@ -185,12 +185,12 @@ module _ (is_sealing : Sealings) (tag : Tags) where
     among : AreAmongQuiet all all
     among = these_three (by_client number false round.taking.notes) (by_server round.serving.notes) (by_client number false posts.step.notes)
 
-    same_way : (before : Placed) → slice_get old.nodes.clients number ≡ Some before → GoesTheSameWay before last
+    same_way : (before : Placed Client) → slice_get old.nodes.clients number ≡ Some before → GoesTheSameWay before last
     same_way before stood =
         let same : placed ≡ before = same_Some placed before (sym it.ready.here ∙ stood) in
-        let posting = exchanges_same placed.client begun_at draw posts.step posts.client posts.exchanges in
+        let posting = exchanges_same placed.node begun_at draw posts.step posts.client posts.exchanges in
         let taking = hears_same is_sealing posts.client (coming_from now old.nodes.server_at round.client_draw (spelling agreed.answer)) round.taking round.client round.taken in
-        subst (λ (p : Placed). GoesTheSameWay p last) same
+        subst (λ (p : Placed Client). GoesTheSameWay p last) same
         (record { at = refl; next_hop = taking.0 ∙ posting.0; origin = taking.1 ∙ posting.1 })
 
     module _ (notes : NotesExchange) (premises : KeepsOverExchange) where
@@ -199,7 +199,7 @@ module _ (is_sealing : Sealings) (tag : Tags) where
 
       notes_are : AreNotesOfExchange old.nodes.server.desk.key (claims_text claims) draws posts.step.notes round.serving.notes round.taking.notes
       notes_are =
-          notes placed.client posts.client old.nodes.server round.server begun_at now draw round.draw placed.at old.nodes.server_at claims entries is.message posts.step round.serving round.taking.notes
+          notes placed.node posts.client old.nodes.server round.server begun_at now draw round.draw placed.at old.nodes.server_at claims entries is.message posts.step round.serving round.taking.notes
           lawful goes it.may posts.exchanges is.out round.served (ap (λ (s : Step). s.notes) made.2.told)
 
       pub made_straight : IsRound 2 w1 is_quiet new × HasMade old number now entries new × (AreMinted old claims → HasFreshDraws new.steps → KeepsThePremise old new)
@@ -228,19 +228,19 @@ module _ (is_sealing : Sealings) (tag : Tags) where
       )
 
     module _ (hears_no_other : HearsNoOther) where
-      unheard_of : (later : Moment) (id : ℕ) → id ≢ own_id draw placed.client.endpoint.next_id → looked later placed.at id old.nodes.server.endpoint.seen ≡ None
+      unheard_of : (later : Moment) (id : ℕ) → id ≢ own_id draw placed.node.endpoint.next_id → looked later placed.at id old.nodes.server.endpoint.seen ≡ None
           → looked later placed.at id new.nodes.server.endpoint.seen ≡ None
       unheard_of later id other before =
           ap (λ (s : Server). looked later placed.at id s.endpoint.seen) server_is
-          ∙ hears_no_other placed.client posts.client old.nodes.server round.server begun_at now later draw round.draw placed.at old.nodes.server_at claims entries is.message posts.step round.serving id
+          ∙ hears_no_other placed.node posts.client old.nodes.server round.server begun_at now later draw round.draw placed.at old.nodes.server_at claims entries is.message posts.step round.serving id
           lawful goes it.may posts.exchanges is.out round.served other before
 
-      next_id_is : round.client.endpoint.next_id ≡ Some ((own_id draw placed.client.endpoint.next_id + 1) % 65536)
+      next_id_is : round.client.endpoint.next_id ≡ Some ((own_id draw placed.node.endpoint.next_id + 1) % 65536)
       next_id_is =
           hears_id is_sealing posts.client (coming_from now old.nodes.server_at round.client_draw (spelling agreed.answer)) round.taking round.client round.taken
-          ∙ exchanges_id placed.client begun_at draw posts.step posts.client (datagram placed.client.next_hop is.message) posts.exchanges is.out
+          ∙ exchanges_id placed.node begun_at draw posts.step posts.client (datagram placed.node.next_hop is.message) posts.exchanges is.out
 
-      pub left_unheard : (standing : Placed) → slice_get new.nodes.clients number ≡ Some standing → LeavesUnheard old new draw placed standing
+      pub left_unheard : (standing : Placed Client) → slice_get new.nodes.clients number ≡ Some standing → LeavesUnheard old new draw placed standing
       left_unheard standing stands =
           let same : last ≡ standing = same_Some last standing (sym last_there ∙ stands) in
-          subst (λ (p : Placed). LeavesUnheard old new draw placed p) same (record { next_id = next_id_is; unheard = unheard_of })
+          subst (λ (p : Placed Client). LeavesUnheard old new draw placed p) same (record { next_id = next_id_is; unheard = unheard_of })

@@ -5,12 +5,12 @@ use Rattle.std.proofs.lemmas.List.{map-set}
 use Rattle.std.proofs.lemmas.Option.{slice_get-map}
 use Rattle.osc_model.specs.Tree.{Tree}
 use Rattle.osc_model.specs.declared.node.Moment.{Moment}
-use Rattle.osc_protect.specs.Ciphers.{Sealings, Tags}
+use Rattle.osc_ccm.specs.Ciphers.{Sealings, Tags}
 use Rattle.osc_run.specs.Notes.{Noted, by_server, by_client, by_proxy}
 use Rattle.osc_run.specs.Runs.{IsReached, WorldStep, OfServer as ByTheServer, OfClient as ByTheClient, OfProxy as ByTheProxy, Skipped}
 use Rattle.osc_run.specs.States.{ClientState, Minted, WorldState}
 use Rattle.osc_server.specs.State.{core as core_of_server}
-use Rattle.osc_client.specs.State.{core as core_of_client}
+use Rattle.osc_client.specs.State.{State as Client, core as core_of_client}
 use Rattle.osc_world.specs.Log.{LogState, IsKept, delivered, sent_by, steps_with, recorded}
 use Rattle.osc_world.specs.Inner.Kinds.{IsSkip, IsStep, OfNobody, OfServer, OfClient, OfProxy, Skips, Stays}
 use Rattle.osc_world.specs.Nodes.{NodeStates, deed_of}
@@ -25,8 +25,8 @@ use Rattle.osc_world.specs.declared.nodes.Taken.{Taken}
 pub leads : (v w : WorldState) → WorldStep v w → IsReached v → IsReached w
 leads v w step reached = (v ∷ reached.0, (step, reached.1))
 
-abbrev core_of : Placed → ClientState
-core_of placed = core_of_client placed.client
+abbrev core_of : Placed Client → ClientState
+core_of placed = core_of_client placed.node
 
 pub goes_on : (minted : List Minted) (first : Tree) (old new : NodeStates) (steps : List Noted) (now : Moment) (taken : Option Taken)
     → IsStep now old taken new → IsReached (run_with minted first old steps) → IsReached (run_with minted first new (steps_with taken steps))

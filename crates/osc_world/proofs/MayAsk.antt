@@ -13,6 +13,7 @@ use Rattle.osc_authz.specs.Contexts.{IsLive}
 use Rattle.osc_rounds.specs.Asked.{OpenedRequest}
 use Rattle.osc_rounds.specs.Ready.{MayAsk}
 use Rattle.osc_scope.specs.Entries.{Entry}
+use Rattle.osc_client.specs.State.{State as Client}
 use Rattle.osc_world.specs.Ready.{ClientRound, GoesTheSameWay, HasAnswered, HasMade, IsReady, IsRound, LeavesUnheard}
 use Rattle.osc_world.specs.Ready as ready_as
 use Rattle.osc_world.specs.Worlds.{State}
@@ -23,7 +24,7 @@ next_differs id same = omega (arith, same)
 
 pub may_ask : (old new : State) (client : ℕ) (now later : Moment) (entries : List Entry) (made : HasMade old client now entries new)
     → IsLive later made.held
-    → MayAsk made.placed.client new.nodes.server later (record { name = made.held.name; next = 0 }) made.held
+    → MayAsk made.placed.node new.nodes.server later (record { name = made.held.name; next = 0 }) made.held
 may_ask old new client now later entries made live = record {
   idle = made.idle;
   has = made.at_client;
@@ -35,16 +36,16 @@ may_ask old new client now later entries made live = record {
 }
 
 -- what a round of two deliveries leaves is ready for another straight one
-ready_again : (begun old new : State) (quiet : Bool) (client : ℕ) (before placed : Placed) (draw : Draw) (next : ClientRound)
+ready_again : (begun old new : State) (quiet : Bool) (client : ℕ) (before placed : Placed Client) (draw : Draw) (next : ClientRound)
     → IsRound 2 begun quiet new → slice_get new.nodes.clients client ≡ Some placed → GoesTheSameWay before placed → new.nodes.server_at ≡ old.nodes.server_at
-    → before.client.origin ≡ None → before.client.next_hop ≡ old.nodes.server_at
+    → before.node.origin ≡ None → before.node.next_hop ≡ old.nodes.server_at
     → LeavesUnheard old new draw before placed
-    → looked next.at before.at ((own_id draw before.client.endpoint.next_id + 1) % 65536) old.nodes.server.endpoint.seen ≡ None
+    → looked next.at before.at ((own_id draw before.node.endpoint.next_id + 1) % 65536) old.nodes.server.endpoint.seen ≡ None
     → IsReady new client placed next 2
 ready_again begun old new quiet client before placed draw next round is_there way server_at direct next_hop leaves unheard =
-    let round_id : ℕ = own_id draw before.client.endpoint.next_id in
+    let round_id : ℕ = own_id draw before.node.endpoint.next_id in
     let next_id : ℕ = (round_id + 1) % 65536 in
-    let id_is : own_id next.draw placed.client.endpoint.next_id ≡ next_id = ap (own_id next.draw) leaves.next_id in
+    let id_is : own_id next.draw placed.node.endpoint.next_id ≡ next_id = ap (own_id next.draw) leaves.next_id in
     let at_new : looked next.at before.at next_id new.nodes.server.endpoint.seen ≡ None = leaves.unheard next.at next_id (next_differs round_id) unheard in
     record {
       still = round.still;
@@ -59,12 +60,12 @@ ready_again begun old new quiet client before placed draw next round is_there wa
           });
     }
 
-pub ready_to_ask : (begun old new : State) (quiet : Bool) (client : ℕ) (before : Placed) (now : Moment) (draw : Draw) (entries : List Entry)
+pub ready_to_ask : (begun old new : State) (quiet : Bool) (client : ℕ) (before : Placed Client) (now : Moment) (draw : Draw) (entries : List Entry)
     (made : HasMade old client now entries new) (next : ClientRound)
     → IsRound 2 begun quiet new → slice_get old.nodes.clients client ≡ Some before
-    → before.client.origin ≡ None → before.client.next_hop ≡ old.nodes.server_at
+    → before.node.origin ≡ None → before.node.next_hop ≡ old.nodes.server_at
     → LeavesUnheard old new draw before made.placed
-    → looked next.at before.at ((own_id draw before.client.endpoint.next_id + 1) % 65536) old.nodes.server.endpoint.seen ≡ None
+    → looked next.at before.at ((own_id draw before.node.endpoint.next_id + 1) % 65536) old.nodes.server.endpoint.seen ≡ None
     → IsReady new client made.placed next 2
 ready_to_ask begun old new quiet client before now draw entries made next round here direct next_hop leaves unheard =
     ready_again begun old new quiet client before made.placed draw next round made.is_there (made.way before here) made.server_at direct next_hop leaves unheard
@@ -73,7 +74,7 @@ ready_to_ask begun old new quiet client before now draw entries made next round 
 
 pub may_ask_again : (old new : State) (client : ℕ) (now later : Moment) (request : OpenedRequest) (answered : HasAnswered old client now request new)
     → IsLive later answered.after → request.number + 1 ≤ greatest_number → IsFresh request.held.window (request.number + 1)
-    → MayAsk answered.placed.client new.nodes.server later (record { name = request.held.name; next = request.number + 1 }) answered.after
+    → MayAsk answered.placed.node new.nodes.server later (record { name = request.held.name; next = request.number + 1 }) answered.after
 may_ask_again old new client now later request answered live few fresh = record {
   idle = answered.idle;
   has = answered.at_client;
@@ -84,12 +85,12 @@ may_ask_again old new client now later request answered live few fresh = record 
   fresh = answered.at_server.fresh (request.number + 1) (omega arith) fresh;
 }
 
-pub ready_to_ask_again : (asked old new : State) (quiet : Bool) (client : ℕ) (before : Placed) (now : Moment) (draw : Draw) (request : OpenedRequest)
+pub ready_to_ask_again : (asked old new : State) (quiet : Bool) (client : ℕ) (before : Placed Client) (now : Moment) (draw : Draw) (request : OpenedRequest)
     (answered : HasAnswered old client now request new) (next : ClientRound)
     → IsRound 2 asked quiet new → slice_get old.nodes.clients client ≡ Some before
-    → before.client.origin ≡ None → before.client.next_hop ≡ old.nodes.server_at
+    → before.node.origin ≡ None → before.node.next_hop ≡ old.nodes.server_at
     → LeavesUnheard old new draw before answered.placed
-    → looked next.at before.at ((own_id draw before.client.endpoint.next_id + 1) % 65536) old.nodes.server.endpoint.seen ≡ None
+    → looked next.at before.at ((own_id draw before.node.endpoint.next_id + 1) % 65536) old.nodes.server.endpoint.seen ≡ None
     → IsReady new client answered.placed next 2
 ready_to_ask_again asked old new quiet client before now draw request answered next round here direct next_hop leaves unheard =
     ready_again asked old new quiet client before answered.placed draw next round answered.is_there (answered.way before here) answered.server_at direct next_hop leaves unheard

@@ -6,17 +6,17 @@ use Rattle.osc_model.specs.declared.node.Moment.{Moment}
 use Rattle.osc_model.specs.declared.step.ClientResult.TheVariants as result
 use Rattle.osc_model.specs.declared.step.Step.{Step}
 use Rattle.osc_message.specs.Sending.{datagram}
-use Rattle.osc_protect.specs.Ciphers.{Sealings, Tags}
+use Rattle.osc_ccm.specs.Ciphers.{Sealings, Tags}
 use Rattle.osc_run.specs.Notes.{by_client}
 use Rattle.osc_client.specs.Sending.{Exchanges, begins, busy, post_by}
 use Rattle.osc_client.specs.Sending as sending
 use Rattle.osc_client.specs.State.{State as Client}
 use Rattle.osc_world.specs.Log.{sent_by, sent_from, steps_with}
-use Rattle.osc_world.specs.Nodes.{Begin}
+use Rattle.osc_world.specs.Nodes.{Begin, OfClient}
 use Rattle.osc_world.specs.Queue.{queue}
 use Rattle.osc_world.specs.Quiet.{Deliveries}
 use Rattle.osc_world.specs.Ready.{BegunExchange, beginning}
-use Rattle.osc_world.specs.Steps.{ClientDoes}
+use Rattle.osc_world.specs.Steps.{ClientDoes, Takes}
 use Rattle.osc_world.specs.Worlds.{State}
 use Rattle.osc_world.specs.declared.log.SentDatagram.{SentDatagram}
 use Rattle.osc_world.specs.declared.nodes.Placed.{Placed}
@@ -29,14 +29,17 @@ module _ (is_sealing : Sealings) (tag : Tags) (deliveries : Deliveries) (count :
   pub record IsPosted : Type 0 where
     pub step : Step
     pub client : Client
-    pub exchanges : Exchanges it.placed.client it.at it.draw step client
+    pub exchanges : Exchanges it.placed.node it.at it.draw step client
     pub steps : begun.steps ≡ by_client it.client false step.notes ∷ it.before.steps
-    pub nodes : begun.nodes ≡ record it.before.nodes { clients = slice_set it.before.nodes.clients it.client (record it.placed { client = client }) }
+    pub nodes : begun.nodes ≡ record it.before.nodes { clients = slice_set it.before.nodes.clients it.client (record it.placed { node = client }) }
     pub waits : queue begun ≡ map (sent_from it.placed.at) step.out
     pub fits : step.notes.result ≢ Some (result.Refused 14)
 
-  takes : ItTakes (ClientDoes is_sealing tag (Begin it.at it.draw)) false it.before.nodes it.client it.happens.taken it.happens.nodes it.placed
-  takes = it_takes (ClientDoes is_sealing tag (Begin it.at it.draw)) false it.before.nodes it.client it.happens.taken it.happens.nodes it.placed it.ready.here it.happens.takes
+  took : Takes is_sealing tag it.before.nodes (OfClient it.client (Begin it.at it.draw)) it.happens.taken it.happens.nodes
+  took = it.happens.takes
+
+  takes : ItTakes (ClientDoes is_sealing tag (Begin it.at it.draw)) (by_client it.client false) it.before.nodes.clients it.client it.happens.taken took.0 it.placed
+  takes = it_takes (ClientDoes is_sealing tag (Begin it.at it.draw)) (by_client it.client false) it.before.nodes.clients it.client it.happens.taken took.0 it.placed it.ready.here took.1
 
   steps_are : begun.steps ≡ by_client it.client false takes.step.notes ∷ it.before.steps
   steps_are = ap (λ (w : State). w.steps) it.happens.is ∙ ap (λ (t : Option Taken). steps_with t it.before.steps) takes.taken_is
@@ -44,10 +47,10 @@ module _ (is_sealing : Sealings) (tag : Tags) (deliveries : Deliveries) (count :
   pub is_posted : IsPosted
   is_posted = record {
     step = takes.step;
-    client = takes.client;
+    client = takes.node;
     exchanges = takes.it_does.exchanges;
     steps = steps_are;
-    nodes = ap (λ (w : State). w.nodes) it.happens.is ∙ takes.is;
+    nodes = ap (λ (w : State). w.nodes) it.happens.is ∙ took.2 ∙ ap (λ (clients : List (Placed Client)). record it.before.nodes { clients = clients }) takes.is;
     waits = sent_behind is_sealing tag it.before begun (beginning it.at it.draw it.client) it.happens refl
         ∙ ap (λ (all : List SentDatagram). all ++ sent_by it.happens.taken) (at_rest it.before it.ready.still)
         ∙ ap (λ (t : Option Taken). sent_by t) takes.taken_is;

@@ -8,7 +8,7 @@ use Rattle.osc_model.specs.declared.node.Peer.{Peer}
 use Rattle.osc_model.specs.declared.step.Datagram.{Datagram}
 use Rattle.osc_model.specs.declared.step.Step.{Step}
 use Rattle.osc_message.specs.Confirmables.{same_peer}
-use Rattle.osc_protect.specs.Ciphers.{Sealings, Tags}
+use Rattle.osc_ccm.specs.Ciphers.{Sealings, Tags}
 use Rattle.osc_run.specs.Notes.{Noted, by_client, by_server}
 use Rattle.osc_server.specs.Hearing.{Hears as ServerHears}
 use Rattle.osc_server.specs.State.{State as Server}
@@ -43,9 +43,9 @@ pub record IsAnsweredBack (is_sealing : Sealings) (now : Moment) (client : Clien
   pub out : step.out ≡ record { to = at; bytes = answer } ∷ []
   pub silent : (draw : Draw) (last : Step) (after : Client) → ClientHears is_sealing client (coming_from now server_at draw answer) last after → last.out ≡ []
 
-module _ (is_sealing : Sealings) (IsGood : Draw → Type 0) (deliveries : Deliveries) (number : ℕ) (placed : Placed) (nodes : NodeStates) (bytes : List ℕ)
+module _ (is_sealing : Sealings) (IsGood : Draw → Type 0) (deliveries : Deliveries) (number : ℕ) (placed : Placed Client) (nodes : NodeStates) (bytes : List ℕ)
     (law : (draw : Draw) (step : Step) (after : Server) → IsGood draw → ServerHears is_sealing nodes.server (coming_from deliveries.at placed.at draw bytes) step after
-    → IsAnsweredBack is_sealing deliveries.at placed.client placed.at nodes.server_at step) where
+    → IsAnsweredBack is_sealing deliveries.at placed.node placed.at nodes.server_at step) where
   -- the two steps, and what is left of them
   pub record IsStraight (begun new : State) (is_quiet : Bool) : Type 0 where
     pub draw : Draw
@@ -56,8 +56,8 @@ module _ (is_sealing : Sealings) (IsGood : Draw → Type 0) (deliveries : Delive
     pub client_draw : Draw
     pub taking : Step
     pub client : Client
-    pub taken : ClientHears is_sealing placed.client (coming_from deliveries.at nodes.server_at client_draw (law draw serving server good served).answer) taking client
-    pub nodes_are : new.nodes ≡ record nodes { server = server; clients = slice_set nodes.clients number (record placed { client = client }) }
+    pub taken : ClientHears is_sealing placed.node (coming_from deliveries.at nodes.server_at client_draw (law draw serving server good served).answer) taking client
+    pub nodes_are : new.nodes ≡ record nodes { server = server; clients = slice_set nodes.clients number (record placed { node = client }) }
     pub steps : new.steps ≡ by_client number false taking.notes ∷ by_server serving.notes ∷ begun.steps
     pub round : IsRound 2 begun is_quiet new
 
@@ -83,7 +83,7 @@ module _ (is_sealing : Sealings) (IsGood : Draw → Type 0) (deliveries : Delive
     is_good : IsGood (next_draw deliveries begun)
     is_good = good (length begun.records) (omega arith) (omega (arith, s.kept.records, none_lost is_sealing tag deliveries (suc left) first.0 is_quiet new first.2))
 
-    abbrev answered : IsAnsweredBack is_sealing deliveries.at placed.client placed.at nodes.server_at s.step
+    abbrev answered : IsAnsweredBack is_sealing deliveries.at placed.node placed.at nodes.server_at s.step
     answered = law (next_draw deliveries begun) s.step s.server is_good served
 
     abbrev two : SentDatagram
@@ -106,8 +106,8 @@ module _ (is_sealing : Sealings) (IsGood : Draw → Type 0) (deliveries : Delive
     abbrev c : IsHeardByClient is_sealing number placed (delivery_of deliveries first.0 two []) first.0 second.0
     c = second.1
 
-    nodes_3 : second.0.nodes ≡ record nodes { server = s.server; clients = slice_set nodes.clients number (record placed { client = c.client }) }
-    nodes_3 = c.nodes ∙ ap (λ (n : NodeStates). record n { clients = slice_set n.clients number (record placed { client = c.client }) }) nodes_2
+    nodes_3 : second.0.nodes ≡ record nodes { server = s.server; clients = slice_set nodes.clients number (record placed { node = c.client }) }
+    nodes_3 = c.nodes ∙ ap (λ (n : NodeStates). record n { clients = slice_set n.clients number (record placed { node = c.client }) }) nodes_2
 
     none_3 : queue second.0 ≡ []
     none_3 = c.kept.waits ∙ ap (λ (out : List Datagram). map (sent_from placed.at) out) (answered.silent (next_draw deliveries first.0) c.step c.client c.hears)

@@ -3,12 +3,12 @@ use Rattle.std.proofs.Common.{◌≡◌, ◌∙◌, ◌≤◌, ℕ, Bool, true, 
 use Rattle.std.proofs.lemmas.List.{length-map}
 use Rattle.std.proofs.lemmas.Option.{same_Some}
 use Rattle.std.specs.Prelude.{slice_get, slice_set}
-use Rattle.osc_model.specs.StepNotes.{quiet}
+use Rattle.osc_model.specs.StepNotes.{StepNotes}
 use Rattle.osc_model.specs.declared.node.Moment.{Moment}
 use Rattle.osc_model.specs.declared.node.Peer.{Peer}
 use Rattle.osc_model.specs.declared.step.Datagram.{Datagram}
 use Rattle.osc_model.specs.declared.step.Step.{Step}
-use Rattle.osc_protect.specs.Ciphers.{Sealings}
+use Rattle.osc_ccm.specs.Ciphers.{Sealings}
 use Rattle.osc_run.specs.ProxyKinds.{ProxyStep}
 use Rattle.osc_run.specs.ClientKinds.{ClientStep, ClientRestarted, IsSkipped}
 use Rattle.osc_run.specs.Notes.{Noted, by_server, by_client, by_proxy}
@@ -21,15 +21,14 @@ use Rattle.osc_client.specs.Steps as of_client
 use Rattle.osc_proxy.specs.State.{State as Proxy, restarted as proxy_again}
 use Rattle.osc_proxy.specs.Steps as of_proxy
 use Rattle.osc_world.specs.Inner.Kinds.{IsSkip, Skips, IsStep, OfServer, OfClient, OfProxy}
-use Rattle.osc_world.specs.Inner.Tasks.{most_of, most_of_placed, task_of}
+use Rattle.osc_world.specs.Inner.Tasks.{most_of, task_of}
 use Rattle.osc_world.specs.Log.{sent_from}
 use Rattle.osc_world.specs.Nodes.{NodeStates}
-use Rattle.osc_world.specs.Steps.{ClientTakes, Does, ProxyTakes, ServerTakes, a_client, a_proxy, no_client, no_proxy}
+use Rattle.osc_world.specs.Steps.{Does, NodeTakes, ServerTakes, a_node, no_node}
 use Rattle.osc_world.specs.declared.event.Event.{Event}
 use Rattle.osc_world.specs.declared.jobs.Job.{Job}
 use Rattle.osc_world.specs.declared.jobs.Job.TheVariants.{Hear, Tick, StartAgain}
 use Rattle.osc_world.specs.declared.nodes.Placed.{Placed}
-use Rattle.osc_world.specs.declared.nodes.PlacedProxy.{PlacedProxy}
 use Rattle.osc_world.specs.declared.nodes.Taken.{Taken}
 
 -- ---- what any node does is one step of a run
@@ -56,11 +55,11 @@ proxy_kind event StartAgain old step new it = record { refused = None; noted = a
 
 -- ---- one node of all
 
-abbrev nodes_of : Peer → Server → List Placed → List PlacedProxy → NodeStates
+abbrev nodes_of : Peer → Server → List (Placed Client) → List (Placed Proxy) → NodeStates
 nodes_of at server clients proxies = record { server_at = at; server = server; clients = clients; proxies = proxies }
 
 -- the server's step
-module _ (self : NodeStates) (at : Peer) (old new : Server) (clients : List Placed) (proxies : List PlacedProxy) (noted : Noted) (step : Step)
+module _ (self : NodeStates) (at : Peer) (old new : Server) (clients : List (Placed Client)) (proxies : List (Placed Proxy)) (noted : Noted) (step : Step)
     (is : nodes_of at old clients proxies ≡ self) (told : noted ≡ by_server step.notes) where
   abbrev server_taken : Option Taken
   server_taken = Some (record { at = at; noted = noted; out = step.out })
@@ -78,98 +77,104 @@ module _ (self : NodeStates) (at : Peer) (old new : Server) (clients : List Plac
   server_stepped now kind =
       subst (λ s. IsStep now s server_taken (nodes_of at new clients proxies)) is (OfServer step new kind taken_by_server refl)
 
--- that of the client of this number
-module _ (self : NodeStates) (at : Peer) (server : Server) (clients : List Placed) (proxies : List PlacedProxy) (number : ℕ) (placed : Placed)
+-- that of the node of this number, of those of one kind
+module _ {S : Type 0} (all : List (Placed S)) (number : ℕ) (placed : Placed S) (there : slice_get all number ≡ Some placed) where
+  abbrev with_node : S → List (Placed S)
+  with_node node = slice_set all number (record { at = placed.at; node = node })
+
+  node_took : (does : S → Step → S → Type 0) (noted : StepNotes → Noted) (node : S) (one : Noted) (step : Step) → one ≡ noted step.notes → does placed.node step node
+      → NodeTakes does noted all number (Some (record { at = placed.at; noted = one; out = step.out })) (with_node node)
+  node_took does noted node one step told it =
+      a_node placed step node there it (ap (λ (n : Noted). Some (record { at = placed.at; noted = n; out = step.out })) told) refl
+
+  few_of_node : (most : S → ℕ) (from : Peer) (out : List Datagram) → length out ≤ most placed.node → length (map (sent_from from) out) ≤ most_of most (slice_get all number)
+  few_of_node most from out few =
+      subst (λ o. length (map (sent_from from) out) ≤ most_of most o) (sym there)
+      (subst (λ n. n ≤ most placed.node) (sym (length-map out (sent_from from))) few)
+
+-- a client's
+module _ (self : NodeStates) (at : Peer) (server : Server) (clients : List (Placed Client)) (proxies : List (Placed Proxy)) (number : ℕ) (placed : Placed Client)
     (is : nodes_of at server clients proxies ≡ self) (there : slice_get clients number ≡ Some placed) where
   abbrev with_client : Client → NodeStates
-  with_client client = nodes_of at server (slice_set clients number (record { at = placed.at; client = client })) proxies
+  with_client client = nodes_of at server (with_node clients number placed there client) proxies
 
   module _ (client : Client) (noted : Noted) (step : Step) (lied : Bool) (told : noted ≡ by_client number lied step.notes) where
     abbrev client_taken : Option Taken
     client_taken = Some (record { at = placed.at; noted = noted; out = step.out })
 
-    taken_by_client : client_taken ≡ Some (record { at = placed.at; noted = by_client number lied step.notes; out = step.out })
-    taken_by_client = ap (λ n. Some (record { at = placed.at; noted = n; out = step.out })) told
-
-    pub client_took : (does : Client → Step → Client → Type 0) → does placed.client step client → ClientTakes does lied self number client_taken (with_client client)
+    pub client_took : (does : Client → Step → Client → Type 0) → does placed.node step client
+        → (after : List (Placed Client)) × NodeTakes does (by_client number lied) self.clients number client_taken after × (with_client client ≡ record self { clients = after })
     client_took does it =
-        subst (λ s. ClientTakes does lied s number client_taken (with_client client)) is
-        (a_client placed step client there it taken_by_client refl)
+        subst (λ (s : NodeStates). (after : List (Placed Client)) × NodeTakes does (by_client number lied) s.clients number client_taken after × (with_client client ≡ record s { clients = after })) is
+        (with_node clients number placed there client, node_took clients number placed there does (by_client number lied) client noted step told it, refl)
 
-    pub client_stepped : (now : Moment) → ClientStep lied (core_of_client placed.client) step.notes (core_of_client client)
+    pub client_stepped : (now : Moment) → ClientStep lied (core_of_client placed.node) step.notes (core_of_client client)
         → IsStep now self client_taken (with_client client)
     client_stepped now kind =
         subst (λ s. IsStep now s client_taken (with_client client)) is
-        (OfClient number lied placed (record { at = placed.at; client = client }) step there kind taken_by_client refl)
+        (OfClient number lied placed (record { at = placed.at; node = client }) step there kind
+        (ap (λ (n : Noted). Some (record { at = placed.at; noted = n; out = step.out })) told) refl)
 
-  pub few_of_client : (from : Peer) (out : List Datagram) → length out ≤ of_client.most_sent placed.client
-      → length (map (sent_from from) out) ≤ most_of (slice_get self.clients number)
+  pub few_of_client : (from : Peer) (out : List Datagram) → length out ≤ of_client.most_sent placed.node
+      → length (map (sent_from from) out) ≤ most_of of_client.most_sent (slice_get self.clients number)
   few_of_client from out few =
-      subst (λ s. length (map (sent_from from) out) ≤ most_of (slice_get s.clients number)) is
-      (subst (λ o. length (map (sent_from from) out) ≤ most_of o) (sym there)
-      (subst (λ n. n ≤ of_client.most_sent placed.client) (sym (length-map out (sent_from from))) few))
+      subst (λ (s : NodeStates). length (map (sent_from from) out) ≤ most_of of_client.most_sent (slice_get s.clients number)) is
+      (few_of_node clients number placed there of_client.most_sent from out few)
 
-  pub client_skipped : (client : Client) → IsSkipped (core_of_client placed.client) (core_of_client client) → IsSkip number self (with_client client)
+  pub client_skipped : (client : Client) → IsSkipped (core_of_client placed.node) (core_of_client client) → IsSkip number self (with_client client)
   client_skipped client kind =
-      subst (λ s. IsSkip number s (with_client client)) is (Skips placed (record { at = placed.at; client = client }) there kind refl)
+      subst (λ s. IsSkip number s (with_client client)) is (Skips placed (record { at = placed.at; node = client }) there kind refl)
 
--- that of the proxy of this number
-module _ (self : NodeStates) (at : Peer) (server : Server) (clients : List Placed) (proxies : List PlacedProxy) (number : ℕ) (placed : PlacedProxy)
+-- a proxy's
+module _ (self : NodeStates) (at : Peer) (server : Server) (clients : List (Placed Client)) (proxies : List (Placed Proxy)) (number : ℕ) (placed : Placed Proxy)
     (is : nodes_of at server clients proxies ≡ self) (there : slice_get proxies number ≡ Some placed) where
   abbrev with_proxy : Proxy → NodeStates
-  with_proxy proxy = nodes_of at server clients (slice_set proxies number (record { at = placed.at; proxy = proxy }))
+  with_proxy proxy = nodes_of at server clients (with_node proxies number placed there proxy)
 
   module _ (proxy : Proxy) (noted : Noted) (step : Step) (told : noted ≡ by_proxy number step.notes) where
     abbrev proxy_taken : Option Taken
     proxy_taken = Some (record { at = placed.at; noted = noted; out = step.out })
 
-    taken_by_proxy : proxy_taken ≡ Some (record { at = placed.at; noted = by_proxy number step.notes; out = step.out })
-    taken_by_proxy = ap (λ n. Some (record { at = placed.at; noted = n; out = step.out })) told
-
-    pub proxy_took : (does : Proxy → Step → Proxy → Type 0) → does placed.proxy step proxy → ProxyTakes does self number proxy_taken (with_proxy proxy)
+    pub proxy_took : (does : Proxy → Step → Proxy → Type 0) → does placed.node step proxy
+        → (after : List (Placed Proxy)) × NodeTakes does (by_proxy number) self.proxies number proxy_taken after × (with_proxy proxy ≡ record self { proxies = after })
     proxy_took does it =
-        subst (λ s. ProxyTakes does s number proxy_taken (with_proxy proxy)) is
-        (a_proxy placed step proxy there it taken_by_proxy refl)
+        subst (λ (s : NodeStates). (after : List (Placed Proxy)) × NodeTakes does (by_proxy number) s.proxies number proxy_taken after × (with_proxy proxy ≡ record s { proxies = after })) is
+        (with_node proxies number placed there proxy, node_took proxies number placed there does (by_proxy number) proxy noted step told it, refl)
 
     pub proxy_stepped : (now : Moment) → ProxyStep step.notes → IsStep now self proxy_taken (with_proxy proxy)
     proxy_stepped now kind =
         subst (λ s. IsStep now s proxy_taken (with_proxy proxy)) is
-        (OfProxy number placed (record { at = placed.at; proxy = proxy }) step there kind taken_by_proxy refl)
+        (OfProxy number placed (record { at = placed.at; node = proxy }) step there kind
+        (ap (λ (n : Noted). Some (record { at = placed.at; noted = n; out = step.out })) told) refl)
 
-  pub few_of_proxy : (from : Peer) (out : List Datagram) → length out ≤ of_proxy.most_sent placed.proxy
-      → length (map (sent_from from) out) ≤ most_of_placed (slice_get self.proxies number)
+  pub few_of_proxy : (from : Peer) (out : List Datagram) → length out ≤ of_proxy.most_sent placed.node
+      → length (map (sent_from from) out) ≤ most_of of_proxy.most_sent (slice_get self.proxies number)
   few_of_proxy from out few =
-      subst (λ s. length (map (sent_from from) out) ≤ most_of_placed (slice_get s.proxies number)) is
-      (subst (λ o. length (map (sent_from from) out) ≤ most_of_placed o) (sym there)
-      (subst (λ n. n ≤ of_proxy.most_sent placed.proxy) (sym (length-map out (sent_from from))) few))
+      subst (λ (s : NodeStates). length (map (sent_from from) out) ≤ most_of of_proxy.most_sent (slice_get s.proxies number)) is
+      (few_of_node proxies number placed there of_proxy.most_sent from out few)
 
--- ---- the client, or the proxy, that is there
+-- where nobody is there, nobody does
+pub no_client_takes : (self : NodeStates) (does : Client → Step → Client → Type 0) (noted : StepNotes → Noted) (number : ℕ) → slice_get self.clients number ≡ None
+    → (after : List (Placed Client)) × NodeTakes does noted self.clients number None after × (self ≡ record self { clients = after })
+no_client_takes self does noted number none = (self.clients, no_node none refl refl, refl)
 
-module _ (does : Client → Step → Client → Type 0) (lied : Bool) (old : NodeStates) (number : ℕ) (taken : Option Taken) (new : NodeStates) where
+pub no_proxy_takes : (self : NodeStates) (does : Proxy → Step → Proxy → Type 0) (noted : StepNotes → Noted) (number : ℕ) → slice_get self.proxies number ≡ None
+    → (after : List (Placed Proxy)) × NodeTakes does noted self.proxies number None after × (self ≡ record self { proxies = after })
+no_proxy_takes self does noted number none = (self.proxies, no_node none refl refl, refl)
+
+-- ---- the node that is there
+
+module _ {S : Type 0} (does : S → Step → S → Type 0) (noted : StepNotes → Noted) (old : List (Placed S)) (number : ℕ) (taken : Option Taken) (new : List (Placed S)) where
   -- it takes a step
-  pub record ItTakes (placed : Placed) : Type 0 where
+  pub record ItTakes (placed : Placed S) : Type 0 where
     pub step : Step
-    pub client : Client
-    pub it_does : does placed.client step client
-    pub taken_is : taken ≡ Some (record { at = placed.at; noted = by_client number lied step.notes; out = step.out })
-    pub is : new ≡ record old { clients = slice_set old.clients number (record placed { client = client }) }
+    pub node : S
+    pub it_does : does placed.node step node
+    pub taken_is : taken ≡ Some (record { at = placed.at; noted = noted step.notes; out = step.out })
+    pub is : new ≡ slice_set old number (record placed { node = node })
 
-  pub it_takes : (placed : Placed) → slice_get old.clients number ≡ Some placed → ClientTakes does lied old number taken new → ItTakes placed
-  it_takes placed there (no_client none nobody) = let bad : None ≡ Some placed = sym none ∙ there in absurd (cc)
-  it_takes placed there (a_client found step client here it taken_is is) =
+  pub it_takes : (placed : Placed S) → slice_get old number ≡ Some placed → NodeTakes does noted old number taken new → ItTakes placed
+  it_takes placed there (no_node none nothing same) = let bad : None ≡ Some placed = sym none ∙ there in absurd (cc)
+  it_takes placed there (a_node found step node here it taken_is is) =
       subst ItTakes (same_Some found placed (sym here ∙ there))
-      (record { step = step; client = client; it_does = it; taken_is = taken_is; is = is })
-
-module _ (does : Proxy → Step → Proxy → Type 0) (old : NodeStates) (number : ℕ) (taken : Option Taken) (new : NodeStates) where
-  pub record ProxyItTakes (placed : PlacedProxy) : Type 0 where
-    pub step : Step
-    pub proxy : Proxy
-    pub it_does : does placed.proxy step proxy
-    pub taken_is : taken ≡ Some (record { at = placed.at; noted = by_proxy number step.notes; out = step.out })
-    pub is : new ≡ record old { proxies = slice_set old.proxies number (record placed { proxy = proxy }) }
-
-  pub proxy_it_takes : (placed : PlacedProxy) → slice_get old.proxies number ≡ Some placed → ProxyTakes does old number taken new → ProxyItTakes placed
-  proxy_it_takes placed there (no_proxy none nobody) = let bad : None ≡ Some placed = sym none ∙ there in absurd (cc)
-  proxy_it_takes placed there (a_proxy found step proxy here it taken_is is) =
-      subst ProxyItTakes (same_Some found placed (sym here ∙ there))
-      (record { step = step; proxy = proxy; it_does = it; taken_is = taken_is; is = is })
+      (record { step = step; node = node; it_does = it; taken_is = taken_is; is = is })

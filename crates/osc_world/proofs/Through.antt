@@ -9,7 +9,7 @@ use Rattle.osc_model.specs.declared.node.Peer.{Peer}
 use Rattle.osc_model.specs.declared.step.Datagram.{Datagram}
 use Rattle.osc_model.specs.declared.step.Step.{Step}
 use Rattle.osc_message.specs.Confirmables.{same_peer}
-use Rattle.osc_protect.specs.Ciphers.{Sealings, Tags}
+use Rattle.osc_ccm.specs.Ciphers.{Sealings, Tags}
 use Rattle.osc_run.specs.Notes.{Noted, by_client, by_proxy, by_server}
 use Rattle.osc_server.specs.Hearing.{Hears as ServerHears}
 use Rattle.osc_server.specs.State.{State as Server}
@@ -25,7 +25,6 @@ use Rattle.osc_world.specs.Quiet.{AreWhole, Deliveries, Rounds, next_draw, waiti
 use Rattle.osc_world.specs.Worlds.{Happens, State}
 use Rattle.osc_world.specs.declared.log.SentDatagram.{SentDatagram}
 use Rattle.osc_world.specs.declared.nodes.Placed.{Placed}
-use Rattle.osc_world.specs.declared.nodes.PlacedProxy.{PlacedProxy}
 use Rattle.osc_world.proofs.Deliveries.{client_hears, delivery_of, over, proxy_hears, server_hears, still}
 use Rattle.osc_world.proofs.Rounds.{none_lost}
 use Rattle.osc_world.proofs.Slots.{got_back, set_same, set_twice}
@@ -72,24 +71,24 @@ module _ (is_sealing : Sealings) (now : Moment) (at proxy_at server_at : Peer) w
 pub record Route : Type 0 where
   pub nodes : NodeStates
   pub number : ℕ
-  pub placed : Placed
+  pub placed : Placed Client
   pub there : slice_get nodes.clients number ≡ Some placed
   pub proxy_number : ℕ
-  pub proxy : PlacedProxy
+  pub proxy : Placed Proxy
   pub proxy_there : slice_get nodes.proxies proxy_number ≡ Some proxy
 
 -- the nodes, once server, client and proxy became these
 abbrev pub nodes_of : Route → Server → Client → Proxy → NodeStates
 nodes_of route server client proxy = record route.nodes {
   server = server;
-  clients = slice_set route.nodes.clients route.number (record route.placed { client = client });
-  proxies = slice_set route.nodes.proxies route.proxy_number (record route.proxy { proxy = proxy });
+  clients = slice_set route.nodes.clients route.number (record route.placed { node = client });
+  proxies = slice_set route.nodes.proxies route.proxy_number (record route.proxy { node = proxy });
 }
 
-begins_with : (route : Route) → route.nodes ≡ nodes_of route route.nodes.server route.placed.client route.proxy.proxy
+begins_with : (route : Route) → route.nodes ≡ nodes_of route route.nodes.server route.placed.node route.proxy.node
 begins_with route =
-    ap (λ (all : List Placed). record route.nodes { clients = all }) (sym (set_same route.nodes.clients route.number route.placed route.there))
-    ∙ ap (λ (all : List PlacedProxy). record route.nodes { clients = slice_set route.nodes.clients route.number route.placed; proxies = all })
+    ap (λ (all : List (Placed Client)). record route.nodes { clients = all }) (sym (set_same route.nodes.clients route.number route.placed route.there))
+    ∙ ap (λ (all : List (Placed Proxy)). record route.nodes { clients = slice_set route.nodes.clients route.number route.placed; proxies = all })
     (sym (set_same route.nodes.proxies route.proxy_number route.proxy route.proxy_there))
 
 module _ (is_sealing : Sealings) (tag : Tags) (deliveries : Deliveries) (route : Route) (new : State) (is_quiet : Bool) where
@@ -137,14 +136,14 @@ module _ (is_sealing : Sealings) (tag : Tags) (deliveries : Deliveries) (route :
   module _ (itself : (a : Peer) → same_peer a a ≡ true) (left : ℕ) (world : State) (server : Server) (client : Client) (proxy : Proxy) (from : Peer) (bytes : List ℕ) (later : List SentDatagram) where
     pub at_proxy : Stage (suc left) world server client proxy (from_to from route.proxy.at bytes ∷ later) → AtProxy left world server client proxy from bytes later
     at_proxy stage =
-        let here : slice_get world.nodes.proxies route.proxy_number ≡ Some (record route.proxy { proxy = proxy }) =
+        let here : slice_get world.nodes.proxies route.proxy_number ≡ Some (record route.proxy { node = proxy }) =
         ap (λ (n : NodeStates). slice_get n.proxies route.proxy_number) stage.nodes
-        ∙ got_back route.nodes.proxies route.proxy_number route.proxy (record route.proxy { proxy = proxy }) route.proxy_there in
+        ∙ got_back route.nodes.proxies route.proxy_number route.proxy (record route.proxy { node = proxy }) route.proxy_there in
         by
         (proxy_hears is_sealing tag deliveries itself left world (from_to from route.proxy.at bytes) later is_quiet new stage.apart stage.waits stage.rest route.proxy_number
-        (record route.proxy { proxy = proxy }) here refl)
+        (record route.proxy { node = proxy }) here refl)
       where
-        by : (next : State) × IsHeardByProxy route.proxy_number (record route.proxy { proxy = proxy }) (delivery_of deliveries world (from_to from route.proxy.at bytes) later) world next
+        by : (next : State) × IsHeardByProxy route.proxy_number (record route.proxy { node = proxy }) (delivery_of deliveries world (from_to from route.proxy.at bytes) later) world next
             × Rounds (Happens is_sealing tag) deliveries left next is_quiet new → AtProxy left world server client proxy from bytes later
         by it = record {
           next = it.0;
@@ -153,9 +152,9 @@ module _ (is_sealing : Sealings) (tag : Tags) (deliveries : Deliveries) (route :
           hears = it.1.hears;
           stage = record {
             nodes = it.1.nodes
-                ∙ ap (λ (n : NodeStates). record n { proxies = slice_set n.proxies route.proxy_number (record route.proxy { proxy = it.1.proxy }) }) stage.nodes
-                ∙ ap (λ (all : List PlacedProxy). record (nodes_of route server client proxy) { proxies = all })
-                (set_twice route.nodes.proxies route.proxy_number (record route.proxy { proxy = proxy }) (record route.proxy { proxy = it.1.proxy }));
+                ∙ ap (λ (n : NodeStates). record n { proxies = slice_set n.proxies route.proxy_number (record route.proxy { node = it.1.proxy }) }) stage.nodes
+                ∙ ap (λ (all : List (Placed Proxy)). record (nodes_of route server client proxy) { proxies = all })
+                (set_twice route.nodes.proxies route.proxy_number (record route.proxy { node = proxy }) (record route.proxy { node = it.1.proxy }));
             apart = it.1.kept.apart;
             waits = it.1.kept.waits;
             rest = it.2;
@@ -166,14 +165,14 @@ module _ (is_sealing : Sealings) (tag : Tags) (deliveries : Deliveries) (route :
 
     pub at_client : Stage (suc left) world server client proxy (from_to from route.placed.at bytes ∷ later) → AtClient left world server client proxy from bytes later
     at_client stage =
-        let here : slice_get world.nodes.clients route.number ≡ Some (record route.placed { client = client }) =
+        let here : slice_get world.nodes.clients route.number ≡ Some (record route.placed { node = client }) =
         ap (λ (n : NodeStates). slice_get n.clients route.number) stage.nodes
-        ∙ got_back route.nodes.clients route.number route.placed (record route.placed { client = client }) route.there in
+        ∙ got_back route.nodes.clients route.number route.placed (record route.placed { node = client }) route.there in
         by
         (client_hears is_sealing tag deliveries itself left world (from_to from route.placed.at bytes) later is_quiet new stage.apart stage.waits stage.rest route.number
-        (record route.placed { client = client }) here refl)
+        (record route.placed { node = client }) here refl)
       where
-        by : (next : State) × IsHeardByClient is_sealing route.number (record route.placed { client = client }) (delivery_of deliveries world (from_to from route.placed.at bytes) later) world next
+        by : (next : State) × IsHeardByClient is_sealing route.number (record route.placed { node = client }) (delivery_of deliveries world (from_to from route.placed.at bytes) later) world next
             × Rounds (Happens is_sealing tag) deliveries left next is_quiet new → AtClient left world server client proxy from bytes later
         by it = record {
           next = it.0;
@@ -182,9 +181,9 @@ module _ (is_sealing : Sealings) (tag : Tags) (deliveries : Deliveries) (route :
           hears = it.1.hears;
           stage = record {
             nodes = it.1.nodes
-                ∙ ap (λ (n : NodeStates). record n { clients = slice_set n.clients route.number (record route.placed { client = it.1.client }) }) stage.nodes
-                ∙ ap (λ (all : List Placed). record (nodes_of route server client proxy) { clients = all })
-                (set_twice route.nodes.clients route.number (record route.placed { client = client }) (record route.placed { client = it.1.client }));
+                ∙ ap (λ (n : NodeStates). record n { clients = slice_set n.clients route.number (record route.placed { node = it.1.client }) }) stage.nodes
+                ∙ ap (λ (all : List (Placed Client)). record (nodes_of route server client proxy) { clients = all })
+                (set_twice route.nodes.clients route.number (record route.placed { node = client }) (record route.placed { node = it.1.client }));
             apart = it.1.kept.apart;
             waits = it.1.kept.waits;
             rest = it.2;
@@ -220,18 +219,18 @@ module _ (is_sealing : Sealings) (tag : Tags) (deliveries : Deliveries) (route :
 
 module _ (is_sealing : Sealings) (deliveries : Deliveries) (begun : State) (route : Route) (bytes : List ℕ)
     (law : (step : Step) (after : Proxy) → IsWhole (next_draw deliveries begun)
-    → ProxyHears route.proxy.proxy (coming_from deliveries.at route.placed.at (next_draw deliveries begun) bytes) step after
-    → IsForwarded is_sealing deliveries.at route.placed.at route.proxy.at route.nodes.server_at route.placed.client route.nodes.server after step) where
+    → ProxyHears route.proxy.node (coming_from deliveries.at route.placed.at (next_draw deliveries begun) bytes) step after
+    → IsForwarded is_sealing deliveries.at route.placed.at route.proxy.at route.nodes.server_at route.placed.node route.nodes.server after step) where
   -- the six steps, and what is left of them
   pub record IsThrough (new : State) (is_quiet : Bool) : Type 0 where
     pub whole_1 : IsWhole (next_draw deliveries begun)
     pub step_1 : Step
     pub proxy_1 : Proxy
-    pub hears_1 : ProxyHears route.proxy.proxy (coming_from deliveries.at route.placed.at (next_draw deliveries begun) bytes) step_1 proxy_1
+    pub hears_1 : ProxyHears route.proxy.node (coming_from deliveries.at route.placed.at (next_draw deliveries begun) bytes) step_1 proxy_1
     pub draw_2 : Draw
     pub step_2 : Step
     pub client_2 : Client
-    pub hears_2 : ClientHears is_sealing route.placed.client (coming_from deliveries.at route.proxy.at draw_2 (law step_1 proxy_1 whole_1 hears_1).acknowledgement) step_2 client_2
+    pub hears_2 : ClientHears is_sealing route.placed.node (coming_from deliveries.at route.proxy.at draw_2 (law step_1 proxy_1 whole_1 hears_1).acknowledgement) step_2 client_2
     pub draw_3 : Draw
     pub whole_3 : IsWhole draw_3
     pub step_3 : Step
@@ -286,17 +285,17 @@ module _ (is_sealing : Sealings) (deliveries : Deliveries) (begun : State) (rout
 
     -- to the proxy
 
-    stage_0 : Stage is_sealing tag deliveries route new is_quiet (suc (suc (suc (suc (suc (suc left)))))) begun route.nodes.server route.placed.client route.proxy.proxy
+    stage_0 : Stage is_sealing tag deliveries route new is_quiet (suc (suc (suc (suc (suc (suc left)))))) begun route.nodes.server route.placed.node route.proxy.node
         (from_to route.placed.at route.proxy.at bytes ∷ [])
     stage_0 = record { nodes = nodes_is ∙ begins_with route; apart = apart; waits = alone; rest = rounds }
 
-    w1 : AtProxy is_sealing tag deliveries route new is_quiet (suc (suc (suc (suc (suc left))))) begun route.nodes.server route.placed.client route.proxy.proxy route.placed.at bytes []
-    w1 = at_proxy is_sealing tag deliveries route new is_quiet itself (suc (suc (suc (suc (suc left))))) begun route.nodes.server route.placed.client route.proxy.proxy route.placed.at bytes [] stage_0
+    w1 : AtProxy is_sealing tag deliveries route new is_quiet (suc (suc (suc (suc (suc left))))) begun route.nodes.server route.placed.node route.proxy.node route.placed.at bytes []
+    w1 = at_proxy is_sealing tag deliveries route new is_quiet itself (suc (suc (suc (suc (suc left))))) begun route.nodes.server route.placed.node route.proxy.node route.placed.at bytes [] stage_0
 
     whole_1 : IsWhole (next_draw deliveries begun)
     whole_1 = whole_at begun w1.next (suc (suc (suc (suc (suc left))))) (omega arith) w1.records w1.stage.rest
 
-    abbrev forwards : IsForwarded is_sealing deliveries.at route.placed.at route.proxy.at route.nodes.server_at route.placed.client route.nodes.server w1.after w1.step
+    abbrev forwards : IsForwarded is_sealing deliveries.at route.placed.at route.proxy.at route.nodes.server_at route.placed.node route.nodes.server w1.after w1.step
     forwards = law w1.step w1.after whole_1 w1.hears
 
     abbrev behind : List SentDatagram
@@ -304,15 +303,15 @@ module _ (is_sealing : Sealings) (deliveries : Deliveries) (begun : State) (rout
 
     -- its acknowledgement to the client
 
-    stage_1 : Stage is_sealing tag deliveries route new is_quiet (suc (suc (suc (suc (suc left))))) w1.next route.nodes.server route.placed.client w1.after
+    stage_1 : Stage is_sealing tag deliveries route new is_quiet (suc (suc (suc (suc (suc left))))) w1.next route.nodes.server route.placed.node w1.after
         (from_to route.proxy.at route.placed.at forwards.acknowledgement ∷ behind)
     stage_1 =
-        at_stage is_sealing tag deliveries route new is_quiet (suc (suc (suc (suc (suc left))))) w1.next route.nodes.server route.placed.client w1.after
+        at_stage is_sealing tag deliveries route new is_quiet (suc (suc (suc (suc (suc left))))) w1.next route.nodes.server route.placed.node w1.after
         (map (sent_from route.proxy.at) w1.step.out) (from_to route.proxy.at route.placed.at forwards.acknowledgement ∷ behind)
         (ap (λ (out : List Datagram). map (sent_from route.proxy.at) out) forwards.out) w1.stage
 
-    w2 : AtClient is_sealing tag deliveries route new is_quiet (suc (suc (suc (suc left)))) w1.next route.nodes.server route.placed.client w1.after route.proxy.at forwards.acknowledgement behind
-    w2 = at_client is_sealing tag deliveries route new is_quiet itself (suc (suc (suc (suc left)))) w1.next route.nodes.server route.placed.client w1.after route.proxy.at forwards.acknowledgement behind stage_1
+    w2 : AtClient is_sealing tag deliveries route new is_quiet (suc (suc (suc (suc left)))) w1.next route.nodes.server route.placed.node w1.after route.proxy.at forwards.acknowledgement behind
+    w2 = at_client is_sealing tag deliveries route new is_quiet itself (suc (suc (suc (suc left)))) w1.next route.nodes.server route.placed.node w1.after route.proxy.at forwards.acknowledgement behind stage_1
 
     abbrev draw_2 : Draw
     draw_2 = next_draw deliveries w1.next

@@ -1,6 +1,6 @@
 -- A client that hears something, begins an exchange or asks, reaches its server the same way; and its next message ID.
 use Rattle.std.proofs.Common.{◌≡◌, ◌∙◌, sym, ap, refl, ℕ, ◌+◌, ◌%◌, Bool, true, false, List, [], ◌∷◌, Some}
-use Rattle.osc_model.specs.Arrival.{Arrival}
+use Rattle.osc_model.specs.Arrival.{Arrival, read_as}
 use Rattle.osc_model.specs.declared.node.Draw.{Draw}
 use Rattle.osc_model.specs.declared.node.Moment.{Moment}
 use Rattle.osc_model.specs.declared.step.Datagram.{Datagram}
@@ -8,16 +8,18 @@ use Rattle.osc_model.specs.declared.step.Step.{Step}
 use Rattle.osc_message.specs.Endpoint.{EndpointState, own_id, settled}
 use Rattle.osc_message.specs.Heard.{heard}
 use Rattle.osc_message.specs.declared.handling.Handling.TheVariants as handling
+use Rattle.osc_coap.specs.Message.{Message}
+use Rattle.osc_message.specs.declared.heard.Heard.{Heard}
 use Rattle.osc_message.specs.declared.heard.Heard.TheVariants as heard_as
-use Rattle.osc_protect.specs.Ciphers.{Sealings, Tags}
+use Rattle.osc_ccm.specs.Ciphers.{Sealings, Tags}
 use Rattle.osc_client.specs.Case.{case_of, is_ended}
 use Rattle.osc_client.specs.Hearing.{Hears}
 use Rattle.osc_client.specs.Sending.{Asked, Asks, Exchanges, asks, begins, busy, hindered}
 use Rattle.osc_client.specs.Sending as sending
 use Rattle.osc_client.specs.State.{State as Client}
-use Rattle.osc_client.specs.Table.{Answers, Settles}
+use Rattle.osc_client.specs.Table.{Answers, AnswersNew, Settles}
 use Rattle.osc_client.specs.declared.case.Case.{Case}
-use Rattle.osc_client.specs.declared.case.Case.TheVariants.{Ignored, Reset, Repeated, Empty, Refused, Rejected, Dropped, Counted}
+use Rattle.osc_client.specs.declared.case.Case.TheVariants.{Refused, Unused, Counted}
 
 abbrev pub SameWay : Client → Client → Type 0
 SameWay old new = (new.next_hop ≡ old.next_hop) × (new.origin ≡ old.origin)
@@ -36,40 +38,40 @@ settled_id false old endpoint step new it = ap (λ (c : Client). c.endpoint.next
 settled_id true old endpoint step new it = ap (λ (c : Client). c.endpoint.next_id) it.1
 
 module _ (is_sealing : Sealings) where
-  answers_id : (case : Case) (old : Client) (came : Arrival (List ℕ)) (step : Step) (new : Client)
-      → Answers is_sealing old came case step new → new.endpoint.next_id ≡ old.endpoint.next_id
-  answers_id Ignored old came step new it = ap (λ (c : Client). c.endpoint.next_id) it.1
-  answers_id (Reset id) old came step new it = ap (λ (c : Client). c.endpoint.next_id) it.1
-  answers_id (Repeated id) old came step new it = ap (λ (c : Client). c.endpoint.next_id) it.1
-  answers_id (Empty kind id) old came step new it =
+  new_id : (case : Case) (old : Client) (came : Arrival Message) (step : Step) (new : Client)
+      → AnswersNew is_sealing old came case step new → new.endpoint.next_id ≡ old.endpoint.next_id
+  new_id Refused old came step new it = ap (λ (c : Client). c.endpoint.next_id) it.1
+  new_id Unused old came step new it = ap (λ (c : Client). c.endpoint.next_id) it.1
+  new_id Counted old came step new it = ap (λ (c : Client). c.endpoint.next_id) it.kept
+
+  answers_id : (it : Heard) (old : Client) (came : Arrival (List ℕ)) (step : Step) (new : Client)
+      → Answers is_sealing old came it step new → new.endpoint.next_id ≡ old.endpoint.next_id
+  answers_id (heard_as.Alone out) old came step new it = ap (λ (c : Client). c.endpoint.next_id) it.1
+  answers_id (heard_as.Empty kind id) old came step new it =
       settled_id (is_ended old.next_hop came.from kind id old.waiting) old
       (settled old.endpoint came.at came.from (heard_as.Empty kind id) handling.Dropped) step new it
-  answers_id (Refused message) old came step new it = ap (λ (c : Client). c.endpoint.next_id) it.1
-  answers_id (Rejected message) old came step new it = ap (λ (c : Client). c.endpoint.next_id) it.1
-  answers_id (Dropped message) old came step new it = ap (λ (c : Client). c.endpoint.next_id) it.1
-  answers_id (Counted message) old came step new it = ap (λ (c : Client). c.endpoint.next_id) it.kept
+  answers_id (heard_as.Message message) old came step new it =
+      new_id (case_of old.next_hop came.from old.waiting message) old (read_as came message) step new it
 
   pub hears_id : (old : Client) (came : Arrival (List ℕ)) (step : Step) (new : Client)
       → Hears is_sealing old came step new → new.endpoint.next_id ≡ old.endpoint.next_id
-  hears_id old came step new hears =
-      answers_id (case_of old.next_hop came.from old.waiting (heard old.endpoint.seen came.at came.from hears.received)) old came step new hears.answers
+  hears_id old came step new hears = answers_id (heard old.endpoint.seen came.at came.from hears.received) old came step new hears.answers
 
-  answers_same : (case : Case) (old : Client) (came : Arrival (List ℕ)) (step : Step) (new : Client)
-      → Answers is_sealing old came case step new → SameWay old new
-  answers_same Ignored old came step new it = same_way old new _ it.1 (refl, refl)
-  answers_same (Reset id) old came step new it = same_way old new _ it.1 (refl, refl)
-  answers_same (Repeated id) old came step new it = same_way old new _ it.1 (refl, refl)
-  answers_same (Empty kind id) old came step new it =
+  new_same : (case : Case) (old : Client) (came : Arrival Message) (step : Step) (new : Client) → AnswersNew is_sealing old came case step new → SameWay old new
+  new_same Refused old came step new it = same_way old new _ it.1 (refl, refl)
+  new_same Unused old came step new it = same_way old new _ it.1 (refl, refl)
+  new_same Counted old came step new it = same_way old new _ it.kept (refl, refl)
+
+  answers_same : (it : Heard) (old : Client) (came : Arrival (List ℕ)) (step : Step) (new : Client) → Answers is_sealing old came it step new → SameWay old new
+  answers_same (heard_as.Alone out) old came step new it = same_way old new _ it.1 (refl, refl)
+  answers_same (heard_as.Empty kind id) old came step new it =
       settled_same (is_ended old.next_hop came.from kind id old.waiting) old
       (settled old.endpoint came.at came.from (heard_as.Empty kind id) handling.Dropped) step new it
-  answers_same (Refused message) old came step new it = same_way old new _ it.1 (refl, refl)
-  answers_same (Rejected message) old came step new it = same_way old new _ it.1 (refl, refl)
-  answers_same (Dropped message) old came step new it = same_way old new _ it.1 (refl, refl)
-  answers_same (Counted message) old came step new it = same_way old new _ it.kept (refl, refl)
+  answers_same (heard_as.Message message) old came step new it =
+      new_same (case_of old.next_hop came.from old.waiting message) old (read_as came message) step new it
 
   pub hears_same : (old : Client) (came : Arrival (List ℕ)) (step : Step) (new : Client) → Hears is_sealing old came step new → SameWay old new
-  hears_same old came step new hears =
-      answers_same (case_of old.next_hop came.from old.waiting (heard old.endpoint.seen came.at came.from hears.received)) old came step new hears.answers
+  hears_same old came step new hears = answers_same (heard old.endpoint.seen came.at came.from hears.received) old came step new hears.answers
 
 no_datagram : (one : Datagram) → [] ≡ one ∷ [] → ⊥
 no_datagram one e = cc

@@ -11,14 +11,14 @@ use Rattle.osc_run.specs.declared.noted.Actor.{Actor}
 use Rattle.osc_run.specs.declared.noted.Actor.TheVariants as actor
 use Rattle.osc_client.specs.Sending.{Asked}
 use Rattle.osc_client.specs.Lying.{Lie}
-use Rattle.osc_client.specs.State.{skipped_to}
+use Rattle.osc_client.specs.State.{State as Client, skipped_to}
 use Rattle.osc_server.specs.State.{State as Server}
+use Rattle.osc_proxy.specs.State.{State as Proxy}
 use Rattle.osc_world.specs.declared.event.Event.{Event}
 use Rattle.osc_world.specs.declared.event.What.{What}
 use Rattle.osc_world.specs.declared.event.What.TheVariants as what
 use Rattle.osc_world.specs.declared.log.SentDatagram.{SentDatagram}
 use Rattle.osc_world.specs.declared.nodes.Placed.{Placed}
-use Rattle.osc_world.specs.declared.nodes.PlacedProxy.{PlacedProxy}
 use Rattle.osc_world.specs.declared.nodes.Whose.{Whose}
 use Rattle.osc_world.specs.declared.nodes.Whose.TheVariants as whose
 
@@ -26,13 +26,13 @@ use Rattle.osc_world.specs.declared.nodes.Whose.TheVariants as whose
 pub record NodeStates : Type 0 where
   pub server_at : Peer
   pub server : Server
-  pub clients : List Placed
-  pub proxies : List PlacedProxy
+  pub clients : List (Placed Client)
+  pub proxies : List (Placed Proxy)
 
 -- ---- where they stand
 
 -- the address of the server, those of the clients, and those of the proxies
-abbrev pub places : Peer → List Placed → List PlacedProxy → List Peer
+abbrev pub places : Peer → List (Placed Client) → List (Placed Proxy) → List Peer
 places server_at clients proxies = server_at ∷ (map (λ placed. placed.at) clients ++ map (λ placed. placed.at) proxies)
 
 -- whether this address is one of those
@@ -51,15 +51,13 @@ found None None = whose.Nobody
 found None (Some number) = whose.Proxy number
 found (Some number) proxy = whose.Client number
 
-abbrev pub client_at : List Placed → Peer → Option ℕ
-client_at clients at = position (λ placed. same_peer placed.at at) clients
-
-abbrev pub proxy_at : List PlacedProxy → Peer → Option ℕ
-proxy_at proxies at = position (λ placed. same_peer placed.at at) proxies
+-- the first of these that stands there, by its number
+abbrev pub number_at : {S : Type 0} → List (Placed S) → Peer → Option ℕ
+number_at all at = position (λ placed. same_peer placed.at at) all
 
 -- who stands there: the server, or the first client that does, or the first proxy
 abbrev pub node_at : NodeStates → Peer → Whose
-node_at nodes at = if same_peer nodes.server_at at then whose.Server else found (client_at nodes.clients at) (proxy_at nodes.proxies at)
+node_at nodes at = if same_peer nodes.server_at at then whose.Server else found (number_at nodes.clients at) (number_at nodes.proxies at)
 
 -- the node of this name
 abbrev pub node_of : Actor → Whose
@@ -124,10 +122,10 @@ deed_of nodes sent event = deed_for nodes sent event event.what
 -- ---- between events
 
 -- the next number of this client is raised, if it is there
-abbrev pub skipped_at : ℕ → ℕ → NodeStates → Option Placed → NodeStates
+abbrev pub skipped_at : ℕ → ℕ → NodeStates → Option (Placed Client) → NodeStates
 skipped_at client number nodes None = nodes
 skipped_at client number nodes (Some placed) =
-    record nodes { clients = slice_set nodes.clients client (record placed { client = skipped_to number placed.client }) }
+    record nodes { clients = slice_set nodes.clients client (record placed { node = skipped_to number placed.node }) }
 
 abbrev pub skipped : ℕ → ℕ → NodeStates → NodeStates
 skipped client number nodes = skipped_at client number nodes (slice_get nodes.clients client)

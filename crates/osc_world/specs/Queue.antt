@@ -6,7 +6,7 @@ use Rattle.osc_model.specs.declared.node.Draw.{Draw}
 use Rattle.osc_model.specs.declared.node.Moment.{Moment}
 use Rattle.osc_model.specs.declared.node.Peer.{Peer}
 use Rattle.osc_model.specs.declared.step.Step.{Step}
-use Rattle.osc_protect.specs.Ciphers.{Sealings}
+use Rattle.osc_ccm.specs.Ciphers.{Sealings}
 use Rattle.osc_run.specs.Notes.{Noted, by_client, by_proxy, by_server}
 use Rattle.osc_server.specs.Hearing.{Hears as ServerHears}
 use Rattle.osc_server.specs.State.{State as Server}
@@ -19,7 +19,6 @@ use Rattle.osc_world.specs.Nodes.{StandApart}
 use Rattle.osc_world.specs.Worlds.{State}
 use Rattle.osc_world.specs.declared.log.SentDatagram.{SentDatagram}
 use Rattle.osc_world.specs.declared.nodes.Placed.{Placed}
-use Rattle.osc_world.specs.declared.nodes.PlacedProxy.{PlacedProxy}
 
 -- the datagrams that were neither delivered nor dropped, in order of sending
 abbrev pub queue : State → List SentDatagram
@@ -44,11 +43,11 @@ pub record IsKeptOf (delivery : Delivery) (at : Peer) (noted : StepNotes → Not
   pub apart : StandApart next.nodes
 
 -- a proxy, of this number, hears it
-pub record IsHeardByProxy (number : ℕ) (placed : PlacedProxy) (delivery : Delivery) (old next : State) : Type 0 where
+pub record IsHeardByProxy (number : ℕ) (placed : Placed Proxy) (delivery : Delivery) (old next : State) : Type 0 where
   pub step : Step
   pub proxy : Proxy
-  pub hears : ProxyHears placed.proxy (came_by delivery) step proxy
-  pub nodes : next.nodes ≡ record old.nodes { proxies = slice_set old.nodes.proxies number (record placed { proxy = proxy }) }
+  pub hears : ProxyHears placed.node (came_by delivery) step proxy
+  pub nodes : next.nodes ≡ record old.nodes { proxies = slice_set old.nodes.proxies number (record placed { node = proxy }) }
   pub kept : IsKeptOf delivery placed.at (by_proxy number) old step next
 
 -- `is_sealing algorithm` is the relation of the algorithm's cipher
@@ -62,9 +61,9 @@ module _ (is_sealing : Sealings) where
     pub kept : IsKeptOf delivery old.nodes.server_at by_server old step next
 
   -- a client, of this number, hears it
-  pub record IsHeardByClient (number : ℕ) (placed : Placed) (delivery : Delivery) (old next : State) : Type 0 where
+  pub record IsHeardByClient (number : ℕ) (placed : Placed Client) (delivery : Delivery) (old next : State) : Type 0 where
     pub step : Step
     pub client : Client
-    pub hears : ClientHears is_sealing placed.client (came_by delivery) step client
-    pub nodes : next.nodes ≡ record old.nodes { clients = slice_set old.nodes.clients number (record placed { client = client }) }
+    pub hears : ClientHears is_sealing placed.node (came_by delivery) step client
+    pub nodes : next.nodes ≡ record old.nodes { clients = slice_set old.nodes.clients number (record placed { node = client }) }
     pub kept : IsKeptOf delivery placed.at (by_client number false) old step next

@@ -1,5 +1,6 @@
 -- Quiet rounds that end well: what comes of an exchange, and of a request, where nothing is lost.
 use Rattle.std.specs.Prelude.{◌≡◌, ◌≢◌, ◌≤◌, ◌<◌, ◌+◌, ◌%◌, ℕ, Bool, true, false, length, List, [], ◌∷◌, ◌++◌, Some, None, slice_get}
+use Rattle.osc_model.specs.Refusals as refusal
 use Rattle.osc_model.specs.Apply.{apply_read}
 use Rattle.osc_model.specs.StepNotes.{StepNotes}
 use Rattle.osc_model.specs.declared.node.Draw.{Draw}
@@ -18,7 +19,7 @@ use Rattle.osc_run.specs.History.{history}
 use Rattle.osc_run.specs.Notes.{Noted, by_client, by_server}
 use Rattle.osc_run.specs.Premise.{HasFreshDraws, IsMinted, Premise}
 use Rattle.osc_run.specs.ServerKinds.{Replies as AppliesTo}
-use Rattle.osc_run.specs.Texts.{read_request}
+use Rattle.osc_options.specs.Texts.{read_request}
 use Rattle.osc_rounds.specs.AskRound.{asked_text}
 use Rattle.osc_rounds.specs.Asked.{OpenedRequest}
 use Rattle.osc_rounds.specs.ExchangeRound.{IsHeld}
@@ -29,13 +30,14 @@ use Rattle.osc_client.specs.Sending.{Asked}
 use Rattle.osc_scope.specs.Entries.{Entry}
 use Rattle.osc_token.specs.Token.{claims_item}
 use Rattle.osc_token.specs.declared.claims.Claims.{Claims}
-use Rattle.osc_protect.specs.Ciphers.{Sealings, Tags}
+use Rattle.osc_ccm.specs.Ciphers.{Sealings, Tags}
+use Rattle.osc_proxy.specs.State.{State as Proxy}
+use Rattle.osc_client.specs.State.{State as Client}
 use Rattle.osc_world.specs.Quiet.{Deliveries, next_draw, waiting_first}
 use Rattle.osc_world.specs.Worlds.{Happens, State}
 use Rattle.osc_world.specs.declared.event.Event.{Event}
 use Rattle.osc_world.specs.declared.event.What.TheVariants.{Ask, Exchange}
 use Rattle.osc_world.specs.declared.nodes.Placed.{Placed}
-use Rattle.osc_world.specs.declared.nodes.PlacedProxy.{PlacedProxy}
 
 -- ---- before and after
 
@@ -51,22 +53,22 @@ abbrev pub round_of : Deliveries → Draw → State → ClientRound
 round_of deliveries draw sent = record { at = deliveries.at; draw = draw; first = next_draw deliveries sent }
 
 -- the hops through this proxy
-abbrev pub hops_through : PlacedProxy → State → Placed → ClientRound → Hops
+abbrev pub hops_through : Placed Proxy → State → Placed Client → ClientRound → Hops
 hops_through proxy world placed round =
     record { at = placed.at; proxy_at = proxy.at; server_at = world.nodes.server_at; now = round.at; proxy_draw = round.first }
 
 -- How a client's round goes, in so many deliveries: straight to the server, or through a proxy, which takes the first of them (RFC 7252
 -- section 5.7.2).
-pub data Way (world : State) (placed : Placed) (round : ClientRound) (deliveries : ℕ) : Type 0 where
-  straight : deliveries ≡ 2 → IsStraight placed.client world.nodes.server round.at round.draw placed.at world.nodes.server_at
+pub data Way (world : State) (placed : Placed Client) (round : ClientRound) (deliveries : ℕ) : Type 0 where
+  straight : deliveries ≡ 2 → IsStraight placed.node world.nodes.server round.at round.draw placed.at world.nodes.server_at
       → Way world placed round deliveries
-  through : deliveries ≡ 6 → (number : ℕ) (proxy : PlacedProxy) → slice_get world.nodes.proxies number ≡ Some proxy
-      → IsThrough placed.client proxy.proxy world.nodes.server round.draw (hops_through proxy world placed round)
+  through : deliveries ≡ 6 → (number : ℕ) (proxy : Placed Proxy) → slice_get world.nodes.proxies number ≡ Some proxy
+      → IsThrough placed.node proxy.node world.nodes.server round.draw (hops_through proxy world placed round)
       → Way world placed round deliveries
 
 -- The world is ready for a client's round: no datagram waits, this is the client of this number, and where it stands, and the round goes
 -- this way.
-pub record IsReady (world : State) (client : ℕ) (placed : Placed) (round : ClientRound) (deliveries : ℕ) : Type 0 where
+pub record IsReady (world : State) (client : ℕ) (placed : Placed Client) (round : ClientRound) (deliveries : ℕ) : Type 0 where
   pub still : waiting_first world ≡ None
   pub here : slice_get world.nodes.clients client ≡ Some placed
   pub way : Way world placed round deliveries
@@ -86,16 +88,16 @@ abbrev pub KeepsThePremise : State → State → Type 0
 KeepsThePremise old new = Premise old.minted old.steps → Premise new.minted new.steps
 
 -- a client that stands where it stood, and reaches the server the same way
-pub record GoesTheSameWay (before after : Placed) : Type 0 where
+pub record GoesTheSameWay (before after : Placed Client) : Type 0 where
   pub at : after.at ≡ before.at
-  pub next_hop : after.client.next_hop ≡ before.client.next_hop
-  pub origin : after.client.origin ≡ before.client.origin
+  pub next_hop : after.node.next_hop ≡ before.node.next_hop
+  pub origin : after.node.origin ≡ before.node.origin
 
 -- Of the message IDs that the client takes behind that of its post, or of its request, the server has heard none that it hadn't heard
 -- before.
-pub record LeavesUnheard (old new : State) (draw : Draw) (before after : Placed) : Type 0 where
-  pub next_id : after.client.endpoint.next_id ≡ Some ((own_id draw before.client.endpoint.next_id + 1) % 65536)
-  pub unheard : (later : Moment) (id : ℕ) → id ≢ own_id draw before.client.endpoint.next_id
+pub record LeavesUnheard (old new : State) (draw : Draw) (before after : Placed Client) : Type 0 where
+  pub next_id : after.node.endpoint.next_id ≡ Some ((own_id draw before.node.endpoint.next_id + 1) % 65536)
+  pub unheard : (later : Moment) (id : ℕ) → id ≢ own_id draw before.node.endpoint.next_id
       → looked later before.at id old.nodes.server.endpoint.seen ≡ None → looked later before.at id new.nodes.server.endpoint.seen ≡ None
 
 -- ---- an exchange
@@ -113,11 +115,11 @@ beginning now draw client = record { moment = now; draw = draw; what = Exchange 
 pub record HasMade (old : State) (client : ℕ) (now : Moment) (entries : List Entry) (new : State) : Type 0 where
   pub held : Held
   pub at_server : IsHeld new.nodes.server now entries held
-  pub placed : Placed
+  pub placed : Placed Client
   pub is_there : slice_get new.nodes.clients client ≡ Some placed
-  pub at_client : placed.client.context ≡ Some (record { name = held.name; next = 0 })
-  pub idle : placed.client.waiting ≡ None
-  pub way : (before : Placed) → slice_get old.nodes.clients client ≡ Some before → GoesTheSameWay before placed
+  pub at_client : placed.node.context ≡ Some (record { name = held.name; next = 0 })
+  pub idle : placed.node.waiting ≡ None
+  pub way : (before : Placed Client) → slice_get old.nodes.clients client ≡ Some before → GoesTheSameWay before placed
   pub server_at : new.nodes.server_at ≡ old.nodes.server_at
   pub begun : StepNotes
   pub agreed : StepNotes
@@ -163,11 +165,11 @@ pub record HasAnswered (old : State) (client : ℕ) (now : Moment) (request : Op
   pub learnt : answered.result ≡ Some (result.Answer reply)
   pub after : Held
   pub at_server : HoldsStill new.nodes.server request.held request.number after
-  pub placed : Placed
+  pub placed : Placed Client
   pub is_there : slice_get new.nodes.clients client ≡ Some placed
-  pub at_client : placed.client.context ≡ Some (record { name = request.held.name; next = request.number + 1 })
-  pub idle : placed.client.waiting ≡ None
-  pub way : (before : Placed) → slice_get old.nodes.clients client ≡ Some before → GoesTheSameWay before placed
+  pub at_client : placed.node.context ≡ Some (record { name = request.held.name; next = request.number + 1 })
+  pub idle : placed.node.waiting ≡ None
+  pub way : (before : Placed Client) → slice_get old.nodes.clients client ≡ Some before → GoesTheSameWay before placed
   pub server_at : new.nodes.server_at ≡ old.nodes.server_at
 
 -- ---- what a quiet round behind them comes to
@@ -184,15 +186,15 @@ module _ (is_sealing : Sealings) (tag : Tags) where
   pub record BegunExchange (deliveries : Deliveries) (count : ℕ) (begun : State) : Type 0 where
     pub before : State
     pub client : ℕ
-    pub placed : Placed
+    pub placed : Placed Client
     pub at : Moment
     pub draw : Draw
     pub claims : Claims
     pub entries : List Entry
     pub ready : IsReady before client placed (round_of deliveries draw begun) count
-    pub may : MayExchange is_sealing placed.client before.nodes.server deliveries.at claims entries
+    pub may : MayExchange is_sealing placed.node before.nodes.server deliveries.at claims entries
     pub happens : Happens is_sealing tag before (beginning at draw client) begun
-    pub fits : IsNotRefused 14 before begun
+    pub fits : IsNotRefused refusal.datagram_too_long before begun
 
   -- The exchange that a client began last makes a context. What is assumed goes on, if the token was minted and the nonces that were
   -- drawn are fresh.
@@ -207,15 +209,15 @@ module _ (is_sealing : Sealings) (tag : Tags) where
   pub record AskedRequest (deliveries : Deliveries) (count : ℕ) (asked : State) : Type 0 where
     pub before : State
     pub client : ℕ
-    pub placed : Placed
+    pub placed : Placed Client
     pub what : Asked
     pub context : ClientContextState
     pub held : Held
     pub ready : IsReady before client placed (round_of deliveries what.draw asked) count
-    pub may : MayAsk placed.client before.nodes.server deliveries.at context held
+    pub may : MayAsk placed.node before.nodes.server deliveries.at context held
     pub code : 0 < what.request.code.0
     pub happens : Happens is_sealing tag before (asking client what) asked
-    pub fits : IsNotRefused 14 before asked
+    pub fits : IsNotRefused refusal.datagram_too_long before asked
 
   -- What a client asked last is answered; and what is assumed goes on.
   abbrev pub AnswersWhatWasAsked : Deliveries → ℕ → State → QuietEnd → Type 0
@@ -223,6 +225,6 @@ module _ (is_sealing : Sealings) (tag : Tags) where
       (count : ℕ) (it : AskedRequest deliveries count asked) → count ≤ limit
       → IsRound count asked end.is_quiet end.world
       × HasAnswered it.before it.client deliveries.at
-      (record { held = it.held; number = it.context.next; text = asked_text it.placed.client it.what.draw it.what.request })
+      (record { held = it.held; number = it.context.next; text = asked_text it.placed.node it.what.draw it.what.request })
       end.world
       × KeepsThePremise it.before end.world

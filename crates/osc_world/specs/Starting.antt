@@ -6,6 +6,4 @@ use Rattle.osc_world.specs.declared.start.Parts.{Parts}
 -- the nodes with which the world begins, and the grants
 pub record AreParts (start : Beginning) (parts : Parts) : Type 0 where
   pub minted : parts.minted.items ≡ start.minted
-  pub server : parts.server ≡ (first_nodes start).server
-  pub clients : parts.clients.items ≡ start.clients
-  pub proxies : parts.proxies.items ≡ start.proxies
+  pub nodes : parts.nodes ≡ first_nodes start

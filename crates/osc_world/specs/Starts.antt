@@ -13,16 +13,16 @@ use Rattle.osc_token.specs.declared.claims.InputMaterial.{InputMaterial}
 use Rattle.osc_authz.specs.Members.{In}
 use Rattle.osc_authz.specs.declared.granted.ClientDesk.{ClientDesk}
 use Rattle.osc_message.specs.Endpoint.{fresh}
-use Rattle.osc_protect.specs.Ciphers.{Sealings}
+use Rattle.osc_ccm.specs.Ciphers.{Sealings}
 use Rattle.osc_run.specs.Runs.{IsNewClient, IsTextOf}
 use Rattle.osc_run.specs.States.{Minted}
-use Rattle.osc_client.specs.State.{core}
+use Rattle.osc_client.specs.State.{State as Client, core}
 use Rattle.osc_proxy.specs.Exchanges.{none_open}
 use Rattle.osc_proxy.specs.declared.targets.Target.{Target}
+use Rattle.osc_proxy.specs.State.{State as Proxy}
 use Rattle.osc_world.specs.Nodes.{NodeStates, places}
 use Rattle.osc_world.specs.Worlds.{State}
 use Rattle.osc_world.specs.declared.nodes.Placed.{Placed}
-use Rattle.osc_world.specs.declared.nodes.PlacedProxy.{PlacedProxy}
 use Rattle.osc_world.specs.declared.start.Holder.{Holder}
 
 -- the resources; what needs no protection; the key of tokens, and for whom they are; where the server stands; the grants with the
@@ -34,17 +34,17 @@ pub record Beginning : Type 0 where
   pub audience : List ℕ
   pub server_at : Peer
   pub minted : List Minted
-  pub clients : List Placed
-  pub proxies : List PlacedProxy
+  pub clients : List (Placed Client)
+  pub proxies : List (Placed Proxy)
 
 -- where its nodes stand
 abbrev pub places_of : Beginning → List Peer
 places_of start = places start.server_at start.clients start.proxies
 
 -- each text is that of its grant, and each client holds one and did nothing yet
-pub record AreEnrolled (minted : List Minted) (clients : List Placed) : Type 0 where
+pub record AreEnrolled (minted : List Minted) (clients : List (Placed Client)) : Type 0 where
   pub texts : (m : Minted) → In m minted → IsTextOf m.grant m.text
-  pub holders : (number : ℕ) (placed : Placed) → slice_get clients number ≡ Some placed → IsNewClient minted number (core placed.client)
+  pub holders : (number : ℕ) (placed : Placed Client) → slice_get clients number ≡ Some placed → IsNewClient minted number (core placed.node)
 
 -- ---- a client is enrolled
 
@@ -74,19 +74,19 @@ pub record IsDeskOf (material : InputMaterial) (token : List ℕ) (desk : Client
   pub alg : desk.alg ≡ material.alg
 
 -- a client that stands there and reaches its server that way, with this token, with no context, waiting for nothing, and having heard nothing
-pub record IsPlaced (holder : Holder) (token : List ℕ) (placed : Placed) : Type 0 where
+pub record IsPlaced (holder : Holder) (token : List ℕ) (placed : Placed Client) : Type 0 where
   pub at : placed.at ≡ holder.at
-  pub next_hop : placed.client.next_hop ≡ holder.way.next_hop
-  pub origin : placed.client.origin ≡ holder.way.origin
-  pub desk : IsDeskOf holder.claims.material token placed.client.desk
-  pub context : placed.client.context ≡ None
-  pub waiting : placed.client.waiting ≡ None
-  pub endpoint : placed.client.endpoint ≡ fresh
+  pub next_hop : placed.node.next_hop ≡ holder.way.next_hop
+  pub origin : placed.node.origin ≡ holder.way.origin
+  pub desk : IsDeskOf holder.claims.material token placed.node.desk
+  pub context : placed.node.context ≡ None
+  pub waiting : placed.node.waiting ≡ None
+  pub endpoint : placed.node.endpoint ≡ fresh
 
 -- `is_sealing algorithm` is the relation of the algorithm's cipher
 module _ (is_sealing : Sealings) where
   -- The scope of the claims has these entries; the token is the object of the claims' text, sealed under the key (RFC 8392 section 7).
-  pub record IsEnrolled (key : List ℕ) (number : ℕ) (holder : Holder) (minted : Minted) (placed : Placed) : Type 0 where
+  pub record IsEnrolled (key : List ℕ) (number : ℕ) (holder : Holder) (minted : Minted) (placed : Placed Client) : Type 0 where
     pub entries : List Entry
     pub scope : IsScope holder.claims.scope entries
     pub ciphertext : List ℕ
@@ -96,15 +96,15 @@ module _ (is_sealing : Sealings) where
 
   pub record Enrols (old : Beginning) (holder : Holder) (new : Beginning) : Type 0 where
     pub minted : Minted
-    pub placed : Placed
+    pub placed : Placed Client
     pub enrolled : IsEnrolled old.key (length old.clients) holder minted placed
     pub is : new ≡ record old { minted = old.minted ++ minted ∷ []; clients = old.clients ++ placed ∷ [] }
 
 -- ---- a proxy is added
 
 -- a proxy that stands there and forwards to these targets; it has heard nothing, and no exchange is open
-abbrev pub new_proxy : Peer → List Target → PlacedProxy
-new_proxy at targets = record { at = at; proxy = record { targets = targets; exchanges = none_open; endpoint = fresh } }
+abbrev pub new_proxy : Peer → List Target → Placed Proxy
+new_proxy at targets = record { at = at; node = record { targets = targets; exchanges = none_open; endpoint = fresh } }
 
 -- ---- the world that begins so
 

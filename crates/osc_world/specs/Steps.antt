@@ -1,10 +1,11 @@
 -- What a node does at an event.
-use Rattle.std.specs.Prelude.{◌≡◌, ℕ, Bool, true, false, [], Option, Some, None, slice_get, slice_set}
+use Rattle.std.specs.Prelude.{◌≡◌, ℕ, Bool, true, false, List, [], Option, Some, None, slice_get, slice_set}
 use Rattle.osc_model.specs.Step.{sends}
+use Rattle.osc_model.specs.StepNotes.{StepNotes}
 use Rattle.osc_model.specs.declared.step.Step.{Step}
-use Rattle.osc_protect.specs.Ciphers.{Sealings, Tags}
+use Rattle.osc_ccm.specs.Ciphers.{Sealings, Tags}
 use Rattle.osc_run.specs.Nodes.{Cause}
-use Rattle.osc_run.specs.Notes.{by_server, by_client, by_proxy}
+use Rattle.osc_run.specs.Notes.{Noted, by_server, by_client, by_proxy}
 use Rattle.osc_server.specs.State.{State as Server}
 use Rattle.osc_server.specs.Steps as of_server
 use Rattle.osc_client.specs.Hearing.{Begins, Requests, TellsLie}
@@ -15,7 +16,6 @@ use Rattle.osc_proxy.specs.State.{State as Proxy, restarted as proxy_again}
 use Rattle.osc_proxy.specs.Steps as of_proxy
 use Rattle.osc_world.specs.Nodes.{NodeStates, Task, Take, StartAgain, ClientTask, Begin, Ask, TellLie, Do, Deed, Nothing, OfServer, OfClient, OfProxy}
 use Rattle.osc_world.specs.declared.nodes.Placed.{Placed}
-use Rattle.osc_world.specs.declared.nodes.PlacedProxy.{PlacedProxy}
 use Rattle.osc_world.specs.declared.nodes.Taken.{Taken}
 
 -- ---- what a node does
@@ -59,25 +59,21 @@ pub record ServerTakes (does : Server → Step → Server → Type 0) (old : Nod
   pub taken_is : taken ≡ Some (record { at = old.server_at; noted = by_server step.notes; out = step.out })
   pub is : new ≡ record old { server = server }
 
--- the client of this number takes a step of this kind, in a lie or not; where none is there, nobody does
-pub data ClientTakes (does : Client → Step → Client → Type 0) (lied : Bool) (old : NodeStates) (number : ℕ) (taken : Option Taken) (new : NodeStates) : Type 0 where
-  no_client : slice_get old.clients number ≡ None → NobodyTakes old taken new → ClientTakes does lied old number taken new
-  a_client : (placed : Placed) (step : Step) (client : Client) → slice_get old.clients number ≡ Some placed → does placed.client step client
-      → taken ≡ Some (record { at = placed.at; noted = by_client number lied step.notes; out = step.out })
-      → new ≡ record old { clients = slice_set old.clients number (record placed { client = client }) }
-      → ClientTakes does lied old number taken new
-
--- and so the proxy of this number
-pub data ProxyTakes (does : Proxy → Step → Proxy → Type 0) (old : NodeStates) (number : ℕ) (taken : Option Taken) (new : NodeStates) : Type 0 where
-  no_proxy : slice_get old.proxies number ≡ None → NobodyTakes old taken new → ProxyTakes does old number taken new
-  a_proxy : (placed : PlacedProxy) (step : Step) (proxy : Proxy) → slice_get old.proxies number ≡ Some placed → does placed.proxy step proxy
-      → taken ≡ Some (record { at = placed.at; noted = by_proxy number step.notes; out = step.out })
-      → new ≡ record old { proxies = slice_set old.proxies number (record placed { proxy = proxy }) }
-      → ProxyTakes does old number taken new
+-- of these nodes the one of this number takes a step of this kind, where it stands, which is noted so; where none is there, nobody does
+pub data NodeTakes {S : Type 0} (does : S → Step → S → Type 0) (noted : StepNotes → Noted) (old : List (Placed S)) (number : ℕ) (taken : Option Taken) (new : List (Placed S)) : Type 0 where
+  no_node : slice_get old number ≡ None → taken ≡ None → new ≡ old → NodeTakes does noted old number taken new
+  a_node : (placed : Placed S) (step : Step) (node : S) → slice_get old number ≡ Some placed → does placed.node step node
+      → taken ≡ Some (record { at = placed.at; noted = noted step.notes; out = step.out })
+      → new ≡ slice_set old number (record placed { node = node })
+      → NodeTakes does noted old number taken new
 
 module _ (is_sealing : Sealings) (tag : Tags) where
   abbrev pub Takes : NodeStates → Deed → Option Taken → NodeStates → Type 0
   Takes old Nothing taken new = NobodyTakes old taken new
   Takes old (OfServer task) taken new = ServerTakes (Does (of_server.IsStep is_sealing) of_server.again task) old taken new
-  Takes old (OfClient number task) taken new = ClientTakes (ClientDoes is_sealing tag task) (is_lie task) old number taken new
-  Takes old (OfProxy number task) taken new = ProxyTakes (Does of_proxy.IsStep proxy_again task) old number taken new
+  Takes old (OfClient number task) taken new =
+      (clients : List (Placed Client)) × NodeTakes (ClientDoes is_sealing tag task) (by_client number (is_lie task)) old.clients number taken clients
+      × (new ≡ record old { clients = clients })
+  Takes old (OfProxy number task) taken new =
+      (proxies : List (Placed Proxy)) × NodeTakes (Does of_proxy.IsStep proxy_again task) (by_proxy number) old.proxies number taken proxies
+      × (new ≡ record old { proxies = proxies })

@@ -1,7 +1,7 @@
 -- What a world is, and how it goes on.
 use Rattle.std.specs.Prelude.{◌≡◌, ℕ, List, [], ◌∷◌, ◌++◌, map, Option}
 use Rattle.osc_model.specs.Tree.{Tree}
-use Rattle.osc_protect.specs.Ciphers.{Sealings, Tags}
+use Rattle.osc_ccm.specs.Ciphers.{Sealings, Tags}
 use Rattle.osc_run.specs.Notes.{Noted}
 use Rattle.osc_run.specs.States.{Minted, WorldState}
 use Rattle.osc_server.specs.State.{core as core_of_server}
@@ -30,7 +30,7 @@ run_with minted first nodes steps = record {
   minted = minted;
   first = first;
   server = core_of_server nodes.server;
-  clients = map (λ placed. core_of_client placed.client) nodes.clients;
+  clients = map (λ placed. core_of_client placed.node) nodes.clients;
   notes = steps;
 }
 

@@ -5,10 +5,11 @@ ghost use Rattle.osc_model.specs.Grant.{grant_of};
 ghost use Rattle.osc_model.specs.Isolation.{alone as answers_alone, entries_under, held_by, machine_answers};
 ghost use Rattle.osc_model.specs.declared.step.Entry.{Entry as Served};
 ghost use Rattle.osc_run.specs.States.{grants_of};
-ghost use Rattle.osc_run.specs.Texts.{read_request};
+ghost use Rattle.osc_options.specs.Texts.{read_request};
 
 use osc_model::{Bytes, ContextName, Entry, Reply};
-use osc_run::{Minted, request_in};
+use osc_options::request_in;
+use osc_run::Minted;
 use osc_scope::Scope;
 use osc_tree::Tree;
 use std::alloc::{AllocError, Global};

@@ -8,9 +8,9 @@ ghost use Rattle.osc_world.specs.Steps.{ClientDoes, Does, is_lie};
 ghost use Rattle.osc_world.specs.declared.event.Event.{Event as AnyEvent};
 
 use crate::event::Event;
+use osc_ccm::Ciphers;
 use osc_client::Client;
 use osc_model::{Datagrams, Peer, Request, Step};
-use osc_protect::Ciphers;
 use osc_run::Node;
 use std::alloc::{AllocError, Global};
 

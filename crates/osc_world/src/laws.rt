@@ -8,9 +8,11 @@ ghost use Rattle.osc_cbor.specs.Spelling.{spelling};
 ghost use Rattle.osc_authz.specs.Contexts.{IsLive};
 ghost use Rattle.osc_context.specs.Nonce.{greatest_number};
 ghost use Rattle.osc_window.specs.Window.{IsFresh};
+ghost use Rattle.osc_client.specs.State.{State as AnyClient};
 ghost use Rattle.osc_client.specs.Way.{HostAndPort};
 ghost use Rattle.osc_dedup.specs.Table.{looked};
 ghost use Rattle.osc_message.specs.Endpoint.{own_id};
+ghost use Rattle.osc_proxy.specs.State.{State as AnyProxy};
 ghost use Rattle.osc_proxy.specs.Targets.{peer_of};
 ghost use Rattle.osc_proxy.specs.declared.targets.Target.{Target as AnyTarget};
 ghost use Rattle.osc_rounds.specs.AskRound.{IsLawfulServer};
@@ -33,13 +35,12 @@ ghost use Rattle.osc_world.specs.declared.log.SentDatagram.{SentDatagram as AnyS
 ghost use Rattle.osc_world.specs.Refusals.{FitAToken};
 ghost use Rattle.osc_world.specs.Starts.{Beginning, Enrols, begun, new_proxy};
 ghost use Rattle.osc_world.specs.declared.nodes.Placed.{Placed as AnyPlaced};
-ghost use Rattle.osc_world.specs.declared.nodes.PlacedProxy.{PlacedProxy as AnyPlacedProxy};
 ghost use Rattle.osc_world.specs.declared.nodes.Whose.TheVariants as whose;
 ghost use Rattle.osc_world.specs.declared.start.Holder.{Holder as AnyHolder};
 
 use osc_authz::laws::numbers_taken;
+use osc_ccm::Ciphers;
 use osc_message::laws::one_peer;
-use osc_protect::Ciphers;
 use osc_rounds::laws::{
     a_request_goes_through_a_proxy, a_request_is_answered, a_request_keeps_the_premise,
     an_exchange_goes_through_a_proxy, an_exchange_is_made, an_exchange_keeps_the_premise,
@@ -49,9 +50,9 @@ use osc_rounds::laws::{
 /// Where no two nodes stand at one address, what is sent to a node's address comes to that node.
 pub fn who_stands_there()
     ensures server { (nodes : NodeStates) → node_at nodes nodes.server_at ≡ whose.Server }
-    ensures client { (nodes : NodeStates) (number : ℕ) (placed : AnyPlaced) → StandApart nodes → slice_get nodes.clients number ≡ Some placed
+    ensures client { (nodes : NodeStates) (number : ℕ) (placed : AnyPlaced AnyClient) → StandApart nodes → slice_get nodes.clients number ≡ Some placed
         → node_at nodes placed.at ≡ whose.Client number }
-    ensures proxy { (nodes : NodeStates) (number : ℕ) (placed : AnyPlacedProxy) → StandApart nodes → slice_get nodes.proxies number ≡ Some placed
+    ensures proxy { (nodes : NodeStates) (number : ℕ) (placed : AnyPlaced AnyProxy) → StandApart nodes → slice_get nodes.proxies number ≡ Some placed
         → node_at nodes placed.at ≡ whose.Proxy number }
 {
     one_peer();
@@ -74,14 +75,14 @@ pub fn a_round_delivers<A: Ciphers>()
         × IsHeardByServer A.is_sealing (record { at = deliveries.at; draw = next_draw deliveries old; first = first; later = later }) old next
         × Rounds (Happens A.is_sealing A.TAG) deliveries left next quiet new }
     ensures client { (deliveries : Deliveries) (left : ℕ) (first : AnySent) (later : List AnySent) (old new : State) (quiet : Bool)
-        (number : ℕ) (placed : AnyPlaced)
+        (number : ℕ) (placed : AnyPlaced AnyClient)
         → StandApart old.nodes → queue old ≡ first ∷ later → slice_get old.nodes.clients number ≡ Some placed → first.to ≡ placed.at
         → Rounds (Happens A.is_sealing A.TAG) deliveries (suc left) old quiet new
         → (next : State)
         × IsHeardByClient A.is_sealing number placed (record { at = deliveries.at; draw = next_draw deliveries old; first = first; later = later }) old next
         × Rounds (Happens A.is_sealing A.TAG) deliveries left next quiet new }
     ensures proxy { (deliveries : Deliveries) (left : ℕ) (first : AnySent) (later : List AnySent) (old new : State) (quiet : Bool)
-        (number : ℕ) (placed : AnyPlacedProxy)
+        (number : ℕ) (placed : AnyPlaced AnyProxy)
         → StandApart old.nodes → queue old ≡ first ∷ later → slice_get old.nodes.proxies number ≡ Some placed → first.to ≡ placed.at
         → Rounds (Happens A.is_sealing A.TAG) deliveries (suc left) old quiet new
         → (next : State)
@@ -102,7 +103,7 @@ pub fn an_exchanged_round<A: Ciphers>()
         → Rounds (Happens A.is_sealing A.TAG) deliveries limit begun quiet new
         → MakesWhatWasBegun A.is_sealing A.TAG deliveries limit begun (record { is_quiet = quiet; world = new }) }
     ensures straight { (deliveries : Deliveries) (limit : ℕ) (begun new : State) (quiet : Bool) (it : BegunExchange A.is_sealing A.TAG deliveries 2 begun)
-        (after : AnyPlaced)
+        (after : AnyPlaced AnyClient)
         → AreWhole deliveries.drawn begun new → StandApart begun.nodes → AreLawfulClients begun.nodes.clients
         → 2 ≤ limit → Rounds (Happens A.is_sealing A.TAG) deliveries limit begun quiet new
         → slice_get new.nodes.clients it.client ≡ Some after → LeavesUnheard it.before new it.draw it.placed after }
@@ -125,7 +126,7 @@ pub fn an_asked_round<A: Ciphers>()
         → Rounds (Happens A.is_sealing A.TAG) deliveries limit asked quiet new
         → AnswersWhatWasAsked A.is_sealing A.TAG deliveries limit asked (record { is_quiet = quiet; world = new }) }
     ensures straight { (deliveries : Deliveries) (limit : ℕ) (asked new : State) (quiet : Bool) (it : AskedRequest A.is_sealing A.TAG deliveries 2 asked)
-        (after : AnyPlaced)
+        (after : AnyPlaced AnyClient)
         → StandApart asked.nodes → IsLawfulServer asked.nodes.server → AreLawfulClients asked.nodes.clients
         → 2 ≤ limit → Rounds (Happens A.is_sealing A.TAG) deliveries limit asked quiet new
         → slice_get new.nodes.clients it.client ≡ Some after → LeavesUnheard it.before new it.what.draw it.placed after }
@@ -142,13 +143,13 @@ pub fn an_asked_round<A: Ciphers>()
 pub fn after_an_exchange_one_may_ask()
     ensures may_ask { (old new : State) (client : ℕ) (now later : AnyMoment) (entries : List Entry) (made : HasMade old client now entries new)
         → IsLive later made.held
-        → MayAsk made.placed.client new.nodes.server later (record { name = made.held.name; next = 0 }) made.held }
-    ensures straight { (begun old new : State) (quiet : Bool) (client : ℕ) (before : AnyPlaced) (now : AnyMoment) (draw : AnyDraw) (entries : List Entry)
+        → MayAsk made.placed.node new.nodes.server later (record { name = made.held.name; next = 0 }) made.held }
+    ensures straight { (begun old new : State) (quiet : Bool) (client : ℕ) (before : AnyPlaced AnyClient) (now : AnyMoment) (draw : AnyDraw) (entries : List Entry)
         (made : HasMade old client now entries new) (next : ClientRound)
         → IsRound 2 begun quiet new → slice_get old.nodes.clients client ≡ Some before
-        → before.client.origin ≡ None → before.client.next_hop ≡ old.nodes.server_at
+        → before.node.origin ≡ None → before.node.next_hop ≡ old.nodes.server_at
         → LeavesUnheard old new draw before made.placed
-        → looked next.at before.at ((own_id draw before.client.endpoint.next_id + 1) % 65536) old.nodes.server.endpoint.seen ≡ None
+        → looked next.at before.at ((own_id draw before.node.endpoint.next_id + 1) % 65536) old.nodes.server.endpoint.seen ≡ None
         → IsReady new client made.placed next 2 }
 {}
 
@@ -159,13 +160,13 @@ pub fn after_an_answer_one_may_ask()
     ensures may_ask { (old new : State) (client : ℕ) (now later : AnyMoment) (request : OpenedRequest)
         (answered : HasAnswered old client now request new)
         → IsLive later answered.after → request.number + 1 ≤ greatest_number → IsFresh request.held.window (request.number + 1)
-        → MayAsk answered.placed.client new.nodes.server later (record { name = request.held.name; next = request.number + 1 }) answered.after }
-    ensures straight { (asked old new : State) (quiet : Bool) (client : ℕ) (before : AnyPlaced) (now : AnyMoment) (draw : AnyDraw) (request : OpenedRequest)
+        → MayAsk answered.placed.node new.nodes.server later (record { name = request.held.name; next = request.number + 1 }) answered.after }
+    ensures straight { (asked old new : State) (quiet : Bool) (client : ℕ) (before : AnyPlaced AnyClient) (now : AnyMoment) (draw : AnyDraw) (request : OpenedRequest)
         (answered : HasAnswered old client now request new) (next : ClientRound)
         → IsRound 2 asked quiet new → slice_get old.nodes.clients client ≡ Some before
-        → before.client.origin ≡ None → before.client.next_hop ≡ old.nodes.server_at
+        → before.node.origin ≡ None → before.node.next_hop ≡ old.nodes.server_at
         → LeavesUnheard old new draw before answered.placed
-        → looked next.at before.at ((own_id draw before.client.endpoint.next_id + 1) % 65536) old.nodes.server.endpoint.seen ≡ None
+        → looked next.at before.at ((own_id draw before.node.endpoint.next_id + 1) % 65536) old.nodes.server.endpoint.seen ≡ None
         → IsReady new client answered.placed next 2 }
 {}
 
@@ -187,8 +188,8 @@ pub fn where_a_world_begins<A: Ciphers>()
     ensures may_exchange { (before after start : Beginning) (holder : AnyHolder) (now : AnyMoment) (enrols : Enrols A.is_sealing before holder after)
         → start.key ≡ before.key → HasLawfulParts holder.claims → FitAToken holder.claims → holder.claims.audience ≡ start.audience
         → HasBegun holder.claims.not_before now → IsNotOver holder.claims.expires now
-        → length holder.iv ≡ 13 → length enrols.placed.client.desk.token < 2 ^ 64
-        → MayExchange A.is_sealing enrols.placed.client (begun start).nodes.server now holder.claims enrols.enrolled.entries }
+        → length holder.iv ≡ 13 → length enrols.placed.node.desk.token < 2 ^ 64
+        → MayExchange A.is_sealing enrols.placed.node (begun start).nodes.server now holder.claims enrols.enrolled.entries }
     ensures straight { (before after start : Beginning) (holder : AnyHolder) (round : ClientRound) (enrols : Enrols A.is_sealing before holder after)
         → slice_get start.clients (length before.clients) ≡ Some enrols.placed
         → holder.way.origin ≡ None → holder.way.next_hop ≡ start.server_at

@@ -17,6 +17,6 @@ pub use draws::Draws;
 pub use error::{EnrollError, PlaceError};
 pub use event::{Event, What};
 pub use log::{Record, SentDatagram};
-pub use nodes::{Placed, PlacedProxy};
+pub use nodes::{Nodes, Placed, Taken, Whose};
 pub use start::{Holder, Parts, Start};
 pub use world::World;

@@ -1,62 +1,48 @@
 //! The nodes of a world, and the step that one of them takes at an event.
 ghost use Rattle.std.specs.Prelude.{◌≡◌, ◌≤◌, IfOk, OnErr, length, option_map, position, slice_get};
-ghost use Rattle.osc_proxy.specs.State.{restarted as proxy_again};
-ghost use Rattle.osc_proxy.specs.Steps.{IsStep as IsProxyStep};
+ghost use Rattle.std.specs.Borrow.{sem};
+ghost use Rattle.osc_client.specs.Steps.{most_sent as most_sent_by_client};
+ghost use Rattle.osc_proxy.specs.Steps.{most_sent as most_sent_by_proxy};
 ghost use Rattle.osc_rounds.specs.AskRound.{IsLawfulServer};
-ghost use Rattle.osc_server.specs.Steps.{IsStep as IsServerStep, again as server_again};
 ghost use Rattle.osc_world.specs.Inner.Kinds.{IsSkip, IsStep};
-ghost use Rattle.osc_world.specs.Inner.Tasks.{MayBeDone, client_task_of, most_of, most_of_placed, most_sent, task_of, whose_step};
+ghost use Rattle.osc_world.specs.Inner.Tasks.{MayBeDone, client_task_of, most_of, most_sent, task_of, whose_step};
+ghost use Rattle.osc_world.specs.Lending.{LendsClient, LendsProxy, LendsServer};
 ghost use Rattle.osc_world.specs.Lawful.{AreLawfulClients, AreLawfulProxies};
 ghost use Rattle.osc_world.specs.Log.{sent_by};
-ghost use Rattle.osc_world.specs.Nodes.{client_at, deed_by, deed_of, found, node_at, node_of, proxy_at, skipped};
-ghost use Rattle.osc_world.specs.Steps.{ClientDoes, ClientTakes, Does, ProxyTakes, ServerTakes, Takes, is_lie};
+ghost use Rattle.osc_world.specs.Nodes.{OfClient, OfProxy, OfServer, deed_by, deed_of, found, node_at, node_of, number_at, skipped};
+ghost use Rattle.osc_world.specs.Steps.{Takes};
 
 use crate::event::{Event, What};
 use crate::jobs::{ClientJob, Job, client_does, does, lies, most_by};
 use crate::log::SentDatagram;
+use osc_ccm::Ciphers;
 use osc_client::Client;
 use osc_context::NUMBER_LIMIT;
 use osc_model::{Datagrams, Peer};
-use osc_protect::Ciphers;
 use osc_proxy::Proxy;
 use osc_run::{Actor, Noted};
 use osc_server::Server;
 use std::alloc::{AllocError, Global};
 use std::marker::Model;
 
-/// A client, and where it stands.
-pub struct Placed {
+/// A node, and where it stands.
+pub struct Placed<N> {
     /// Its address.
     pub at: Peer,
-    /// The client.
-    pub client: Client,
+    /// The client, or the proxy.
+    pub node: N,
 }
 
-// Proved once, and not anew at each exit of whoever owns one.
-impl Drop for Placed {
+// Proved once for whoever owns one.
+impl<N: Drop> Drop for Placed<N> {
     fn drop(self) {
-        let Placed { at: _, client: _ } = self;
+        let Placed { at: _, node: _ } = self;
     }
 }
 
-/// A proxy, and where it stands.
-pub struct PlacedProxy {
-    /// Its address.
-    pub at: Peer,
-    /// The proxy.
-    pub proxy: Proxy,
-}
-
-// Proved once, and not anew at each exit of whoever owns one.
-impl Drop for PlacedProxy {
-    fn drop(self) {
-        let PlacedProxy { at: _, proxy: _ } = self;
-    }
-}
-
-/// Whose step an event is.
+/// Who stands somewhere, or whose step something is.
 #[derive(Clone, Copy, Debug, PartialEq, Eq)]
-pub(crate) enum Whose {
+pub enum Whose {
     /// The server's.
     Server,
     /// That of the client of this number, if there is one.
@@ -69,7 +55,7 @@ pub(crate) enum Whose {
 
 /// A step that a node took: where the node stands, what is noted of the step, and the datagrams that it sends.
 #[derive(Drop)]
-pub(crate) struct Taken {
+pub struct Taken {
     /// From where its datagrams come.
     pub at: Peer,
     /// Whose it was, and what it did beside sending.
@@ -78,15 +64,16 @@ pub(crate) struct Taken {
     pub out: Datagrams,
 }
 
-/// The server, where it stands, and the clients and the proxies.
-pub(crate) struct Nodes {
+/// A server, its clients and the proxies, each where it stands: what a world has beside its network, and a lab beside its ports. One of
+/// them takes a step at a time.
+pub struct Nodes {
     server_at: Peer,
     server: Server,
-    clients: Vec<Placed>,
-    proxies: Vec<PlacedProxy>,
+    clients: Vec<Placed<Client>>,
+    proxies: Vec<Placed<Proxy>>,
 }
 
-// Proved once, and not anew at each exit of whoever owns one.
+// Proved once for whoever owns one.
 impl Drop for Nodes {
     fn drop(self) {
         let Nodes {
@@ -111,18 +98,11 @@ impl Model for Nodes {
     ghost view = { λ n. record { server_at = n.server_at; server = n.server; clients = n.clients.items; proxies = n.proxies.items } };
 }
 
-/// The number of the first client that stands there.
-fn client_at(clients: &[Placed], at: Peer) -> Option<usize>
-    ensures { result ≡ client_at clients.now at }
+/// The number of the first of these that stands there.
+fn number_at<N>(all: &[Placed<N>], at: Peer) -> Option<usize>
+    ensures { result ≡ number_at all.now at }
 {
-    clients.iter().position(|placed| placed.at == at)
-}
-
-/// The number of the first proxy that stands there.
-fn proxy_at(proxies: &[PlacedProxy], at: Peer) -> Option<usize>
-    ensures { result ≡ proxy_at proxies.now at }
-{
-    proxies.iter().position(|placed| placed.at == at)
+    all.iter().position(|placed| placed.at == at)
 }
 
 /// The client of this number, if one was found, or else the proxy of that number.
@@ -148,31 +128,31 @@ fn node_of(node: Actor) -> Whose
 }
 
 /// For proofs: what is true of each client. Looks at each, and changes nothing.
-fn are_lawful_clients(clients: &[Placed])
+fn are_lawful_clients(clients: &[Placed<Client>])
     ensures { AreLawfulClients clients.now }
 {
     for placed in clients {
-        placed.client.has_lawful_parts();
+        placed.node.has_lawful_parts();
     }
 }
 
 /// For proofs: what is true of each proxy. Looks at each, and changes nothing.
-fn are_lawful_proxies(proxies: &[PlacedProxy])
+fn are_lawful_proxies(proxies: &[Placed<Proxy>])
     ensures { AreLawfulProxies proxies.now }
 {
     for placed in proxies {
         // The call tells what always holds of a proxy.
-        let _open = placed.proxy.open_exchanges();
+        let _open = placed.node.open_exchanges();
     }
 }
 
 impl Nodes {
-    /// These nodes.
+    /// These nodes; takes no memory.
     pub fn new(
         server_at: Peer,
         server: Server,
-        clients: Vec<Placed>,
-        proxies: Vec<PlacedProxy>,
+        clients: Vec<Placed<Client>>,
+        proxies: Vec<Placed<Proxy>>,
     ) -> Nodes
         ensures { result ≡ record { server_at = server_at; server = server; clients = clients.items; proxies = proxies.items } }
     {
@@ -191,22 +171,75 @@ impl Nodes {
         &self.server
     }
 
-    /// The client of this number, if there is one.
-    pub fn client(&self, number: usize) -> Option<&Placed>
+    /// The client of this number, from 0, and where it stands, if there is one.
+    pub fn client(&self, number: usize) -> Option<&Placed<Client>>
         ensures { option_map (λ placed. placed.now) result ≡ slice_get self.now.clients number }
     {
         self.clients.get(number)
     }
 
-    /// The proxy of this number, if there is one.
-    pub fn proxy(&self, number: usize) -> Option<&PlacedProxy>
+    /// The proxy of this number, from 0, and where it stands, if there is one.
+    pub fn proxy(&self, number: usize) -> Option<&Placed<Proxy>>
         ensures { option_map (λ placed. placed.now) result ≡ slice_get self.now.proxies number }
     {
         self.proxies.get(number)
     }
 
+    /// The clients, by their numbers.
+    pub fn clients(&self) -> &[Placed<Client>]
+        ensures { result.now ≡ self.now.clients }
+    {
+        &self.clients
+    }
+
+    /// The proxies, by their numbers.
+    pub fn proxies(&self) -> &[Placed<Proxy>]
+        ensures { result.now ≡ self.now.proxies }
+    {
+        &self.proxies
+    }
+
+    /// The server, for a step.
+    pub fn server_mut(&mut self) -> &mut Server
+        ensures* lends { sem 𝓛 (LendsServer self.entry result) }
+        ensures is { result.now ≡ self.old.server }
+    {
+        &mut self.server
+    }
+
+    /// The client of this number, for a step, if there is one.
+    pub fn client_mut(&mut self, number: usize) -> Option<&mut Placed<Client>>
+        ensures* lends { sem 𝓛 (LendsClient self.entry number result) }
+        ensures is { option_map (λ placed. placed.now) result ≡ slice_get self.old.clients number }
+    {
+        self.clients.get_mut(number)
+    }
+
+    /// The proxy of this number, for a step, if there is one.
+    pub fn proxy_mut(&mut self, number: usize) -> Option<&mut Placed<Proxy>>
+        ensures* lends { sem 𝓛 (LendsProxy self.entry number result) }
+        ensures is { option_map (λ placed. placed.now) result ≡ slice_get self.old.proxies number }
+    {
+        self.proxies.get_mut(number)
+    }
+
+    /// The server, the clients and the proxies.
+    pub fn into_parts(self) -> (Server, Vec<Placed<Client>>, Vec<Placed<Proxy>>)
+        ensures server { result.0 ≡ self.server }
+        ensures clients { result.1.items ≡ self.clients }
+        ensures proxies { result.2.items ≡ self.proxies }
+    {
+        let Nodes {
+            server_at: _,
+            server,
+            clients,
+            proxies,
+        } = self;
+        (server, clients, proxies)
+    }
+
     /// For proofs: what is true of each server. Does nothing.
-    pub fn has_a_lawful_server(&self)
+    pub(crate) fn has_a_lawful_server(&self)
         ensures { IsLawfulServer self.now.server }
     {
         let _resources = self.server.tree().len();
@@ -214,31 +247,31 @@ impl Nodes {
     }
 
     /// For proofs: what is true of each client. Changes nothing.
-    pub fn has_lawful_clients(&self)
+    pub(crate) fn has_lawful_clients(&self)
         ensures { AreLawfulClients self.now.clients }
     {
         are_lawful_clients(&self.clients);
     }
 
     /// For proofs: what is true of each proxy. Changes nothing.
-    pub fn has_lawful_proxies(&self)
+    pub(crate) fn has_lawful_proxies(&self)
         ensures { AreLawfulProxies self.now.proxies }
     {
         are_lawful_proxies(&self.proxies);
     }
 
-    /// Who stands there.
-    fn at(&self, at: Peer) -> Whose
+    /// Who stands there: the server, or the first client that does, or the first proxy.
+    pub fn at(&self, at: Peer) -> Whose
         ensures { result ≡ node_at self.now at }
     {
         if self.server_at == at {
             return Whose::Server;
         }
-        found(client_at(&self.clients, at), proxy_at(&self.proxies, at))
+        found(number_at(&self.clients, at), number_at(&self.proxies, at))
     }
 
     /// Whose step an event is.
-    pub fn whose(&self, sent: &[SentDatagram], what: &What) -> Whose
+    pub(crate) fn whose(&self, sent: &[SentDatagram], what: &What) -> Whose
         ensures { result ≡ whose_step self.now sent.now what.now }
     {
         match what {
@@ -255,17 +288,17 @@ impl Nodes {
     }
 
     /// How many datagrams this node sends at most in its next step. For more than there are numbers no memory is enough.
-    pub fn most_sent<A: Ciphers>(&self, whose: Whose) -> Result<usize, AllocError>
+    pub(crate) fn most_sent<A: Ciphers>(&self, whose: Whose) -> Result<usize, AllocError>
         ensures { IfOk result (λ most. most ≡ most_sent self.now whose) }
     {
         match whose {
             Whose::Server => most_by::<A, Server>(&self.server),
             Whose::Client(number) => match self.clients.get(number) {
-                Some(placed) => most_by::<A, Client>(&placed.client),
+                Some(placed) => most_by::<A, Client>(&placed.node),
                 None => Ok(0),
             },
             Whose::Proxy(number) => match self.proxies.get(number) {
-                Some(placed) => most_by::<A, Proxy>(&placed.proxy),
+                Some(placed) => most_by::<A, Proxy>(&placed.node),
                 None => Ok(0),
             },
             Whose::Nobody => Ok(0),
@@ -273,7 +306,7 @@ impl Nodes {
     }
 
     /// What the event comes to is done by the node whose step it is. Without memory an `AllocError`; then nothing has changed.
-    pub fn take<A: Ciphers>(
+    pub(crate) fn take<A: Ciphers>(
         &mut self,
         alloc: Global,
         whose: Whose,
@@ -330,14 +363,14 @@ impl Nodes {
 
     /// Raises the number that a client takes next; a lower one changes nothing, and so does a client that isn't there or has no
     /// context. Takes no memory.
-    pub fn skip(&mut self, client: usize, number: u64)
+    pub(crate) fn skip(&mut self, client: usize, number: u64)
         ensures skipped { self.new ≡ skipped client number self.old }
         ensures kind { IsSkip client self.old self.new }
     {
         let Some(placed) = self.clients.get_mut(client) else {
             return;
         };
-        placed.client.skip_to(number);
+        placed.node.skip_to(number);
     }
 
     /// This node does it, if it is there.
@@ -370,7 +403,7 @@ impl Nodes {
         event: &Event,
         job: Job<'_>,
     ) -> Result<Option<Taken>, AllocError>
-        ensures takes { IfOk result (λ taken. ServerTakes (Does (IsServerStep A.is_sealing) server_again (task_of event.now job.entry)) self.old taken self.new) }
+        ensures takes { IfOk result (λ taken. Takes A.is_sealing A.TAG self.old (OfServer (task_of event.now job.entry)) taken self.new) }
         ensures step { IfOk result (λ taken. IsStep event.now.moment self.old taken self.new) }
         ensures few { IfOk result (λ taken. length (sent_by taken) ≤ 1) }
         ensures err { OnErr result (self.new ≡ self.old) }
@@ -392,16 +425,15 @@ impl Nodes {
         job: ClientJob<'_>,
     ) -> Result<Option<Taken>, AllocError>
         requires { MayBeDone job }
-        ensures takes { IfOk result (λ taken. ClientTakes (ClientDoes A.is_sealing A.TAG (client_task_of event.now job.entry))
-            (is_lie (client_task_of event.now job.entry)) self.old number taken self.new) }
+        ensures takes { IfOk result (λ taken. Takes A.is_sealing A.TAG self.old (OfClient number (client_task_of event.now job.entry)) taken self.new) }
         ensures step { IfOk result (λ taken. IsStep event.now.moment self.old taken self.new) }
-        ensures few { IfOk result (λ taken. length (sent_by taken) ≤ most_of (slice_get self.old.clients number)) }
+        ensures few { IfOk result (λ taken. length (sent_by taken) ≤ most_of most_sent_by_client (slice_get self.old.clients number)) }
         ensures err { OnErr result (self.new ≡ self.old) }
     {
         let Some(placed) = self.clients.get_mut(number) else {
             return Ok(None);
         };
-        let step = client_does::<A>(alloc, &mut placed.client, event, job)?;
+        let step = client_does::<A>(alloc, &mut placed.node, event, job)?;
         Ok(Some(Taken {
             at: placed.at,
             noted: Noted::by_client(number, lies(job), step.notes),
@@ -417,15 +449,15 @@ impl Nodes {
         event: &Event,
         job: Job<'_>,
     ) -> Result<Option<Taken>, AllocError>
-        ensures takes { IfOk result (λ taken. ProxyTakes (Does IsProxyStep proxy_again (task_of event.now job.entry)) self.old number taken self.new) }
+        ensures takes { IfOk result (λ taken. Takes A.is_sealing A.TAG self.old (OfProxy number (task_of event.now job.entry)) taken self.new) }
         ensures step { IfOk result (λ taken. IsStep event.now.moment self.old taken self.new) }
-        ensures few { IfOk result (λ taken. length (sent_by taken) ≤ most_of_placed (slice_get self.old.proxies number)) }
+        ensures few { IfOk result (λ taken. length (sent_by taken) ≤ most_of most_sent_by_proxy (slice_get self.old.proxies number)) }
         ensures err { OnErr result (self.new ≡ self.old) }
     {
         let Some(placed) = self.proxies.get_mut(number) else {
             return Ok(None);
         };
-        let step = does::<A, Proxy>(alloc, &mut placed.proxy, event, job)?;
+        let step = does::<A, Proxy>(alloc, &mut placed.node, event, job)?;
         Ok(Some(Taken {
             at: placed.at,
             noted: Noted::by_proxy(number, step.notes),

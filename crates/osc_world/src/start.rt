@@ -17,13 +17,14 @@ ghost use Rattle.osc_world.specs.Starting.{AreParts};
 ghost use Rattle.osc_world.specs.Worlds.{run_of};
 
 use crate::error::{EnrollError, PlaceError};
-use crate::nodes::{Nodes, Placed, PlacedProxy};
+use crate::nodes::{Nodes, Placed};
 use crate::world::World;
 use osc_authz::{ClientDesk, ServerDesk};
+use osc_ccm::Ciphers;
 use osc_client::{Client, Way};
 use osc_message::laws::one_peer;
 use osc_model::{Bytes, Peer};
-use osc_protect::{Ciphers, TokenCipher};
+use osc_protect::TokenCipher;
 use osc_proxy::{Proxy, Targets};
 use osc_run::{Grant, Minted, kinds};
 use osc_scope::Scope;
@@ -58,8 +59,8 @@ pub struct Start {
     audience: Audience,
     server_at: Peer,
     minted: Vec<Minted>,
-    clients: Vec<Placed>,
-    proxies: Vec<PlacedProxy>,
+    clients: Vec<Placed<Client>>,
+    proxies: Vec<Placed<Proxy>>,
 }
 
 /// The parts of a world before its first event, for a network that isn't simulated: the grants with the texts of their tokens, and the
@@ -68,12 +69,9 @@ pub struct Start {
 pub struct Parts {
     /// The grants.
     pub minted: Vec<Minted>,
-    /// The server, which stands where the start said.
-    pub server: Server,
-    /// The clients, in the order in which they were enrolled.
-    pub clients: Vec<Placed>,
-    /// The proxies, in the order in which they were added.
-    pub proxies: Vec<PlacedProxy>,
+    /// The server, which stands where the start said, the clients, in the order in which they were enrolled, and the proxies, in the order
+    /// in which they were added.
+    pub nodes: Nodes,
 }
 
 impl Model for Start {
@@ -202,7 +200,7 @@ impl Start {
         one_peer();
         self.proxies.reserve(1)?;
         let proxy = Proxy::new(alloc, targets)?;
-        self.proxies.push_reserved(PlacedProxy { at, proxy });
+        self.proxies.push_reserved(Placed { at, node: proxy });
         Ok(())
     }
 
@@ -237,31 +235,27 @@ impl Start {
             open_scope,
             key,
             audience,
+            server_at,
             minted,
             clients,
             proxies,
-            ..
         } = self;
         let desk = ServerDesk::new(alloc, key, audience);
         let server = Server::new(alloc, first, desk, open_scope)?;
-        Ok(Parts {
-            minted,
-            server,
-            clients,
-            proxies,
-        })
+        let nodes = Nodes::new(server_at, server, clients, proxies);
+        Ok(Parts { minted, nodes })
     }
 }
 
 /// Whether one of the clients stands there.
-fn stands_at(clients: &[Placed], at: Peer) -> bool
+fn stands_at(clients: &[Placed<Client>], at: Peer) -> bool
     ensures { result ≡ list_any (λ placed. same_peer placed.at at) clients.now }
 {
     clients.iter().any(|placed| placed.at == at)
 }
 
 /// Whether one of the proxies does.
-fn forwards_at(proxies: &[PlacedProxy], at: Peer) -> bool
+fn forwards_at(proxies: &[Placed<Proxy>], at: Peer) -> bool
     ensures { result ≡ list_any (λ placed. same_peer placed.at at) proxies.now }
 {
     proxies.iter().any(|placed| placed.at == at)
@@ -273,7 +267,7 @@ fn enrolled<A: Ciphers>(
     key: &[u8; 16],
     number: usize,
     holder: Holder,
-) -> Result<(Minted, Placed), EnrollError>
+) -> Result<(Minted, Placed<Client>), EnrollError>
     ensures enrolled { IfOk result (λ made. IsEnrolled A.is_sealing key.now number holder made.0 made.1) }
     ensures text { IfOk result (λ made. IsTextOf made.0.grant made.0.text) }
     ensures lawful { OnOk result (IsLawful holder.claims) }
@@ -305,7 +299,7 @@ fn enrolled<A: Ciphers>(
         expires,
         holder: number,
     };
-    Ok((Minted { grant, text }, Placed { at, client }))
+    Ok((Minted { grant, text }, Placed { at, node: client }))
 }
 
 /// The scope of claims.

@@ -3,7 +3,7 @@ ghost use Rattle.std.specs.Prelude.{◌≡◌, ◌≢◌, ◌<◌, ◌↔◌, �
 ghost use Rattle.osc_model.specs.Isolation.{Agree, HaveOwnPaths, alone as answers_alone, answered};
 ghost use Rattle.osc_run.specs.History.{acceptances, history as history_of, questions};
 ghost use Rattle.osc_run.specs.States.{grants_of};
-ghost use Rattle.osc_run.specs.Texts.{read_request};
+ghost use Rattle.osc_options.specs.Texts.{read_request};
 ghost use Rattle.osc_run.specs.Premise.{Premise};
 ghost use Rattle.osc_rounds.specs.AskRound.{IsLawfulServer};
 ghost use Rattle.osc_world.specs.Claims.{HasOneHistory, HasOwnAnswers, KeepsItsNonces};
@@ -21,9 +21,11 @@ use crate::event::{Event, What};
 use crate::isolation::alone;
 use crate::laws::{an_asked_round, an_exchanged_round};
 use crate::log::{Log, Record, SentDatagram};
-use crate::nodes::{Nodes, Placed, PlacedProxy};
+use crate::nodes::{Nodes, Placed};
+use osc_ccm::Ciphers;
+use osc_client::Client;
 use osc_model::{Draw, Entry, Moment, Reply};
-use osc_protect::Ciphers;
+use osc_proxy::Proxy;
 use osc_run::laws::{one_history, own_answers, own_nonces};
 use osc_run::{Acceptance, Minted, Noted, Question};
 use osc_server::Server;
@@ -43,7 +45,7 @@ pub struct World {
     log: Log,
 }
 
-// Proved once, and not anew at each exit of whoever owns one.
+// Proved once for whoever owns one.
 impl Drop for World {
     fn drop(self) {
         let World {
@@ -338,7 +340,7 @@ impl World {
     }
 
     /// The client of this number, and where it stands, if there is one.
-    pub fn client(&self, number: usize) -> Option<&Placed>
+    pub fn client(&self, number: usize) -> Option<&Placed<Client>>
         ensures client { option_map (λ placed. placed.now) result ≡ slice_get self.now.nodes.clients number }
         ensures apart { StandApart self.now.nodes }
     {
@@ -346,7 +348,7 @@ impl World {
     }
 
     /// The proxy of this number, and where it stands, if there is one.
-    pub fn proxy(&self, number: usize) -> Option<&PlacedProxy>
+    pub fn proxy(&self, number: usize) -> Option<&Placed<Proxy>>
         ensures proxy { option_map (λ placed. placed.now) result ≡ slice_get self.now.nodes.proxies number }
         ensures apart { StandApart self.now.nodes }
     {

@@ -7,8 +7,9 @@ use Rattle.osc_authz.specs.declared.granted.ClientDesk.{ClientDesk}
 use Rattle.osc_coap.specs.Message.{Message}
 use Rattle.osc_message.specs.Confirmables.{Open, is_named}
 use Rattle.osc_model.specs.declared.context.ContextName.{ContextName}
-use Rattle.osc_protect.specs.Ciphers.{Tags}
+use Rattle.osc_ccm.specs.Ciphers.{Tags}
 use Rattle.osc_protect.specs.Protection.{plain_bytes, request_length}
+use Rattle.osc_protect.specs.declared.request.RequestSize.{RequestSize}
 use Rattle.osc_context.specs.Nonce.{greatest_number}
 use Rattle.osc_client.specs.Case.{counts}
 use Rattle.osc_client.specs.declared.case.Case.{Case}
@@ -43,6 +44,10 @@ HasContext context (Some waiting) = NeedsContext context waiting.what × IsLawfu
 abbrev pub IsOfGrant : ClientDesk → Option ClientContextState → Type 0
 IsOfGrant desk context = IfSome context (λ made. made.name.id_context ≡ desk.id_context)
 
+-- how long a request is, protected at the next number under this context
+abbrev pub size_for : (tag : Tags) → ClientContextState → Message → RequestSize
+size_for tag context plain = record { plaintext = length (plain_bytes plain); message = request_length tag context.name context.next plain }
+
 -- the room that a request takes, protected at this number under the context of this name
 abbrev pub room_for : (tag : Tags) → ContextName → ℕ → Message → AskRoom
 room_for tag name number plain = record {
@@ -57,6 +62,6 @@ IsEnd (Stays opened) = ⊥
 IsEnd outcome = Unit {0}
 
 -- a response that counts does so for what waits
-abbrev pub AsksFor : Peer → Peer → Option Waiting → Case → Type 0
-AsksFor next_hop from waiting (Counted message) = counts next_hop from message waiting ≡ true
-AsksFor next_hop from waiting case = Unit {0}
+abbrev pub AsksFor : Peer → Peer → Option Waiting → Message → Case → Type 0
+AsksFor next_hop from waiting message Counted = counts next_hop from message waiting ≡ true
+AsksFor next_hop from waiting message case = Unit {0}

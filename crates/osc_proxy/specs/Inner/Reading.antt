@@ -1,7 +1,7 @@
 -- A Proxy-Uri read from left to right: the way from the code to its form.
 use Rattle.std.specs.Prelude.{ℕ, Bool, true, false, ◌||◌, ◌==◌, nat_le, nat_lt, bytes_eq, if◌then◌else◌, List, [], ◌∷◌, length, take, drop, Option, Some, None, codes}
 use Rattle.std.specs.List.{prefix_len}
-use Rattle.osc_proxy.specs.ProxyUri.{HostAndPort, is_host_byte, is_digit, decimal}
+use Rattle.osc_proxy.specs.ProxyUri.{HostAndPort, decimal, default_port, is_digit, is_host_byte}
 
 -- nothing is left but a '/'
 abbrev pub is_end : List ℕ → Bool
@@ -24,8 +24,8 @@ port_at bytes =
 
 -- the port behind a host
 abbrev pub port_behind : List ℕ → Option ℕ
-port_behind [] = Some 5683
-port_behind (byte ∷ rest) = if is_end (byte ∷ rest) then Some 5683 else if byte == 58 then port_at rest else None
+port_behind [] = Some default_port
+port_behind (byte ∷ rest) = if is_end (byte ∷ rest) then Some default_port else if byte == 58 then port_at rest else None
 
 abbrev pub with_port : List ℕ → Option ℕ → Option HostAndPort
 with_port host None = None

@@ -7,7 +7,9 @@ use Rattle.osc_coap.specs.Message.{Message, Spells, spelling}
 use Rattle.osc_dedup.specs.Table.{Entry}
 use Rattle.osc_model.specs.Apply.{apply_read}
 use Rattle.osc_model.specs.Arrival.{Arrival}
-use Rattle.osc_model.specs.Tree.{Tree, payload_length}
+use Rattle.osc_model.specs.Code.{method_number}
+use Rattle.osc_model.specs.Tree.{Tree, longest_payload, payload_length}
+use Rattle.osc_model.specs.declared.code.Method.TheVariants.{Get}
 use Rattle.osc_model.specs.declared.bytes.Bytes.{Bytes}
 use Rattle.osc_model.specs.declared.code.Code.{Code}
 use Rattle.osc_model.specs.declared.node.Peer.{Peer}
@@ -20,11 +22,12 @@ use Rattle.osc_authz.specs.Held.{Held}
 use Rattle.osc_message.specs.Endpoint.{EndpointState, settled}
 use Rattle.osc_message.specs.Sending.{AreSendable, FitsDatagram, datagram, replied}
 use Rattle.osc_message.specs.declared.handling.Handling.TheVariants.{Answered}
+use Rattle.osc_message.specs.declared.heard.Heard.{Heard}
 use Rattle.osc_message.specs.declared.heard.Heard.TheVariants as heard
-use Rattle.osc_protect.specs.Ciphers.{Sealings, Tags}
+use Rattle.osc_ccm.specs.Ciphers.{Sealings, Tags}
 use Rattle.osc_protect.specs.Protection.{SealedRequest, IsProtectedResponse}
 use Rattle.osc_run.specs.ServerKinds.{Replies as AppliesTo}
-use Rattle.osc_run.specs.Texts.{read_request, IsWithinRanges}
+use Rattle.osc_options.specs.Texts.{read_request, IsWithinRanges}
 use Rattle.osc_server.specs.Table.{IsOpened, notes_of_request, reply_to}
 use Rattle.osc_server.specs.declared.case.Case.{Case}
 use Rattle.osc_server.specs.declared.case.Case.TheVariants.{OpenGet}
@@ -39,7 +42,7 @@ pub record IsReplyOf (most : ℕ) (reply : Reply) : Type 0 where
 
 -- a reply with no more payload than a resource may have: it fits a datagram, whatever the token
 abbrev pub FitsAResource : Reply → Type 0
-FitsAResource reply = IsReplyOf 512 reply
+FitsAResource reply = IsReplyOf longest_payload reply
 
 -- the most bytes of payload that the reply to a request has: those of the resource, where it is a GET
 abbrev pub read_length : Tree → Option (List ℕ) → ℕ
@@ -47,11 +50,23 @@ read_length tree None = 0
 read_length tree (Some path) = payload_length (map.get tree path)
 
 abbrev pub request_reply_length : Tree → Request → ℕ
-request_reply_length tree request = if request.code.0 == 1 then read_length tree request.path else 0
+request_reply_length tree request = if request.code.0 == method_number Get then read_length tree request.path else 0
 
 abbrev pub reply_length : Tree → Result Request Code → ℕ
 reply_length tree (Err code) = 0
 reply_length tree (Ok request) = request_reply_length tree request
+
+-- the most bytes of a reply's plaintext beside its payload: a code, an ETag, a Content-Format, and the payload marker
+abbrev pub text_beside_payload : ℕ
+text_beside_payload = 14
+
+-- the most bytes of a protected reply beside what is sealed in it: header, token, an empty OSCORE option, and the payload marker
+abbrev pub message_beside_sealed : ℕ
+message_beside_sealed = 14
+
+-- the most bytes of a reply's plaintext, where it has no more payload than a resource may have
+abbrev pub longest_text : ℕ
+longest_text = text_beside_payload + longest_payload
 
 -- What was taken once a request had opened, beside the note of its opening: what it asks, what its entry says, and, with these
 -- tags, room for the longest reply that it may get of this tree.
@@ -60,9 +75,9 @@ pub record IsTakenFor (tag : Tags) (tree : Tree) (taken : Taken) : Type 0 where
   pub error : IfErr taken.read (λ code. 0 < code.0)
   pub context : taken.context ≡ taken.note.context
   pub plaintext : taken.plaintext ≡ taken.note.plaintext
-  pub room : taken.room ≡ record { name = taken.note.context; number = taken.note.number; most = 14 + reply_length tree taken.read }
-  pub reply : taken.reply ≡ 28 + reply_length tree taken.read + tag (algorithm_of taken.note.context)
-  pub limit : reply_length tree taken.read ≤ 512
+  pub seal : taken.room.seal ≡ record { name = taken.note.context; number = taken.note.number; most = text_beside_payload + reply_length tree taken.read }
+  pub datagram : taken.room.datagram ≡ message_beside_sealed + text_beside_payload + reply_length tree taken.read + tag (algorithm_of taken.note.context)
+  pub limit : reply_length tree taken.read ≤ longest_payload
 
 -- these bytes are a message
 abbrev pub IsMessage : Bytes → Type 0
@@ -79,7 +94,7 @@ pub record IsQuiet (endpoint : EndpointState) : Type 0 where
 
 -- what goes to the tree is a GET
 abbrev pub AsksGet : Case → Type 0
-AsksGet (OpenGet message request) = request.code.0 ≡ 1
+AsksGet (OpenGet request) = request.code.0 ≡ method_number Get
 AsksGet case = Unit {0}
 
 -- at most one datagram, a message for this peer
@@ -88,6 +103,11 @@ pub record SendsTo (peer : Peer) (out : List Datagram) : Type 0 where
   pub messages : All (λ sent. (message : Message) × Spells sent.bytes message) out
   pub fits : AreSendable out
   pub addressed : All (λ sent. sent.to ≡ peer) out
+
+-- the same of what is heard, where the message layer answers it
+abbrev pub HeardSendsTo : Peer → Heard → Type 0
+HeardSendsTo peer (heard.Alone out) = SendsTo peer out
+HeardSendsTo peer heard = Unit {0}
 
 -- the message, in the one datagram that goes to this peer, and as its bytes are kept for a repeat
 pub record IsSentAs (peer : Peer) (message : Message) (out : List Datagram) (reply : Bytes) : Type 0 where

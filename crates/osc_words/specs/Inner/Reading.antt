@@ -5,9 +5,11 @@ use Rattle.std.specs.Str.{bytes_eq}
 use Rattle.clap.specs.Words.{Row, Text}
 use Rattle.osc_words.specs.ClientWords as client
 use Rattle.osc_words.specs.Command.{AreWords, HasNothing, HasNotOne}
+use Rattle.osc_words.specs.Choices.{IsNotOne, command_of}
 use Rattle.osc_words.specs.Options.{value_of}
-use Rattle.osc_words.specs.Sources.{IsNotOne, file_option_of, option_of}
+use Rattle.osc_words.specs.Sources.{file_option_of, option_of}
 use Rattle.osc_words.specs.TokenWords as token
+use Rattle.osc_words.specs.declared.choice.Choice.TheVariants.{Hidden}
 use Rattle.osc_words.specs.declared.hidden_option.HiddenOption.{HiddenOption}
 use Rattle.osc_words.specs.declared.named_option.NamedOption.{NamedOption}
 use Rattle.osc_words.specs.declared.named_option.NamedOption.TheVariants.{Client, Token}
@@ -30,33 +32,34 @@ IsInOne option rows file =
 
 -- both options of it are given, or neither
 abbrev pub IsNotOneOf : HiddenOption → List Row → WordsError → Type 0
-IsNotOneOf option rows (NotOne refused) = (refused ≡ option) × IsNotOne rows option
+IsNotOneOf option rows (NotOne refused) = (refused ≡ Hidden option) × IsNotOne rows (Hidden option)
 IsNotOneOf option rows Memory = Unit {0}
 IsNotOneOf option rows error = ⊥
 
 -- an option of these of `osc token` says nothing
 abbrev pub IsRefusal : List Row → WordsError → Type 0
 IsRefusal rows (Value (Token option)) = token.SaysNothing rows option
-IsRefusal rows (NotOne option) = IsNotOne rows option
+IsRefusal rows (NotOne choice) = (command_of choice ≡ codes "token") × IsNotOne rows choice
 IsRefusal rows Memory = Unit {0}
 IsRefusal rows error = ⊥
 
 -- of these of `osc client`
 abbrev pub IsClientRefusal : List Row → WordsError → Type 0
 IsClientRefusal rows (Value (Client option)) = client.SaysNothing rows option
+IsClientRefusal rows (NotOne choice) = (command_of choice ≡ codes "client") × IsNotOne rows choice
 IsClientRefusal rows Memory = Unit {0}
 IsClientRefusal rows error = ⊥
 
 abbrev pub IsRefusalIn : Option (Text × List Row) → WordsError → Type 0
 IsRefusalIn entered (Clap error) = ⊥
 IsRefusalIn entered (Value refused) = HasNothing entered refused
-IsRefusalIn entered (NotOne option) = HasNotOne entered option
+IsRefusalIn entered (NotOne choice) = HasNotOne entered choice
 IsRefusalIn entered (Unread option) = ⊥
 IsRefusalIn entered Memory = Unit {0}
 
 -- the name of a subcommand of the program
 abbrev pub is_subcommand : Text → Bool
-is_subcommand name = bytes_eq name (codes "sim") || bytes_eq name (codes "token") || bytes_eq name (codes "server")
+is_subcommand name = bytes_eq name (codes "sim") || bytes_eq name (codes "token") || bytes_eq name (codes "key") || bytes_eq name (codes "server")
     || bytes_eq name (codes "proxy") || bytes_eq name (codes "client") || bytes_eq name (codes "lab")
 
 -- a subcommand of the program was entered

@@ -6,6 +6,8 @@ use Rattle.osc_context.specs.Nonce.{greatest_number}
 use Rattle.osc_run.specs.Nodes.{Came, Due}
 use Rattle.osc_client.specs.Steps as of_client
 use Rattle.osc_proxy.specs.Steps as of_proxy
+use Rattle.osc_proxy.specs.State.{State as Proxy}
+use Rattle.osc_client.specs.State.{State as Client}
 use Rattle.osc_world.specs.Nodes.{ClientTask, Begin, Ask, TellLie, Do, NodeStates, StartAgain, Take, Task, node_at, node_of}
 use Rattle.osc_world.specs.declared.event.Event.{Event}
 use Rattle.osc_world.specs.declared.event.What.{What}
@@ -16,7 +18,6 @@ use Rattle.osc_world.specs.declared.jobs.Job.TheVariants as job
 use Rattle.osc_world.specs.declared.jobs.ClientJob.{ClientJob}
 use Rattle.osc_world.specs.declared.jobs.ClientJob.TheVariants as client_job
 use Rattle.osc_world.specs.declared.nodes.Placed.{Placed}
-use Rattle.osc_world.specs.declared.nodes.PlacedProxy.{PlacedProxy}
 use Rattle.osc_world.specs.declared.nodes.Whose.{Whose}
 use Rattle.osc_world.specs.declared.nodes.Whose.TheVariants as whose
 
@@ -58,16 +59,12 @@ MayBeDone (client_job.Do any) = ⊤
 
 -- ---- how many datagrams its step sends at most
 
-abbrev pub most_of : Option Placed → ℕ
-most_of None = 0
-most_of (Some placed) = of_client.most_sent placed.client
-
-abbrev pub most_of_placed : Option PlacedProxy → ℕ
-most_of_placed None = 0
-most_of_placed (Some placed) = of_proxy.most_sent placed.proxy
+abbrev pub most_of : {S : Type 0} → (S → ℕ) → Option (Placed S) → ℕ
+most_of most None = 0
+most_of most (Some placed) = most placed.node
 
 abbrev pub most_sent : NodeStates → Whose → ℕ
 most_sent nodes whose.Server = 1
-most_sent nodes (whose.Client number) = most_of (slice_get nodes.clients number)
-most_sent nodes (whose.Proxy number) = most_of_placed (slice_get nodes.proxies number)
+most_sent nodes (whose.Client number) = most_of of_client.most_sent (slice_get nodes.clients number)
+most_sent nodes (whose.Proxy number) = most_of of_proxy.most_sent (slice_get nodes.proxies number)
 most_sent nodes whose.Nobody = 0

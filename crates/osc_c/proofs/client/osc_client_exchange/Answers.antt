@@ -1,10 +1,7 @@
 -- What was held goes on so.
 use Rattle.std.proofs.Common.{rules}
-use Rattle.osc_calls.specs.Client.{BegunBy}
-use Rattle.osc_calls.specs.Plain.{draw_of}
-use Rattle.osc_c.proofs.Calls.{calls}
+use Rattle.osc_c.proofs.Lending.{calls_of}
 use Rattle.osc_c.proofs.client.osc_client_exchange.Goals as goal
 
-pub returns-in-Some : goal.returns-in-Some
-returns-in-Some c =
-    calls (λ old outcome new. BegunBy old c.args.now (draw_of c.args.draw.now) outcome new) c.exchange-outcome.result c.in-Some.ensures.taken c.deref_mut.ensures.value (search rules) c.holding.ensures c.exchange-outcome.ensures
+pub returns : goal.returns
+returns c = calls_of _ _ _ _ _ _ c.with.ensures.lent (search rules) (λ s l called. called.met.1)

@@ -1,11 +1,7 @@
 -- What was held goes on so.
 use Rattle.std.proofs.Common.{rules}
-use Rattle.osc_calls.specs.Device.{HeardBy}
-use Rattle.osc_calls.specs.Plain.{draw_of, peer_of}
-use Rattle.osc_c.specs.Ciphers.{sealing}
-use Rattle.osc_c.proofs.Calls.{calls}
+use Rattle.osc_c.proofs.Lending.{calls_of}
 use Rattle.osc_c.proofs.device.osc_device_on_datagram.Goals as goal
 
-pub returns-in-Some : goal.returns-in-Some
-returns-in-Some c =
-    calls (λ old outcome new. HeardBy sealing old (record { ms = c.args.now; from = peer_of c.args.from.now; bytes = c.args.bytes.now }) (draw_of c.args.draw.now) outcome new) c.on_datagram-outcome.result c.in-Some.ensures.taken c.deref_mut.ensures.value (search rules) c.holding.ensures c.on_datagram-outcome.ensures
+pub returns : goal.returns
+returns c = calls_of _ _ _ _ _ _ c.with.ensures.lent (search rules) (λ s l called. called.met.1)

@@ -1,21 +1,36 @@
-use Rattle.std.proofs.Common.{rules, ◌<◌, length, arith}
-use Rattle.std.specs.Option.{IsSome}
-use Rattle.std.specs.Result.{IsOk}
-use Rattle.osc_coap.specs.Message.{Message, spelling}
-use Rattle.osc_protect.specs.Protection.{request_length}
+use Rattle.std.proofs.Common.{◌≡◌, ◌≤◌, refl, sym, ap, subst, ◌∙◌}
+use Rattle.osc_coap.specs.Message.{Message}
+use Rattle.osc_options.specs.PlaintextRequests.{request_plaintext}
+use Rattle.osc_options.specs.Split.{unprotected}
+use Rattle.osc_protect.specs.Protection.{longest_message, request_length}
+use Rattle.osc_client.specs.Inner.Bounds.{size_for}
 use Rattle.osc_client.specs.Sending.{plain_request}
 use Rattle.osc_client.specs.Way.{through}
-use Rattle.osc_client.proofs.Through.{request_through_order, request_unprotected}
+use Rattle.osc_client.proofs.Through.{request_around}
 use Rattle.osc_client.proofs.asking.fitting.Goals as goal
 
--- what is longer than a datagram before it is protected is so afterwards
-pub returns-in_err-plain-clause-fits : goal.returns-in_err-plain-clause-fits
-returns-in_err-plain-clause-fits g c =
-    let plain : Message = through c.args.origin.now (plain_request c.args.id c.args.token.now c.args.request.now) in
-    let longer : length (spelling plain) < request_length g.A.Ciphers.TAG c.args.context.now.name c.args.context.now.next plain =
-    c.protected_messages_are_longer.ensures.request g.A.Ciphers.TAG c.args.context.now.next c.args.context.now.name plain
-    (request_through_order c.merged_options.ensures.order c.args.origin.now c.args.id c.args.token.now c.args.request.now)
-    (request_unprotected c.args.origin.now c.args.id c.args.token.now c.args.request.now) in
-    let not_built : IsOk c.plain_message.result → ⊥ = search rules in
-    let none : IsSome c.from_residual.result → ⊥ = search rules in
-    (λ some. absurd (none some), λ fits. absurd (not_built (c.plain_message.ensures.fits.1 (omega (arith, longer, fits)))))
+pub returns-in-Some : goal.returns-in-Some
+returns-in-Some g c =
+    let request = c.args.request.now in
+    let context = c.args.context.now in
+    let whole : unprotected c.outside_with-outside.result (request_plaintext request) ≡ through c.args.origin.now (plain_request c.args.id c.args.token.now request) =
+    ap (λ (m : Message). unprotected m (request_plaintext request)) c.outside_with-outside.ensures
+    ∙ request_around c.a_written_request.ensures.plaintext c.a_written_request.ensures.alone c.args.origin.now c.args.id c.args.token.now request in
+    record {
+      plain = whole;
+      size = subst (λ (m : Message). c.in-Some.size ≡ size_for g.A.Ciphers.TAG context m) whole c.in-Some.ensures.size;
+      fits = (
+        λ some. subst (λ (m : Message). request_length g.A.Ciphers.TAG context.name context.next m ≤ longest_message) whole (c.in-Some.ensures.fits.0 refl),
+        λ short. refl,
+      );
+    }
+
+pub returns-in-None-clause-fits : goal.returns-in-None-clause-fits
+returns-in-None-clause-fits g c =
+    let request = c.args.request.now in
+    let context = c.args.context.now in
+    let whole : unprotected c.outside_with-outside.result (request_plaintext request) ≡ through c.args.origin.now (plain_request c.args.id c.args.token.now request) =
+    ap (λ (m : Message). unprotected m (request_plaintext request)) c.outside_with-outside.ensures
+    ∙ request_around c.a_written_request.ensures.plaintext c.a_written_request.ensures.alone c.args.origin.now c.args.id c.args.token.now request in
+    let fits = c.in-None.ensures.fits in
+    (λ no. cc, λ short. cc (fits.1 (subst (λ (m : Message). request_length g.A.Ciphers.TAG context.name context.next m ≤ longest_message) (sym whole) short)))

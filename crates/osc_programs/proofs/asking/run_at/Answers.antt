@@ -4,9 +4,9 @@ use Rattle.osc_programs.proofs.asking.run_at.Goals as goal
 
 pub returns-clause-talks : goal.returns-clause-talks
 returns-clause-talks g c =
-    IfOk-weaker c.run.result _ _
+    IfOk-weaker c.run-outcome.result _ _
     (λ outcome talked. (
-      c.run.new.talking.client,
+      c.run-outcome.new.talking.client,
       record {
         start = c.in_ok-supply.supply;
         seeded = c.in_ok-supply.ensures.seeded;
@@ -16,4 +16,4 @@ returns-clause-talks g c =
         ends = refl;
       },
     ))
-    c.run.ensures.converses
+    c.run-outcome.ensures.converses

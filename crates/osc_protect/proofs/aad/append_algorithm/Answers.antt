@@ -1,4 +1,4 @@
-use Rattle.std.proofs.Common.{length, ap, ◌∙◌, arith}
+use Rattle.std.proofs.Common.{length, ap, arith}
 use Rattle.osc_model.specs.Algorithm.{algorithm_number}
 use Rattle.osc_cbor.specs.Head.{head}
 use Rattle.osc_context.specs.Algorithm.{algorithm_of}

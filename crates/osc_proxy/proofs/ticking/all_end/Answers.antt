@@ -16,20 +16,20 @@ use Rattle.osc_proxy.proofs.ticking.all_end.Goals as goal
 pub returns-in_default : goal.returns-in_default
 returns-in_default c =
     let here = c.loop in
-    let none : first_key (is_over c.args.now c.args.given_up.now) here.exchanges ≡ None = sym c.find_over.ensures ∙ c.in_default.is in (
+    let none : first_key (is_over c.args.tick.at c.args.tick.given_up.now) here.exchanges ≡ None = sym c.find_over.ensures ∙ c.in_default.is in (
       here.invariant.so_far,
       here.invariant.sent,
       λ targets.
           let last : State = record { targets = targets; exchanges = here.exchanges; endpoint = here.endpoint } in
           let first : State = record { targets = targets; exchanges = c.args.exchanges.now; endpoint = c.args.endpoint.now } in
-          subst (λ out. AllEnd c.args.now c.args.draw.now c.args.given_up.now first out last) (append-nil here.invariant.so_far)
+          subst (λ out. AllEnd c.args.tick.at c.args.tick.draw.now c.args.tick.given_up.now first out last) (append-nil here.invariant.so_far)
           (here.invariant.ends targets [] last (none_is last none)),
       here.invariant.fits,
     )
 
 pub end-sent-requires : goal.end-sent-requires
 end-sent-requires c =
-    let there = first_is_there (is_over c.args.now c.args.given_up.now) c.loop.exchanges c.in-Some.key (sym c.find_over.ensures ∙ c.in-Some.is) in
+    let there = first_is_there (is_over c.args.tick.at c.args.tick.given_up.now) c.loop.exchanges c.in-Some.key (sym c.find_over.ensures ∙ c.in-Some.is) in
     record { exchange = there.exchange; is = there.is }
 
 -- one more goes behind the others, or is lost as they are
@@ -48,9 +48,9 @@ loop-preserved c =
     let sent = c.end-sent.ensures.ended.2 in
     let after = c.end-sent.ensures.ended.3 in
     let short = c.end-sent.ensures.ended.4 in
-    let now = c.args.now in
-    let draw = c.args.draw.now in
-    let names = c.args.given_up.now in
+    let now = c.args.tick.at in
+    let draw = c.args.tick.draw.now in
+    let names = c.args.tick.given_up.now in
     let left = without_its here.endpoint exchange in
     let out = back_sends left exchange (timeout here.endpoint draw exchange) in
     record {
@@ -75,13 +75,13 @@ loop-preserved c =
 pub returns : goal.returns
 returns c =
     let here = c.loop in
-    let none = none_is_there (is_over c.args.now c.args.given_up.now) here.exchanges (omega (arith, here.invariant.count, c.loop-test.false, c.count-end.ensures.value)) in (
+    let none = none_is_there (is_over c.args.tick.at c.args.tick.given_up.now) here.exchanges (omega (arith, here.invariant.count, c.loop-test.false, c.count-end.ensures.value)) in (
       here.invariant.so_far,
       here.invariant.sent,
       λ targets.
           let last : State = record { targets = targets; exchanges = here.exchanges; endpoint = here.endpoint } in
           let first : State = record { targets = targets; exchanges = c.args.exchanges.now; endpoint = c.args.endpoint.now } in
-          subst (λ out. AllEnd c.args.now c.args.draw.now c.args.given_up.now first out last) (append-nil here.invariant.so_far)
+          subst (λ out. AllEnd c.args.tick.at c.args.tick.draw.now c.args.tick.given_up.now first out last) (append-nil here.invariant.so_far)
           (here.invariant.ends targets [] last (none_is last none)),
       here.invariant.fits,
     )

@@ -15,8 +15,8 @@ invariant-loop l = record {
   sent : l.out.items ≡ l.fn.out.items ++ (if l.room then so_far else []);
   fits : AreSendable so_far;
   ends : (targets : List Target) (later : List Datagram) (last : State)
-      → AllEnd l.now l.draw l.given_up (record { targets = targets; exchanges = l.exchanges; endpoint = l.endpoint }) later last
-      → AllEnd l.now l.draw l.given_up (record { targets = targets; exchanges = l.fn.exchanges; endpoint = l.fn.endpoint }) (so_far ++ later) last;
+      → AllEnd l.tick.at l.tick.draw.now l.tick.given_up.now (record { targets = targets; exchanges = l.exchanges; endpoint = l.endpoint }) later last
+      → AllEnd l.tick.at l.tick.draw.now l.tick.given_up.now (record { targets = targets; exchanges = l.fn.exchanges; endpoint = l.fn.endpoint }) (so_far ++ later) last;
   places : l.room ≡ true → vec_len l.out + count l.exchanges ≤ vec_capacity l.out;
   count : count l.exchanges + l.counter ≡ count l.fn.exchanges;
 }

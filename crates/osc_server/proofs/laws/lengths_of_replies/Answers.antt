@@ -6,7 +6,7 @@ use Rattle.osc_model.specs.declared.code.Code.{Code}
 use Rattle.osc_model.specs.declared.reply.Reply.{Reply}
 use Rattle.osc_model.specs.declared.request.Request.{Request}
 use Rattle.osc_run.specs.ServerKinds.{Replies, Applied, OutOfMemory}
-use Rattle.osc_run.specs.Texts.{read_request}
+use Rattle.osc_options.specs.Texts.{read_request}
 use Rattle.osc_server.proofs.Replies.{read_reply_short, text_short}
 use Rattle.osc_server.proofs.laws.lengths_of_replies.Goals as goal
 

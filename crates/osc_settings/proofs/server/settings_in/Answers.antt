@@ -2,8 +2,8 @@ use Rattle.std.proofs.Common.{inl, inr}
 use Rattle.std.proofs.lemmas.Result.{err_from_is_err_and}
 use Rattle.toml.specs.View.{table_view}
 use Rattle.osc_settings.specs.Document.{ListedAt, SpelledAt}
-use Rattle.osc_settings.specs.Faults.{IsFaultAt, IsOther, IsServerFault, IsTextAt}
-use Rattle.osc_settings.specs.Settings.{IsPathText, server_keys}
+use Rattle.osc_settings.specs.Faults.{IsFaultAt, IsOther, IsServerFault, IsTextAt, IsWrongAt}
+use Rattle.osc_settings.specs.Settings.{AreResourcesAt, IsPathText, server_keys}
 use Rattle.osc_settings.specs.Values.{IsAddress, SpellsBytes}
 use Rattle.osc_settings.specs.declared.key.SettingsKey.TheVariants as key
 use Rattle.osc_settings.proofs.Parts.{fault_within}
@@ -37,4 +37,10 @@ pub returns-in_err-open_paths : goal.returns-in_err-open_paths
 returns-in_err-open_paths c =
     let p = err_from_is_err_and c.from_residual-in_err-open_paths.result c.from_residual-in_err-open_paths.ensures.1 in
     let document = table_view c.args.table.now in
-    rw (p.1, p.2) (fault_within (IsFaultAt key.Open (λ name. ListedAt name IsPathText) document) (IsServerFault document) c.in_err-open_paths.field-0.0 (λ fault h. inr (c.in_ok-only.ensures, inr ((c.in_ok-address_at.field-0, c.in_ok-address_at.ensures), inr ((c.in_ok-array_at.field-0, c.in_ok-array_at.ensures), inr ((c.in_ok-audience.field-0, c.in_ok-audience.ensures), h))))) c.in_err-open_paths.ensures)
+    rw (p.1, p.2) (fault_within (IsFaultAt key.Open (λ name. ListedAt name IsPathText) document) (IsServerFault document) c.in_err-open_paths.field-0.0 (λ fault h. inr (c.in_ok-only.ensures, inr ((c.in_ok-address_at.field-0, c.in_ok-address_at.ensures), inr ((c.in_ok-array_at.field-0, c.in_ok-array_at.ensures), inr ((c.in_ok-audience.field-0, c.in_ok-audience.ensures), inl h))))) c.in_err-open_paths.ensures)
+
+pub returns-in_err-resources : goal.returns-in_err-resources
+returns-in_err-resources c =
+    let p = err_from_is_err_and c.from_residual-in_err-resources.result c.from_residual-in_err-resources.ensures.1 in
+    let document = table_view c.args.table.now in
+    rw (p.1, p.2) (fault_within (IsWrongAt key.Resource AreResourcesAt document) (IsServerFault document) c.in_err-resources.field-0.0 (λ fault h. inr (c.in_ok-only.ensures, inr ((c.in_ok-address_at.field-0, c.in_ok-address_at.ensures), inr ((c.in_ok-array_at.field-0, c.in_ok-array_at.ensures), inr ((c.in_ok-audience.field-0, c.in_ok-audience.ensures), inr ((c.in_ok-open_paths.field-0.items, c.in_ok-open_paths.ensures), h)))))) c.in_err-resources.ensures)

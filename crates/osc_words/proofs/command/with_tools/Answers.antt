@@ -8,5 +8,7 @@ pub returns : goal.returns
 returns c =
     let with_sim = c.in_ok-subcommand.ensures.shape c.in_ok-sim_command.ensures.local
     ∙ ap₂ with_subcommand c.bare_program.ensures.app (top c.in_ok-sim_command.ensures.app) in
-    IfOk-weaker c.subcommand-2.result _ _
-    (λ command added. added.shape c.in_ok-token_command.ensures.local ∙ ap₂ with_subcommand with_sim (top c.in_ok-token_command.ensures.app)) c.subcommand-2.ensures
+    let with_token = c.in_ok-subcommand-2.ensures.shape c.in_ok-token_command.ensures.local
+    ∙ ap₂ with_subcommand with_sim (top c.in_ok-token_command.ensures.app) in
+    IfOk-weaker c.subcommand-3.result _ _
+    (λ command added. added.shape c.key_command.ensures.local ∙ ap₂ with_subcommand with_token (top c.key_command.ensures.app)) c.subcommand-3.ensures

@@ -3,7 +3,7 @@ use Rattle.osc_model.specs.Grant.{Grant}
 use Rattle.osc_model.specs.Isolation.{entries_under, held_by, machine_answers}
 use Rattle.osc_model.specs.declared.step.Entry.{Entry}
 use Rattle.osc_run.specs.States.{grants_of}
-use Rattle.osc_run.specs.Texts.{read_request}
+use Rattle.osc_options.specs.Texts.{read_request}
 use Rattle.osc_world.proofs.Rest.{next_of_rest}
 use Rattle.osc_world.proofs.isolation.alone.Goals as goal
 

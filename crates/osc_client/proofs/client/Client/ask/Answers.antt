@@ -11,6 +11,8 @@ use Rattle.osc_model.specs.StepNotes.{StepNotes, quiet}
 use Rattle.osc_model.specs.declared.step.Datagram.{Datagram}
 use Rattle.osc_model.specs.declared.step.Note.{Note}
 use Rattle.osc_protect.specs.Protection.{IsProtectedRequest, plain_bytes}
+use Rattle.osc_options.specs.PlaintextRequests.{request_plaintext}
+use Rattle.osc_options.specs.Split.{unprotected}
 use Rattle.osc_run.specs.ClientKinds.{request_note}
 use Rattle.osc_client.proofs.Fitting.{refusal_fits}
 use Rattle.osc_client.proofs.StepKinds.{refusals}
@@ -35,7 +37,7 @@ returns-clause-asked g c =
     let free = rw c.in-Ok.is at c.in_ok-prepared.ensures.free in
     let held : c.self.inside.context ≡ Some c.unwrap-context.result.now = search rules in
     let same : free.0 ≡ c.unwrap-context.result.now = same_Some free.0 c.unwrap-context.result.now (sym free.1.held ∙ ap (λ s. s.context) (sym c.self.view_is) ∙ held) in
-    let plain : c.in-Ok.prepared.0 ≡ plain_of c.args.self.now c.args.draw.now c.args.request.now = free.2 in
+    let plain : unprotected c.in-Ok.prepared.0 (request_plaintext c.args.request.now) ≡ plain_of c.args.self.now c.args.draw.now c.args.request.now = free.2 in
     let asked = plain_of c.args.self.now c.args.draw.now c.args.request.now in
     let message = c.protected-message.result.message in
     let at_plain : IsProtectedRequest g.A.Ciphers.is_sealing c.unwrap-context.result.now.name c.unwrap-context.result.now.next asked message =

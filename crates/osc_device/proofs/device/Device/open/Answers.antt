@@ -42,9 +42,9 @@ returns-clause-run g c =
 pub returns-clause-fits : goal.returns-clause-fits
 returns-clause-fits g c =
     subst (λ (begun : Step). begun.notes.result ≢ Some (Refused 14)) (sym c.carry.ensures.begun)
-    (never_too_long c.self.inside.own.client c.exchange.new.self c.args.now c.args.draw.now c.in_ok-begun.begun c.is_drawn-2.ensures c.self.invariant.2
+    (never_too_long c.self.inside.own.node c.exchange.new.self c.args.now c.args.draw.now c.in_ok-begun.begun c.is_drawn-2.ensures c.self.invariant.2
     c.in_ok-begun.ensures.begun.exchanges)
 
 pub invariant_of-self-2 : goal.invariant_of-self-2
 invariant_of-self-2 g c =
-    begun_straight c.self.inside.own.client c.args.now c.args.draw.now c.in_ok-begun.begun c.exchange.new.self c.in_ok-begun.ensures.begun.exchanges c.self.invariant
+    begun_straight c.self.inside.own.node c.args.now c.args.draw.now c.in_ok-begun.begun c.exchange.new.self c.in_ok-begun.ensures.begun.exchanges c.self.invariant

@@ -13,7 +13,7 @@ use Rattle.osc_proxy.specs.Ends.{EachHasItsExchange, is_request}
 use Rattle.osc_proxy.specs.Exchanges.{Changes, count, get}
 use Rattle.osc_proxy.specs.Inner.Going.{IsOwn, back_kept_by}
 use Rattle.osc_proxy.specs.State.{State}
-use Rattle.osc_proxy.specs.Table.{back_kept, back_sends, failure, named, next_own, rejection}
+use Rattle.osc_proxy.specs.Table.{back_kept, back_sends, failure, named, next_own, bad_gateway}
 use Rattle.osc_proxy.proofs.Codes.{no_request}
 use Rattle.osc_proxy.proofs.Goes.{back_kept_is, back_sends_is}
 use Rattle.osc_proxy.proofs.Its.{each_at, each_back, each_closed, its_named}
@@ -34,7 +34,7 @@ returns-clause-ended c =
     let there : get inside.exchanges key ≡ Some exchange = cc in
     let it : Arrival ℕ = record { at = now; from = from; draw = draw; what = id } in
     let heard_by : c.settle_empty.new.self ≡ named old it = c.settle_empty.ensures ∙ ap (λ (s : State). named s it) view in
-    let answer = rejection old draw exchange in
+    let answer = bad_gateway old draw exchange in
     let own_is : c.own_id.result ≡ next_own old draw = c.own_id.ensures ∙ ap (λ (e : EndpointState). own_id draw e.next_id) heard_by in
     let message : failure (code 5 2) c.own_id.result exchange ≡ answer = ap (λ i. failure (code 5 2) i exchange) own_is in
     let is : IsOwn exchange.client exchange.confirmable (spelling answer) own =

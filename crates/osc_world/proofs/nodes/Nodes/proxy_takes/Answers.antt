@@ -21,7 +21,7 @@ returns-clause-step g c =
     let found : slice_get n.proxies.items c.args.number ≡ Some c.in-Some.placed.now = slice_get_read n.proxies.items (length n.proxies.items) c.args.number _ refl (search rules) c.in-Some.ensures.value in
     proxy_stepped c.args.self.now n.server_at n.server n.clients.items n.proxies.items c.args.number c.in-Some.placed.now c.self.view_is found
     c.does.new.node c.by_proxy.result c.in_ok-step.step c.by_proxy.ensures c.args.event.now.moment
-    (proxy_kind c.args.event.now c.args.job c.in-Some.placed.now.proxy c.in_ok-step.step c.does.new.node c.in_ok-step.ensures.does)
+    (proxy_kind c.args.event.now c.args.job c.in-Some.placed.now.node c.in_ok-step.step c.does.new.node c.in_ok-step.ensures.does)
 
 pub returns-clause-few : goal.returns-clause-few
 returns-clause-few g c =

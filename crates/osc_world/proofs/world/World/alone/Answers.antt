@@ -5,7 +5,7 @@ use Rattle.osc_model.specs.declared.step.Entry.{Entry}
 use Rattle.osc_run.specs.History.{history as history_of}
 use Rattle.osc_run.specs.Runs.{IsReached}
 use Rattle.osc_run.specs.States.{Minted, grants_of}
-use Rattle.osc_run.specs.Texts.{read_request}
+use Rattle.osc_options.specs.Texts.{read_request}
 use Rattle.osc_world.specs.Claims.{HasOwnAnswers}
 use Rattle.osc_world.specs.Worlds.{State, run_of}
 use Rattle.osc_world.proofs.world.World.alone.Goals as goal

@@ -1,0 +1,6 @@
+-- At the moment of these milliseconds.
+use Rattle.std.proofs.Common.{inl}
+use Rattle.osc_c.proofs.calls.client.ClientNode.on_datagram.Goals as goal
+
+pub returns-in-Ok : goal.returns-in-Ok
+returns-in-Ok g c = inl (c.in-Ok.now, c.in-Ok.ensures.ok, c.hear.ensures)

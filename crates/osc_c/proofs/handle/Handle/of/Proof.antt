@@ -1,0 +1,55 @@
+-- `of` puts the pointer and the allocator's handle into the other struct.
+use Rattle.std.proofs.Common.{◌≡◌, List, [], ◌∷◌, ◌++◌, refl, sym, subst}
+use mir.Syntax.{a_type, dcons, dnil}
+use mir.Val.{Val, vptr}
+use mir.MapTy.{inst_fn}
+use base.Logic.{SProp, ent, emp, id⊢}
+use base.Fml.{ftrue, flft}
+use prog.Wp.{WpFn}
+use types.Kit.{‵, raw, ◌⊛◌, ◌$◌, ◌∵◌, !, qed, by, move, keep, split, fsplit, fjoin, suffices, use0}
+use types.Run.{stop, fld, of_opd, no_more, and_then, returns, enter}
+use types.ByLocal.{alloc_all, pass_all, free_all, look_at, get, get_in, sets}
+use types.Part.{agg, sub, whole}
+use contract.Monad.{fact, fact_i}
+use contract.Running.{tables}
+use denote.Exit.{no}
+use denote.RattleType.{RattleType, owns}
+use denote.Signature.{types_at, plain}
+use denote.RawPtr.{block_ptr}
+use denote.Steps.{nothing}
+use denote.Param.{param, bounded}
+use denote.Struct.Struct.{Shape}
+use denote.Struct.Owning.{shape}
+use denote.Triple.Walked.{Stays, stay_dropped, walk_of}
+use Rattle.std.proofs.alloc.Calls.{Goes-blank}
+use Rattle.std.specs.contracts.impls.GlobalAllocator.TheImpl.{ghosts}
+use Rattle.std.specs.declared.option.Option.{Option}
+use Rattle.std.specs.declared.option.Option.TheVariants.{Some}
+use Rattle.std.proofs.raw_atomic.Walks.{proved_at, leaves}
+use Rattle.osc_c.proofs.LooseValues.{both, Loose, loose_good, loose_out}
+use Rattle.osc_c.proofs.HandleValues.{Z, LZ, handle_good, handle_in}
+use Rattle.osc_c.specs.contracts.handle.Handle as handle
+use Rattle.osc_c.specs.contracts.handle.Handle.of.{ended, clauses}
+use Rattle.osc_c.specs.contracts.handle.Handle.of.Key.{name as #self}
+use Rattle.osc_c.proofs.handle.Handle.of.Statement.{statement}
+use Rattle.osc_c.proofs.handle.Handle.of.Code as code
+
+pub of_spec : {M : Type 1} → statement M
+of_spec 𝓤 𝓛 𝓜 𝓡 wired T L dx glue =
+    let H = 𝓛.H in let 𝓣 = tables 𝓤 H 𝓜 𝓡 𝓡.env in let R : RattleType = param 0 T in let S : Shape = shape (handle.the_type R) in let Lr : RattleType = Loose R Z LZ ghosts in let En = ended T dx in let c = clauses T dx 𝓛 𝓜.mem 𝓡.returns in
+    let As = bounded (a_type ∷ []) (T, tt) (dcons dx dnil) in let fn = inst_fn As code.function in
+    let hs : Stays En.signature.params En.kept = (stay_dropped (plain (λ _. Lr)) no, tt) in
+    proved_at 𝓛 En hs c 𝓜 𝓡 (Goes-blank 𝓛 1 (plain (λ _. Lr)) no (λ κs x f. tt), tt) (#self As) fn (code.unfolded 𝓤 H 𝓜 𝓡 wired (T, tt) dx) (λ z are.
+    let κs = z.0.0 in let qs = z.0.1 in let Post : Val → SProp 𝓤 = (walk_of 𝓛 En hs c).post z in let Run : List Val → SProp 𝓤 = λ ws. WpFn 𝓤 H 𝓣.C 𝓣.Λ fn ws Post in let v = z.0.3.0 in
+    let toks = ‵ (flft κs.0 qs.0) ⊛ ‵ ftrue in let held : Option R.Denot = Some v.value in
+    qed 𝓛 ((toks ⊛ ‵ (owns (types_at En.signature.params κs) z.0.3 z.0.4)) ∷ raw ((c κs z.0.3).requires z.1) ∷ []) ∵ split ! $ move ! (1 ∷ []) $ fsplit ! $
+    loose_out R Z LZ ghosts ! v z.0.4.0 (λ b o h e ws fits. let w : Val = both (vptr b o) h in
+    handle_in S R ! v.alloc (block_ptr b o) (Some v.value) h $
+    -- [the handle; true; the tokens; what it asks]
+    suffices ! (Run (w ∷ [])) (subst (λ (us : List Val). ent 𝓤 (Run (w ∷ [])) (Run us)) (sym (λ i. ws i ++ [])) (id⊢ 𝓤 (Run (w ∷ [])))) $
+    enter ! 𝓣.C 𝓣.Λ fn (w ∷ []) Post $ alloc_all ! (λ l. pass_all ! refl (loose_good R Z LZ ghosts b o h fits, tt) $
+    sets ! (of_opd ! (get_in ! (fld ! refl (stop !)) (sub ! 0 refl (whole !)))) refl (tt, tt) $ sets ! (of_opd ! (get_in ! (fld ! refl (stop !)) (sub ! 1 refl (whole !)))) refl fits $
+    sets ! (agg ! (and_then ! (get ! refl) (and_then ! (get ! refl) (no_more !)))) refl (handle_good S (block_ptr b o) h fits) $
+    use0 𝓛 (raw (fact 𝓤 (held ≡ held))) (fact_i 𝓤 (held ≡ held) (emp 𝓤) refl) $ nothing ! $ nothing ! $ fjoin ! $
+    returns ! (look_at ! 0 refl) $ free_all ! refl $ keep ! (4 ∷ 0 ∷ 2 ∷ 1 ∷ []) $
+    by ! (leaves 𝓛 En hs c z w (record { at = block_ptr b o; alloc = v.alloc; held = Some v.value }) (tt, tt) (tt, tt)))))

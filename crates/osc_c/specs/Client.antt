@@ -1,0 +1,97 @@
+-- A client by calls.
+use Rattle.std.specs.Prelude.{◌≡◌, ℕ, ◌⊎◌, true, false, ◌↔◌, ◌<◌, ◌≤◌, ◌^◌, List, None, option_map}
+use Rattle.osc_model.specs.declared.node.Draw.{Draw}
+use Rattle.osc_model.specs.declared.node.Moment.{Moment}
+use Rattle.osc_model.specs.declared.node.Peer.{Peer}
+use Rattle.osc_model.specs.declared.request.Request.{Request}
+use Rattle.osc_model.specs.declared.step.Step.{Step}
+use Rattle.osc_message.specs.Endpoint.{fresh}
+use Rattle.osc_authz.specs.declared.granted.ClientDesk.{ClientDesk}
+use Rattle.osc_ccm.specs.Ciphers.{Sealings, Tags}
+use Rattle.osc_client.specs.Hearing.{Begins, Requests, Ticks}
+use Rattle.osc_client.specs.Sending.{Asked, acts_at}
+use Rattle.osc_client.specs.State.{State, core}
+use Rattle.osc_client.specs.Steps.{IsStep}
+use Rattle.osc_run.specs.ClientKinds.{ClientStep}
+use Rattle.osc_run.specs.Nodes.{Came}
+use Rattle.osc_client.specs.declared.way.Way.{Way}
+use Rattle.osc_c.specs.Arguments.{IsUnfit, Tells}
+use Rattle.osc_c.specs.Ends.{At, DoneAt, Ends}
+use Rattle.osc_c.specs.Given.{GivenDatagram, GivenGrant, GivenRequest}
+use Rattle.osc_c.specs.Granted.{IsDesk, IsLawfulGrant, IsWay, id_context_of, origin_of}
+use Rattle.osc_c.specs.Requests.{AreOptions, IsNoRequest, IsRequest}
+use Rattle.osc_model.specs.Algorithm.{algorithm_number}
+use Rattle.osc_model.specs.declared.algorithm.Algorithm.{Algorithm}
+use Rattle.osc_c.specs.Last.{nothing, since}
+use Rattle.osc_c.specs.declared.calls.client.ClientNode.{ClientNode}
+use Rattle.osc_c.specs.declared.calls.outcome.Outcome.{Outcome}
+use Rattle.osc_c.specs.declared.calls.outcome.Outcome.TheVariants.{Done, Nothing}
+
+-- it was granted this, and has done nothing
+abbrev pub IsFresh : ClientDesk → Way → ClientNode → Type 0
+IsFresh desk way node = node ≡ record {
+  client = record { desk = desk; next_hop = way.next_hop; origin = way.origin; context = None; waiting = None; endpoint = fresh };
+  last = nothing;
+}
+
+-- It was granted this, and has done nothing. Its way and its input material are such as can be, and the flag is 0 or 1.
+pub record IsNewClient (given : GivenGrant) (node : ClientNode) : Type 0 where
+  pub desk : ClientDesk
+  pub alg : Algorithm
+  pub is_desk : IsDesk given.token given.secret given.salt (id_context_of given.has_context given.context) alg desk
+  pub is_alg : given.algorithm ≡ algorithm_number alg
+  pub is_flag : given.has_context ≤ 1
+  pub is_way : IsWay given.host
+  pub is_lawful : IsLawfulGrant given.secret given.salt (id_context_of given.has_context given.context)
+  pub fresh : IsFresh desk (record { next_hop = given.next_hop; origin = origin_of given.host given.port }) node
+
+-- the client makes such a step, and it is the last one
+abbrev pub Makes : ClientNode → (State → Step → State → Type 0) → ClientNode → Type 0
+Makes old Does new = (step : Step) × Does old.client step new.client × (new.last ≡ since step)
+
+-- a step of a run, as of a holder that keeps the rules
+abbrev pub IsOfRun : State → Step → State → Type 0
+IsOfRun old step new = ClientStep false (core old) step.notes (core new)
+
+abbrev pub BegunAt : ClientNode → Moment → Draw → ClientNode → Type 0
+BegunAt old now draw new = Makes old (λ s step t. Begins s now draw step t × IsOfRun s step t) new
+
+abbrev pub BegunBy : ClientNode → ℕ → Draw → Outcome → ClientNode → Type 0
+BegunBy old ms draw outcome new = At ms old outcome new (λ now. BegunAt old now draw new)
+
+abbrev pub TickedAt : ClientNode → Moment → ClientNode → Type 0
+TickedAt old now new = Makes old (λ s step t. Ticks s now step t × IsOfRun s step t) new
+
+abbrev pub TickedBy : ClientNode → ℕ → Outcome → ClientNode → Type 0
+TickedBy old ms outcome new = DoneAt ms old outcome new (λ now. TickedAt old now new)
+
+-- `is_sealing algorithm` is the relation of the algorithm's cipher
+module _ (is_sealing : Sealings) where
+  abbrev pub AskedAt : Tags → ClientNode → Asked → ClientNode → Type 0
+  AskedAt tag old asked new = Makes old (λ s step t. Requests is_sealing tag s asked step t × IsOfRun s step t) new
+
+  -- A request of these numbers and bytes is asked, or there was no memory for the step; or it is none, or there was no memory for it.
+  abbrev pub AskedBy : Tags → ClientNode → GivenRequest → Outcome → ClientNode → Type 0
+  AskedBy tag old given outcome new =
+      ((now : Moment) × (request : Request) × (now.ms ≡ given.ms) × IsRequest given.method given.path given.options given.payload request
+      × Ends old outcome new (AskedAt tag old (record { at = now; draw = given.draw; request = request }) new)
+      × (0 < request.code.0) × (given.method ≤ 4) × AreOptions given.options)
+      ⊎ (IsUnfit (¬ (given.ms < 2 ^ 63) ⊎ IsNoRequest given.method given.path given.options) outcome × (new ≡ old))
+
+  -- it hears this, whatever is drawn
+  abbrev pub HeardAt : ClientNode → Moment → Peer → List ℕ → ClientNode → Type 0
+  HeardAt old now from bytes new =
+      Makes old (λ s step t. (draw : Draw) → IsStep is_sealing s (Came (record { at = now; from = from; draw = draw; what = bytes })) step t) new
+
+  abbrev pub HeardBy : ClientNode → GivenDatagram → Outcome → ClientNode → Type 0
+  HeardBy old given outcome new = At given.ms old outcome new (λ now. HeardAt old now given.from given.bytes new)
+
+-- the first moment is told at which a tick does anything, if one does
+abbrev pub TellsDeadline : ClientNode → ℕ → Outcome → ℕ → Type 0
+TellsDeadline node old outcome new =
+    ((outcome ≡ Done) × ((now : Moment) → (acts_at node.client now ≡ true) ↔ (new ≤ now.ms)))
+    ⊎ ((outcome ≡ Nothing) × (new ≡ old) × ((now : Moment) → acts_at node.client now ≡ false))
+
+-- the number that its next request takes is told, where it has a context
+abbrev pub TellsContext : ClientNode → ℕ → Outcome → ℕ → Type 0
+TellsContext node old outcome new = Tells (option_map (λ context. context.next) node.client.context) old outcome new

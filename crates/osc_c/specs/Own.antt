@@ -1,0 +1,112 @@
+-- What a device does at its own server, by calls.
+use Rattle.std.specs.Prelude.{◌≡◌, ℕ, ◌<◌, ◌^◌, ◌⊎◌, Bool, true, false, if◌then◌else◌, List, [], Option, Some, None, ⊤}
+use Rattle.osc_model.specs.Path.{IsPath}
+use Rattle.osc_model.specs.declared.code.Method.{Method}
+use Rattle.osc_model.specs.declared.code.Method.TheVariants.{Delete}
+use Rattle.osc_model.specs.declared.node.Moment.{Moment}
+use Rattle.osc_model.specs.declared.request.Request.{Request}
+use Rattle.osc_model.specs.declared.step.ClientResult.{ClientResult}
+use Rattle.osc_model.specs.declared.step.ClientResult.TheVariants.{Refused}
+use Rattle.osc_client.specs.Hearing.{Begins}
+use Rattle.osc_client.specs.State.{State as Own}
+use Rattle.osc_ccm.specs.Ciphers.{Sealings, Tags}
+use Rattle.osc_scope.specs.Entries.{Entry}
+use Rattle.osc_token.specs.declared.claims.Claims.{Claims}
+use Rattle.osc_device.specs.Answered.{IsAnsweredWhereReady, IsOpen, IsWhole, MayOpen, own_request}
+use Rattle.osc_device.specs.Carrying.{AskedOfServer, AsksItsServer, Carries, asked_by}
+use Rattle.osc_device.specs.Runs.{AllGoOn, IsOfAnEntry, noted}
+use Rattle.osc_device.specs.declared.round.Round.{Round}
+use Rattle.osc_c.specs.Arguments.{IsFormat, IsNoFormat, IsUnfit}
+use Rattle.osc_c.specs.Given.{GivenPath, GivenValue}
+use Rattle.osc_c.specs.Last.{LastStep, nothing}
+use Rattle.osc_c.specs.Plain.{draw_of}
+use Rattle.osc_c.specs.Told.{bare, told_of}
+use Rattle.osc_c.specs.declared.calls.device.DeviceNode.{DeviceNode}
+use Rattle.osc_c.specs.declared.calls.outcome.Outcome.{Outcome}
+use Rattle.osc_c.specs.declared.calls.outcome.Outcome.TheVariants as outcome
+use Rattle.osc_c.specs.declared.calls.plain.PlainDraws.{PlainDraws}
+use Rattle.osc_c.specs.declared.calls.round.Told.{Told}
+
+-- whether nothing was begun
+abbrev pub is_refused_by : Option ClientResult → Bool
+is_refused_by (Some (Refused number)) = true
+is_refused_by result = false
+
+-- Where nothing was begun the last step stays, and else there is none for others.
+abbrev pub last_after : Round → LastStep → LastStep
+last_after round last = if is_refused_by round.begun.notes.result then last else nothing
+
+-- nothing was begun: something is open, there is no context, its numbers are used up, or it would be too long
+abbrev pub IsRefusal : Outcome → Type 0
+IsRefusal outcome.Busy = ⊤
+IsRefusal outcome.NoContext = ⊤
+IsRefusal outcome.Exhausted = ⊤
+IsRefusal outcome.TooLong = ⊤
+IsRefusal other = ⊥
+
+-- It comes to a round of this kind, of which the caller is told; where nothing was begun, nothing changes. Or there was no memory, and nothing
+-- changes.
+abbrev pub ComesTo : DeviceNode → Told → DeviceNode → (Round → Type 0) → Type 0
+ComesTo old told new Does =
+    ((round : Round) × Does round × (told ≡ told_of round) × (new.last ≡ last_after round old.last)
+    × (IsRefusal told.outcome → new ≡ old))
+    ⊎ ((told ≡ bare outcome.NoMemory) × (new ≡ old))
+
+-- it is no moment, no path, or no format
+abbrev pub IsNoValue : GivenValue → Type 0
+IsNoValue given = ¬ (given.ms < 2 ^ 63) ⊎ ¬ (IsPath given.path) ⊎ IsNoFormat given.format
+
+-- a value, which is put at its path, or appended to what is there
+pub record Writing : Type 0 where
+  pub method : Method
+  pub value : GivenValue
+
+-- the request that says so, with this format
+abbrev pub request_of : Writing → Option ℕ → Request
+request_of writing format = own_request writing.method writing.value.path format writing.value.payload
+
+-- what the device asks of its server at this moment, with these draws
+abbrev pub asked_for : PlainDraws → Moment → Request → AskedOfServer
+asked_for draws now request = record { at = now; draw = draw_of draws.own; server_draw = draw_of draws.server; request = request }
+
+-- an argument is out of its range, for this reason, or there was no memory for them: nothing changes
+abbrev pub IsRejected : Type 0 → DeviceNode → Told → DeviceNode → Type 0
+IsRejected Why old told new = IsUnfit Why told.outcome × (told.code ≡ 0) × (new ≡ old)
+
+-- `is_sealing algorithm` is the relation of the algorithm's cipher, and `tag algorithm` how long its tag is
+module _ (is_sealing : Sealings) where
+  -- The device posts its token, and what it sends is carried to its server and back; where it may, and no step wants memory, it has a context.
+  -- Each run goes on by these steps.
+  abbrev pub Opens : DeviceNode → Moment → PlainDraws → Round → DeviceNode → Type 0
+  Opens old now draws round new =
+      ((begun : Own) × Begins old.device.own now (draw_of draws.own) round.begun begun
+      × Carries is_sealing (record old.device { own = begun }) now (draw_of draws.server) round new.device)
+      × ((claims : Claims) (entries : List Entry) → MayOpen is_sealing old.device now (draw_of draws.own) claims entries → IsWhole round
+      → IsOpen now entries new.device)
+      × AllGoOn old.device (λ number. noted number round) new.device
+
+  abbrev pub OpensBy : DeviceNode → ℕ → PlainDraws → Told → DeviceNode → Type 0
+  OpensBy old ms draws told new =
+      ((now : Moment) × (now.ms ≡ ms) × ComesTo old told new (λ round. Opens old now draws round new)) ⊎ IsRejected (¬ (ms < 2 ^ 63)) old told new
+
+  module _ (tag : Tags) where
+    -- The device asks its server so; where it may, and no step wants memory, it is answered. Each run goes on by these steps, and a reply that
+    -- it learns is that of an entry of the history.
+    abbrev pub Asks : DeviceNode → AskedOfServer → Round → DeviceNode → Type 0
+    Asks old asked round new =
+        AsksItsServer is_sealing tag old.device asked round new.device
+        × IsAnsweredWhereReady old.device (asked_by asked) round new.device
+        × AllGoOn old.device (λ number. noted number round) new.device
+        × IsOfAnEntry old.device round
+
+    abbrev pub AsksBy : DeviceNode → Writing → Told → DeviceNode → Type 0
+    AsksBy old writing told new =
+        ((now : Moment) × (format : Option ℕ) × (now.ms ≡ writing.value.ms) × IsFormat writing.value.format format
+        × ComesTo old told new (λ round. Asks old (asked_for writing.value.draws now (request_of writing format)) round new))
+        ⊎ IsRejected (IsNoValue writing.value) old told new
+
+    abbrev pub RemovesBy : DeviceNode → GivenPath → Told → DeviceNode → Type 0
+    RemovesBy old given told new =
+        ((now : Moment) × (now.ms ≡ given.ms)
+        × ComesTo old told new (λ round. Asks old (asked_for given.draws now (own_request Delete given.path None [])) round new))
+        ⊎ IsRejected (¬ (given.ms < 2 ^ 63) ⊎ ¬ (IsPath given.path)) old told new

@@ -1,0 +1,66 @@
+-- A proxy by calls.
+use Rattle.std.specs.Prelude.{◌≡◌, ℕ, ◌⊎◌, true, false, ◌↔◌, ◌≤◌, List, [], ◌∷◌, ◌++◌}
+use Rattle.osc_model.specs.Arrival.{Arrival}
+use Rattle.osc_model.specs.declared.node.Draw.{Draw}
+use Rattle.osc_model.specs.declared.node.Moment.{Moment}
+use Rattle.osc_model.specs.declared.step.Step.{Step}
+use Rattle.osc_message.specs.Endpoint.{fresh}
+use Rattle.osc_client.specs.Way.{IsHost}
+use Rattle.osc_proxy.specs.Exchanges.{none_open}
+use Rattle.osc_proxy.specs.Hearing.{Hears}
+use Rattle.osc_proxy.specs.State.{State, restarted}
+use Rattle.osc_proxy.specs.Ticks.{Ticks, acts}
+use Rattle.osc_proxy.specs.declared.targets.Target.{Target}
+use Rattle.osc_c.specs.Ends.{At, Stays}
+use Rattle.osc_c.specs.Given.{GivenDatagram, came_at}
+use Rattle.osc_c.specs.Last.{since}
+use Rattle.osc_c.specs.declared.calls.outcome.Outcome.{Outcome}
+use Rattle.osc_c.specs.declared.calls.outcome.Outcome.TheVariants.{BadArgument, Done, NoMemory, NotNow, Nothing}
+use Rattle.osc_c.specs.declared.calls.proxy.Forwarding.{Forwarding}
+use Rattle.osc_c.specs.declared.calls.proxy.Forwarding.TheVariants.{Setting, Running}
+use Rattle.osc_c.specs.declared.calls.proxy.ProxyNode.{ProxyNode}
+
+-- the proxy that it is: before its first event it has targets alone
+abbrev pub proxy_of : Forwarding → State
+proxy_of (Setting targets) = record { targets = targets; exchanges = none_open; endpoint = fresh }
+proxy_of (Running proxy) = proxy
+
+abbrev pub IsRunning : Forwarding → Type 0
+IsRunning forwarding = forwarding ≡ Running (proxy_of forwarding)
+
+abbrev pub restarted_from : Forwarding → Forwarding
+restarted_from (Setting targets) = Setting targets
+restarted_from (Running proxy) = Running (restarted proxy)
+
+-- A target is added behind the others before the first event, where there is memory for it; and none behind it.
+abbrev pub AddsTargetTo : Target → Forwarding → ProxyNode → Outcome → ProxyNode → Type 0
+AddsTargetTo target (Setting targets) old outcome new =
+    ((outcome ≡ Done) × (new ≡ record old { forwarding = Setting (targets ++ target ∷ []) })) ⊎ Stays NoMemory old outcome new
+AddsTargetTo target (Running proxy) old outcome new = Stays NotNow old outcome new
+
+-- It has a host that a request can name (RFC 7252 section 5.10); else nothing changes.
+abbrev pub AddsTarget : Target → ProxyNode → Outcome → ProxyNode → Type 0
+AddsTarget target old outcome new =
+    (IsHost target.host × AddsTargetTo target old.forwarding old outcome new) ⊎ (¬ (IsHost target.host) × Stays BadArgument old outcome new)
+
+-- the proxy makes a step of this kind, and it is the last one
+abbrev pub Makes : ProxyNode → (State → Step → State → Type 0) → ProxyNode → Type 0
+Makes old Does new = (step : Step) × Does (proxy_of old.forwarding) step (proxy_of new.forwarding) × IsRunning new.forwarding × (new.last ≡ since step)
+
+abbrev pub HeardAt : ProxyNode → Arrival (List ℕ) → ProxyNode → Type 0
+HeardAt old came new = Makes old (λ s step t. Hears s came step t) new
+
+abbrev pub HeardBy : ProxyNode → GivenDatagram → Draw → Outcome → ProxyNode → Type 0
+HeardBy old given draw outcome new = At given.ms old outcome new (λ now. HeardAt old (came_at given now draw) new)
+
+abbrev pub TickedAt : ProxyNode → Moment → Draw → ProxyNode → Type 0
+TickedAt old now draw new = Makes old (λ s step t. Ticks s now draw step t) new
+
+abbrev pub TickedBy : ProxyNode → ℕ → Draw → Outcome → ProxyNode → Type 0
+TickedBy old ms draw outcome new = At ms old outcome new (λ now. TickedAt old now draw new)
+
+-- the first moment is told at which a tick does anything, if one does
+abbrev pub TellsDeadline : ProxyNode → ℕ → Outcome → ℕ → Type 0
+TellsDeadline node old outcome new =
+    ((outcome ≡ Done) × ((now : Moment) → (acts now (proxy_of node.forwarding) ≡ true) ↔ (new ≤ now.ms)))
+    ⊎ ((outcome ≡ Nothing) × (new ≡ old) × ((now : Moment) → acts now (proxy_of node.forwarding) ≡ false))

@@ -1,0 +1,35 @@
+-- What stands at a path, as include/osc.h tells it.
+use Rattle.std.specs.Prelude.{◌≡◌, ℕ, ◌⊎◌, List, length, Option, MatchOption}
+use Rattle.std.specs.FinMap as map
+use Rattle.osc_model.specs.Path.{IsPath}
+use Rattle.osc_model.specs.declared.resource.Resource.{Resource}
+use Rattle.osc_c.specs.Arguments.{IsUnfit, format_number}
+use Rattle.osc_c.specs.Filling.{if_fits, written}
+use Rattle.osc_c.specs.declared.calls.device.DeviceNode.{DeviceNode}
+use Rattle.osc_c.specs.declared.calls.outcome.Outcome.{Outcome}
+use Rattle.osc_c.specs.declared.calls.outcome.Outcome.TheVariants.{Nothing}
+use Rattle.osc_c.specs.declared.calls.plain.PlainValue.{PlainValue}
+
+-- a caller's room for a payload, and what it is told of it
+pub record ValueRoom : Type 0 where
+  pub payload : List ℕ
+  pub value : PlainValue
+
+abbrev pub HasValue : Resource → ValueRoom → Outcome → ValueRoom → Type 0
+HasValue resource room outcome filled =
+    (outcome ≡ if_fits resource.payload room.payload) × (filled.payload ≡ written resource.payload room.payload)
+    × (filled.value ≡ record { format = format_number resource.format; length = length resource.payload })
+
+-- nothing is told
+abbrev pub TellsNoValue : ValueRoom → ValueRoom → Type 0
+TellsNoValue room filled = (filled.payload ≡ room.payload) × (filled.value ≡ room.value)
+
+abbrev pub TellsValue : Option Resource → ValueRoom → Outcome → ValueRoom → Type 0
+TellsValue found room outcome filled =
+    MatchOption found ((outcome ≡ Nothing) × TellsNoValue room filled) (λ resource. HasValue resource room outcome filled)
+
+-- What stands there is told; or the text is no path, or there was no memory for it.
+abbrev pub TellsValueAt : DeviceNode → List ℕ → ValueRoom → Outcome → ValueRoom → Type 0
+TellsValueAt node path room outcome filled =
+    TellsValue (map.get node.device.server.tree path) room outcome filled
+    ⊎ (IsUnfit (¬ (IsPath path)) outcome × TellsNoValue room filled)

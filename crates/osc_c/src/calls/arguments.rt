@@ -1,0 +1,94 @@
+//! Arguments that a caller hands in as numbers and bytes.
+ghost use Rattle.std.specs.Prelude.{◌≡◌, ◌==◌, ◌<◌, ◌≤◌, ◌^◌, if◌then◌else◌, IfOk, IfErr, None, Some};
+ghost use Rattle.osc_c.specs.Arguments.{IsFormat, IsNoFormat, IsUnfit, Tells};
+ghost use Rattle.osc_c.specs.declared.calls.outcome.Outcome.TheVariants.{BadArgument};
+ghost use Rattle.osc_model.specs.Path.{IsPath};
+
+use crate::calls::outcome::Outcome;
+use osc_model::{Bytes, Moment, Path};
+use std::alloc::{AllocError, Global};
+
+/// The moment of so many milliseconds.
+pub(crate) fn moment(ms: u64) -> Result<Moment, Outcome>
+    ensures ok { IfOk result (λ moment. moment.ms ≡ ms) }
+    ensures err { IfErr result (λ outcome. (outcome ≡ BadArgument) × ¬ (ms < 2 ^ 63)) }
+{
+    match Moment::new(ms) {
+        Some(moment) => Ok(moment),
+        None => Err(Outcome::BadArgument),
+    }
+}
+
+/// The path of this text.
+pub(crate) fn path(alloc: Global, text: &[u8]) -> Result<Path, Outcome>
+    ensures ok { IfOk result (λ path. (path ≡ text.now) × IsPath text.now) }
+    ensures err { IfErr result (IsUnfit (¬ (IsPath text.now))) }
+{
+    match Path::from_text(alloc, text)? {
+        Some(path) => Ok(path),
+        None => Err(Outcome::BadArgument),
+    }
+}
+
+/// The Content-Format or Accept of this number; -1 is none.
+pub(crate) fn format(number: i32) -> Result<Option<u16>, Outcome>
+    ensures ok { IfOk result (IsFormat number) }
+    ensures err { IfErr result (λ outcome. (outcome ≡ BadArgument) × IsNoFormat number) }
+{
+    if number < -1 || number > 65_535 {
+        return Err(Outcome::BadArgument);
+    }
+    if number == -1 {
+        return Ok(None);
+    }
+    Ok(Some(number as u16))
+}
+
+/// The number of this Content-Format; -1 for none.
+pub(crate) fn format_number(format: Option<u16>) -> i32
+    ensures { IsFormat result format }
+{
+    match format {
+        Some(format) => format as i32,
+        None => -1,
+    }
+}
+
+/// Owned bytes, where they are there.
+pub(crate) fn optional(
+    alloc: Global,
+    is_there: bool,
+    bytes: &[u8],
+) -> Result<Option<Bytes>, AllocError>
+    ensures { IfOk result (λ owned. owned ≡ (if is_there then Some bytes.now else None)) }
+{
+    if is_there {
+        Ok(Some(Bytes::from_slice(alloc, bytes)?))
+    } else {
+        Ok(None)
+    }
+}
+
+/// Whether this flag is set: 1 is, 0 isn't.
+pub(crate) fn flag(number: u8) -> Result<bool, Outcome>
+    ensures set { IfOk result (λ set. (set ≡ (number == 1)) × (number ≤ 1)) }
+    ensures err { IfErr result (λ outcome. (outcome ≡ BadArgument) × (1 < number)) }
+{
+    if number > 1 {
+        return Err(Outcome::BadArgument);
+    }
+    Ok(number == 1)
+}
+
+/// Tells a number, where there is one.
+pub(crate) fn tell(number: Option<u64>, out: &mut u64) -> Outcome
+    ensures { Tells number out.old result out.new }
+{
+    match number {
+        Some(number) => {
+            *out = number;
+            Outcome::Done
+        }
+        None => Outcome::Nothing,
+    }
+}

@@ -1,0 +1,94 @@
+//! What a client was granted, and the way to its server.
+ghost use Rattle.std.specs.Prelude.{◌≡◌, ◌<◌, ◌≤◌, IfErr, IfOk};
+ghost use Rattle.osc_c.specs.Arguments.{IsUnfit};
+ghost use Rattle.osc_c.specs.Plain.{peer_of};
+ghost use Rattle.osc_c.specs.Granted.{IsDesk, IsLawfulGrant, IsNoAlgorithm, IsWay, id_context_of, origin_of};
+ghost use Rattle.osc_c.specs.declared.calls.outcome.Outcome.TheVariants.{BadArgument};
+ghost use Rattle.osc_model.specs.Algorithm.{algorithm_number};
+
+use crate::calls::arguments::{flag, optional};
+use crate::calls::outcome::Outcome;
+use crate::calls::plain::PlainPeer;
+use osc_authz::ClientDesk;
+use osc_client::{Origin, Way};
+use osc_model::{Algorithm, Bytes};
+use std::alloc::{AllocError, Global};
+
+/// The algorithm of this number: 10 or 30.
+pub(crate) fn algorithm(number: u8) -> Result<Algorithm, Outcome>
+    ensures ok { IfOk result (λ algorithm. number ≡ algorithm_number algorithm) }
+    ensures err { IfErr result (λ outcome. (outcome ≡ BadArgument) × IsNoAlgorithm number) }
+{
+    match Algorithm::from_number(number as u64) {
+        Some(algorithm) => Ok(algorithm),
+        None => Err(Outcome::BadArgument),
+    }
+}
+
+/// An id context: the bytes where the flag is 1, and none where it is 0.
+pub(crate) fn id_context(
+    alloc: Global,
+    is_there: u8,
+    bytes: &[u8],
+) -> Result<Option<Bytes>, Outcome>
+    ensures ok { IfOk result (λ context. (context ≡ id_context_of is_there bytes.now) × (is_there ≤ 1)) }
+    ensures err { IfErr result (IsUnfit (1 < is_there)) }
+{
+    let is_there = flag(is_there)?;
+    Ok(optional(alloc, is_there, bytes)?)
+}
+
+/// The secret and the salt.
+fn keying(alloc: Global, secret: &[u8], salt: &[u8]) -> Result<(Bytes, Bytes), AllocError>
+    ensures { IfOk result (λ both. (both.0 ≡ secret.now) × (both.1 ≡ salt.now)) }
+{
+    let secret = Bytes::from_slice(alloc, secret)?;
+    Ok((secret, Bytes::from_slice(alloc, salt)?))
+}
+
+/// What a client was granted.
+pub(crate) fn desk(
+    alloc: Global,
+    token: &[u8],
+    secret: &[u8],
+    salt: &[u8],
+    context: Option<Bytes>,
+    alg: Algorithm,
+) -> Result<ClientDesk, Outcome>
+    ensures ok { IfOk result (λ desk. IsDesk token.now secret.now salt.now context alg desk) }
+    ensures lawful { IfOk result (λ desk. IsLawfulGrant secret.now salt.now context) }
+    ensures err { IfErr result (IsUnfit (¬ (IsLawfulGrant secret.now salt.now context))) }
+{
+    let (secret, salt) = keying(alloc, secret, salt)?;
+    let token = Bytes::from_slice(alloc, token)?;
+    match ClientDesk::new(token, secret, salt, context, alg) {
+        Ok(desk) => Ok(desk),
+        Err(_) => Err(Outcome::BadArgument),
+    }
+}
+
+/// The way to the server: straight where the host is empty, and else through a proxy that knows it by this host and port.
+pub(crate) fn way(
+    alloc: Global,
+    next_hop: &PlainPeer,
+    host: &[u8],
+    port: u16,
+) -> Result<Way, Outcome>
+    ensures ok { IfOk result (λ way. way ≡ record { next_hop = peer_of next_hop.now; origin = origin_of host.now port }) }
+    ensures lawful { IfOk result (λ way. IsWay host.now) }
+    ensures err { IfErr result (IsUnfit (¬ (IsWay host.now))) }
+{
+    if host.is_empty() {
+        return Ok(Way {
+            next_hop: next_hop.peer(),
+            origin: None,
+        });
+    }
+    match Origin::new(Bytes::from_slice(alloc, host)?, port) {
+        Some(origin) => Ok(Way {
+            next_hop: next_hop.peer(),
+            origin: Some(origin),
+        }),
+        None => Err(Outcome::BadArgument),
+    }
+}

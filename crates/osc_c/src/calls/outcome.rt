@@ -1,0 +1,69 @@
+//! What calls answer.
+ghost use Rattle.std.specs.Prelude.{◌≡◌, pos};
+ghost use Rattle.osc_c.specs.Outcome.{number_of};
+ghost use Rattle.osc_c.specs.declared.calls.outcome.Outcome.TheVariants.{NoMemory};
+
+use osc_model::refusals;
+use std::alloc::AllocError;
+
+/// What a call answers: that it is done, or why it isn't.
+#[derive(Clone, Copy, Debug, PartialEq, Eq)]
+pub enum Outcome {
+    /// It is done.
+    Done,
+    /// A buffer is too short.
+    TooShort,
+    /// There was no memory.
+    NoMemory,
+    /// It would be longer than a datagram may be, or than a token.
+    TooLong,
+    /// Something is open already.
+    Busy,
+    /// The context's numbers are used up.
+    Exhausted,
+    /// There is no security context.
+    NoContext,
+    /// The text is no scope.
+    BadScope,
+    /// There is none: no node, no datagram, nothing served or learnt, no resource, no deadline.
+    Nothing,
+    /// An argument is out of its range.
+    BadArgument,
+    /// Memory was wanting on the way: what was begun is open, and a tick goes on with it.
+    Lost,
+    /// What was begun ended by an unprotected answer.
+    Unverified,
+    /// The proxy has heard something already.
+    NotNow,
+}
+
+impl Outcome {
+    /// Its number.
+    pub fn number(self) -> i32
+        ensures { result ≡ pos (number_of self) }
+    {
+        match self {
+            Outcome::Done => 0,
+            Outcome::TooShort => refusals::OUT_TOO_SMALL as i32,
+            Outcome::NoMemory => refusals::MEMORY as i32,
+            Outcome::TooLong => refusals::DATAGRAM_TOO_LONG as i32,
+            Outcome::Busy => refusals::BUSY as i32,
+            Outcome::Exhausted => refusals::EXHAUSTED as i32,
+            Outcome::NoContext => refusals::NO_CONTEXT as i32,
+            Outcome::BadScope => refusals::BAD_SCOPE as i32,
+            Outcome::Nothing => refusals::NOTHING_HELD as i32,
+            Outcome::BadArgument => refusals::BAD_ARGUMENT as i32,
+            Outcome::Lost => refusals::LOST as i32,
+            Outcome::Unverified => refusals::UNVERIFIED as i32,
+            Outcome::NotNow => refusals::NOT_NOW as i32,
+        }
+    }
+}
+
+impl From<AllocError> for Outcome {
+    ghost from_gives = { λ _ outcome. outcome ≡ NoMemory };
+
+    fn from(_error: AllocError) -> Outcome {
+        Outcome::NoMemory
+    }
+}

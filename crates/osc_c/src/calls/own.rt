@@ -1,0 +1,193 @@
+//! What a device does at its own server.
+ghost use Rattle.std.specs.Prelude.{◌≡◌, ◌≢◌, ◌<◌, IfErr, IfOk};
+ghost use Rattle.osc_c.specs.Arguments.{IsUnfit};
+ghost use Rattle.osc_device.specs.Answered.{own_request};
+ghost use Rattle.osc_c.specs.Own.{Asks, AsksBy, ComesTo, IsNoValue, Opens, OpensBy, RemovesBy, asked_for, is_refused_by, last_after};
+ghost use Rattle.osc_c.specs.Inner.Writes.{Reads};
+ghost use Rattle.osc_c.specs.Told.{told_of};
+ghost use Rattle.osc_c.specs.declared.calls.outcome.Outcome.TheVariants as outcome;
+
+use crate::calls::arguments;
+use crate::calls::arguments::moment;
+use crate::calls::device::DeviceNode;
+use crate::calls::last::Last;
+use crate::calls::outcome::Outcome;
+use crate::calls::plain::PlainDraws;
+use crate::calls::round::{Told, bare, what_is_told};
+use osc_ccm::Ciphers;
+use osc_device::Round;
+use osc_model::{Bytes, ClientResult, Draw, ETags, Method, Moment, Path, Request};
+use std::alloc::Global;
+use std::marker::Model;
+
+/// A value for a path, as numbers and bytes.
+#[derive(Drop)]
+pub struct GivenValue<'a> {
+    /// When, in ms.
+    pub ms: u64,
+    /// The text of the path.
+    pub path: &'a [u8],
+    /// The Content-Format, 0 to 65535, or -1 for none.
+    pub format: i32,
+    /// The payload.
+    pub payload: &'a [u8],
+    /// The draws of both steps.
+    pub draws: &'a PlainDraws,
+}
+
+impl<'a> Model for GivenValue<'a> {
+    ghost use Rattle.osc_c.specs.Given.{GivenValue as Given};
+
+    ghost Value = { Given };
+
+    ghost view = { λ g. record { ms = g.ms; path = g.path.now; format = g.format; payload = g.payload.now; draws = g.draws.now } };
+}
+
+/// What the device asks of its server, and when.
+#[derive(Drop)]
+struct OwnRequest {
+    now: Moment,
+    request: Request,
+}
+
+/// A request of the device's own.
+fn own_request(
+    alloc: Global,
+    method: Method,
+    path: Path,
+    format: Option<u16>,
+    payload: Bytes,
+) -> Request
+    ensures request { result ≡ own_request method path format payload }
+    ensures code { 0 < result.code.0 }
+{
+    Request {
+        code: method.code(),
+        path: Some(path),
+        format,
+        accept: None,
+        if_match: ETags::new(alloc),
+        if_none_match: false,
+        payload,
+    }
+}
+
+/// The request for this value.
+fn read(alloc: Global, method: Method, given: &GivenValue<'_>) -> Result<OwnRequest, Outcome>
+    ensures ok { IfOk result (λ own. Reads (record { method = method; value = given.now }) own.now own.request) }
+    ensures code { IfOk result (λ own. 0 < own.request.code.0) }
+    ensures err { IfErr result (IsUnfit (IsNoValue given.now)) }
+{
+    let now = moment(given.ms)?;
+    let path = arguments::path(alloc, given.path)?;
+    let format = arguments::format(given.format)?;
+    let payload = Bytes::from_slice(alloc, given.payload)?;
+    let request = own_request(alloc, method, path, format, payload);
+    Ok(OwnRequest { now, request })
+}
+
+/// Whether nothing was begun.
+fn is_refused(round: &Round) -> bool
+    ensures { result ≡ is_refused_by round.now.begun.notes.result }
+{
+    matches!(round.begun.notes.result(), Some(ClientResult::Refused(_)))
+}
+
+impl DeviceNode {
+    /// Gives the device a security context with its server. It is never too long: of a device whose post would be, there is none.
+    pub fn open<A: Ciphers>(&mut self, alloc: Global, now: u64, draws: &PlainDraws) -> Told
+        ensures opens { OpensBy A.is_sealing self.old now draws.now result self.new }
+        ensures fits { result.outcome ≢ outcome.TooLong }
+    {
+        match moment(now) {
+            Ok(now) => self.open_at::<A>(alloc, now, draws),
+            Err(outcome) => bare(outcome),
+        }
+    }
+
+    fn open_at<A: Ciphers>(&mut self, alloc: Global, now: Moment, draws: &PlainDraws) -> Told
+        ensures opens { ComesTo self.old result self.new (λ round. Opens A.is_sealing self.old now draws.now round self.new) }
+        ensures fits { result.outcome ≢ outcome.TooLong }
+    {
+        let own = draws.own.bytes;
+        let server = draws.server.bytes;
+        match self.device.open::<A>(alloc, now, &Draw(own), &Draw(server)) {
+            Ok(round) => keep(&mut self.last, round),
+            Err(_) => bare(Outcome::NoMemory),
+        }
+    }
+
+    /// Puts this value at the path (PUT), or appends it to what is there (POST).
+    pub fn write<A: Ciphers>(
+        &mut self,
+        alloc: Global,
+        method: Method,
+        given: &GivenValue<'_>,
+    ) -> Told
+        ensures { AsksBy A.is_sealing A.TAG self.old (record { method = method; value = given.now }) result self.new }
+    {
+        match read(alloc, method, given) {
+            Ok(own) => self.ask_at::<A>(alloc, own.now, &own.request, given.draws),
+            Err(outcome) => bare(outcome),
+        }
+    }
+
+    /// Removes what is at the path.
+    pub fn remove<A: Ciphers>(
+        &mut self,
+        alloc: Global,
+        now: u64,
+        path: &[u8],
+        draws: &PlainDraws,
+    ) -> Told
+        ensures { RemovesBy A.is_sealing A.TAG self.old (record { ms = now; path = path.now; draws = draws.now }) result self.new }
+    {
+        let now = match moment(now) {
+            Ok(now) => now,
+            Err(outcome) => return bare(outcome),
+        };
+        match arguments::path(alloc, path) {
+            Ok(path) => {
+                let nothing = Bytes::new(alloc);
+                let request = own_request(alloc, Method::Delete, path, None, nothing);
+                self.ask_at::<A>(alloc, now, &request, draws)
+            }
+            Err(outcome) => bare(outcome),
+        }
+    }
+
+    /// Asks this of its server.
+    fn ask_at<A: Ciphers>(
+        &mut self,
+        alloc: Global,
+        now: Moment,
+        request: &Request,
+        draws: &PlainDraws,
+    ) -> Told
+        requires { 0 < request.now.code.0 }
+        ensures { ComesTo self.old result self.new (λ round. Asks A.is_sealing A.TAG self.old (asked_for draws.now now request.now) round self.new) }
+    {
+        let own = draws.own.bytes;
+        let server = draws.server.bytes;
+        match self
+            .device
+            .ask::<A>(alloc, now, request, &Draw(own), &Draw(server))
+        {
+            Ok(round) => keep(&mut self.last, round),
+            Err(_) => bare(Outcome::NoMemory),
+        }
+    }
+}
+
+/// What is told of a round. Where nothing was begun the last step stays, and else there is none for others.
+fn keep(last: &mut Last, round: Round) -> Told
+    ensures told { result ≡ told_of round }
+    ensures kept { last.new ≡ last_after round last.old }
+{
+    let told = what_is_told(&round);
+    if !is_refused(&round) {
+        *last = Last::nothing();
+    }
+    drop(round);
+    told
+}

@@ -1,0 +1,158 @@
+//! What goes in and comes out, as include/osc.h has it.
+ghost use Rattle.std.specs.Prelude.{◌≡◌};
+ghost use Rattle.osc_c.specs.Plain.{draw_of, peer_of, plain_peer};
+
+use osc_model::{Draw, Peer};
+
+/// An IPv4 address and a port.
+#[repr(C)]
+#[derive(Clone, Copy)]
+pub struct PlainPeer {
+    /// The four bytes of the address, as they are written.
+    pub address: [u8; 4],
+    /// The port.
+    pub port: u16,
+}
+
+/// A key of 16 bytes.
+#[repr(C)]
+#[derive(Clone, Copy)]
+pub struct PlainKey {
+    /// The bytes.
+    pub bytes: [u8; 16],
+}
+
+/// An IV of 13 bytes.
+#[repr(C)]
+#[derive(Clone, Copy)]
+pub struct PlainIv {
+    /// The bytes.
+    pub bytes: [u8; 13],
+}
+
+/// 32 random bytes.
+#[repr(C)]
+#[derive(Clone, Copy)]
+pub struct PlainDraw {
+    /// The bytes.
+    pub bytes: [u8; 32],
+}
+
+/// Two draws: the device's own, and its server's.
+#[repr(C)]
+#[derive(Clone, Copy)]
+pub struct PlainDraws {
+    /// The device's own.
+    pub own: PlainDraw,
+    /// Its server's.
+    pub server: PlainDraw,
+}
+
+/// What stands at a path.
+#[repr(C)]
+#[derive(Clone, Copy)]
+pub struct PlainValue {
+    /// The Content-Format, or -1 for none.
+    pub format: i32,
+    /// The bytes of the payload.
+    pub length: usize,
+}
+
+/// A protected request that was served.
+#[repr(C)]
+#[derive(Clone, Copy)]
+pub struct PlainServed {
+    /// 1 GET, 2 POST, 3 PUT, 4 DELETE; 0 where what opened is no such request.
+    pub method: u8,
+    /// What it was answered.
+    pub code: u8,
+    /// The client's sender ID, which the server gave it.
+    pub kid: u8,
+    /// 1 where its context has an id context, else 0.
+    pub has_context: u8,
+    /// The request's Partial IV.
+    pub number: u64,
+    /// The bytes of its path; 0 where it has none.
+    pub path_length: usize,
+    /// The bytes of its payload.
+    pub payload_length: usize,
+    /// The bytes of the id context of its token.
+    pub context_length: usize,
+}
+
+/// A request that was refused.
+#[repr(C)]
+#[derive(Clone, Copy)]
+pub struct PlainRefused {
+    /// Who asked.
+    pub from: PlainPeer,
+    /// What it was answered.
+    pub code: u8,
+    /// The number of the reason, or 0 where the code tells it.
+    pub reason: u8,
+}
+
+/// The options of a request, beside its path.
+#[repr(C)]
+#[derive(Clone, Copy)]
+pub struct PlainOptions {
+    /// Content-Format, 0 to 65535, or -1 for none.
+    pub format: i32,
+    /// Accept, or -1 for none.
+    pub accept: i32,
+    /// 1: If-None-Match is there; 0: it isn't.
+    pub if_none_match: u8,
+    /// 1: If-Match is there once, with the bytes below; 0: it isn't.
+    pub if_match: u8,
+    /// 0 to 8.
+    pub if_match_length: u8,
+    /// The bytes of If-Match, as many as it has.
+    pub if_match_bytes: [u8; 8],
+}
+
+/// How something that a client began went on.
+#[repr(C)]
+#[derive(Clone, Copy)]
+pub struct PlainResult {
+    /// 1 a context was made, 2 an answer, 3 it ended unprotected, 4 it timed out, 5 it was refused.
+    pub what: u8,
+    /// The code, or the reason's number.
+    pub code: u8,
+    /// Of an answer: its Content-Format, or -1.
+    pub format: i32,
+    /// Of an answer: the bytes of its payload.
+    pub length: usize,
+}
+
+impl PlainPeer {
+    /// The peer.
+    pub fn peer(&self) -> Peer
+        ensures { result ≡ peer_of self.now }
+    {
+        let address = self.address;
+        Peer {
+            address,
+            port: self.port,
+        }
+    }
+
+    /// This peer.
+    pub fn of(peer: Peer) -> PlainPeer
+        ensures { result ≡ plain_peer peer }
+    {
+        let address = peer.address;
+        PlainPeer {
+            address,
+            port: peer.port,
+        }
+    }
+}
+
+impl PlainDraw {
+    /// The draw.
+    pub fn draw(&self) -> Draw
+        ensures { result ≡ draw_of self.now }
+    {
+        Draw(self.bytes)
+    }
+}

@@ -1,0 +1,193 @@
+//! Tokens of numbers and bytes.
+ghost use Rattle.std.specs.Prelude.{◌≡◌, ◌≤◌, [], IfErr, IfOk, OnOk};
+ghost use Rattle.std.specs.Str.{IsUtf8};
+ghost use Rattle.osc_c.specs.Arguments.{IsUnfit};
+ghost use Rattle.osc_c.specs.Tokens.{AreClaims, HaveLengths, HaveNoLengths, IsMinted, IsNoClaims, IsNoScope, IsScopeOf, IsUnminted, Mints, date_of};
+ghost use Rattle.osc_c.specs.declared.calls.outcome.Outcome.TheVariants.{BadArgument};
+
+use crate::calls::filling::fill;
+use crate::calls::granted;
+use crate::calls::outcome::Outcome;
+use crate::calls::plain::{PlainIv, PlainKey};
+use osc_ccm::Aead;
+use osc_model::{Algorithm, Bytes};
+use osc_scope::{ScopeError, text_to_cbor};
+use osc_token::{Audience, Claims, InputMaterial, MintError};
+use std::alloc::{AllocError, Global};
+use std::marker::Model;
+use std::str;
+
+/// The most bytes of a part of input material.
+const LONGEST: usize = 64;
+
+/// The bytes of the scope that a text says.
+pub(crate) fn scope_bytes(alloc: Global, text: &[u8]) -> Result<Bytes, Outcome>
+    ensures ok { IfOk result (λ bytes. IsScopeOf text.now bytes) }
+    ensures err { IfErr result (IsNoScope text.now) }
+{
+    let mut bytes = Vec::new(alloc);
+    match text_to_cbor(alloc, text, &mut bytes) {
+        Ok(()) => Ok(Bytes::from_vec(bytes)),
+        Err(ScopeError::BadScope) => Err(Outcome::BadScope),
+        Err(ScopeError::Memory) => Err(Outcome::NoMemory),
+    }
+}
+
+/// The audience of this name.
+pub(crate) fn audience(alloc: Global, name: &[u8]) -> Result<Audience, Outcome>
+    ensures ok { IfOk result (λ audience. audience ≡ name.now) }
+    ensures err { IfErr result (IsUnfit (¬ (IsUtf8 name.now))) }
+{
+    match str::from_utf8(name) {
+        Ok(name) => Ok(Audience::new(alloc, name)?),
+        Err(_) => Err(Outcome::BadArgument),
+    }
+}
+
+/// Input material without a salt.
+fn material(
+    alloc: Global,
+    id: &[u8],
+    secret: &[u8],
+    id_context: Option<Bytes>,
+    alg: Algorithm,
+) -> Result<InputMaterial, AllocError>
+    ensures { IfOk result (λ material. material ≡ record { id = id.now; secret = secret.now; salt = []; id_context = id_context; alg = alg }) }
+{
+    let id = Bytes::from_slice(alloc, id)?;
+    Ok(InputMaterial {
+        id,
+        secret: Bytes::from_slice(alloc, secret)?,
+        salt: Bytes::new(alloc),
+        id_context,
+        alg,
+    })
+}
+
+/// A date: no number of seconds is none.
+fn date(seconds: u64) -> Option<u64>
+    ensures { result ≡ date_of seconds }
+{
+    if seconds == 0 { None } else { Some(seconds) }
+}
+
+/// Refuses input material of lengths that a reader doesn't take (RFC 9203 section 3.2.1 leaves them open).
+fn lengths(id: &[u8], secret: &[u8], context: &[u8]) -> Result<(), Outcome>
+    ensures ok { OnOk result (HaveLengths id.now secret.now context.now) }
+    ensures err { IfErr result (λ outcome. (outcome ≡ BadArgument) × HaveNoLengths id.now secret.now context.now) }
+{
+    if id.len() > LONGEST
+        || secret.is_empty()
+        || secret.len() > LONGEST
+        || context.len() > LONGEST
+    {
+        return Err(Outcome::BadArgument);
+    }
+    Ok(())
+}
+
+/// What a token is to claim, as numbers and bytes.
+#[derive(Drop)]
+pub struct GivenClaims<'a> {
+    /// For whom it is, in UTF-8.
+    pub audience: &'a [u8],
+    /// By what it is named: 0 to 64 bytes.
+    pub id: &'a [u8],
+    /// The master secret: 1 to 64 bytes.
+    pub secret: &'a [u8],
+    /// The id context: 0 to 64 bytes.
+    pub context: &'a [u8],
+    /// 1: the id context is there; 0: it isn't.
+    pub has_context: u8,
+    /// The text of its scope.
+    pub scope: &'a [u8],
+    /// The first second at which it counts; 0 for none.
+    pub not_before: u64,
+    /// The second from which on it doesn't; 0 for none.
+    pub expires: u64,
+    /// The number of its algorithm.
+    pub algorithm: u8,
+}
+
+impl<'a> Model for GivenClaims<'a> {
+    ghost use Rattle.osc_c.specs.Given.{GivenClaims as Given};
+
+    ghost Value = { Given };
+
+    ghost view = { λ g. record {
+      audience = g.audience.now;
+      id = g.id.now;
+      secret = g.secret.now;
+      context = g.context.now;
+      has_context = g.has_context;
+      scope = g.scope.now;
+      not_before = g.not_before;
+      expires = g.expires;
+      algorithm = g.algorithm;
+    } };
+}
+
+/// What a token is to claim.
+pub fn claims(alloc: Global, given: &GivenClaims<'_>) -> Result<Claims, Outcome>
+    ensures ok { IfOk result (λ claims. AreClaims given.now claims) }
+    ensures lengths { OnOk result (HaveLengths given.now.id given.now.secret given.now.context × (given.now.has_context ≤ 1)) }
+    ensures err { IfErr result (IsNoClaims given.now) }
+{
+    lengths(given.id, given.secret, given.context)?;
+    let alg = granted::algorithm(given.algorithm)?;
+    let id_context = granted::id_context(alloc, given.has_context, given.context)?;
+    let material = material(alloc, given.id, given.secret, id_context, alg)?;
+    let scope = scope_bytes(alloc, given.scope)?;
+    Ok(Claims {
+        audience: audience(alloc, given.audience)?,
+        not_before: date(given.not_before),
+        expires: date(given.expires),
+        material,
+        scope,
+    })
+}
+
+/// The token of these claims.
+fn minted<A: Aead>(
+    alloc: Global,
+    claims: &Claims,
+    key: &PlainKey,
+    iv: &PlainIv,
+) -> Result<Vec<u8>, Outcome>
+    ensures ok { IfOk result (λ token. IsMinted A.is_sealing (record { key = key.now.bytes; iv = iv.now.bytes }) claims.now token.items) }
+    ensures err { IfErr result (IsUnminted claims.now) }
+{
+    let mut token = Vec::new(alloc);
+    match osc_token::mint::<A>(alloc, claims, &key.bytes, &iv.bytes, &mut token) {
+        Ok(()) => Ok(token),
+        Err(MintError::TooLong) => Err(Outcome::TooLong),
+        Err(MintError::Memory) => Err(Outcome::NoMemory),
+    }
+}
+
+/// Mints the token of these claims, and writes it where there is room. How many bytes it has is told in either case.
+pub fn mint<A: Aead>(
+    alloc: Global,
+    claims: Claims,
+    key: &PlainKey,
+    iv: &PlainIv,
+    room: &mut [u8],
+    size: &mut usize,
+) -> Outcome
+    ensures { Mints A.is_sealing (record { key = key.now.bytes; iv = iv.now.bytes }) claims
+        (record { bytes = room.old; size = size.old }) result (record { bytes = room.new; size = size.new }) }
+{
+    match minted::<A>(alloc, &claims, key, iv) {
+        Ok(token) => {
+            *size = token.len();
+            let fits = fill(room, &token);
+            drop(token);
+            if fits {
+                Outcome::Done
+            } else {
+                Outcome::TooShort
+            }
+        }
+        Err(outcome) => outcome,
+    }
+}

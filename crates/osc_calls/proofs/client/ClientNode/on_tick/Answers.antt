@@ -1,6 +1,0 @@
--- At the moment of these milliseconds.
-use Rattle.std.proofs.Common.{inl, refl}
-use Rattle.osc_calls.proofs.client.ClientNode.on_tick.Goals as goal
-
-pub returns-in-Ok : goal.returns-in-Ok
-returns-in-Ok c = inl (c.in-Ok.now, c.in-Ok.ensures.ok, refl, c.tick.ensures)

@@ -1,6 +1,0 @@
--- At the moment of these milliseconds.
-use Rattle.std.proofs.Common.{inl}
-use Rattle.osc_calls.proofs.proxy.ProxyNode.on_datagram.Goals as goal
-
-pub returns-in-Ok : goal.returns-in-Ok
-returns-in-Ok c = inl (c.in-Ok.now, c.in-Ok.ensures.ok, c.hear.ensures)

@@ -1,0 +1,10 @@
+-- The pieces of a line, one behind the other.
+use Rattle.std.proofs.Common.{◌≡◌, ℕ, List, [], ◌∷◌, ◌++◌, append_assoc, codes}
+use Rattle.osc_simulation.specs.Text.{line}
+
+pub learnt_pieces : (client learnt learnt-is : List ℕ) → learnt ≡ learnt-is
+    → client ++ (codes " " ++ (learnt ++ 10 ∷ [])) ≡ line (client ++ codes " " ++ learnt-is)
+learnt_pieces client learnt learnt-is e = rw e (simp append_assoc)
+
+pub open_pieces : (client : List ℕ) → client ++ (codes " open" ++ 10 ∷ []) ≡ line (client ++ codes " open")
+open_pieces client = simp append_assoc

@@ -1,0 +1,5 @@
+use Rattle.osc_lab.specs.Lab.{run_of}
+use Rattle.osc_lab.proofs.laws.labs_have_one_history.Goals as goal
+
+pub returns : goal.returns
+returns c = λ first old new leads begun premise. c.one_history.ensures (run_of first new) (c.labs_are_runs.ensures first old new leads begun) premise

@@ -1,0 +1,2 @@
+pub mod Lab
+pub mod Inner

@@ -1,0 +1,11 @@
+//! A lab: the nodes of a script on sockets of one machine, in one process, which take their turns one after another.
+#![tactic(auto)]
+
+pub mod laws;
+mod nodes;
+mod port;
+mod ports;
+mod run;
+mod telling;
+
+pub use run::lab;

@@ -1,5 +1,0 @@
-use Rattle.osc_programs.specs.Lab.{run_of}
-use Rattle.osc_programs.proofs.laws.labs_have_one_history.Goals as goal
-
-pub returns : goal.returns
-returns c = λ first old new leads begun premise. c.one_history.ensures (run_of first new) (c.labs_are_runs.ensures first old new leads begun) premise

@@ -1,0 +1,72 @@
+-- What `--check` says of settings that it read. Nothing of a key, a secret, a token or a payload is in it.
+use Rattle.std.specs.Prelude.{ℕ, List, [], ◌++◌, length, map, Option, Some, None, codes, decimal}
+use Rattle.std.specs.List.{flat_map}
+use Rattle.std.specs.Net.Text.{ipv4_text}
+use Rattle.osc_model.specs.Algorithm.{algorithm_number}
+use Rattle.osc_model.specs.declared.node.Peer.{Peer}
+use Rattle.osc_settings.specs.declared.client.ClientSettings.{ClientSettings}
+use Rattle.osc_settings.specs.declared.proxy.ProxySettings.{ProxySettings}
+use Rattle.osc_settings.specs.declared.proxy.TargetSetting.{TargetSetting}
+use Rattle.osc_settings.specs.declared.resource.ResourceSetting.{ResourceSetting}
+use Rattle.osc_settings.specs.declared.server.ServerSettings.{ServerSettings}
+use Rattle.osc_simulation.specs.Text.{line}
+use Rattle.osc_programs.specs.Log.{shown_byte}
+
+-- A.B.C.D:PORT
+abbrev pub peer_text : Peer → List ℕ
+peer_text peer = ipv4_text peer.address ++ codes ":" ++ decimal peer.port
+
+-- NAME A.B.C.D:PORT
+abbrev pub address_line : List ℕ → Peer → List ℕ
+address_line name peer = line (name ++ codes " " ++ peer_text peer)
+
+-- NAME and these bytes, of which each that isn't printable ASCII shows as `?`
+abbrev pub shown_line : List ℕ → List ℕ → List ℕ
+shown_line name bytes = line (name ++ codes " " ++ map shown_byte bytes)
+
+-- ---- of a server
+
+abbrev pub format_text : Option ℕ → List ℕ
+format_text None = codes "none"
+format_text (Some format) = decimal format
+
+-- resource PATH FORMAT N bytes
+abbrev pub resource_line : ResourceSetting → List ℕ
+resource_line resource =
+    line (codes "resource " ++ map shown_byte resource.path ++ codes " " ++ format_text resource.format ++ codes " " ++ decimal (length resource.payload) ++ codes " bytes")
+
+abbrev pub server_text : ServerSettings → List ℕ
+server_text settings =
+    address_line (codes "bind") settings.bind ++ shown_line (codes "audience") settings.audience
+    ++ flat_map (shown_line (codes "open")) settings.open.items ++ flat_map resource_line settings.resources.items
+
+-- ---- of a proxy
+
+-- HOST:PORT
+abbrev pub host_text : List ℕ → ℕ → List ℕ
+host_text host port = map shown_byte host ++ codes ":" ++ decimal port
+
+-- target HOST:PORT to A.B.C.D:PORT
+abbrev pub target_line : TargetSetting → List ℕ
+target_line target = line (codes "target " ++ host_text target.host target.port ++ codes " to " ++ peer_text target.to)
+
+abbrev pub proxy_text : ProxySettings → List ℕ
+proxy_text settings = address_line (codes "bind") settings.bind ++ flat_map target_line settings.targets.items
+
+-- ---- of a client
+
+-- host HOST:PORT, where it sends through a proxy
+abbrev pub origin_text : Option (List ℕ × ℕ) → List ℕ
+origin_text None = []
+origin_text (Some origin) = line (codes "host " ++ host_text origin.0 origin.1)
+
+-- token N bytes, alg N
+abbrev pub grant_line : ℕ → ℕ → List ℕ
+grant_line size alg = line (codes "token " ++ decimal size ++ codes " bytes, alg " ++ decimal alg)
+
+abbrev pub grant_text : ClientSettings → List ℕ
+grant_text settings = grant_line (length settings.token) (algorithm_number settings.alg)
+
+abbrev pub client_text : ClientSettings → List ℕ
+client_text settings =
+    address_line (codes "bind") settings.bind ++ address_line (codes "peer") settings.peer ++ origin_text settings.origin ++ grant_text settings

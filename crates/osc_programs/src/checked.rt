@@ -1,0 +1,183 @@
+//! What is said of settings that were read. Nothing of a key, a secret, a token or a payload is in it.
+ghost use Rattle.std.specs.Prelude.{◌≡◌, ◌++◌, IfOk, Some, codes, decimal, length, string_bytes};
+ghost use Rattle.std.specs.List.{flat_map};
+ghost use Rattle.osc_programs.specs.Checked as spec;
+
+use crate::log::shown;
+use osc_model::{Bytes, Path, Peer};
+use osc_settings::{ClientSettings, ProxySettings, ResourceSetting, ServerSettings, TargetSetting};
+use std::alloc::{AllocError, Global};
+use std::net::Ipv4Addr;
+
+/// Of a server: `bind ADDRESS`, `audience TEXT`, `open PATH` for each open path, and `resource PATH FORMAT N bytes` for each resource.
+pub(crate) fn server_text(alloc: Global, settings: &ServerSettings) -> Result<Vec<u8>, AllocError>
+    ensures { IfOk result (λ text. text.items ≡ spec.server_text settings.now) }
+{
+    let bind = address_line(alloc, "bind", settings.bind)?;
+    let audience = shown_line(alloc, "audience", settings.audience.as_str().as_bytes())?;
+    let open = open_lines(alloc, &settings.open)?;
+    let resources = resource_lines(alloc, &settings.resources)?;
+    let mut text = Vec::from_slice(alloc, bind.as_bytes())?;
+    text.extend_from_slice(&audience)?;
+    text.extend_from_slice(&open)?;
+    text.extend_from_slice(&resources)?;
+    Ok(text)
+}
+
+/// Of a proxy: `bind ADDRESS`, and `target HOST:PORT to ADDRESS` for each target.
+pub(crate) fn proxy_text(alloc: Global, settings: &ProxySettings) -> Result<Vec<u8>, AllocError>
+    ensures { IfOk result (λ text. text.items ≡ spec.proxy_text settings.now) }
+{
+    let bind = address_line(alloc, "bind", settings.bind)?;
+    let targets = target_lines(alloc, &settings.targets)?;
+    let mut text = Vec::from_slice(alloc, bind.as_bytes())?;
+    text.extend_from_slice(&targets)?;
+    Ok(text)
+}
+
+/// Of a client: `bind ADDRESS`, `peer ADDRESS`, `host HOST:PORT` where it sends through a proxy, and `token N bytes, alg N`.
+pub(crate) fn client_text(alloc: Global, settings: &ClientSettings) -> Result<Vec<u8>, AllocError>
+    ensures { IfOk result (λ text. text.items ≡ spec.client_text settings.now) }
+{
+    let bind = address_line(alloc, "bind", settings.bind)?;
+    let peer = address_line(alloc, "peer", settings.peer)?;
+    let origin = origin_text(alloc, &settings.origin)?;
+    let grant = grant_text(alloc, settings)?;
+    let mut text = Vec::from_slice(alloc, bind.as_bytes())?;
+    text.extend_from_slice(peer.as_bytes())?;
+    text.extend_from_slice(&origin)?;
+    text.extend_from_slice(grant.as_bytes())?;
+    Ok(text)
+}
+
+// ---- lines
+
+fn address_line(alloc: Global, name: &str, peer: Peer) -> Result<String, AllocError>
+    ensures { IfOk result (λ text. string_bytes text ≡ spec.address_line name.now peer) }
+{
+    let address = Ipv4Addr::from_octets(peer.address);
+    let port = peer.port;
+    format!(in alloc; "{name} {address}:{port}\n")
+}
+
+fn shown_line(alloc: Global, name: &str, bytes: &[u8]) -> Result<Vec<u8>, AllocError>
+    ensures { IfOk result (λ text. text.items ≡ spec.shown_line name.now bytes.now) }
+{
+    let bytes = shown(alloc, bytes)?;
+    let mut text = Vec::from_slice(alloc, name.as_bytes())?;
+    text.push(b' ')?;
+    text.extend_from_slice(&bytes)?;
+    text.push(b'\n')?;
+    Ok(text)
+}
+
+fn open_lines(alloc: Global, paths: &[Path]) -> Result<Vec<u8>, AllocError>
+    ensures { IfOk result (λ text. text.items ≡ flat_map (spec.shown_line (codes "open")) paths.now) }
+{
+    let mut text = Vec::new(alloc);
+    for path in paths {
+        text.extend_from_slice(&shown_line(alloc, "open", path.text())?)?;
+    }
+    Ok(text)
+}
+
+fn resource_lines(alloc: Global, resources: &[ResourceSetting]) -> Result<Vec<u8>, AllocError>
+    ensures { IfOk result (λ text. text.items ≡ flat_map spec.resource_line resources.now) }
+{
+    let mut text = Vec::new(alloc);
+    for resource in resources {
+        text.extend_from_slice(&resource_line(alloc, resource)?)?;
+    }
+    Ok(text)
+}
+
+fn resource_line(alloc: Global, resource: &ResourceSetting) -> Result<Vec<u8>, AllocError>
+    ensures { IfOk result (λ text. text.items ≡ spec.resource_line resource.now) }
+{
+    let path = shown(alloc, resource.path.text())?;
+    let format = format_text(alloc, resource.format)?;
+    let size = size_text(alloc, &resource.payload)?;
+    let mut text = Vec::from_slice(alloc, b"resource ")?;
+    text.extend_from_slice(&path)?;
+    text.push(b' ')?;
+    text.extend_from_slice(format.as_bytes())?;
+    text.extend_from_slice(size.as_bytes())?;
+    Ok(text)
+}
+
+fn format_text(alloc: Global, format: Option<u16>) -> Result<String, AllocError>
+    ensures { IfOk result (λ text. string_bytes text ≡ spec.format_text format) }
+{
+    match format {
+        Some(format) => format.to_string(alloc),
+        None => "none".to_string(alloc),
+    }
+}
+
+fn size_text(alloc: Global, payload: &Bytes) -> Result<String, AllocError>
+    ensures { IfOk result (λ text. string_bytes text ≡ codes " " ++ decimal (length payload.now) ++ codes " bytes\n") }
+{
+    let size = payload.len();
+    format!(in alloc; " {size} bytes\n")
+}
+
+fn target_lines(alloc: Global, targets: &[TargetSetting]) -> Result<Vec<u8>, AllocError>
+    ensures { IfOk result (λ text. text.items ≡ flat_map spec.target_line targets.now) }
+{
+    let mut text = Vec::new(alloc);
+    for target in targets {
+        text.extend_from_slice(&target_line(alloc, target)?)?;
+    }
+    Ok(text)
+}
+
+fn target_line(alloc: Global, target: &TargetSetting) -> Result<Vec<u8>, AllocError>
+    ensures { IfOk result (λ text. text.items ≡ spec.target_line target.now) }
+{
+    let host = host_text(alloc, &target.host, target.port)?;
+    let to = address_line(alloc, " to", target.to)?;
+    let mut text = Vec::from_slice(alloc, b"target ")?;
+    text.extend_from_slice(&host)?;
+    text.extend_from_slice(to.as_bytes())?;
+    Ok(text)
+}
+
+fn origin_text(alloc: Global, origin: &Option<(Bytes, u16)>) -> Result<Vec<u8>, AllocError>
+    ensures { IfOk result (λ text. text.items ≡ spec.origin_text origin.now) }
+{
+    match origin {
+        None => Ok(Vec::new(alloc)),
+        Some((host, port)) => origin_line(alloc, host, *port),
+    }
+}
+
+fn origin_line(alloc: Global, host: &Bytes, port: u16) -> Result<Vec<u8>, AllocError>
+    ensures { IfOk result (λ text. text.items ≡ spec.origin_text (Some (host.now, port))) }
+{
+    let host = host_text(alloc, host, port)?;
+    let mut text = Vec::from_slice(alloc, b"host ")?;
+    text.extend_from_slice(&host)?;
+    text.push(b'\n')?;
+    Ok(text)
+}
+
+fn host_text(alloc: Global, host: &Bytes, port: u16) -> Result<Vec<u8>, AllocError>
+    ensures { IfOk result (λ text. text.items ≡ spec.host_text host.now port) }
+{
+    let number = format!(in alloc; ":{port}")?;
+    let mut text = shown(alloc, host.as_slice())?;
+    text.extend_from_slice(number.as_bytes())?;
+    Ok(text)
+}
+
+fn grant_text(alloc: Global, settings: &ClientSettings) -> Result<String, AllocError>
+    ensures { IfOk result (λ text. string_bytes text ≡ spec.grant_text settings.now) }
+{
+    grant_line(alloc, settings.token.len(), settings.alg.number())
+}
+
+fn grant_line(alloc: Global, size: usize, alg: u64) -> Result<String, AllocError>
+    ensures { IfOk result (λ text. string_bytes text ≡ spec.grant_line size alg) }
+{
+    format!(in alloc; "token {size} bytes, alg {alg}\n")
+}

@@ -1,0 +1,117 @@
+//! Settings that are read, and no more: what was understood is said.
+ghost use Rattle.std.specs.Prelude.{◌≡◌, IfSome};
+ghost use Rattle.std.specs.Io.KnownBytes.{Appends};
+ghost use Rattle.osc_programs.specs.Checked as spec;
+ghost use Rattle.osc_programs.specs.Ended as ends;
+ghost use Rattle.osc_programs.specs.Unread.{TellsWhy};
+ghost use Rattle.osc_settings.specs.Document.{StandsFor};
+ghost use Rattle.osc_settings.specs.Faults.{IsClientFault, IsFaultOfProxy, IsKeyFault, IsServerFault};
+ghost use Rattle.osc_settings.specs.Settings.{AreClientSettings, AreProxySettings, AreServerSettings};
+ghost use Rattle.osc_settings.specs.declared.client.ClientSettings.{ClientSettings as AskedBy};
+ghost use Rattle.osc_settings.specs.declared.proxy.ProxySettings.{ProxySettings as ForwardedBy};
+ghost use Rattle.osc_settings.specs.declared.server.ServerSettings.{ServerSettings as ServedBy};
+
+use crate::checked::{client_text, proxy_text, server_text};
+use crate::ended::Ended;
+use crate::issue::written;
+use crate::log::Log;
+use crate::reading::{client_settings, proxy_settings, server_settings};
+use osc_settings::{ClientSettings, ProxySettings, ServerSettings};
+use std::alloc::Global;
+use std::io::{Read, Write};
+
+/// Reads the settings of a server, and writes what they are, but for what is secret. Where there are none, the log tells why.
+pub fn check_server<I: Read, L: Log, W: Write>(
+    alloc: Global,
+    reader: &mut I,
+    log: &mut L,
+    writer: &mut W,
+) -> Ended
+    ensures done { result ≡ Ended.Done → (settings : ServedBy) × IfSome (I.remaining reader.old) (λ text. StandsFor AreServerSettings text settings)
+        × Appends (W.contents writer.old) (W.contents writer.new) (spec.server_text settings) }
+    ensures bad { result ≡ Ended.BadSettings → TellsWhy (λ document. IsKeyFault (IsServerFault document)) (I.remaining reader.old) (L.told log.old) (L.told log.new) }
+    ensures ends { ends.EndsNode result }
+{
+    match server_settings(alloc, reader, log) {
+        Ok(settings) => say_server(alloc, &settings, writer),
+        Err(ended) => ended,
+    }
+}
+
+/// The same of a proxy.
+pub fn check_proxy<I: Read, L: Log, W: Write>(
+    alloc: Global,
+    reader: &mut I,
+    log: &mut L,
+    writer: &mut W,
+) -> Ended
+    ensures done { result ≡ Ended.Done → (settings : ForwardedBy) × IfSome (I.remaining reader.old) (λ text. StandsFor AreProxySettings text settings)
+        × Appends (W.contents writer.old) (W.contents writer.new) (spec.proxy_text settings) }
+    ensures bad { result ≡ Ended.BadSettings → TellsWhy IsFaultOfProxy (I.remaining reader.old) (L.told log.old) (L.told log.new) }
+    ensures ends { ends.EndsNode result }
+{
+    match proxy_settings(alloc, reader, log) {
+        Ok(settings) => say_proxy(alloc, &settings, writer),
+        Err(ended) => ended,
+    }
+}
+
+/// The same of a client.
+pub fn check_client<I: Read, L: Log, W: Write>(
+    alloc: Global,
+    reader: &mut I,
+    log: &mut L,
+    writer: &mut W,
+) -> Ended
+    ensures done { result ≡ Ended.Done → (settings : AskedBy) × IfSome (I.remaining reader.old) (λ text. StandsFor AreClientSettings text settings)
+        × Appends (W.contents writer.old) (W.contents writer.new) (spec.client_text settings) }
+    ensures bad { result ≡ Ended.BadSettings → TellsWhy (λ document. IsKeyFault (IsClientFault document)) (I.remaining reader.old) (L.told log.old) (L.told log.new) }
+    ensures ends { ends.EndsNode result }
+{
+    match client_settings(alloc, reader, log) {
+        Ok(settings) => say_client(alloc, &settings, writer),
+        Err(ended) => ended,
+    }
+}
+
+// ---- what was understood
+
+fn say_server<W: Write>(alloc: Global, settings: &ServerSettings, writer: &mut W) -> Ended
+    ensures done { result ≡ Ended.Done → Appends (W.contents writer.old) (W.contents writer.new) (spec.server_text settings.now) }
+    ensures ends { ends.EndsTurns result }
+{
+    match server_text(alloc, settings) {
+        Ok(text) => said(&text, writer),
+        Err(_) => Ended::OutOfMemory,
+    }
+}
+
+fn say_proxy<W: Write>(alloc: Global, settings: &ProxySettings, writer: &mut W) -> Ended
+    ensures done { result ≡ Ended.Done → Appends (W.contents writer.old) (W.contents writer.new) (spec.proxy_text settings.now) }
+    ensures ends { ends.EndsTurns result }
+{
+    match proxy_text(alloc, settings) {
+        Ok(text) => said(&text, writer),
+        Err(_) => Ended::OutOfMemory,
+    }
+}
+
+fn say_client<W: Write>(alloc: Global, settings: &ClientSettings, writer: &mut W) -> Ended
+    ensures done { result ≡ Ended.Done → Appends (W.contents writer.old) (W.contents writer.new) (spec.client_text settings.now) }
+    ensures ends { ends.EndsTurns result }
+{
+    match client_text(alloc, settings) {
+        Ok(text) => said(&text, writer),
+        Err(_) => Ended::OutOfMemory,
+    }
+}
+
+fn said<W: Write>(text: &[u8], writer: &mut W) -> Ended
+    ensures done { result ≡ Ended.Done → Appends (W.contents writer.old) (W.contents writer.new) text.now }
+    ensures ends { ends.EndsTurns result }
+{
+    match written(writer, text) {
+        Ended::Done => Ended::Done,
+        _ => Ended::Failed,
+    }
+}

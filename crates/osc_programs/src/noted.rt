@@ -1,0 +1,114 @@
+//! Why an input or an output failed, and what an input gave.
+ghost use Rattle.std.specs.Prelude.{◌≡◌};
+
+use std::alloc::Global;
+use std::io::{self, ErrorKind, Read, Write};
+
+/// A reader or a writer that keeps why it failed last.
+#[derive(Drop)]
+pub struct Noted<T: Drop> {
+    inner: T,
+    fault: Option<ErrorKind>,
+}
+
+impl<T: Drop> Noted<T> {
+    /// One that didn't fail yet.
+    pub fn new(inner: T) -> Noted<T>
+        ensures { result.inner ≡ inner }
+    {
+        Noted { inner, fault: None }
+    }
+
+    /// Why it failed last, if it did.
+    pub fn fault(&self) -> Option<ErrorKind>
+        ensures { result ≡ self.now.fault }
+    {
+        self.fault
+    }
+}
+
+impl<T: Read + Drop> Read for Noted<T> {
+    fn read(&mut self, buf: &mut [u8]) -> io::Result<usize> {
+        match self.inner.read(buf) {
+            Ok(count) => Ok(count),
+            Err(error) => {
+                self.fault = Some(error.kind());
+                Err(error)
+            }
+        }
+    }
+}
+
+impl<T: Write + Drop> Write for Noted<T> {
+    fn write(&mut self, buf: &[u8]) -> io::Result<usize> {
+        match self.inner.write(buf) {
+            Ok(count) => Ok(count),
+            Err(error) => {
+                self.fault = Some(error.kind());
+                Err(error)
+            }
+        }
+    }
+
+    fn flush(&mut self) -> io::Result<()> {
+        match self.inner.flush() {
+            Ok(()) => Ok(()),
+            Err(error) => {
+                self.fault = Some(error.kind());
+                Err(error)
+            }
+        }
+    }
+}
+
+/// A reader that keeps what it gave, as long as there is memory for that.
+#[derive(Drop)]
+pub struct Kept<T: Drop> {
+    inner: T,
+    bytes: Option<Vec<u8>>,
+}
+
+impl<T: Drop> Kept<T> {
+    /// One that gave nothing yet.
+    pub fn new(alloc: Global, inner: T) -> Kept<T>
+        ensures { result.inner ≡ inner }
+    {
+        Kept {
+            inner,
+            bytes: Some(Vec::new(alloc)),
+        }
+    }
+
+    /// The reader that it reads.
+    pub fn inner(&self) -> &T
+        ensures { result.now ≡ self.now.inner }
+    {
+        &self.inner
+    }
+
+    /// What it gave, where there was memory for all of it.
+    pub fn kept(&self) -> Option<&[u8]> {
+        match &self.bytes {
+            Some(bytes) => Some(bytes.as_slice()),
+            None => None,
+        }
+    }
+
+    fn keep(&mut self, given: &[u8]) {
+        let kept = match &mut self.bytes {
+            Some(bytes) => bytes.extend_from_slice(given).is_ok(),
+            None => false,
+        };
+        if !kept {
+            self.bytes = None;
+        }
+    }
+}
+
+impl<T: Read + Drop> Read for Kept<T> {
+    fn read(&mut self, buf: &mut [u8]) -> io::Result<usize> {
+        let count = self.inner.read(buf)?;
+        self.keep(&buf[..count]);
+        Ok(count)
+    }
+}

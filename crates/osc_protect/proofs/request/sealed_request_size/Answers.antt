@@ -1,0 +1,42 @@
+use Rattle.std.proofs.Common.{◌≡◌, ◌+◌, ◌≤◌, List, ℕ, length, ap, subst, ◌∙◌, arith}
+use Rattle.std.specs.Option.{IfSome, IsSome}
+use Rattle.osc_coap.specs.Plaintext.{plaintext_spelling}
+use Rattle.osc_context.specs.Algorithm.{algorithm_of}
+use Rattle.osc_protect.specs.Protection.{length_of_request, longest_message, plain_bytes, request_length, request_value}
+use Rattle.osc_protect.specs.declared.request.RequestSize.{RequestSize}
+use Rattle.osc_protect.proofs.LengthLemmas.{least_protected}
+use Rattle.osc_protect.proofs.SealLaws.{request_size, request_text, text_of, whole}
+use Rattle.osc_protect.proofs.request.sealed_request_size.Goals as goal
+
+pub returns-in-Ok : goal.returns-in-Ok
+returns-in-Ok g c =
+    let inside = c.a_written_request.ensures.inside in
+    let outer = c.a_written_request.ensures.outside in
+    let lawful = c.token-token.ensures.lawful.options in
+    let outside = c.args.outside.now in
+    let request = c.args.request.now in
+    let name = c.args.name.now in
+    let number = c.args.number in
+    let result = c.text_size.result in
+    let made = c.text_size.ensures in
+    let bytes : c.bytes.result.now ≡ text_of request = c.bytes.ensures.spelled.whole ∙ ap plaintext_spelling c.in-Ok.ensures.ok in
+    let text : length c.bytes.result.now ≡ length (plain_bytes (whole outside request)) = ap length (bytes ∙ request_text inside outer outside request lawful) in
+    let size : length_of_request (length c.bytes.result.now + g.A.Ciphers.TAG (algorithm_of name)) name number outside ≡ request_length g.A.Ciphers.TAG name number (whole outside request) =
+    ap (λ (t : List ℕ). length_of_request (length t + g.A.Ciphers.TAG (algorithm_of name)) name number outside) bytes
+    ∙ request_size inside outer g.A.Ciphers.TAG name number outside request lawful in
+    let both : RequestSize = record { plaintext = length (plain_bytes (whole outside request)); message = request_length g.A.Ciphers.TAG name number (whole outside request) } in
+    record {
+      size = subst (λ (n : ℕ). IfSome result (λ s. s ≡ record { plaintext = length (plain_bytes (whole outside request)); message = n })) size
+          (subst (λ (n : ℕ). IfSome result (λ s. s ≡ record { plaintext = n; message = length_of_request (length c.bytes.result.now + g.A.Ciphers.TAG (algorithm_of name)) name number outside })) text made.size);
+      fits = subst (λ (n : ℕ). (IsSome result → n ≤ longest_message) × (n ≤ longest_message → IsSome result)) size made.fits;
+    }
+
+pub returns-in-Err-clause-fits : goal.returns-in-Err-clause-fits
+returns-in-Err-clause-fits g c =
+    let outside = c.args.outside.now in
+    let request = c.args.request.now in
+    let name = c.args.name.now in
+    let number = c.args.number in
+    let least = least_protected c.length_of_growing.ensures.payload outside 2 (request_value name number) (length (text_of request) + g.A.Ciphers.TAG (algorithm_of name)) in
+    let size = request_size c.a_written_request.ensures.inside c.a_written_request.ensures.outside g.A.Ciphers.TAG name number outside request c.token-token.ensures.lawful.options in
+    (λ no. cc, λ fits. cc (c.in-Err.ensures.fits.1 (omega (arith, least, size, fits))))

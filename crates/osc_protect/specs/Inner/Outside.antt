@@ -1,0 +1,23 @@
+-- What goes outside of a sealed reply. No public contract rests on this.
+use Rattle.std.specs.Prelude.{◌≡◌, ℕ, List, None}
+use Rattle.osc_coap.specs.Building.{bare}
+use Rattle.osc_coap.specs.Message.{Message}
+use Rattle.osc_model.specs.declared.context.ContextName.{ContextName}
+use Rattle.osc_model.specs.declared.context.Side.TheVariants.{Server}
+use Rattle.osc_options.specs.Split.{protected}
+use Rattle.osc_ccm.specs.Ciphers.{Sealings}
+use Rattle.osc_context.specs.Algorithm.{algorithm_of}
+use Rattle.osc_context.specs.Derivation.{key_of}
+use Rattle.osc_protect.specs.Aad.{aad_of}
+use Rattle.osc_protect.specs.Protection.{request_nonce, response_value}
+use Rattle.osc_protect.specs.declared.header.Header.{Header}
+
+-- the protected response under a request's nonce with this payload, in place of a message with nothing outside
+abbrev pub outer_response : Header → List ℕ → Message
+outer_response header payload = protected (bare header.kind 68 header.id header.token.now) 68 (response_value None) payload
+
+-- this text is sealed in it
+pub record IsSealedOutside (is_sealing : Sealings) (name : ContextName) (number : ℕ) (text : List ℕ) (header : Header) (p : Message) : Type 0 where
+  pub sealed : List ℕ
+  pub is_sealed : is_sealing (algorithm_of name) (key_of name Server) (request_nonce name number) (aad_of name number) text sealed
+  pub whole : p ≡ outer_response header sealed
