@@ -4,8 +4,8 @@
 use osc_lab::lab;
 use osc_programs::{
     AtOnce, Ended, Faults, Kept, Lines, Noted, TraceForm, ask, check_client, check_proxy,
-    check_server, ended_by, ended_by_io, filled, forward, issue_key, issue_token,
-    running_fault, serve, sim, started_by_io, status, token_fault, token_warning, with_payload,
+    check_server, ended_by, ended_by_io, filled, forward, issue_key, issue_token, running_fault,
+    serve, sim, started_by_io, status, token_fault, token_warning, with_payload,
 };
 use osc_script::{ClientName, form_of};
 use osc_words::{
