@@ -4,14 +4,14 @@ use Rattle.osc_model.specs.Scope.{Scope}
 use Rattle.osc_model.specs.declared.node.Moment.{Moment}
 use Rattle.osc_token.specs.declared.claims.Claims.{Claims}
 use Rattle.osc_authz.specs.Agreement.{new_context}
-use Rattle.osc_authz.specs.Held.{Held}
+use Rattle.osc_authz.specs.SecurityContext.{SecurityContext}
 use Rattle.osc_authz.specs.Table.{IsTable, IsFull, IsLeastFree, alive, ids, without_pending, with_pending}
-use Rattle.osc_authz.specs.declared.holding.Holding.{Holding}
+use Rattle.osc_authz.specs.declared.token_entry.TokenEntry.{TokenEntry}
 use Rattle.osc_authz.specs.declared.post.PostAnswer.{PostAnswer}
 use Rattle.osc_authz.proofs.TableLaws.{added_is_table}
 
 pub agreed_is_table : (now : Moment) (claims : Claims) (scope : Scope) (nonce1 client_id : List ℕ) (made : PostAnswer)
-    (table seen reserved after : List Holding) (taken token : List ℕ) (held : Held)
+    (table seen reserved after : List TokenEntry) (taken token : List ℕ) (held : SecurityContext)
     → IsTable table → ¬ IsFull claims.material.id (alive now table)
     → taken ≡ claims.material.id → seen ≡ table → IsLeastFree (client_id ∷ ids (without_pending taken (alive now seen))) made.recipient_id
     → token ≡ claims.material.id → held ≡ new_context claims scope nonce1 client_id made → reserved ≡ table

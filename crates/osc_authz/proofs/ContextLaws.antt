@@ -5,40 +5,40 @@ use Rattle.std.proofs.lemmas.List.{map-append}
 use Rattle.std.specs.List.{IsDistinct}
 use Rattle.std.proofs.lemmas.Slice.Eq.{bytes_eq-Decides}
 use Rattle.osc_model.specs.declared.node.Moment.{Moment}
-use Rattle.osc_authz.specs.Held.{Held}
+use Rattle.osc_authz.specs.SecurityContext.{SecurityContext}
 use Rattle.osc_authz.specs.Table.{listed, contexts, is_live, holds_live, alive, has_id, taking, accepted_in, accepted, with_pending, IsTable}
-use Rattle.osc_authz.specs.declared.holding.Holding.{Holding}
+use Rattle.osc_authz.specs.declared.token_entry.TokenEntry.{TokenEntry}
 use Rattle.osc_authz.specs.Members.{In}
 use Rattle.osc_authz.specs.Contexts.{OfToken, pending_of, of_token, of_tokens, IsConfirmedOf, IsPendingOf, confirmed_by, IsLive, AreKept, HasAdded, HasTaken}
 use Rattle.osc_authz.proofs.Members.{in_front, in_back, in_either, mapped_in, in_mapped, in_filter, filtered_in, one_of_text}
 
 -- ---- where a context stands
 
--- the confirmed or the pending one of a holding
-abbrev slot : Bool → Holding → Option Held
+-- the confirmed or the pending one of an entry
+abbrev slot : Bool → TokenEntry → Option SecurityContext
 slot true h = h.confirmed
 slot false h = h.pending
 
--- a holding of the table has the context
-record Stands (c : OfToken) (table : List Holding) : Type 0 where
-  holding : Holding
-  among : In holding table
-  token : c.token ≡ holding.id
-  here : slot c.is_confirmed holding ≡ Some c.held
+-- an entry of the table has the context
+record Stands (c : OfToken) (table : List TokenEntry) : Type 0 where
+  entry : TokenEntry
+  among : In entry table
+  token : c.token ≡ entry.id
+  here : slot c.is_confirmed entry ≡ Some c.held
 
-alike : (c : OfToken) (token : List ℕ) (is_confirmed : Bool) (held : Held) → c.token ≡ token → c.is_confirmed ≡ is_confirmed → c.held ≡ held
+alike : (c : OfToken) (token : List ℕ) (is_confirmed : Bool) (held : SecurityContext) → c.token ≡ token → c.is_confirmed ≡ is_confirmed → c.held ≡ held
     → c ≡ record { token = token; is_confirmed = is_confirmed; held = held }
 alike c token is_confirmed held t k h = λ i. record { token = t i; is_confirmed = k i; held = h i }
 
-in_one : (c : OfToken) (token : List ℕ) (b : Bool) (o : Option Held) → In c (of_token token b o) → (c.token ≡ token) × (c.is_confirmed ≡ b) × (o ≡ Some c.held)
+in_one : (c : OfToken) (token : List ℕ) (b : Bool) (o : Option SecurityContext) → In c (of_token token b o) → (c.token ≡ token) × (c.is_confirmed ≡ b) × (o ≡ Some c.held)
 in_one c token b None m = absurd m
 in_one c token b (Some d) (inl e) = (ap (λ (x : OfToken). x.token) e, ap (λ (x : OfToken). x.is_confirmed) e, ap (λ (x : OfToken). Some x.held) (sym e))
 in_one c token b (Some d) (inr m) = absurd m
 
-one_in : (c : OfToken) (token : List ℕ) (b : Bool) (o : Option Held) → c.token ≡ token → c.is_confirmed ≡ b → o ≡ Some c.held → In c (of_token token b o)
-one_in c token b o t k e = subst (λ (x : Option Held). In c (of_token token b x)) (sym e) (inl (alike c token b c.held t k refl))
+one_in : (c : OfToken) (token : List ℕ) (b : Bool) (o : Option SecurityContext) → c.token ≡ token → c.is_confirmed ≡ b → o ≡ Some c.held → In c (of_token token b o)
+one_in c token b o t k e = subst (λ (x : Option SecurityContext). In c (of_token token b x)) (sym e) (inl (alike c token b c.held t k refl))
 
-stands : (table : List Holding) (c : OfToken) → In c (of_tokens table) → Stands c table
+stands : (table : List TokenEntry) (c : OfToken) → In c (of_tokens table) → Stands c table
 stands [] c m = absurd m
 stands (h ∷ table) c m =
     ⊎_elim
@@ -46,15 +46,15 @@ stands (h ∷ table) c m =
     (λ (x : In c (of_token h.id true h.confirmed)). at true (in_one c h.id true h.confirmed x))
     (λ (x : In c (of_token h.id false h.pending)). at false (in_one c h.id false h.pending x))
     (in_either c (of_token h.id true h.confirmed) (of_token h.id false h.pending) a))
-    (λ (a : In c (of_tokens table)). let s = stands table c a in record { holding = s.holding; among = inr s.among; token = s.token; here = s.here })
+    (λ (a : In c (of_tokens table)). let s = stands table c a in record { entry = s.entry; among = inr s.among; token = s.token; here = s.here })
     (in_either c (of_token h.id true h.confirmed ++ of_token h.id false h.pending) (of_tokens table) m)
   where
     at : (b : Bool) → (c.token ≡ h.id) × (c.is_confirmed ≡ b) × (slot b h ≡ Some c.held) → Stands c (h ∷ table)
-    at b p = record { holding = h; among = inl refl; token = p.0; here = ap (λ x. slot x h) p.1 ∙ p.2 }
+    at b p = record { entry = h; among = inl refl; token = p.0; here = ap (λ x. slot x h) p.1 ∙ p.2 }
 
-stood_at : (table : List Holding) (c : OfToken) (h : Holding) → In h table → c.token ≡ h.id → slot c.is_confirmed h ≡ Some c.held → In c (of_tokens table)
+stood_at : (table : List TokenEntry) (c : OfToken) (h : TokenEntry) → In h table → c.token ≡ h.id → slot c.is_confirmed h ≡ Some c.held → In c (of_tokens table)
 stood_at [] c h m t e = absurd m
-stood_at (g ∷ table) c h (inl same) t e = subst (λ (x : Holding). In c (of_tokens (x ∷ table))) same (by c.is_confirmed refl e)
+stood_at (g ∷ table) c h (inl same) t e = subst (λ (x : TokenEntry). In c (of_tokens (x ∷ table))) same (by c.is_confirmed refl e)
   where
     by : (b : Bool) → c.is_confirmed ≡ b → slot b h ≡ Some c.held → In c (of_tokens (h ∷ table))
     by true k e =
@@ -63,34 +63,34 @@ stood_at (g ∷ table) c h (inl same) t e = subst (λ (x : Holding). In c (of_to
         in_front c (of_token h.id true h.confirmed ++ of_token h.id false h.pending) (of_tokens table) (in_back c (of_token h.id true h.confirmed) (of_token h.id false h.pending) (one_in c h.id false h.pending t k e))
 stood_at (g ∷ table) c h (inr m) t e = in_back c (of_token g.id true g.confirmed ++ of_token g.id false g.pending) (of_tokens table) (stood_at table c h m t e)
 
-stood : (table : List Holding) (c : OfToken) → Stands c table → In c (of_tokens table)
-stood table c s = stood_at table c s.holding s.among s.token s.here
+stood : (table : List TokenEntry) (c : OfToken) → Stands c table → In c (of_tokens table)
+stood table c s = stood_at table c s.entry s.among s.token s.here
 
-one_of : (c d : Held) (o : Option Held) → o ≡ Some c → o ≡ Some d → c ≡ d
+one_of : (c d : SecurityContext) (o : Option SecurityContext) → o ≡ Some c → o ≡ Some d → c ≡ d
 one_of c d o e f = let both : Some c ≡ Some d = sym e ∙ f in cc
 
 -- ---- the same without their tokens
 
-abbrev held_in : OfToken → Held
+abbrev held_in : OfToken → SecurityContext
 held_in c = c.held
 
-held_of_one : (token : List ℕ) (b : Bool) (o : Option Held) → map held_in (of_token token b o) ≡ listed o
+held_of_one : (token : List ℕ) (b : Bool) (o : Option SecurityContext) → map held_in (of_token token b o) ≡ listed o
 held_of_one token b None = refl
 held_of_one token b (Some d) = refl
 
-held_of_tokens : (table : List Holding) → map held_in (of_tokens table) ≡ contexts table
+held_of_tokens : (table : List TokenEntry) → map held_in (of_tokens table) ≡ contexts table
 held_of_tokens [] = refl
 held_of_tokens (h ∷ table) =
     let confirmed : List OfToken = of_token h.id true h.confirmed in
     let pending : List OfToken = of_token h.id false h.pending in
     let mine : map held_in (confirmed ++ pending) ≡ listed h.confirmed ++ listed h.pending =
-    map-append held_in confirmed pending ∙ ap₂ (λ (x y : List Held). x ++ y) (held_of_one h.id true h.confirmed) (held_of_one h.id false h.pending) in
-    map-append held_in (confirmed ++ pending) (of_tokens table) ∙ ap₂ (λ (x y : List Held). x ++ y) mine (held_of_tokens table)
+    map-append held_in confirmed pending ∙ ap₂ (λ (x y : List SecurityContext). x ++ y) (held_of_one h.id true h.confirmed) (held_of_one h.id false h.pending) in
+    map-append held_in (confirmed ++ pending) (of_tokens table) ∙ ap₂ (λ (x y : List SecurityContext). x ++ y) mine (held_of_tokens table)
 
-pub is_held : (table : List Holding) (c : OfToken) → In c (of_tokens table) → In c.held (contexts table)
+pub is_held : (table : List TokenEntry) (c : OfToken) → In c (of_tokens table) → In c.held (contexts table)
 is_held table c m = subst (In c.held) (held_of_tokens table) (mapped_in held_in (of_tokens table) c m)
 
-pub held_of : (table : List Holding) (d : Held) → In d (contexts table) → (c : OfToken) × In c (of_tokens table) × (d ≡ c.held)
+pub held_of : (table : List TokenEntry) (d : SecurityContext) → In d (contexts table) → (c : OfToken) × In c (of_tokens table) × (d ≡ c.held)
 held_of table d m = in_mapped held_in (of_tokens table) d (subst (In d) (sym (held_of_tokens table)) m)
 
 -- ---- IDs that stand once
@@ -102,17 +102,17 @@ ids_of_held : (cs : List OfToken) → map (λ d. d.name.client_id) (map held_in 
 ids_of_held [] = refl
 ids_of_held (c ∷ cs) = ap (λ ids. id_in c ∷ ids) (ids_of_held cs)
 
-pub one_held : (table : List Holding) (c d : Held) → IsTable table → In c (contexts table) → In d (contexts table) → c.name.client_id ≡ d.name.client_id → c ≡ d
-one_held table c d is_table m n e = one_of_text (λ (x : Held). x.name.client_id) (contexts table) c d is_table.own_ids m n e
+pub one_held : (table : List TokenEntry) (c d : SecurityContext) → IsTable table → In c (contexts table) → In d (contexts table) → c.name.client_id ≡ d.name.client_id → c ≡ d
+one_held table c d is_table m n e = one_of_text (λ (x : SecurityContext). x.name.client_id) (contexts table) c d is_table.own_ids m n e
 
-pub one_of_token : (table : List Holding) (c d : OfToken) → IsTable table → In c (of_tokens table) → In d (of_tokens table) → c.held.name.client_id ≡ d.held.name.client_id → c ≡ d
+pub one_of_token : (table : List TokenEntry) (c d : OfToken) → IsTable table → In c (of_tokens table) → In d (of_tokens table) → c.held.name.client_id ≡ d.held.name.client_id → c ≡ d
 one_of_token table c d is_table m n e =
     let ids_are : map (λ x. x.name.client_id) (contexts table) ≡ map id_in (of_tokens table) =
     ap (map (λ x. x.name.client_id)) (sym (held_of_tokens table)) ∙ ids_of_held (of_tokens table) in
     one_of_text id_in (of_tokens table) c d (subst (IsDistinct bytes_eq) ids_are is_table.own_ids) m n e
 
-one_holding : (table : List Holding) (g h : Holding) → IsTable table → In g table → In h table → g.id ≡ h.id → g ≡ h
-one_holding table g h is_table m n e = one_of_text (λ (x : Holding). x.id) table g h is_table.own_tokens m n e
+one_holding : (table : List TokenEntry) (g h : TokenEntry) → IsTable table → In g table → In h table → g.id ≡ h.id → g ≡ h
+one_holding table g h is_table m n e = one_of_text (λ (x : TokenEntry). x.id) table g h is_table.own_tokens m n e
 
 -- ---- those that live
 
@@ -125,7 +125,7 @@ live_test (Some begin) (Some end) t b e =
     let two : nat_lt t end ≡ true = lt-ltb t end (e end refl) in
     rw (one, two) refl
 
-lives : (now : Moment) (c : Held) → IsLive now c → is_live now c ≡ true
+lives : (now : Moment) (c : SecurityContext) → IsLive now c → is_live now c ≡ true
 lives now c live = live_test c.not_before c.expires (now.ms / 1000) live.begun live.not_over
 
 first_or : (a b : Bool) → a ≡ true → (a || b) ≡ true
@@ -136,44 +136,44 @@ second_or : (a b : Bool) → b ≡ true → (a || b) ≡ true
 second_or true b e = refl
 second_or false b e = e
 
--- a holding with a context that lives
-holds : (now : Moment) (d : Held) (h : Holding) (b : Bool) → is_live now d ≡ true → slot b h ≡ Some d → holds_live now h ≡ true
-holds now d h true live e = first_or (option_map_or (is_live now) h.confirmed false) (option_map_or (is_live now) h.pending false) (ap (λ (o : Option Held). option_map_or (is_live now) o false) e ∙ live)
-holds now d h false live e = second_or (option_map_or (is_live now) h.confirmed false) (option_map_or (is_live now) h.pending false) (ap (λ (o : Option Held). option_map_or (is_live now) o false) e ∙ live)
+-- an entry with a context that lives
+holds : (now : Moment) (d : SecurityContext) (h : TokenEntry) (b : Bool) → is_live now d ≡ true → slot b h ≡ Some d → holds_live now h ≡ true
+holds now d h true live e = first_or (option_map_or (is_live now) h.confirmed false) (option_map_or (is_live now) h.pending false) (ap (λ (o : Option SecurityContext). option_map_or (is_live now) o false) e ∙ live)
+holds now d h false live e = second_or (option_map_or (is_live now) h.confirmed false) (option_map_or (is_live now) h.pending false) (ap (λ (o : Option SecurityContext). option_map_or (is_live now) o false) e ∙ live)
 
-of_alive : (now : Moment) (table : List Holding) (c : OfToken) → In c (of_tokens (alive now table)) → In c (of_tokens table)
+of_alive : (now : Moment) (table : List TokenEntry) (c : OfToken) → In c (of_tokens (alive now table)) → In c (of_tokens table)
 of_alive now table c m =
     let s = stands (alive now table) c m in
-    stood table c (record { holding = s.holding; among = (in_filter (holds_live now) table s.holding s.among).0; token = s.token; here = s.here })
+    stood table c (record { entry = s.entry; among = (in_filter (holds_live now) table s.entry s.among).0; token = s.token; here = s.here })
 
-is_alive : (now : Moment) (table : List Holding) (c : OfToken) → In c (of_tokens table) → IsLive now c.held → In c (of_tokens (alive now table))
+is_alive : (now : Moment) (table : List TokenEntry) (c : OfToken) → In c (of_tokens table) → IsLive now c.held → In c (of_tokens (alive now table))
 is_alive now table c m live =
     let s = stands table c m in
-    let its = holds now c.held s.holding c.is_confirmed (lives now c.held live) s.here in
-    stood (alive now table) c (record { holding = s.holding; among = filtered_in (holds_live now) table s.holding s.among its; token = s.token; here = s.here })
+    let its = holds now c.held s.entry c.is_confirmed (lives now c.held live) s.here in
+    stood (alive now table) c (record { entry = s.entry; among = filtered_in (holds_live now) table s.entry s.among its; token = s.token; here = s.here })
 
-pub kept : (now : Moment) (table : List Holding) → AreKept now (of_tokens table) (of_tokens (alive now table))
+pub kept : (now : Moment) (table : List TokenEntry) → AreKept now (of_tokens table) (of_tokens (alive now table))
 kept now table = record { only = of_alive now table; live = is_alive now table }
 
 -- ---- one more
 
-module _ (token : List ℕ) (held : Held) where
-  -- a holding beside one more pending context: one of before, or the token id's, whose confirmed one is that of before
-  data With (g : Holding) (table : List Holding) : Type 0 where
+module _ (token : List ℕ) (held : SecurityContext) where
+  -- an entry beside one more pending context: one of before, or the token id's, whose confirmed one is that of before
+  data With (g : TokenEntry) (table : List TokenEntry) : Type 0 where
     Other : In g table → With g table
     Changed : g.id ≡ token → g.pending ≡ Some held
-        → ((d : Held) → g.confirmed ≡ Some d → (h : Holding) × In h table × (h.id ≡ token) × (h.confirmed ≡ Some d))
+        → ((d : SecurityContext) → g.confirmed ≡ Some d → (h : TokenEntry) × In h table × (h.id ≡ token) × (h.confirmed ≡ Some d))
         → With g table
 
-  later : (g h : Holding) (table : List Holding) → With g table → With g (h ∷ table)
+  later : (g h : TokenEntry) (table : List TokenEntry) → With g table → With g (h ∷ table)
   later g h table (Other m) = Other (inr m)
   later g h table (Changed id pending from) = Changed id pending (λ d e. let r = from d e in (r.0, inr r.1, r.2, r.3))
 
-  nothing : (d : Held) → None ≡ Some d → ⊥
+  nothing : (d : SecurityContext) → None ≡ Some d → ⊥
   nothing d e = cc
 
-  with_one : (table : List Holding) (g : Holding) → In g (with_pending token held table) → With g table
-  with_one [] g (inl e) = Changed (ap (λ (x : Holding). x.id) e) (ap (λ (x : Holding). x.pending) e) (λ d k. absurd (nothing d (sym (ap (λ (x : Holding). x.confirmed) e) ∙ k)))
+  with_one : (table : List TokenEntry) (g : TokenEntry) → In g (with_pending token held table) → With g table
+  with_one [] g (inl e) = Changed (ap (λ (x : TokenEntry). x.id) e) (ap (λ (x : TokenEntry). x.pending) e) (λ d k. absurd (nothing d (sym (ap (λ (x : TokenEntry). x.confirmed) e) ∙ k)))
   with_one [] g (inr m) = absurd m
   with_one (h ∷ table) g m = by (bytes_eq token h.id) refl m (with_one table g)
     where
@@ -181,29 +181,29 @@ module _ (token : List ℕ) (held : Held) where
           → (In g (with_pending token held table) → With g table) → With g (h ∷ table)
       by true same (inl e) rest =
           let is : h.id ≡ token = sym ((bytes_eq-Decides token h.id).0 same) in
-          Changed (ap (λ (x : Holding). x.id) e ∙ is) (ap (λ (x : Holding). x.pending) e) (λ d k. (h, inl refl, is, sym (ap (λ (x : Holding). x.confirmed) e) ∙ k))
+          Changed (ap (λ (x : TokenEntry). x.id) e ∙ is) (ap (λ (x : TokenEntry). x.pending) e) (λ d k. (h, inl refl, is, sym (ap (λ (x : TokenEntry). x.confirmed) e) ∙ k))
       by true same (inr m) rest = Other (inr m)
       by false other (inl e) rest = Other (inl e)
       by false other (inr m) rest = later g h table (rest m)
 
-  has_new : (table : List Holding) → (g : Holding) × In g (with_pending token held table) × (g.id ≡ token) × (g.pending ≡ Some held)
+  has_new : (table : List TokenEntry) → (g : TokenEntry) × In g (with_pending token held table) × (g.id ≡ token) × (g.pending ≡ Some held)
   has_new [] = (record { id = token; confirmed = None; pending = Some held }, inl refl, refl, refl)
   has_new (h ∷ table) = by (bytes_eq token h.id) refl (has_new table)
     where
-      by : (b : Bool) → bytes_eq token h.id ≡ b → (g : Holding) × In g (with_pending token held table) × (g.id ≡ token) × (g.pending ≡ Some held)
-          → (g : Holding) × In g (cond b ((record h { pending = Some held }) ∷ table) (h ∷ with_pending token held table)) × (g.id ≡ token) × (g.pending ≡ Some held)
+      by : (b : Bool) → bytes_eq token h.id ≡ b → (g : TokenEntry) × In g (with_pending token held table) × (g.id ≡ token) × (g.pending ≡ Some held)
+          → (g : TokenEntry) × In g (cond b ((record h { pending = Some held }) ∷ table) (h ∷ with_pending token held table)) × (g.id ≡ token) × (g.pending ≡ Some held)
       by true same rest = (record h { pending = Some held }, inl refl, sym ((bytes_eq-Decides token h.id).0 same), refl)
       by false other rest = (rest.0, inr rest.1, rest.2, rest.3)
 
-  -- what becomes of a holding
-  record StillIn (h : Holding) (table : List Holding) : Type 0 where
-    new : Holding
+  -- what becomes of an entry
+  record StillIn (h : TokenEntry) (table : List TokenEntry) : Type 0 where
+    new : TokenEntry
     among : In new table
     id : new.id ≡ h.id
     confirmed : new.confirmed ≡ h.confirmed
     pending : (h.id ≡ token) ⊎ (new.pending ≡ h.pending)
 
-  stays : (table : List Holding) (h : Holding) → In h table → StillIn h (with_pending token held table)
+  stays : (table : List TokenEntry) (h : TokenEntry) → In h table → StillIn h (with_pending token held table)
   stays [] h m = absurd m
   stays (k ∷ table) h m = by (bytes_eq token k.id) refl m (stays table h)
     where
@@ -212,60 +212,60 @@ module _ (token : List ℕ) (held : Held) where
       by true same (inl e) rest = record {
         new = record k { pending = Some held };
         among = inl refl;
-        id = ap (λ (x : Holding). x.id) (sym e);
-        confirmed = ap (λ (x : Holding). x.confirmed) (sym e);
-        pending = inl (ap (λ (x : Holding). x.id) e ∙ sym ((bytes_eq-Decides token k.id).0 same));
+        id = ap (λ (x : TokenEntry). x.id) (sym e);
+        confirmed = ap (λ (x : TokenEntry). x.confirmed) (sym e);
+        pending = inl (ap (λ (x : TokenEntry). x.id) e ∙ sym ((bytes_eq-Decides token k.id).0 same));
       }
       by true same (inr m) rest = record { new = h; among = inr m; id = refl; confirmed = refl; pending = inr refl }
       by false other (inl e) rest = record {
         new = k;
         among = inl refl;
-        id = ap (λ (x : Holding). x.id) (sym e);
-        confirmed = ap (λ (x : Holding). x.confirmed) (sym e);
-        pending = inr (ap (λ (x : Holding). x.pending) (sym e));
+        id = ap (λ (x : TokenEntry). x.id) (sym e);
+        confirmed = ap (λ (x : TokenEntry). x.confirmed) (sym e);
+        pending = inr (ap (λ (x : TokenEntry). x.pending) (sym e));
       }
       by false other (inr m) rest = let r = rest m in record { new = r.new; among = inr r.among; id = r.id; confirmed = r.confirmed; pending = r.pending }
 
   -- where a context of the table with one more came from
-  came_from : (table : List Holding) (c : OfToken) (g : Holding) → c.token ≡ g.id → With g table → (b : Bool) → c.is_confirmed ≡ b → slot b g ≡ Some c.held
+  came_from : (table : List TokenEntry) (c : OfToken) (g : TokenEntry) → c.token ≡ g.id → With g table → (b : Bool) → c.is_confirmed ≡ b → slot b g ≡ Some c.held
       → (c ≡ pending_of token held) ⊎ In c (of_tokens table)
-  came_from table c g t (Other m) b k e = inr (stood table c (record { holding = g; among = m; token = t; here = ap (λ x. slot x g) k ∙ e }))
+  came_from table c g t (Other m) b k e = inr (stood table c (record { entry = g; among = m; token = t; here = ap (λ x. slot x g) k ∙ e }))
   came_from table c g t (Changed id pending from) true k e =
       let r = from c.held e in
-      inr (stood table c (record { holding = r.0; among = r.1; token = t ∙ id ∙ sym r.2; here = ap (λ x. slot x r.0) k ∙ r.3 }))
+      inr (stood table c (record { entry = r.0; among = r.1; token = t ∙ id ∙ sym r.2; here = ap (λ x. slot x r.0) k ∙ r.3 }))
   came_from table c g t (Changed id pending from) false k e = inl (alike c token false held (t ∙ id) k (one_of c.held held g.pending e pending))
 
-  only_one : (table : List Holding) (c : OfToken) → In c (of_tokens (with_pending token held table)) → (c ≡ pending_of token held) ⊎ In c (of_tokens table)
+  only_one : (table : List TokenEntry) (c : OfToken) → In c (of_tokens (with_pending token held table)) → (c ≡ pending_of token held) ⊎ In c (of_tokens table)
   only_one table c m =
       let s = stands (with_pending token held table) c m in
-      came_from table c s.holding s.token (with_one table s.holding s.among) c.is_confirmed refl s.here
+      came_from table c s.entry s.token (with_one table s.entry s.among) c.is_confirmed refl s.here
 
-  pub has_pending : (table : List Holding) → In (pending_of token held) (of_tokens (with_pending token held table))
+  pub has_pending : (table : List TokenEntry) → In (pending_of token held) (of_tokens (with_pending token held table))
   has_pending table =
       let g = has_new table in
-      stood (with_pending token held table) (pending_of token held) (record { holding = g.0; among = g.1; token = sym g.2; here = g.3 })
+      stood (with_pending token held table) (pending_of token held) (record { entry = g.0; among = g.1; token = sym g.2; here = g.3 })
 
-  no_other : (table : List Holding) → IsTable (with_pending token held table) → (c : OfToken) → In c (of_tokens (with_pending token held table)) → IsPendingOf token c → c ≡ pending_of token held
+  no_other : (table : List TokenEntry) → IsTable (with_pending token held table) → (c : OfToken) → In c (of_tokens (with_pending token held table)) → IsPendingOf token c → c ≡ pending_of token held
   no_other table is_table c m is =
       let s = stands (with_pending token held table) c m in
       let g = has_new table in
-      let one : s.holding ≡ g.0 = one_holding (with_pending token held table) s.holding g.0 is_table s.among g.1 (sym s.token ∙ is.0 ∙ sym g.2) in
-      let its : g.0.pending ≡ Some c.held = ap (λ (x : Holding). x.pending) (sym one) ∙ sym (ap (λ b. slot b s.holding) is.1) ∙ s.here in
+      let one : s.entry ≡ g.0 = one_holding (with_pending token held table) s.entry g.0 is_table s.among g.1 (sym s.token ∙ is.0 ∙ sym g.2) in
+      let its : g.0.pending ≡ Some c.held = ap (λ (x : TokenEntry). x.pending) (sym one) ∙ sym (ap (λ b. slot b s.entry) is.1) ∙ s.here in
       alike c token false held is.0 is.1 (one_of c.held held g.0.pending its g.3)
 
-  stays_or : (table : List Holding) (c : OfToken) → Stands c table → (b : Bool) → c.is_confirmed ≡ b → In c (of_tokens (with_pending token held table)) ⊎ IsPendingOf token c
+  stays_or : (table : List TokenEntry) (c : OfToken) → Stands c table → (b : Bool) → c.is_confirmed ≡ b → In c (of_tokens (with_pending token held table)) ⊎ IsPendingOf token c
   stays_or table c s true k =
-      let r = stays table s.holding s.among in
-      inl (stood (with_pending token held table) c (record { holding = r.new; among = r.among; token = s.token ∙ sym r.id; here = ap (λ b. slot b r.new) k ∙ r.confirmed ∙ sym (ap (λ b. slot b s.holding) k) ∙ s.here }))
+      let r = stays table s.entry s.among in
+      inl (stood (with_pending token held table) c (record { entry = r.new; among = r.among; token = s.token ∙ sym r.id; here = ap (λ b. slot b r.new) k ∙ r.confirmed ∙ sym (ap (λ b. slot b s.entry) k) ∙ s.here }))
   stays_or table c s false k =
-      let r = stays table s.holding s.among in
+      let r = stays table s.entry s.among in
       ⊎_elim
-      (λ (e : s.holding.id ≡ token). inr (s.token ∙ e, k))
-      (λ (e : r.new.pending ≡ s.holding.pending).
-      inl (stood (with_pending token held table) c (record { holding = r.new; among = r.among; token = s.token ∙ sym r.id; here = ap (λ b. slot b r.new) k ∙ e ∙ sym (ap (λ b. slot b s.holding) k) ∙ s.here })))
+      (λ (e : s.entry.id ≡ token). inr (s.token ∙ e, k))
+      (λ (e : r.new.pending ≡ s.entry.pending).
+      inl (stood (with_pending token held table) c (record { entry = r.new; among = r.among; token = s.token ∙ sym r.id; here = ap (λ b. slot b r.new) k ∙ e ∙ sym (ap (λ b. slot b s.entry) k) ∙ s.here })))
       r.pending
 
-  pub table_added : (now : Moment) (table : List Holding) → IsTable (with_pending token held (alive now table))
+  pub table_added : (now : Moment) (table : List TokenEntry) → IsTable (with_pending token held (alive now table))
       → HasAdded now token held (of_tokens table) (of_tokens (with_pending token held (alive now table)))
   table_added now table is_table = record {
     only = λ c m. ⊎_elim (λ (e : c ≡ pending_of token held). inl e) (λ (i : In c (of_tokens (alive now table))). inr (of_alive now table c i)) (only_one (alive now table) c m);
@@ -276,38 +276,38 @@ module _ (token : List ℕ) (held : Held) where
 
 -- ---- a number taken
 
-some_mapped : (f : Held → Held) (o : Option Held) (c : Held) → option_map f o ≡ Some c → (d : Held) × (o ≡ Some d) × (c ≡ f d)
+some_mapped : (f : SecurityContext → SecurityContext) (o : Option SecurityContext) (c : SecurityContext) → option_map f o ≡ Some c → (d : SecurityContext) × (o ≡ Some d) × (c ≡ f d)
 some_mapped f None c e = absurd (cc)
 some_mapped f (Some d) c e = (d, refl, cc)
 
-mapped : (f : Held → Held) (o : Option Held) (d : Held) → o ≡ Some d → option_map f o ≡ Some (f d)
-mapped f o d e = ap (λ (x : Option Held). option_map f x) e
+mapped : (f : SecurityContext → SecurityContext) (o : Option SecurityContext) (d : SecurityContext) → o ≡ Some d → option_map f o ≡ Some (f d)
+mapped f o d e = ap (λ (x : Option SecurityContext). option_map f x) e
 
 module _ (id : List ℕ) (number : ℕ) where
-  abbrev tested : Option Held → Bool
+  abbrev tested : Option SecurityContext → Bool
   tested o = option_map_or (has_id id) o false
 
-  test_of : (o : Option Held) (c : Held) (b : Bool) → tested o ≡ b → o ≡ Some c → has_id id c ≡ b
-  test_of o c b e is = sym (ap (λ (x : Option Held). option_map_or (has_id id) x false) is) ∙ e
+  test_of : (o : Option SecurityContext) (c : SecurityContext) (b : Bool) → tested o ≡ b → o ≡ Some c → has_id id c ≡ b
+  test_of o c b e is = sym (ap (λ (x : Option SecurityContext). option_map_or (has_id id) x false) is) ∙ e
 
-  some_tested : (o : Option Held) → tested o ≡ true → (d : Held) × (o ≡ Some d) × (has_id id d ≡ true)
+  some_tested : (o : Option SecurityContext) → tested o ≡ true → (d : SecurityContext) × (o ≡ Some d) × (has_id id d ≡ true)
   some_tested None e = absurd (cc)
   some_tested (Some d) e = (d, refl, e)
 
-  abbrev branch : Bool → Bool → Holding → Holding
+  abbrev branch : Bool → Bool → TokenEntry → TokenEntry
   branch a b h = cond a (record h { confirmed = option_map (taking number) h.pending; pending = None }) (cond b (record h { confirmed = option_map (taking number) h.confirmed }) h)
 
-  branch_id : (a b : Bool) (h : Holding) → (branch a b h).id ≡ h.id
+  branch_id : (a b : Bool) (h : TokenEntry) → (branch a b h).id ≡ h.id
   branch_id true b h = refl
   branch_id false true h = refl
   branch_id false false h = refl
 
-  -- where a holding's context came from
-  data From (h : Holding) (k : Bool) (d : Held) : Type 0 where
-    Took : (j : Bool) (e : Held) → slot j h ≡ Some e → has_id id e ≡ true → k ≡ true → d ≡ taking number e → From h k d
+  -- where an entry's context came from
+  data From (h : TokenEntry) (k : Bool) (d : SecurityContext) : Type 0 where
+    Took : (j : Bool) (e : SecurityContext) → slot j h ≡ Some e → has_id id e ≡ true → k ≡ true → d ≡ taking number e → From h k d
     Same : slot k h ≡ Some d → has_id id d ≡ false → From h k d
 
-  from : (h : Holding) (a : Bool) → tested h.pending ≡ a → (b : Bool) → tested h.confirmed ≡ b → (k : Bool) (d : Held) → slot k (branch a b h) ≡ Some d → From h k d
+  from : (h : TokenEntry) (a : Bool) → tested h.pending ≡ a → (b : Bool) → tested h.confirmed ≡ b → (k : Bool) (d : SecurityContext) → slot k (branch a b h) ≡ Some d → From h k d
   from h true p b q true d e = let x = some_mapped (taking number) h.pending d e in Took false x.0 x.1 (test_of h.pending x.0 true p x.1) refl x.2
   from h true p b q false d e = absurd (cc)
   from h false p true q true d e = let x = some_mapped (taking number) h.confirmed d e in Took true x.0 x.1 (test_of h.confirmed x.0 true q x.1) refl x.2
@@ -316,7 +316,7 @@ module _ (id : List ℕ) (number : ℕ) where
   from h false p false q false d e = Same e (test_of h.pending d false p e)
 
   -- the one with the ID is confirmed
-  confirms : (h : Holding) (d : Held) (k : Bool) → slot k h ≡ Some d → has_id id d ≡ true → (tested h.pending ≡ true → k ≡ false)
+  confirms : (h : TokenEntry) (d : SecurityContext) (k : Bool) → slot k h ≡ Some d → has_id id d ≡ true → (tested h.pending ≡ true → k ≡ false)
       → (a : Bool) → tested h.pending ≡ a → (b : Bool) → tested h.confirmed ≡ b → (branch a b h).confirmed ≡ Some (taking number d)
   confirms h d true e its alone true p b q = let no = alone p in absurd (cc)
   confirms h d false e its alone true p b q = mapped (taking number) h.pending d e
@@ -326,7 +326,7 @@ module _ (id : List ℕ) (number : ℕ) where
   confirms h d false e its alone false p false q = absurd (cc (its, test_of h.pending d false p e))
 
   -- the others stay, but for the confirmed one of the token id
-  others_stay : (h : Holding) (d : Held) (k : Bool) → slot k h ≡ Some d → (a : Bool) → tested h.pending ≡ a → (b : Bool) → tested h.confirmed ≡ b
+  others_stay : (h : TokenEntry) (d : SecurityContext) (k : Bool) → slot k h ≡ Some d → (a : Bool) → tested h.pending ≡ a → (b : Bool) → tested h.confirmed ≡ b
       → (slot k (branch a b h) ≡ Some d) ⊎ ((has_id id d ≡ true) ⊎ ((tested h.pending ≡ true) × (k ≡ true)))
   others_stay h d true e true p b q = inr (inr (p, refl))
   others_stay h d false e true p b q = inr (inl (test_of h.pending d true p e))
@@ -336,14 +336,14 @@ module _ (id : List ℕ) (number : ℕ) where
   others_stay h d false e false p false q = inl e
 
 -- the window of a context takes a number
-module _ (number : ℕ) (x : OfToken) (table : List Holding) (is_table : IsTable table) (m : In x (of_tokens table)) where
+module _ (number : ℕ) (x : OfToken) (table : List TokenEntry) (is_table : IsTable table) (m : In x (of_tokens table)) where
   abbrev id : List ℕ
   id = x.held.name.client_id
 
-  abbrev change : Holding → Holding
+  abbrev change : TokenEntry → TokenEntry
   change h = accepted_in id number h
 
-  same_id : (h : Holding) → (change h).id ≡ h.id
+  same_id : (h : TokenEntry) → (change h).id ≡ h.id
   same_id h = branch_id id number (tested id number h.pending) (tested id number h.confirmed) h
 
   -- the context with the ID is this one
@@ -356,50 +356,50 @@ module _ (number : ℕ) (x : OfToken) (table : List Holding) (is_table : IsTable
   place : Stands x table
   place = stands table x m
 
-  -- what stands in a holding of the table
-  in_holding : (h : Holding) (k : Bool) (d : Held) → In h table → slot k h ≡ Some d → In (record { token = h.id; is_confirmed = k; held = d }) (of_tokens table)
-  in_holding h k d i e = stood table (record { token = h.id; is_confirmed = k; held = d }) (record { holding = h; among = i; token = refl; here = e })
+  -- what stands in an entry of the table
+  in_holding : (h : TokenEntry) (k : Bool) (d : SecurityContext) → In h table → slot k h ≡ Some d → In (record { token = h.id; is_confirmed = k; held = d }) (of_tokens table)
+  in_holding h k d i e = stood table (record { token = h.id; is_confirmed = k; held = d }) (record { entry = h; among = i; token = refl; here = e })
 
-  confirmed : (change place.holding).confirmed ≡ Some (taking number x.held)
+  confirmed : (change place.entry).confirmed ≡ Some (taking number x.held)
   confirmed =
-      let h = place.holding in
+      let h = place.entry in
       confirms id number h x.held x.is_confirmed place.here its
       (λ p. let d = some_tested id number h.pending p in
       ap (λ (c : OfToken). c.is_confirmed) (sym (one (pending_of h.id d.0) (in_holding h false d.0 place.among d.1) d.2)))
       (tested id number h.pending) refl (tested id number h.confirmed) refl
 
   -- where a context stands afterwards
-  after : (c : OfToken) → In c (of_tokens (accepted id number table)) → (h : Holding) × In h table × (c.token ≡ h.id) × (slot c.is_confirmed (change h) ≡ Some c.held)
+  after : (c : OfToken) → In c (of_tokens (accepted id number table)) → (h : TokenEntry) × In h table × (c.token ≡ h.id) × (slot c.is_confirmed (change h) ≡ Some c.held)
   after c i =
       let s = stands (accepted id number table) c i in
-      let r = in_mapped change table s.holding s.among in
-      (r.0, r.1, s.token ∙ ap (λ (g : Holding). g.id) r.2 ∙ same_id r.0, ap (λ (g : Holding). slot c.is_confirmed g) (sym r.2) ∙ s.here)
+      let r = in_mapped change table s.entry s.among in
+      (r.0, r.1, s.token ∙ ap (λ (g : TokenEntry). g.id) r.2 ∙ same_id r.0, ap (λ (g : TokenEntry). slot c.is_confirmed g) (sym r.2) ∙ s.here)
 
-  is_after : (c : OfToken) (h : Holding) → In h table → c.token ≡ h.id → slot c.is_confirmed (change h) ≡ Some c.held → In c (of_tokens (accepted id number table))
-  is_after c h i t e = stood (accepted id number table) c (record { holding = change h; among = mapped_in change table h i; token = t ∙ sym (same_id h); here = e })
+  is_after : (c : OfToken) (h : TokenEntry) → In h table → c.token ≡ h.id → slot c.is_confirmed (change h) ≡ Some c.held → In c (of_tokens (accepted id number table))
+  is_after c h i t e = stood (accepted id number table) c (record { entry = change h; among = mapped_in change table h i; token = t ∙ sym (same_id h); here = e })
 
   only : (c : OfToken) → In c (of_tokens (accepted id number table)) → (c ≡ confirmed_by number x) ⊎ (In c (of_tokens table) × (c.held.name ≢ x.held.name))
   only c i = let s = after c i in by s.0 s.1 s.2 (from id number s.0 (tested id number s.0.pending) refl (tested id number s.0.confirmed) refl c.is_confirmed c.held s.3)
     where
-      by : (h : Holding) → In h table → c.token ≡ h.id → From id number h c.is_confirmed c.held → (c ≡ confirmed_by number x) ⊎ (In c (of_tokens table) × (c.held.name ≢ x.held.name))
+      by : (h : TokenEntry) → In h table → c.token ≡ h.id → From id number h c.is_confirmed c.held → (c ≡ confirmed_by number x) ⊎ (In c (of_tokens table) × (c.held.name ≢ x.held.name))
       by h i t (From.Took j e at has k is) =
           let same = one (record { token = h.id; is_confirmed = j; held = e }) (in_holding h j e i at) has in
           inl (alike c x.token true (taking number x.held) (t ∙ ap (λ (y : OfToken). y.token) same) k (is ∙ ap (λ (y : OfToken). taking number y.held) same))
       by h i t (From.Same at other) =
-          inr (stood table c (record { holding = h; among = i; token = t; here = at }), λ same. cc (other, (bytes_eq-Decides id c.held.name.client_id).1 (ap (λ y. y.client_id) (sym same))))
+          inr (stood table c (record { entry = h; among = i; token = t; here = at }), λ same. cc (other, (bytes_eq-Decides id c.held.name.client_id).1 (ap (λ y. y.client_id) (sym same))))
 
   older_gone : (c : OfToken) → In c (of_tokens (accepted id number table)) → IsConfirmedOf x.token c → c ≡ confirmed_by number x
   older_gone c i is =
       let s = after c i in
-      let same : s.0 ≡ place.holding = one_holding table s.0 place.holding is_table s.1 place.among (sym s.2 ∙ is.0 ∙ place.token) in
-      let its_held : (change place.holding).confirmed ≡ Some c.held =
-      ap (λ (h : Holding). (change h).confirmed) (sym same) ∙ sym (ap (λ b. slot b (change s.0)) is.1) ∙ s.3 in
-      alike c x.token true (taking number x.held) is.0 is.1 (one_of c.held (taking number x.held) (change place.holding).confirmed its_held confirmed)
+      let same : s.0 ≡ place.entry = one_holding table s.0 place.entry is_table s.1 place.among (sym s.2 ∙ is.0 ∙ place.token) in
+      let its_held : (change place.entry).confirmed ≡ Some c.held =
+      ap (λ (h : TokenEntry). (change h).confirmed) (sym same) ∙ sym (ap (λ b. slot b (change s.0)) is.1) ∙ s.3 in
+      alike c x.token true (taking number x.held) is.0 is.1 (one_of c.held (taking number x.held) (change place.entry).confirmed its_held confirmed)
 
   stays_or_gone : (c : OfToken) → In c (of_tokens table) → In c (of_tokens (accepted id number table)) ⊎ ((c ≡ x) ⊎ IsConfirmedOf x.token c)
   stays_or_gone c i =
       let s = stands table c i in
-      let h = s.holding in
+      let h = s.entry in
       ⊎_elim
       (λ (e : slot c.is_confirmed (change h) ≡ Some c.held). inl (is_after c h s.among s.token e))
       (λ (o : (has_id id c.held ≡ true) ⊎ ((tested id number h.pending ≡ true) × (c.is_confirmed ≡ true))). ⊎_elim
@@ -413,7 +413,7 @@ module _ (number : ℕ) (x : OfToken) (table : List Holding) (is_table : IsTable
   pub table_taken : (now : Moment) → HasTaken now number x (of_tokens table) (of_tokens (accepted id number table))
   table_taken now = record {
     only = only;
-    here = is_after (confirmed_by number x) place.holding place.among place.token confirmed;
+    here = is_after (confirmed_by number x) place.entry place.among place.token confirmed;
     older_gone = older_gone;
     live = λ c i live. stays_or_gone c i;
   }

@@ -5,48 +5,48 @@ use Rattle.std.specs.Option.{IfSome, option_map_or}
 use Rattle.std.specs.Str.{bytes_eq}
 use Rattle.std.proofs.lemmas.Bool.{both_ways, cond-false, cond-true, ltb-true, ltb-false}
 use Rattle.std.proofs.lemmas.Slice.Eq.{bytes_eq-Decides}
-use Rattle.osc_authz.specs.declared.holding.Holding.{Holding}
-use Rattle.osc_authz.specs.Held.{Held}
+use Rattle.osc_authz.specs.declared.token_entry.TokenEntry.{TokenEntry}
+use Rattle.osc_authz.specs.SecurityContext.{SecurityContext}
 use Rattle.osc_authz.specs.Table.{IsTable, accepted, accepted_in, contexts, has_id, holds_id, ids, listed, taking, with_id, with_pending}
 
 -- ---- a request opened
 
--- what holds of all contexts holds of both of a holding
-each_front : (P : Held → Type 0) (xs ys : List Held) → AllByRecursion P (xs ++ ys) → AllByRecursion P xs
+-- what holds of all contexts holds of both of an entry
+each_front : (P : SecurityContext → Type 0) (xs ys : List SecurityContext) → AllByRecursion P (xs ++ ys) → AllByRecursion P xs
 each_front P [] ys all = tt
 each_front P (x ∷ xs) ys all = (all.0, each_front P xs ys all.1)
 
-each_back : (P : Held → Type 0) (xs ys : List Held) → AllByRecursion P (xs ++ ys) → AllByRecursion P ys
+each_back : (P : SecurityContext → Type 0) (xs ys : List SecurityContext) → AllByRecursion P (xs ++ ys) → AllByRecursion P ys
 each_back P [] ys all = all
 each_back P (x ∷ xs) ys all = each_back P xs ys all.1
 
-in_listed : (P : Held → Type 0) (context : Option Held) → AllByRecursion P (listed context) → IfSome context P
+in_listed : (P : SecurityContext → Type 0) (context : Option SecurityContext) → AllByRecursion P (listed context) → IfSome context P
 in_listed P None all = tt
 in_listed P (Some held) all = all.0
 
-pub record HoldOf (P : Held → Type 0) (holding : Holding) : Type 0 where
-  pub confirmed : IfSome holding.confirmed P
-  pub pending : IfSome holding.pending P
+pub record HoldOf (P : SecurityContext → Type 0) (entry : TokenEntry) : Type 0 where
+  pub confirmed : IfSome entry.confirmed P
+  pub pending : IfSome entry.pending P
 
-in_holding : (P : Held → Type 0) (table : List Holding) (i : ℕ) (d : Holding) → i < length table → AllByRecursion P (contexts table) → HoldOf P (get_or table i d)
+in_holding : (P : SecurityContext → Type 0) (table : List TokenEntry) (i : ℕ) (d : TokenEntry) → i < length table → AllByRecursion P (contexts table) → HoldOf P (get_or table i d)
 in_holding P [] i d within all = absurd (omega arith)
-in_holding P (holding ∷ table) zero d within all =
-    let mine : AllByRecursion P (listed holding.confirmed ++ listed holding.pending) = each_front P (listed holding.confirmed ++ listed holding.pending) (contexts table) all in
+in_holding P (entry ∷ table) zero d within all =
+    let mine : AllByRecursion P (listed entry.confirmed ++ listed entry.pending) = each_front P (listed entry.confirmed ++ listed entry.pending) (contexts table) all in
     record {
-      confirmed = in_listed P holding.confirmed (each_front P (listed holding.confirmed) (listed holding.pending) mine);
-      pending = in_listed P holding.pending (each_back P (listed holding.confirmed) (listed holding.pending) mine);
+      confirmed = in_listed P entry.confirmed (each_front P (listed entry.confirmed) (listed entry.pending) mine);
+      pending = in_listed P entry.pending (each_back P (listed entry.confirmed) (listed entry.pending) mine);
     }
-in_holding P (holding ∷ table) (suc i) d within all =
-    in_holding P table i d (omega arith) (each_back P (listed holding.confirmed ++ listed holding.pending) (contexts table) all)
+in_holding P (entry ∷ table) (suc i) d within all =
+    in_holding P table i d (omega arith) (each_back P (listed entry.confirmed ++ listed entry.pending) (contexts table) all)
 
 -- Recipient IDs stand once: what holds of the context that is found holds of all with its ID.
-found_alone : (P : Held → Type 0) (id : List ℕ) (held : Held) (xs : List Held) → IsDistinct bytes_eq (map (λ context. context.name.client_id) xs)
+found_alone : (P : SecurityContext → Type 0) (id : List ℕ) (held : SecurityContext) (xs : List SecurityContext) → IsDistinct bytes_eq (map (λ context. context.name.client_id) xs)
     → find (has_id id) xs ≡ Some held → P held → AllByRecursion (λ context. has_id id context ≡ true → P context) xs
 unfolding IsDistinct
 found_alone P id held [] apart found here = tt
 found_alone P id held (x ∷ xs) apart found here = by (has_id id x) refl found (found_alone P id held xs apart.1)
   where
-    no_other : id ≡ x.name.client_id → (ys : List Held) → AllByRecursion (λ other. bytes_eq x.name.client_id other ≡ false) (map (λ context. context.name.client_id) ys)
+    no_other : id ≡ x.name.client_id → (ys : List SecurityContext) → AllByRecursion (λ other. bytes_eq x.name.client_id other ≡ false) (map (λ context. context.name.client_id) ys)
         → AllByRecursion (λ context. has_id id context ≡ true → P context) ys
     no_other same [] all = tt
     no_other same (y ∷ ys) all = (λ has. absurd (both_ways (bytes_eq x.name.client_id y.name.client_id) all.0 (rw (← same) has)), no_other same ys all.1)
@@ -62,19 +62,19 @@ found_alone P id held (x ∷ xs) apart found here = by (has_id id x) refl found 
 
 -- ---- where a recipient ID stands
 
--- The holding that has the ID is the only one: no other is changed.
+-- The entry that has the ID is the only one: no other is changed.
 module _ (id : List ℕ) (number : ℕ) where
-  abbrev client_ids : List Held → List (List ℕ)
+  abbrev client_ids : List SecurityContext → List (List ℕ)
   client_ids xs = map (λ held. held.name.client_id) xs
 
   -- none of these contexts has the ID
-  abbrev pub IsNone : List Held → Type 0
+  abbrev pub IsNone : List SecurityContext → Type 0
   IsNone xs = AllByRecursion (λ y. bytes_eq id y ≡ false) (client_ids xs)
 
-  none_of : (held : Held) (xs : List Held) → has_id id held ≡ true → AllByRecursion (λ y. bytes_eq held.name.client_id y ≡ false) (client_ids xs) → IsNone xs
+  none_of : (held : SecurityContext) (xs : List SecurityContext) → has_id id held ≡ true → AllByRecursion (λ y. bytes_eq held.name.client_id y ≡ false) (client_ids xs) → IsNone xs
   none_of held xs has all = rw ((bytes_eq-Decides id held.name.client_id).0 has) all
 
-  others : (c p : Option Held) (rest : List Held) → IsDistinct bytes_eq (client_ids (listed c ++ listed p ++ rest))
+  others : (c p : Option SecurityContext) (rest : List SecurityContext) → IsDistinct bytes_eq (client_ids (listed c ++ listed p ++ rest))
       → (option_map_or (has_id id) c false || option_map_or (has_id id) p false) ≡ true → IsNone rest
   unfolding IsDistinct
   others None None rest apart has = absurd (cc)
@@ -90,53 +90,53 @@ module _ (id : List ℕ) (number : ℕ) where
       by true t e = none_of held rest t apart.0.1
       by false t e = none_of other rest e apart.1.0
 
-  rest_apart : (c p : Option Held) (rest : List Held) → IsDistinct bytes_eq (client_ids (listed c ++ listed p ++ rest)) → IsDistinct bytes_eq (client_ids rest)
+  rest_apart : (c p : Option SecurityContext) (rest : List SecurityContext) → IsDistinct bytes_eq (client_ids (listed c ++ listed p ++ rest)) → IsDistinct bytes_eq (client_ids rest)
   unfolding IsDistinct
   rest_apart None None rest apart = apart
   rest_apart None (Some held) rest apart = apart.1
   rest_apart (Some held) None rest apart = apart.1
   rest_apart (Some held) (Some other) rest apart = apart.1.1
 
-  untouched : (holding : Holding) → holds_id id holding ≡ false → accepted_in id number holding ≡ holding
-  untouched holding none = by (option_map_or (has_id id) holding.confirmed false) (option_map_or (has_id id) holding.pending false) none
+  untouched : (entry : TokenEntry) → holds_id id entry ≡ false → accepted_in id number entry ≡ entry
+  untouched entry none = by (option_map_or (has_id id) entry.confirmed false) (option_map_or (has_id id) entry.pending false) none
     where
       by : (c p : Bool) → (c || p) ≡ false
-          → cond p (record holding { confirmed = option_map (taking number) holding.pending; pending = None }) (cond c (record holding { confirmed = option_map (taking number) holding.confirmed }) holding) ≡ holding
+          → cond p (record entry { confirmed = option_map (taking number) entry.pending; pending = None }) (cond c (record entry { confirmed = option_map (taking number) entry.confirmed }) entry) ≡ entry
       by true p e = absurd (cc)
       by false true e = absurd (cc)
       by false false e = refl
 
-  pub neither : (c p : Option Held) (rest : List Held) → IsNone (listed c ++ listed p ++ rest)
+  pub neither : (c p : Option SecurityContext) (rest : List SecurityContext) → IsNone (listed c ++ listed p ++ rest)
       → ((option_map_or (has_id id) c false || option_map_or (has_id id) p false) ≡ false) × IsNone rest
   neither None None rest none = (refl, none)
   neither None (Some held) rest none = (none.0, none.1)
   neither (Some held) None rest none = (ap (λ b. b || false) none.0, none.1)
   neither (Some held) (Some other) rest none = (ap₂ (λ (b c : Bool). b || c) none.0 none.1.0, none.1.1)
 
-  all_untouched : (table : List Holding) → IsNone (contexts table) → accepted id number table ≡ table
+  all_untouched : (table : List TokenEntry) → IsNone (contexts table) → accepted id number table ≡ table
   all_untouched [] none = refl
-  all_untouched (holding ∷ table) none =
-      let parts = neither holding.confirmed holding.pending (contexts table) none in
-      ap₂ (λ (h : Holding) (t : List Holding). h ∷ t) (untouched holding parts.0) (all_untouched table parts.1)
+  all_untouched (entry ∷ table) none =
+      let parts = neither entry.confirmed entry.pending (contexts table) none in
+      ap₂ (λ (h : TokenEntry) (t : List TokenEntry). h ∷ t) (untouched entry parts.0) (all_untouched table parts.1)
 
-  accepted_within : (table : List Holding) (d : Holding) → IsDistinct bytes_eq (ids table) → position_or_len (holds_id id) table < length table
+  accepted_within : (table : List TokenEntry) (d : TokenEntry) → IsDistinct bytes_eq (ids table) → position_or_len (holds_id id) table < length table
       → set table (position_or_len (holds_id id) table) (accepted_in id number (get_or table (position_or_len (holds_id id) table) d)) ≡ accepted id number table
   accepted_within [] d apart within = absurd (omega arith)
-  accepted_within (holding ∷ table) d apart within =
-      by (holds_id id holding) refl (1 + rest) (omega arith) within (accepted_within table d (rest_apart holding.confirmed holding.pending (contexts table) apart))
+  accepted_within (entry ∷ table) d apart within =
+      by (holds_id id entry) refl (1 + rest) (omega arith) within (accepted_within table d (rest_apart entry.confirmed entry.pending (contexts table) apart))
     where
       rest : ℕ
       rest = position_or_len (holds_id id) table
 
-      by : (b : Bool) → holds_id id holding ≡ b → (n : ℕ) → n ≡ suc rest → cond (not b) n 0 < suc (length table)
+      by : (b : Bool) → holds_id id entry ≡ b → (n : ℕ) → n ≡ suc rest → cond (not b) n 0 < suc (length table)
           → (rest < length table → set table rest (accepted_in id number (get_or table rest d)) ≡ accepted id number table)
-          → set (holding ∷ table) (cond (not b) n 0) (accepted_in id number (get_or (holding ∷ table) (cond (not b) n 0) d)) ≡ accepted_in id number holding ∷ accepted id number table
+          → set (entry ∷ table) (cond (not b) n 0) (accepted_in id number (get_or (entry ∷ table) (cond (not b) n 0) d)) ≡ accepted_in id number entry ∷ accepted id number table
       by true has n is inside up =
-          ap (λ t. accepted_in id number holding ∷ t) (sym (all_untouched table (others holding.confirmed holding.pending (contexts table) apart has)))
-      by false has n is inside up = rw is (ap₂ (λ (h : Holding) (t : List Holding). h ∷ t) (sym (untouched holding has)) (up (omega (arith, is, inside))))
+          ap (λ t. accepted_in id number entry ∷ t) (sym (all_untouched table (others entry.confirmed entry.pending (contexts table) apart has)))
+      by false has n is inside up = rw is (ap₂ (λ (h : TokenEntry) (t : List TokenEntry). h ∷ t) (sym (untouched entry has)) (up (omega (arith, is, inside))))
 
-  -- the holding at the place of the ID
-  pub accepted_here : (table : List Holding) (i : ℕ) (d : Holding) → IsTable table → position (holds_id id) table ≡ Some i
+  -- the entry at the place of the ID
+  pub accepted_here : (table : List TokenEntry) (i : ℕ) (d : TokenEntry) → IsTable table → position (holds_id id) table ≡ Some i
       → set table i (accepted_in id number (get_or table i d)) ≡ accepted id number table
   accepted_here table i d is_table found = by (nat_lt place (length table)) refl found
     where
@@ -150,22 +150,22 @@ module _ (id : List ℕ) (number : ℕ) where
           ∙ accepted_within table d is_table.own_ids (ltb-true place (length table) inside)
       by false outside is = let none : None ≡ Some i = is in absurd (cc)
 
-  found_within : (table : List Holding) (d : Holding) → position_or_len (holds_id id) table < length table
+  found_within : (table : List TokenEntry) (d : TokenEntry) → position_or_len (holds_id id) table < length table
       → holds_id id (get_or table (position_or_len (holds_id id) table) d) ≡ true
   found_within [] d within = absurd (omega arith)
-  found_within (holding ∷ table) d within = by (holds_id id holding) refl (1 + rest) (omega arith) within (found_within table d)
+  found_within (entry ∷ table) d within = by (holds_id id entry) refl (1 + rest) (omega arith) within (found_within table d)
     where
       rest : ℕ
       rest = position_or_len (holds_id id) table
 
-      by : (b : Bool) → holds_id id holding ≡ b → (n : ℕ) → n ≡ suc rest → cond (not b) n 0 < suc (length table)
+      by : (b : Bool) → holds_id id entry ≡ b → (n : ℕ) → n ≡ suc rest → cond (not b) n 0 < suc (length table)
           → (rest < length table → holds_id id (get_or table rest d) ≡ true)
-          → holds_id id (get_or (holding ∷ table) (cond (not b) n 0) d) ≡ true
+          → holds_id id (get_or (entry ∷ table) (cond (not b) n 0) d) ≡ true
       by true has n is inside up = has
       by false has n is inside up = rw is (up (omega (arith, is, inside)))
 
   -- it is in the table, and has the ID
-  pub found_here : (table : List Holding) (i : ℕ) (d : Holding) → position (holds_id id) table ≡ Some i
+  pub found_here : (table : List TokenEntry) (i : ℕ) (d : TokenEntry) → position (holds_id id) table ≡ Some i
       → (i < length table) × (holds_id id (get_or table i d) ≡ true)
   found_here table i d found = by (nat_lt place (length table)) refl found
     where
@@ -180,7 +180,7 @@ module _ (id : List ℕ) (number : ℕ) where
       by false outside is = let none : None ≡ Some i = is in absurd (cc)
 
   -- where a context has the ID, there is a place
-  pub misses : (c p : Option Held) (rest : List Held) → (option_map_or (has_id id) c false || option_map_or (has_id id) p false) ≡ false
+  pub misses : (c p : Option SecurityContext) (rest : List SecurityContext) → (option_map_or (has_id id) c false || option_map_or (has_id id) p false) ≡ false
       → find (has_id id) (listed c ++ listed p ++ rest) ≡ find (has_id id) rest
   misses None None rest none = refl
   misses None (Some held) rest none = cond-false (has_id id held) (Some held) (find (has_id id) rest) none
@@ -196,19 +196,19 @@ module _ (id : List ℕ) (number : ℕ) where
       by false true e = absurd (cc)
       by false false e = refl
 
-  has_place : (table : List Holding) (held : Held) → with_id id table ≡ Some held → length table ≤ position_or_len (holds_id id) table → ⊥
+  has_place : (table : List TokenEntry) (held : SecurityContext) → with_id id table ≡ Some held → length table ≤ position_or_len (holds_id id) table → ⊥
   has_place [] held found none = let no : None ≡ Some held = found in absurd (cc)
-  has_place (holding ∷ table) held found none = by (holds_id id holding) refl (1 + rest) (omega arith) none (has_place table held)
+  has_place (entry ∷ table) held found none = by (holds_id id entry) refl (1 + rest) (omega arith) none (has_place table held)
     where
       rest : ℕ
       rest = position_or_len (holds_id id) table
 
-      by : (b : Bool) → holds_id id holding ≡ b → (n : ℕ) → n ≡ suc rest → suc (length table) ≤ cond (not b) n 0
+      by : (b : Bool) → holds_id id entry ≡ b → (n : ℕ) → n ≡ suc rest → suc (length table) ≤ cond (not b) n 0
           → (with_id id table ≡ Some held → length table ≤ rest → ⊥) → ⊥
       by true has n is past up = absurd (omega arith)
-      by false has n is past up = up (sym (misses holding.confirmed holding.pending (contexts table) has) ∙ found) (omega (arith, is, past))
+      by false has n is past up = up (sym (misses entry.confirmed entry.pending (contexts table) has) ∙ found) (omega (arith, is, past))
 
-  pub is_placed : (table : List Holding) (held : Held) → with_id id table ≡ Some held → position (holds_id id) table ≡ None → ⊥
+  pub is_placed : (table : List TokenEntry) (held : SecurityContext) → with_id id table ≡ Some held → position (holds_id id) table ≡ None → ⊥
   is_placed table held found none = by (nat_lt place (length table)) refl none
     where
       place : ℕ
@@ -220,16 +220,16 @@ module _ (id : List ℕ) (number : ℕ) where
 
   -- ---- it is found again, with its number taken
 
-  -- the contexts of a holding, and others
-  abbrev before : Holding → List Held → List Held
-  before holding later = listed holding.confirmed ++ listed holding.pending ++ later
+  -- the contexts of an entry, and others
+  abbrev before : TokenEntry → List SecurityContext → List SecurityContext
+  before entry later = listed entry.confirmed ++ listed entry.pending ++ later
 
-  taken_one : (held other : Held) (rest : List Held) → has_id id other ≡ true → Some other ≡ Some held → find (has_id id) (taking number other ∷ rest) ≡ Some (taking number held)
+  taken_one : (held other : SecurityContext) (rest : List SecurityContext) → has_id id other ≡ true → Some other ≡ Some held → find (has_id id) (taking number other ∷ rest) ≡ Some (taking number held)
   taken_one held other rest has same =
       let it : other ≡ held = cc in
       cond-true (has_id id other) (Some (taking number other)) (find (has_id id) rest) has ∙ ap (λ h. Some (taking number h)) it
 
-  found_in : (i : List ℕ) (c p : Option Held) (rest later : List Held) (held : Held) → IsDistinct bytes_eq (client_ids (listed c ++ listed p ++ rest))
+  found_in : (i : List ℕ) (c p : Option SecurityContext) (rest later : List SecurityContext) (held : SecurityContext) → IsDistinct bytes_eq (client_ids (listed c ++ listed p ++ rest))
       → (option_map_or (has_id id) c false || option_map_or (has_id id) p false) ≡ true → find (has_id id) (listed c ++ listed p ++ rest) ≡ Some held
       → find (has_id id) (before (accepted_in id number (record { id = i; confirmed = c; pending = p })) later) ≡ Some (taking number held)
   unfolding IsDistinct
@@ -257,80 +257,80 @@ module _ (id : List ℕ) (number : ℕ) where
           (sym (cond-true (has_id id second) (Some second) (find (has_id id) rest) u) ∙ sym (cond-false (has_id id first) (Some first) (find (has_id id) (second ∷ rest)) t) ∙ found)
       by false false t u e = absurd (cc)
 
-  pub found_again : (table : List Holding) (held : Held) → IsDistinct bytes_eq (ids table) → with_id id table ≡ Some held → with_id id (accepted id number table) ≡ Some (taking number held)
+  pub found_again : (table : List TokenEntry) (held : SecurityContext) → IsDistinct bytes_eq (ids table) → with_id id table ≡ Some held → with_id id (accepted id number table) ≡ Some (taking number held)
   found_again [] held apart found = let no : None ≡ Some held = found in absurd (cc)
-  found_again (holding ∷ table) held apart found =
-      by (holds_id id holding) refl (found_again table held (rest_apart holding.confirmed holding.pending (contexts table) apart))
+  found_again (entry ∷ table) held apart found =
+      by (holds_id id entry) refl (found_again table held (rest_apart entry.confirmed entry.pending (contexts table) apart))
     where
-      by : (b : Bool) → holds_id id holding ≡ b → (with_id id table ≡ Some held → with_id id (accepted id number table) ≡ Some (taking number held))
-          → with_id id (accepted_in id number holding ∷ accepted id number table) ≡ Some (taking number held)
-      by true has up = found_in holding.id holding.confirmed holding.pending (contexts table) (contexts (accepted id number table)) held apart has found
+      by : (b : Bool) → holds_id id entry ≡ b → (with_id id table ≡ Some held → with_id id (accepted id number table) ≡ Some (taking number held))
+          → with_id id (accepted_in id number entry ∷ accepted id number table) ≡ Some (taking number held)
+      by true has up = found_in entry.id entry.confirmed entry.pending (contexts table) (contexts (accepted id number table)) held apart has found
       by false has up =
-          rw (untouched holding has)
-          (misses holding.confirmed holding.pending (contexts (accepted id number table)) has ∙ up (sym (misses holding.confirmed holding.pending (contexts table) has) ∙ found))
+          rw (untouched entry has)
+          (misses entry.confirmed entry.pending (contexts (accepted id number table)) has ∙ up (sym (misses entry.confirmed entry.pending (contexts table) has) ∙ found))
 
--- what holds of the context with the ID holds of those of any holding that have it
-pub each_of : (P : Held → Type 0) (id : List ℕ) (table : List Holding) (held : Held) (i : ℕ) (d : Holding) → IsTable table → with_id id table ≡ Some held → P held
+-- what holds of the context with the ID holds of those of any entry that have it
+pub each_of : (P : SecurityContext → Type 0) (id : List ℕ) (table : List TokenEntry) (held : SecurityContext) (i : ℕ) (d : TokenEntry) → IsTable table → with_id id table ≡ Some held → P held
     → i < length table → HoldOf (λ context. has_id id context ≡ true → P context) (get_or table i d)
 each_of P id table held i d is_table found here within =
     in_holding (λ context. has_id id context ≡ true → P context) table i d within (found_alone P id held (contexts table) is_table.own_ids found here)
 
 -- ---- where a token id stands
 
--- a change of the holding at the place, or a new one at the end
-put_within : (token : List ℕ) (held : Held) (table : List Holding) (d : Holding) → position_or_len (λ holding. bytes_eq token holding.id) table < length table
-    → set table (position_or_len (λ holding. bytes_eq token holding.id) table)
-    (record (get_or table (position_or_len (λ holding. bytes_eq token holding.id) table) d) { pending = Some held })
+-- a change of the entry at the place, or a new one at the end
+put_within : (token : List ℕ) (held : SecurityContext) (table : List TokenEntry) (d : TokenEntry) → position_or_len (λ entry. bytes_eq token entry.id) table < length table
+    → set table (position_or_len (λ entry. bytes_eq token entry.id) table)
+    (record (get_or table (position_or_len (λ entry. bytes_eq token entry.id) table) d) { pending = Some held })
     ≡ with_pending token held table
 put_within token held [] d within = absurd (omega arith)
-put_within token held (holding ∷ table) d within = by (bytes_eq token holding.id) (1 + rest) (omega arith) within (put_within token held table d)
+put_within token held (entry ∷ table) d within = by (bytes_eq token entry.id) (1 + rest) (omega arith) within (put_within token held table d)
   where
     rest : ℕ
-    rest = position_or_len (λ holding. bytes_eq token holding.id) table
+    rest = position_or_len (λ entry. bytes_eq token entry.id) table
 
     by : (b : Bool) (n : ℕ) → n ≡ suc rest → cond (not b) n 0 < suc (length table)
         → (rest < length table → set table rest (record (get_or table rest d) { pending = Some held }) ≡ with_pending token held table)
-        → set (holding ∷ table) (cond (not b) n 0) (record (get_or (holding ∷ table) (cond (not b) n 0) d) { pending = Some held })
-        ≡ cond b ((record holding { pending = Some held }) ∷ table) (holding ∷ with_pending token held table)
+        → set (entry ∷ table) (cond (not b) n 0) (record (get_or (entry ∷ table) (cond (not b) n 0) d) { pending = Some held })
+        ≡ cond b ((record entry { pending = Some held }) ∷ table) (entry ∷ with_pending token held table)
     by true n is inside up = refl
-    by false n is inside up = rw is (ap (λ t. holding ∷ t) (up (omega (arith, is, inside))))
+    by false n is inside up = rw is (ap (λ t. entry ∷ t) (up (omega (arith, is, inside))))
 
-put_at_end : (token : List ℕ) (held : Held) (table : List Holding) → length table ≤ position_or_len (λ holding. bytes_eq token holding.id) table
+put_at_end : (token : List ℕ) (held : SecurityContext) (table : List TokenEntry) → length table ≤ position_or_len (λ entry. bytes_eq token entry.id) table
     → table ++ (record { id = token; confirmed = None; pending = Some held }) ∷ [] ≡ with_pending token held table
 put_at_end token held [] none = refl
-put_at_end token held (holding ∷ table) none = by (bytes_eq token holding.id) (1 + rest) (omega arith) none (put_at_end token held table)
+put_at_end token held (entry ∷ table) none = by (bytes_eq token entry.id) (1 + rest) (omega arith) none (put_at_end token held table)
   where
     rest : ℕ
-    rest = position_or_len (λ holding. bytes_eq token holding.id) table
+    rest = position_or_len (λ entry. bytes_eq token entry.id) table
 
-    new : Holding
+    new : TokenEntry
     new = record { id = token; confirmed = None; pending = Some held }
 
     by : (b : Bool) (n : ℕ) → n ≡ suc rest → suc (length table) ≤ cond (not b) n 0 → (length table ≤ rest → table ++ new ∷ [] ≡ with_pending token held table)
-        → (holding ∷ table) ++ new ∷ [] ≡ cond b ((record holding { pending = Some held }) ∷ table) (holding ∷ with_pending token held table)
+        → (entry ∷ table) ++ new ∷ [] ≡ cond b ((record entry { pending = Some held }) ∷ table) (entry ∷ with_pending token held table)
     by true n is past up = absurd (omega arith)
-    by false n is past up = ap (λ t. holding ∷ t) (up (omega (arith, is, past)))
+    by false n is past up = ap (λ t. entry ∷ t) (up (omega (arith, is, past)))
 
-pub put_here : (token : List ℕ) (held : Held) (table : List Holding) (i : ℕ) (x : Holding) → position (λ holding. bytes_eq token holding.id) table ≡ Some i
+pub put_here : (token : List ℕ) (held : SecurityContext) (table : List TokenEntry) (i : ℕ) (x : TokenEntry) → position (λ entry. bytes_eq token entry.id) table ≡ Some i
     → x ≡ get_or table i x → set table i (record x { pending = Some held }) ≡ with_pending token held table
 put_here token held table i x found read = by (nat_lt place (length table)) refl found
   where
     place : ℕ
-    place = position_or_len (λ holding. bytes_eq token holding.id) table
+    place = position_or_len (λ entry. bytes_eq token entry.id) table
 
     by : (b : Bool) → nat_lt place (length table) ≡ b → cond b (Some place) None ≡ Some i → set table i (record x { pending = Some held }) ≡ with_pending token held table
     by true inside is =
         let same : place ≡ i = cc in
         let item : get_or table place x ≡ x = ap (λ k. get_or table k x) same ∙ sym read in
-        ap₂ (λ (k : ℕ) (y : Holding). set table k (record y { pending = Some held })) (sym same) (sym item) ∙ put_within token held table x (ltb-true place (length table) inside)
+        ap₂ (λ (k : ℕ) (y : TokenEntry). set table k (record y { pending = Some held })) (sym same) (sym item) ∙ put_within token held table x (ltb-true place (length table) inside)
     by false outside is = let none : None ≡ Some i = is in absurd (cc)
 
-pub put_last : (token : List ℕ) (held : Held) (table : List Holding) → position (λ holding. bytes_eq token holding.id) table ≡ None
+pub put_last : (token : List ℕ) (held : SecurityContext) (table : List TokenEntry) → position (λ entry. bytes_eq token entry.id) table ≡ None
     → table ++ (record { id = token; confirmed = None; pending = Some held }) ∷ [] ≡ with_pending token held table
 put_last token held table none = by (nat_lt place (length table)) refl none
   where
     place : ℕ
-    place = position_or_len (λ holding. bytes_eq token holding.id) table
+    place = position_or_len (λ entry. bytes_eq token entry.id) table
 
     by : (b : Bool) → nat_lt place (length table) ≡ b → cond b (Some place) None ≡ None
         → table ++ (record { id = token; confirmed = None; pending = Some held }) ∷ [] ≡ with_pending token held table

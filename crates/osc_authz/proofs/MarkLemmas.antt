@@ -11,17 +11,17 @@ use Rattle.std.proofs.lemmas.List.Sums.{fails_before_first}
 use Rattle.std.proofs.lemmas.Map.Made.{is_member-Decides}
 use Rattle.std.proofs.lemmas.Slice.Eq.{bytes_eq-Decides}
 use Rattle.osc_model.specs.declared.node.Moment.{Moment}
-use Rattle.osc_authz.specs.declared.holding.Holding.{Holding}
-use Rattle.osc_authz.specs.Held.{Held}
+use Rattle.osc_authz.specs.declared.token_entry.TokenEntry.{TokenEntry}
+use Rattle.osc_authz.specs.SecurityContext.{SecurityContext}
 use Rattle.osc_authz.specs.Inner.Marks.{AddsMarks, is_among, is_marked}
 use Rattle.osc_authz.specs.Table.{IsTable, IsLeastFree, alive, contexts, holds_live, ids, listed, without_pending, without_pending_in}
 use Rattle.osc_authz.proofs.Parts.{part_filter, part_length}
 use Rattle.osc_authz.proofs.Pigeon.{crowded}
 use Rattle.osc_authz.proofs.TableLaws.{two_each}
 
--- ---- the IDs of some holdings, and of those behind them
+-- ---- the IDs of some entries, and of those behind them
 
-among_more : (held rest : List Held) (byte : ℕ)
+among_more : (held rest : List SecurityContext) (byte : ℕ)
     → is_among (map (λ context. context.name.client_id) (held ++ rest)) byte
     ≡ (is_among (map (λ context. context.name.client_id) (held ++ [])) byte || is_among (map (λ context. context.name.client_id) rest) byte)
 among_more [] rest byte = refl
@@ -29,43 +29,43 @@ among_more (x ∷ xs) rest byte =
     ap (λ b. bytes_eq (byte ∷ []) x.name.client_id || b) (among_more xs rest byte)
     ∙ sym (or_assoc (bytes_eq (byte ∷ []) x.name.client_id) (is_among (map (λ context. context.name.client_id) (xs ++ [])) byte) (is_among (map (λ context. context.name.client_id) rest) byte))
 
-pub staying_more : (now : Moment) (token : List ℕ) (holding : Holding) (table : List Holding) (byte : ℕ)
-    → is_among (ids (without_pending token (alive now (holding ∷ table)))) byte
-    ≡ (is_among (ids (without_pending token (alive now (holding ∷ [])))) byte || is_among (ids (without_pending token (alive now table))) byte)
-staying_more now token holding table byte = by (holds_live now holding)
+pub staying_more : (now : Moment) (token : List ℕ) (entry : TokenEntry) (table : List TokenEntry) (byte : ℕ)
+    → is_among (ids (without_pending token (alive now (entry ∷ table)))) byte
+    ≡ (is_among (ids (without_pending token (alive now (entry ∷ [])))) byte || is_among (ids (without_pending token (alive now table))) byte)
+staying_more now token entry table byte = by (holds_live now entry)
   where
-    rest : List Holding
+    rest : List TokenEntry
     rest = alive now table
 
-    changed : Holding
-    changed = without_pending_in token holding
+    changed : TokenEntry
+    changed = without_pending_in token entry
 
-    by : (b : Bool) → is_among (ids (without_pending token (cond b (holding ∷ rest) rest))) byte
-        ≡ (is_among (ids (without_pending token (cond b (holding ∷ []) []))) byte || is_among (ids (without_pending token rest)) byte)
+    by : (b : Bool) → is_among (ids (without_pending token (cond b (entry ∷ rest) rest))) byte
+        ≡ (is_among (ids (without_pending token (cond b (entry ∷ []) []))) byte || is_among (ids (without_pending token rest)) byte)
     by true = among_more (listed changed.confirmed ++ listed changed.pending) (contexts (without_pending token rest)) byte
     by false = refl
 
--- what is yet to be marked, once one more holding has been gone over
-pub marked_more : (now : Moment) (token : List ℕ) (table : List Holding) (i : ℕ) (holding : Holding) (byte : ℕ) (old new all : Bool)
-    → i < length table → holding ≡ get_or table i holding
-    → new ≡ (is_among (ids (without_pending token (alive now (holding ∷ [])))) byte || old)
+-- what is yet to be marked, once one more entry has been gone over
+pub marked_more : (now : Moment) (token : List ℕ) (table : List TokenEntry) (i : ℕ) (entry : TokenEntry) (byte : ℕ) (old new all : Bool)
+    → i < length table → entry ≡ get_or table i entry
+    → new ≡ (is_among (ids (without_pending token (alive now (entry ∷ [])))) byte || old)
     → (is_among (ids (without_pending token (alive now (drop i table)))) byte || old) ≡ all
     → (is_among (ids (without_pending token (alive now (drop (i + 1) table)))) byte || new) ≡ all
-marked_more now token table i holding byte old new all within is marked before =
+marked_more now token table i entry byte old new all within is marked before =
     ap (λ b. staying rest || b) marked
-    ∙ sym (or_assoc (staying rest) (staying (holding ∷ [])) old)
-    ∙ ap (λ b. b || old) (or_comm (staying rest) (staying (holding ∷ [])) ∙ sym (staying_more now token holding rest byte))
-    ∙ ap (λ holdings. staying holdings || old) (sym parts)
+    ∙ sym (or_assoc (staying rest) (staying (entry ∷ [])) old)
+    ∙ ap (λ b. b || old) (or_comm (staying rest) (staying (entry ∷ [])) ∙ sym (staying_more now token entry rest byte))
+    ∙ ap (λ entries. staying entries || old) (sym parts)
     ∙ before
   where
-    rest : List Holding
+    rest : List TokenEntry
     rest = drop (i + 1) table
 
-    staying : List Holding → Bool
-    staying = λ holdings. is_among (ids (without_pending token (alive now holdings))) byte
+    staying : List TokenEntry → Bool
+    staying = λ entries. is_among (ids (without_pending token (alive now entries))) byte
 
-    parts : drop i table ≡ holding ∷ rest
-    parts = rw (add-one, drop-cons table i holding) (ap (λ h. h ∷ drop (suc i) table) (sym is))
+    parts : drop i table ≡ entry ∷ rest
+    parts = rw (add-one, drop-cons table i entry) (ap (λ h. h ∷ drop (suc i) table) (sym is))
 
 -- ---- a free byte
 
@@ -102,7 +102,7 @@ least_is_free client_id others one all byte first then size found = record {
     marked = all_marked client_id others one all first then
 
 -- A table has too few contexts for all bytes to be marked.
-pub one_is_unmarked : (now : Moment) (token client_id : List ℕ) (table : List Holding) (one all : List Bool) → IsTable table
+pub one_is_unmarked : (now : Moment) (token client_id : List ℕ) (table : List TokenEntry) (one all : List Bool) → IsTable table
     → AddsMarks (client_id ∷ []) (replicate 256 false) one → AddsMarks (ids (without_pending token (alive now table))) one all → length all ≡ 256
     → position not all ≡ None → ⊥
 one_is_unmarked now token client_id table one all is_table first then size none =
@@ -122,5 +122,5 @@ one_is_unmarked now token client_id table one all is_table first then size none 
 
     few : length (client_id ∷ others) ≤ 129
     few =
-        let known : List Holding = without_pending token (alive now table) in
+        let known : List TokenEntry = without_pending token (alive now table) in
         omega (arith, length-map (contexts known) (λ held. held.name.client_id), two_each known, length-map (alive now table) (without_pending_in token), part_length (part_filter (holds_live now) table), is_table.few)

@@ -5,15 +5,15 @@ use Rattle.std.proofs.lemmas.Bool.{and_parts}
 use Rattle.std.proofs.lemmas.Slice.Eq.{bytes_eq-Decides}
 use Rattle.osc_model.specs.declared.node.Moment.{Moment}
 use Rattle.osc_authz.specs.Contexts.{OfToken, of_tokens, IsLive}
-use Rattle.osc_authz.specs.Held.{Held}
+use Rattle.osc_authz.specs.SecurityContext.{SecurityContext}
 use Rattle.osc_authz.specs.Members.{In}
 use Rattle.osc_authz.specs.Table.{contexts, has_id, is_live, is_named, if_meant, meant}
-use Rattle.osc_authz.specs.declared.holding.Holding.{Holding}
+use Rattle.osc_authz.specs.declared.token_entry.TokenEntry.{TokenEntry}
 use Rattle.osc_authz.proofs.ContextLaws.{held_of}
 
 -- ---- what a request means
 
-found : (p : Held → Bool) (cs : List Held) (c : Held) → find p cs ≡ Some c → In c cs × (p c ≡ true)
+found : (p : SecurityContext → Bool) (cs : List SecurityContext) (c : SecurityContext) → find p cs ≡ Some c → In c cs × (p c ≡ true)
 found p [] c e = absurd (cc)
 found p (x ∷ cs) c e = by (p x) refl e (found p cs c)
   where
@@ -33,25 +33,25 @@ live_tested begins ends t b e = (one begins b, two ends e)
     two (Some n) h s is = let same : n ≡ s = cc in subst (λ (x : ℕ). t < x) same (ltb-true t n h)
 
 -- the context is held, lives and has the ID
-held_is : (now : Moment) (kid : List ℕ) (kid_context : Option (List ℕ)) (table : List Holding) (c : Held) → meant now kid kid_context table ≡ Some c
+held_is : (now : Moment) (kid : List ℕ) (kid_context : Option (List ℕ)) (table : List TokenEntry) (c : SecurityContext) → meant now kid kid_context table ≡ Some c
     → In c (contexts table) × IsLive now c × (c.name.client_id ≡ kid)
 held_is now kid kid_context table c e = by (find (has_id kid) (contexts table)) refl e
   where
-    passed : (d : Held) (b : Bool) → (is_live now d && is_named kid_context d) ≡ b → (if b then Some d else None) ≡ Some c → (d ≡ c) × (is_live now d ≡ true)
+    passed : (d : SecurityContext) (b : Bool) → (is_live now d && is_named kid_context d) ≡ b → (if b then Some d else None) ≡ Some c → (d ≡ c) × (is_live now d ≡ true)
     passed d true t e = (cc, (and_parts (is_live now d) (is_named kid_context d) t).0)
     passed d false t e = absurd (cc)
 
-    by : (o : Option Held) → find (has_id kid) (contexts table) ≡ o → if_meant now kid_context o ≡ Some c → In c (contexts table) × IsLive now c × (c.name.client_id ≡ kid)
+    by : (o : Option SecurityContext) → find (has_id kid) (contexts table) ≡ o → if_meant now kid_context o ≡ Some c → In c (contexts table) × IsLive now c × (c.name.client_id ≡ kid)
     by None is e = absurd (cc)
     by (Some d) is e =
         let p = passed d (is_live now d && is_named kid_context d) refl e in
-        let f = found (has_id kid) (contexts table) c (is ∙ ap (λ (x : Held). Some x) p.0) in
+        let f = found (has_id kid) (contexts table) c (is ∙ ap (λ (x : SecurityContext). Some x) p.0) in
         let parts = and_parts (option_map_or (λ s. nat_le s (now.ms / 1000)) c.not_before true) (option_map_or (λ s. nat_lt (now.ms / 1000) s) c.expires true) (ap (is_live now) (sym p.0) ∙ p.1) in
         let live = live_tested c.not_before c.expires (now.ms / 1000) parts.0 parts.1 in
         (f.0, record { begun = live.0; not_over = live.1 }, sym ((bytes_eq-Decides kid c.name.client_id).0 f.1))
 
 -- the same of the context of its token id
-pub meant_is : (now : Moment) (kid : List ℕ) (kid_context : Option (List ℕ)) (table : List Holding) (held : Held) → meant now kid kid_context table ≡ Some held
+pub meant_is : (now : Moment) (kid : List ℕ) (kid_context : Option (List ℕ)) (table : List TokenEntry) (held : SecurityContext) → meant now kid kid_context table ≡ Some held
     → (c : OfToken) × In c (of_tokens table) × (c.held ≡ held) × IsLive now held × (held.name.client_id ≡ kid)
 meant_is now kid kid_context table held e =
     let h = held_is now kid kid_context table held e in

@@ -23,7 +23,7 @@ use Rattle.osc_authz.specs.Client.{Finishes, made_name}
 use Rattle.osc_authz.specs.Contexts.{pending_of}
 use Rattle.osc_authz.specs.Desk.{DeskState}
 use Rattle.osc_authz.specs.Exchange.{IsPost, IsAnswer, post_item, answer_item}
-use Rattle.osc_authz.specs.Held.{Held}
+use Rattle.osc_authz.specs.SecurityContext.{SecurityContext}
 use Rattle.osc_authz.specs.HoldsToken.{HoldsToken}
 use Rattle.osc_authz.specs.Members.{In}
 use Rattle.osc_authz.specs.Post.{Posts}
@@ -32,7 +32,7 @@ use Rattle.osc_authz.specs.Table.{alive, contexts, with_pending, IsLawfulContext
 use Rattle.osc_authz.specs.declared.error.FinishError.{FinishError}
 use Rattle.osc_authz.specs.declared.error.PostError.{PostError}
 use Rattle.osc_authz.specs.declared.granted.ClientDesk.{ClientDesk}
-use Rattle.osc_authz.specs.declared.holding.Holding.{Holding}
+use Rattle.osc_authz.specs.declared.token_entry.TokenEntry.{TokenEntry}
 use Rattle.osc_authz.specs.declared.post.Post.{Post}
 use Rattle.osc_authz.specs.declared.post.PostAnswer.{PostAnswer}
 use Rattle.osc_authz.proofs.ContextLaws.{has_pending, is_held}
@@ -134,12 +134,12 @@ module _ (IsSealing : List ℕ → List ℕ → List ℕ → List ℕ → List �
       minted_texts claims a.claims entries a.scope before.audience now holds.fit holds.is_scope
       (subst (λ x. ComesTo x before.audience now (Ok (a.claims, a.scope))) text_is a.granted)
 
-  abbrev its : Held
+  abbrev its : SecurityContext
   its = new_context a.claims a.scope a.nonce1 a.client_id answer
 
   held : In its (contexts after.table)
   held =
-      let table : List Holding = with_pending a.claims.material.id its (alive now before.table) in
+      let table : List TokenEntry = with_pending a.claims.material.id its (alive now before.table) in
       subst (λ (d : DeskState). In its (contexts d.table)) (sym a.agrees.added) (is_held table (pending_of a.claims.material.id its) (has_pending a.claims.material.id its (alive now before.table)))
 
   nonce2_size : length answer.nonce2 ≡ 8
@@ -177,7 +177,7 @@ module _ (IsSealing : List ℕ → List ℕ → List ℕ → List ℕ → List �
       e ∙ ap ok_made (name nonce2 server_id same.0 same.1)
 
   pub one_name : Finishes client begun (code 2 1) (spelling (answer_item answer.nonce2 (answer.recipient_id ∷ []))) finished
-      → (its : Held) × In its (contexts after.table) × (its.scope ≡ scope_of entries)
+      → (its : SecurityContext) × In its (contexts after.table) × (its.scope ≡ scope_of entries)
       × (its.not_before ≡ claims.not_before) × (its.expires ≡ claims.expires)
       × (finished ≡ Ok (record { name = its.name; next = 0 }))
       × (its.window ≡ []) × IsLawfulContext its

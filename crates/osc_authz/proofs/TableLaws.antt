@@ -11,8 +11,8 @@ use Rattle.std.proofs.lemmas.Map.Keys.{IsDistinct-push}
 use Rattle.std.proofs.lemmas.Slice.Eq.{bytes_eq-Decides}
 use Rattle.osc_model.specs.declared.context.ContextName.{ContextName}
 use Rattle.osc_model.specs.declared.node.Moment.{Moment}
-use Rattle.osc_authz.specs.declared.holding.Holding.{Holding}
-use Rattle.osc_authz.specs.Held.{Held}
+use Rattle.osc_authz.specs.declared.token_entry.TokenEntry.{TokenEntry}
+use Rattle.osc_authz.specs.SecurityContext.{SecurityContext}
 use Rattle.osc_authz.specs.Table.{IsTable, IsLawfulContext, IsFull, IsLeastFree, accepted, accepted_in, alive, contexts, has_id, has_token, holds_live, ids, listed, taking, without_pending, without_pending_in, with_pending}
 use Rattle.osc_authz.proofs.Parts.{Part, none, part_whole, part_nothing, part_append, part_back, part_map, part_filter, part_length, part_all, part_distinct}
 
@@ -22,13 +22,13 @@ empty_table = record { few = omega arith; own_tokens = tt; own_ids = tt; lawful 
 
 -- ---- a table is lawful by its token ids and the names of its contexts
 
-abbrev tokens : List Holding → List (List ℕ)
-tokens table = map (λ holding. holding.id) table
+abbrev tokens : List TokenEntry → List (List ℕ)
+tokens table = map (λ entry. entry.id) table
 
-abbrev names_in : Holding → List ContextName
-names_in holding = map (λ held. held.name) (listed holding.confirmed ++ listed holding.pending)
+abbrev names_in : TokenEntry → List ContextName
+names_in entry = map (λ held. held.name) (listed entry.confirmed ++ listed entry.pending)
 
-abbrev names : List Holding → List ContextName
+abbrev names : List TokenEntry → List ContextName
 names table = map (λ held. held.name) (contexts table)
 
 record IsLawfulName (name : ContextName) : Type 0 where
@@ -36,25 +36,25 @@ record IsLawfulName (name : ContextName) : Type 0 where
   one_byte : name.client_id ≡ byte ∷ []
   apart : name.client_id ≢ name.server_id
 
-ids_by_names : (table : List Holding) → map (λ name. name.client_id) (names table) ≡ ids table
+ids_by_names : (table : List TokenEntry) → map (λ name. name.client_id) (names table) ≡ ids table
 ids_by_names table = one (contexts table)
   where
-    one : (held : List Held) → map (λ name. name.client_id) (map (λ held. held.name) held) ≡ map (λ held. held.name.client_id) held
+    one : (held : List SecurityContext) → map (λ name. name.client_id) (map (λ held. held.name) held) ≡ map (λ held. held.name.client_id) held
     one [] = refl
     one (x ∷ xs) = ap (λ ids. x.name.client_id ∷ ids) (one xs)
 
-names_lawful : (held : List Held) → AllByRecursion IsLawfulContext held → AllByRecursion IsLawfulName (map (λ held. held.name) held)
+names_lawful : (held : List SecurityContext) → AllByRecursion IsLawfulContext held → AllByRecursion IsLawfulName (map (λ held. held.name) held)
 names_lawful [] all = tt
 names_lawful (x ∷ xs) all = (record { byte = all.0.byte; one_byte = all.0.one_byte; apart = all.0.apart }, names_lawful xs all.1)
 
-contexts_lawful : (held : List Held) → AllByRecursion IsLawfulName (map (λ held. held.name) held) → AllByRecursion IsLawfulContext held
+contexts_lawful : (held : List SecurityContext) → AllByRecursion IsLawfulName (map (λ held. held.name) held) → AllByRecursion IsLawfulContext held
 contexts_lawful [] all = tt
 contexts_lawful (x ∷ xs) all = (record { byte = all.0.byte; one_byte = all.0.one_byte; apart = all.0.apart }, contexts_lawful xs all.1)
 
 -- A table with parts of another's token ids and names is lawful where that is.
-pub part_is_table : (some all : List Holding) → Part (tokens some) (tokens all) → Part (names some) (names all) → IsTable all → IsTable some
+pub part_is_table : (some all : List TokenEntry) → Part (tokens some) (tokens all) → Part (names some) (names all) → IsTable all → IsTable some
 part_is_table some all by_tokens by_names table = record {
-  few = omega (arith, part_length by_tokens, length-map some (λ holding. holding.id), length-map all (λ holding. holding.id), table.few);
+  few = omega (arith, part_length by_tokens, length-map some (λ entry. entry.id), length-map all (λ entry. entry.id), table.few);
   own_tokens = part_distinct bytes_eq by_tokens table.own_tokens;
   own_ids = rw (← ids_by_names some) (part_distinct bytes_eq (part_map (λ name. name.client_id) by_names) (rw (← ids_by_names all) at table.own_ids));
   lawful =
@@ -63,144 +63,144 @@ part_is_table some all by_tokens by_names table = record {
       All-from_recursion IsLawfulContext (contexts some) (contexts_lawful (contexts some) (recursion_from_All IsLawfulName (names some) new));
 }
 
--- ---- some of the holdings
+-- ---- some of the entries
 
-names_cons : (holding : Holding) (table : List Holding) → names (holding ∷ table) ≡ names_in holding ++ names table
-names_cons holding table = map-append (λ held. held.name) (listed holding.confirmed ++ listed holding.pending) (contexts table)
+names_cons : (entry : TokenEntry) (table : List TokenEntry) → names (entry ∷ table) ≡ names_in entry ++ names table
+names_cons entry table = map-append (λ held. held.name) (listed entry.confirmed ++ listed entry.pending) (contexts table)
 
-filtered_names : (test : Holding → Bool) (table : List Holding) → Part (names (filter test table)) (names table)
+filtered_names : (test : TokenEntry → Bool) (table : List TokenEntry) → Part (names (filter test table)) (names table)
 filtered_names test [] = none
-filtered_names test (holding ∷ table) = by (test holding) (filtered_names test table)
+filtered_names test (entry ∷ table) = by (test entry) (filtered_names test table)
   where
-    by : (b : Bool) → Part (names (filter test table)) (names table) → Part (names (cond b (holding ∷ filter test table) (filter test table))) (names (holding ∷ table))
-    by true rest = rw (names_cons holding (filter test table), names_cons holding table) (part_append (part_whole (names_in holding)) rest)
-    by false rest = rw (names_cons holding table) (part_back (names_in holding) rest)
+    by : (b : Bool) → Part (names (filter test table)) (names table) → Part (names (cond b (entry ∷ filter test table) (filter test table))) (names (entry ∷ table))
+    by true rest = rw (names_cons entry (filter test table), names_cons entry table) (part_append (part_whole (names_in entry)) rest)
+    by false rest = rw (names_cons entry table) (part_back (names_in entry) rest)
 
-pub filtered_is_table : (test : Holding → Bool) (table : List Holding) → IsTable table → IsTable (filter test table)
+pub filtered_is_table : (test : TokenEntry → Bool) (table : List TokenEntry) → IsTable table → IsTable (filter test table)
 filtered_is_table test table is_table =
-    part_is_table (filter test table) table (part_map (λ holding. holding.id) (part_filter test table)) (filtered_names test table) is_table
+    part_is_table (filter test table) table (part_map (λ entry. entry.id) (part_filter test table)) (filtered_names test table) is_table
 
-pub alive_is_table : (now : Moment) (table : List Holding) → IsTable table → IsTable (alive now table)
+pub alive_is_table : (now : Moment) (table : List TokenEntry) → IsTable table → IsTable (alive now table)
 alive_is_table now table is_table = filtered_is_table (holds_live now) table is_table
 
--- ---- another holding in the place of each
+-- ---- another entry in the place of each
 
-module _ (change : Holding → Holding) (same : (holding : Holding) → (change holding).id ≡ holding.id) (fewer : (holding : Holding) → Part (names_in (change holding)) (names_in holding)) where
-  changed_tokens : (table : List Holding) → tokens (map change table) ≡ tokens table
+module _ (change : TokenEntry → TokenEntry) (same : (entry : TokenEntry) → (change entry).id ≡ entry.id) (fewer : (entry : TokenEntry) → Part (names_in (change entry)) (names_in entry)) where
+  changed_tokens : (table : List TokenEntry) → tokens (map change table) ≡ tokens table
   changed_tokens [] = refl
-  changed_tokens (holding ∷ table) = ap₂ (λ (id : List ℕ) (ids : List (List ℕ)). id ∷ ids) (same holding) (changed_tokens table)
+  changed_tokens (entry ∷ table) = ap₂ (λ (id : List ℕ) (ids : List (List ℕ)). id ∷ ids) (same entry) (changed_tokens table)
 
-  changed_names : (table : List Holding) → Part (names (map change table)) (names table)
+  changed_names : (table : List TokenEntry) → Part (names (map change table)) (names table)
   changed_names [] = none
-  changed_names (holding ∷ table) =
-      rw (names_cons (change holding) (map change table), names_cons holding table) (part_append (fewer holding) (changed_names table))
+  changed_names (entry ∷ table) =
+      rw (names_cons (change entry) (map change table), names_cons entry table) (part_append (fewer entry) (changed_names table))
 
-  changed_is_table : (table : List Holding) → IsTable table → IsTable (map change table)
+  changed_is_table : (table : List TokenEntry) → IsTable table → IsTable (map change table)
   changed_is_table table is_table = part_is_table (map change table) table (rw (changed_tokens table) (part_whole (tokens table))) (changed_names table) is_table
 
-same_id : (id : List ℕ) (number : ℕ) (holding : Holding) → (accepted_in id number holding).id ≡ holding.id
-same_id id number holding = by (option_map_or (has_id id) holding.pending false) (option_map_or (has_id id) holding.confirmed false)
+same_id : (id : List ℕ) (number : ℕ) (entry : TokenEntry) → (accepted_in id number entry).id ≡ entry.id
+same_id id number entry = by (option_map_or (has_id id) entry.pending false) (option_map_or (has_id id) entry.confirmed false)
   where
-    by : (p c : Bool) → (cond p (record holding { confirmed = option_map (taking number) holding.pending; pending = None }) (cond c (record holding { confirmed = option_map (taking number) holding.confirmed }) holding)).id ≡ holding.id
+    by : (p c : Bool) → (cond p (record entry { confirmed = option_map (taking number) entry.pending; pending = None }) (cond c (record entry { confirmed = option_map (taking number) entry.confirmed }) entry)).id ≡ entry.id
     by true c = refl
     by false true = refl
     by false false = refl
 
 -- what takes a number keeps its name
-taken_names : (number : ℕ) (context : Option Held) → map (λ held. held.name) (listed (option_map (taking number) context)) ≡ map (λ held. held.name) (listed context)
+taken_names : (number : ℕ) (context : Option SecurityContext) → map (λ held. held.name) (listed (option_map (taking number) context)) ≡ map (λ held. held.name) (listed context)
 taken_names number None = refl
 taken_names number (Some held) = refl
 
-fewer_names : (id : List ℕ) (number : ℕ) (holding : Holding) → Part (names_in (accepted_in id number holding)) (names_in holding)
-fewer_names id number holding = by (option_map_or (has_id id) holding.pending false) (option_map_or (has_id id) holding.confirmed false)
+fewer_names : (id : List ℕ) (number : ℕ) (entry : TokenEntry) → Part (names_in (accepted_in id number entry)) (names_in entry)
+fewer_names id number entry = by (option_map_or (has_id id) entry.pending false) (option_map_or (has_id id) entry.confirmed false)
   where
     front : List ContextName
-    front = map (λ held. held.name) (listed holding.confirmed)
+    front = map (λ held. held.name) (listed entry.confirmed)
 
     back : List ContextName
-    back = map (λ held. held.name) (listed holding.pending)
+    back = map (λ held. held.name) (listed entry.pending)
 
-    in_two : names_in holding ≡ front ++ back
-    in_two = map-append (λ held. held.name) (listed holding.confirmed) (listed holding.pending)
+    in_two : names_in entry ≡ front ++ back
+    in_two = map-append (λ held. held.name) (listed entry.confirmed) (listed entry.pending)
 
-    alone : (context : Option Held) → map (λ held. held.name) (listed (option_map (taking number) context) ++ []) ≡ map (λ held. held.name) (listed context)
+    alone : (context : Option SecurityContext) → map (λ held. held.name) (listed (option_map (taking number) context) ++ []) ≡ map (λ held. held.name) (listed context)
     alone None = refl
     alone (Some held) = refl
 
-    with_back : map (λ held. held.name) (listed (option_map (taking number) holding.confirmed) ++ listed holding.pending) ≡ front ++ back
-    with_back = map-append (λ held. held.name) (listed (option_map (taking number) holding.confirmed)) (listed holding.pending) ∙ ap (λ xs. xs ++ back) (taken_names number holding.confirmed)
+    with_back : map (λ held. held.name) (listed (option_map (taking number) entry.confirmed) ++ listed entry.pending) ≡ front ++ back
+    with_back = map-append (λ held. held.name) (listed (option_map (taking number) entry.confirmed)) (listed entry.pending) ∙ ap (λ xs. xs ++ back) (taken_names number entry.confirmed)
 
-    by : (p c : Bool) → Part (names_in (cond p (record holding { confirmed = option_map (taking number) holding.pending; pending = None }) (cond c (record holding { confirmed = option_map (taking number) holding.confirmed }) holding))) (names_in holding)
-    by true c = rw (alone holding.pending, in_two) (part_back front (part_whole back))
+    by : (p c : Bool) → Part (names_in (cond p (record entry { confirmed = option_map (taking number) entry.pending; pending = None }) (cond c (record entry { confirmed = option_map (taking number) entry.confirmed }) entry))) (names_in entry)
+    by true c = rw (alone entry.pending, in_two) (part_back front (part_whole back))
     by false true = rw (with_back, in_two) (part_whole (front ++ back))
-    by false false = part_whole (names_in holding)
+    by false false = part_whole (names_in entry)
 
-pub accepted_is_table : (id : List ℕ) (number : ℕ) (table : List Holding) → IsTable table → IsTable (accepted id number table)
+pub accepted_is_table : (id : List ℕ) (number : ℕ) (table : List TokenEntry) → IsTable table → IsTable (accepted id number table)
 accepted_is_table id number table is_table = changed_is_table (accepted_in id number) (same_id id number) (fewer_names id number) table is_table
 
 -- ---- without a pending context
 
-still_id : (token : List ℕ) (holding : Holding) → (without_pending_in token holding).id ≡ holding.id
-still_id token holding = by (bytes_eq token holding.id)
+still_id : (token : List ℕ) (entry : TokenEntry) → (without_pending_in token entry).id ≡ entry.id
+still_id token entry = by (bytes_eq token entry.id)
   where
-    by : (b : Bool) → (cond b (record holding { pending = None }) holding).id ≡ holding.id
+    by : (b : Bool) → (cond b (record entry { pending = None }) entry).id ≡ entry.id
     by true = refl
     by false = refl
 
-some_names : (token : List ℕ) (holding : Holding) → Part (names_in (without_pending_in token holding)) (names_in holding)
-some_names token holding = by (bytes_eq token holding.id)
+some_names : (token : List ℕ) (entry : TokenEntry) → Part (names_in (without_pending_in token entry)) (names_in entry)
+some_names token entry = by (bytes_eq token entry.id)
   where
-    by : (b : Bool) → Part (names_in (cond b (record holding { pending = None }) holding)) (names_in holding)
-    by true = part_map (λ held. held.name) (part_append (part_whole (listed holding.confirmed)) (part_nothing (listed holding.pending)))
-    by false = part_whole (names_in holding)
+    by : (b : Bool) → Part (names_in (cond b (record entry { pending = None }) entry)) (names_in entry)
+    by true = part_map (λ held. held.name) (part_append (part_whole (listed entry.confirmed)) (part_nothing (listed entry.pending)))
+    by false = part_whole (names_in entry)
 
-pub without_pending_is_table : (token : List ℕ) (table : List Holding) → IsTable table → IsTable (without_pending token table)
+pub without_pending_is_table : (token : List ℕ) (table : List TokenEntry) → IsTable table → IsTable (without_pending token table)
 without_pending_is_table token table is_table = changed_is_table (without_pending_in token) (still_id token) (some_names token) table is_table
 
 -- a table has at most two contexts of each token id
-pub two_each : (table : List Holding) → length (contexts table) ≤ 2 * length table
+pub two_each : (table : List TokenEntry) → length (contexts table) ≤ 2 * length table
 two_each [] = omega arith
-two_each (holding ∷ table) = omega (arith, two_each table, length-append (listed holding.confirmed ++ listed holding.pending) (contexts table), length-append (listed holding.confirmed) (listed holding.pending), one holding.confirmed, one holding.pending)
+two_each (entry ∷ table) = omega (arith, two_each table, length-append (listed entry.confirmed ++ listed entry.pending) (contexts table), length-append (listed entry.confirmed) (listed entry.pending), one entry.confirmed, one entry.pending)
   where
-    one : (context : Option Held) → length (listed context) ≤ 1
+    one : (context : Option SecurityContext) → length (listed context) ≤ 1
     one None = omega arith
     one (Some held) = omega arith
 
 -- ---- with one more pending context
 
--- where a token id isn't in the table, none of its holdings is changed
+-- where a token id isn't in the table, none of its entries is changed
 module _ (token : List ℕ) where
-  apart_tokens : (table : List Holding) → AllByRecursion (λ id. bytes_eq token id ≡ false) (tokens table) → without_pending token table ≡ table
+  apart_tokens : (table : List TokenEntry) → AllByRecursion (λ id. bytes_eq token id ≡ false) (tokens table) → without_pending token table ≡ table
   apart_tokens [] apart = refl
-  apart_tokens (holding ∷ table) apart = ap₂ (λ (h : Holding) (t : List Holding). h ∷ t) (cond-false (bytes_eq token holding.id) (record holding { pending = None }) holding apart.0) (apart_tokens table apart.1)
+  apart_tokens (entry ∷ table) apart = ap₂ (λ (h : TokenEntry) (t : List TokenEntry). h ∷ t) (cond-false (bytes_eq token entry.id) (record entry { pending = None }) entry apart.0) (apart_tokens table apart.1)
 
 -- the contexts with one more are those without the pending one, and the new one among them
-record IsAdded (held : Held) (others all : List Held) : Type 0 where
-  before : List Held
-  after : List Held
+record IsAdded (held : SecurityContext) (others all : List SecurityContext) : Type 0 where
+  before : List SecurityContext
+  after : List SecurityContext
   with_one : all ≡ before ++ held ∷ after
   without_one : others ≡ before ++ after
 
-added : (token : List ℕ) (held : Held) (table : List Holding) → IsDistinct bytes_eq (tokens table) → IsAdded held (contexts (without_pending token table)) (contexts (with_pending token held table))
+added : (token : List ℕ) (held : SecurityContext) (table : List TokenEntry) → IsDistinct bytes_eq (tokens table) → IsAdded held (contexts (without_pending token table)) (contexts (with_pending token held table))
 unfolding IsDistinct
 added token held [] apart = record { before = []; after = []; with_one = refl; without_one = refl }
-added token held (holding ∷ table) apart = by (bytes_eq token holding.id) refl (added token held table apart.1)
+added token held (entry ∷ table) apart = by (bytes_eq token entry.id) refl (added token held table apart.1)
   where
-    here : without_pending token table ≡ table → IsAdded held (contexts ((record holding { pending = None }) ∷ without_pending token table)) (contexts ((record holding { pending = Some held }) ∷ table))
+    here : without_pending token table ≡ table → IsAdded held (contexts ((record entry { pending = None }) ∷ without_pending token table)) (contexts ((record entry { pending = Some held }) ∷ table))
     here others = record {
-      before = listed holding.confirmed;
+      before = listed entry.confirmed;
       after = contexts table;
-      with_one = append_assoc (listed holding.confirmed) (held ∷ []) (contexts table);
-      without_one = append_assoc (listed holding.confirmed) [] (contexts (without_pending token table)) ∙ ap (λ t. listed holding.confirmed ++ contexts t) others;
+      with_one = append_assoc (listed entry.confirmed) (held ∷ []) (contexts table);
+      without_one = append_assoc (listed entry.confirmed) [] (contexts (without_pending token table)) ∙ ap (λ t. listed entry.confirmed ++ contexts t) others;
     }
 
-    by : (b : Bool) → bytes_eq token holding.id ≡ b → IsAdded held (contexts (without_pending token table)) (contexts (with_pending token held table))
-        → IsAdded held (contexts (cond b (record holding { pending = None }) holding ∷ without_pending token table)) (contexts (cond b ((record holding { pending = Some held }) ∷ table) (holding ∷ with_pending token held table)))
+    by : (b : Bool) → bytes_eq token entry.id ≡ b → IsAdded held (contexts (without_pending token table)) (contexts (with_pending token held table))
+        → IsAdded held (contexts (cond b (record entry { pending = None }) entry ∷ without_pending token table)) (contexts (cond b ((record entry { pending = Some held }) ∷ table) (entry ∷ with_pending token held table)))
     by true same rest =
-        let token_is : token ≡ holding.id = (bytes_eq-Decides token holding.id).0 same in
+        let token_is : token ≡ entry.id = (bytes_eq-Decides token entry.id).0 same in
         here (apart_tokens token table (rw token_is apart.0))
     by false other rest =
-        let mine : List Held = listed holding.confirmed ++ listed holding.pending in
+        let mine : List SecurityContext = listed entry.confirmed ++ listed entry.pending in
         record {
           before = mine ++ rest.before;
           after = rest.after;
@@ -227,22 +227,22 @@ distinct_among y [] zs other apart = (other, apart)
 distinct_among y (x ∷ xs) zs other apart =
     (each_among (λ z. bytes_eq x z ≡ false) y xs zs (nat_list_eq_equiv.symm x y ∙ other.0) apart.0, distinct_among y xs zs other.1 apart.1)
 
-with_pending_tokens : (token : List ℕ) (held : Held) (table : List Holding) → tokens (with_pending token held table) ≡ cond (has_token token table) (tokens table) (tokens table ++ token ∷ [])
+with_pending_tokens : (token : List ℕ) (held : SecurityContext) (table : List TokenEntry) → tokens (with_pending token held table) ≡ cond (has_token token table) (tokens table) (tokens table ++ token ∷ [])
 with_pending_tokens token held [] = refl
-with_pending_tokens token held (holding ∷ table) = by (bytes_eq token holding.id) (has_token token table) (with_pending_tokens token held table)
+with_pending_tokens token held (entry ∷ table) = by (bytes_eq token entry.id) (has_token token table) (with_pending_tokens token held table)
   where
     by : (b there : Bool) → tokens (with_pending token held table) ≡ cond there (tokens table) (tokens table ++ token ∷ [])
-        → tokens (cond b ((record holding { pending = Some held }) ∷ table) (holding ∷ with_pending token held table)) ≡ cond (b || there) (tokens (holding ∷ table)) (tokens (holding ∷ table) ++ token ∷ [])
+        → tokens (cond b ((record entry { pending = Some held }) ∷ table) (entry ∷ with_pending token held table)) ≡ cond (b || there) (tokens (entry ∷ table)) (tokens (entry ∷ table) ++ token ∷ [])
     by true there rest = refl
-    by false true rest = ap (λ ids. holding.id ∷ ids) rest
-    by false false rest = ap (λ ids. holding.id ∷ ids) rest
+    by false true rest = ap (λ ids. entry.id ∷ ids) rest
+    by false false rest = ap (λ ids. entry.id ∷ ids) rest
 
-has_token_is : (token : List ℕ) (table : List Holding) → list_any (bytes_eq token) (tokens table) ≡ has_token token table
+has_token_is : (token : List ℕ) (table : List TokenEntry) → list_any (bytes_eq token) (tokens table) ≡ has_token token table
 has_token_is token [] = refl
-has_token_is token (holding ∷ table) = ap (λ there. bytes_eq token holding.id || there) (has_token_is token table)
+has_token_is token (entry ∷ table) = ap (λ there. bytes_eq token entry.id || there) (has_token_is token table)
 
 -- With a pending context of a token id for which there is room, and of a recipient ID that is free, a table is one.
-pub with_pending_is_table : (token client_id : List ℕ) (held : Held) (byte : ℕ) (table : List Holding) → IsTable table → ¬ IsFull token table
+pub with_pending_is_table : (token client_id : List ℕ) (held : SecurityContext) (byte : ℕ) (table : List TokenEntry) → IsTable table → ¬ IsFull token table
     → IsLeastFree (client_id ∷ ids (without_pending token table)) byte → held.name.client_id ≡ byte ∷ [] → held.name.server_id ≡ client_id
     → IsTable (with_pending token held table)
 with_pending_is_table token client_id held byte table is_table room free recipient sender = record {
@@ -252,15 +252,15 @@ with_pending_is_table token client_id held byte table is_table room free recipie
   lawful = rw split.with_one (All-from_recursion IsLawfulContext (split.before ++ held ∷ split.after) (each_among IsLawfulContext held split.before split.after lawful (recursion_from_All IsLawfulContext (split.before ++ split.after) (rw split.without_one at old.lawful))));
 }
   where
-    client_id_of : Held → List ℕ
+    client_id_of : SecurityContext → List ℕ
     client_id_of = λ held. held.name.client_id
 
     few : (b : Bool) → has_token token table ≡ b → length (with_pending token held table) ≤ 64
     few true there =
-        omega (arith, length-map (with_pending token held table) (λ holding. holding.id), length-map table (λ holding. holding.id), ap length (with_pending_tokens token held table ∙ ap (λ b. cond b (tokens table) (tokens table ++ token ∷ [])) there), is_table.few)
+        omega (arith, length-map (with_pending token held table) (λ entry. entry.id), length-map table (λ entry. entry.id), ap length (with_pending_tokens token held table ∙ ap (λ b. cond b (tokens table) (tokens table ++ token ∷ [])) there), is_table.few)
     few false absent =
         let short : length table < 64 = elim (cases_lt (length table) 64) [ inl less ↦ less | inr many ↦ absurd (room (record { many = many; new = absent })) ] in
-        omega (arith, length-map (with_pending token held table) (λ holding. holding.id), length-map table (λ holding. holding.id), ap length (with_pending_tokens token held table ∙ ap (λ b. cond b (tokens table) (tokens table ++ token ∷ [])) absent), length-append (tokens table) (token ∷ []), short)
+        omega (arith, length-map (with_pending token held table) (λ entry. entry.id), length-map table (λ entry. entry.id), ap length (with_pending_tokens token held table ∙ ap (λ b. cond b (tokens table) (tokens table ++ token ∷ [])) absent), length-append (tokens table) (token ∷ []), short)
 
     own_tokens : (b : Bool) → has_token token table ≡ b → IsDistinct bytes_eq (cond b (tokens table) (tokens table ++ token ∷ []))
     own_tokens true there = is_table.own_tokens
@@ -286,7 +286,7 @@ with_pending_is_table token client_id held byte table is_table room free recipie
     }
 
 -- the same once the token ids without a live context have gone
-pub added_is_table : (token client_id : List ℕ) (now : Moment) (held : Held) (byte : ℕ) (table : List Holding) → IsTable table → ¬ IsFull token (alive now table)
+pub added_is_table : (token client_id : List ℕ) (now : Moment) (held : SecurityContext) (byte : ℕ) (table : List TokenEntry) → IsTable table → ¬ IsFull token (alive now table)
     → IsLeastFree (client_id ∷ ids (without_pending token (alive now table))) byte → held.name.client_id ≡ byte ∷ [] → held.name.server_id ≡ client_id
     → IsTable (with_pending token held (alive now table))
 added_is_table token client_id now held byte table is_table room free recipient sender =

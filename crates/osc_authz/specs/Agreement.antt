@@ -9,7 +9,7 @@ use Rattle.osc_token.specs.declared.claims.Claims.{Claims}
 use Rattle.osc_token.specs.declared.claims.InputMaterial.{InputMaterial}
 use Rattle.osc_token.specs.declared.error.TokenError.{TokenError}
 use Rattle.osc_authz.specs.Desk.{DeskState}
-use Rattle.osc_authz.specs.Held.{Held}
+use Rattle.osc_authz.specs.SecurityContext.{SecurityContext}
 use Rattle.osc_authz.specs.Posting.{Offer}
 use Rattle.osc_authz.specs.Table.{alive, ids, IsFull, without_pending, with_pending, IsLeastFree}
 use Rattle.osc_authz.specs.declared.error.PostError.{PostError}
@@ -29,7 +29,7 @@ exchanged_name material nonce1 nonce2 server_recipient_id client_recipient_id = 
 }
 
 -- the context of these claims and both ends' nonces and IDs
-abbrev pub new_context : Claims → Scope → List ℕ → List ℕ → PostAnswer → Held
+abbrev pub new_context : Claims → Scope → List ℕ → List ℕ → PostAnswer → SecurityContext
 new_context claims scope nonce1 client_id answer = record {
   name = exchanged_name claims.material nonce1 answer.nonce2 (answer.recipient_id ∷ []) client_id;
   scope = scope;

@@ -2,10 +2,10 @@
 use Rattle.std.specs.Prelude.{◌≡◌, ◌≢◌, ◌⊎◌, ℕ, Bool, true, false, List, [], ◌∷◌, ◌++◌, Option, Some, None}
 use Rattle.osc_model.specs.Grant.{HasBegun, IsNotOver}
 use Rattle.osc_model.specs.declared.node.Moment.{Moment}
-use Rattle.osc_authz.specs.Held.{Held}
+use Rattle.osc_authz.specs.SecurityContext.{SecurityContext}
 use Rattle.osc_authz.specs.Table.{taking}
 use Rattle.osc_authz.specs.Members.{In}
-use Rattle.osc_authz.specs.declared.holding.Holding.{Holding}
+use Rattle.osc_authz.specs.declared.token_entry.TokenEntry.{TokenEntry}
 
 -- ---- the contexts of token ids
 
@@ -13,24 +13,24 @@ use Rattle.osc_authz.specs.declared.holding.Holding.{Holding}
 pub record OfToken : Type 0 where
   pub token : List ℕ
   pub is_confirmed : Bool
-  pub held : Held
+  pub held : SecurityContext
 
 -- the confirmed one of a token id, and the pending one
-abbrev pub confirmed_of : List ℕ → Held → OfToken
+abbrev pub confirmed_of : List ℕ → SecurityContext → OfToken
 confirmed_of token held = record { token = token; is_confirmed = true; held = held }
 
-abbrev pub pending_of : List ℕ → Held → OfToken
+abbrev pub pending_of : List ℕ → SecurityContext → OfToken
 pending_of token held = record { token = token; is_confirmed = false; held = held }
 
 -- the one in a place of a token id, if it is there
-abbrev pub of_token : List ℕ → Bool → Option Held → List OfToken
+abbrev pub of_token : List ℕ → Bool → Option SecurityContext → List OfToken
 of_token token is_confirmed None = []
 of_token token is_confirmed (Some held) = (record { token = token; is_confirmed = is_confirmed; held = held }) ∷ []
 
 -- those of a table, by its token ids
-abbrev pub of_tokens : List Holding → List OfToken
+abbrev pub of_tokens : List TokenEntry → List OfToken
 of_tokens [] = []
-of_tokens (holding ∷ table) = of_token holding.id true holding.confirmed ++ of_token holding.id false holding.pending ++ of_tokens table
+of_tokens (entry ∷ table) = of_token entry.id true entry.confirmed ++ of_token entry.id false entry.pending ++ of_tokens table
 
 -- it is the confirmed one of a token id, or the pending one
 abbrev pub IsConfirmedOf : List ℕ → OfToken → Type 0
@@ -46,7 +46,7 @@ confirmed_by number context = confirmed_of context.token (taking number context.
 -- ---- what stays, comes and goes
 
 -- the time of the context's token
-pub record IsLive (now : Moment) (held : Held) : Type 0 where
+pub record IsLive (now : Moment) (held : SecurityContext) : Type 0 where
   pub begun : HasBegun held.not_before now
   pub not_over : IsNotOver held.expires now
 
@@ -57,7 +57,7 @@ pub record AreKept (now : Moment) (old new : List OfToken) : Type 0 where
 
 -- One of this token id is added, pending, in the place of the pending one of that id. None changes, and each other that lives
 -- stays.
-pub record HasAdded (now : Moment) (token : List ℕ) (added : Held) (old new : List OfToken) : Type 0 where
+pub record HasAdded (now : Moment) (token : List ℕ) (added : SecurityContext) (old new : List OfToken) : Type 0 where
   pub only : (c : OfToken) → In c new → (c ≡ pending_of token added) ⊎ In c old
   pub here : In (pending_of token added) new
   pub replaced : (c : OfToken) → In c new → IsPendingOf token c → c ≡ pending_of token added

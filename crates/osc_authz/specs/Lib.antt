@@ -1,6 +1,6 @@
 -- Definitions that the contracts cite.
 pub mod Exchange
-pub mod Held
+pub mod SecurityContext
 pub mod Table
 pub mod Desk
 pub mod Posting

@@ -5,117 +5,117 @@ use Rattle.std.specs.Option.{option_map_or}
 use Rattle.std.specs.List.{All, Contains, IsDistinct, list_any}
 use Rattle.osc_model.specs.declared.node.Moment.{Moment}
 use Rattle.osc_window.specs.Window.{with_accepted}
-use Rattle.osc_authz.specs.Held.{Held}
-use Rattle.osc_authz.specs.declared.holding.Holding.{Holding}
+use Rattle.osc_authz.specs.SecurityContext.{SecurityContext}
+use Rattle.osc_authz.specs.declared.token_entry.TokenEntry.{TokenEntry}
 
-abbrev pub listed : Option Held → List Held
+abbrev pub listed : Option SecurityContext → List SecurityContext
 listed None = []
 listed (Some held) = held ∷ []
 
-abbrev pub contexts : List Holding → List Held
+abbrev pub contexts : List TokenEntry → List SecurityContext
 contexts [] = []
-contexts (holding ∷ table) = listed holding.confirmed ++ listed holding.pending ++ contexts table
+contexts (entry ∷ table) = listed entry.confirmed ++ listed entry.pending ++ contexts table
 
 -- the recipient IDs in use: the clients' sender IDs
-abbrev pub ids : List Holding → List (List ℕ)
+abbrev pub ids : List TokenEntry → List (List ℕ)
 ids table = map (λ held. held.name.client_id) (contexts table)
 
 -- Token ids and recipient IDs stand once; recipient IDs have one byte, and differ from the sender IDs.
-pub record IsLawfulContext (held : Held) : Type 0 where
+pub record IsLawfulContext (held : SecurityContext) : Type 0 where
   pub byte : ℕ
   pub one_byte : held.name.client_id ≡ byte ∷ []
   pub apart : held.name.client_id ≢ held.name.server_id
 
-pub record IsTable (table : List Holding) : Type 0 where
+pub record IsTable (table : List TokenEntry) : Type 0 where
   pub few : length table ≤ 64
-  pub own_tokens : IsDistinct bytes_eq (map (λ holding. holding.id) table)
+  pub own_tokens : IsDistinct bytes_eq (map (λ entry. entry.id) table)
   pub own_ids : IsDistinct bytes_eq (ids table)
   pub lawful : All IsLawfulContext (contexts table)
 
 -- ---- which of them live
 
 -- a token is in its time
-abbrev pub is_live : Moment → Held → Bool
+abbrev pub is_live : Moment → SecurityContext → Bool
 is_live now held =
     option_map_or (λ seconds. nat_le seconds (now.ms / 1000)) held.not_before true
     && option_map_or (λ seconds. nat_lt (now.ms / 1000) seconds) held.expires true
 
-abbrev pub holds_live : Moment → Holding → Bool
-holds_live now holding = option_map_or (is_live now) holding.confirmed false || option_map_or (is_live now) holding.pending false
+abbrev pub holds_live : Moment → TokenEntry → Bool
+holds_live now entry = option_map_or (is_live now) entry.confirmed false || option_map_or (is_live now) entry.pending false
 
 -- the token ids that have a live context
-abbrev pub alive : Moment → List Holding → List Holding
+abbrev pub alive : Moment → List TokenEntry → List TokenEntry
 alive now table = filter (holds_live now) table
 
 -- ---- looking up
 
-abbrev pub has_id : List ℕ → Held → Bool
+abbrev pub has_id : List ℕ → SecurityContext → Bool
 has_id id held = bytes_eq id held.name.client_id
 
-abbrev pub holds_id : List ℕ → Holding → Bool
-holds_id id holding = option_map_or (has_id id) holding.confirmed false || option_map_or (has_id id) holding.pending false
+abbrev pub holds_id : List ℕ → TokenEntry → Bool
+holds_id id entry = option_map_or (has_id id) entry.confirmed false || option_map_or (has_id id) entry.pending false
 
 -- the context with this recipient ID
-abbrev pub with_id : List ℕ → List Holding → Option Held
+abbrev pub with_id : List ℕ → List TokenEntry → Option SecurityContext
 with_id id table = find (has_id id) (contexts table)
 
 -- the context that a request has opened under of the token id at this place
-abbrev pub confirmed_at : ℕ → List Holding → Option Held
-confirmed_at place table = option_and_then (λ holding. holding.confirmed) (slice_get table place)
+abbrev pub confirmed_at : ℕ → List TokenEntry → Option SecurityContext
+confirmed_at place table = option_and_then (λ entry. entry.confirmed) (slice_get table place)
 
 -- a kid context, where a request has one, names the id context
-abbrev pub is_named : Option (List ℕ) → Held → Bool
+abbrev pub is_named : Option (List ℕ) → SecurityContext → Bool
 is_named None held = true
 is_named (Some kid_context) held = option_map_or (bytes_eq kid_context) held.name.id_context false
 
 -- the live context that a request's kid and kid context name (RFC 8613 section 8.2)
-abbrev pub if_meant : Moment → Option (List ℕ) → Option Held → Option Held
+abbrev pub if_meant : Moment → Option (List ℕ) → Option SecurityContext → Option SecurityContext
 if_meant now kid_context None = None
 if_meant now kid_context (Some held) = if is_live now held && is_named kid_context held then Some held else None
 
-abbrev pub meant : Moment → List ℕ → Option (List ℕ) → List Holding → Option Held
+abbrev pub meant : Moment → List ℕ → Option (List ℕ) → List TokenEntry → Option SecurityContext
 meant now kid kid_context table = if_meant now kid_context (with_id kid table)
 
 -- ---- a request opened
 
-abbrev pub taking : ℕ → Held → Held
+abbrev pub taking : ℕ → SecurityContext → SecurityContext
 taking number held = record held { window = with_accepted held.window number }
 
 -- The window of the context takes the number. If it is the pending one, it is confirmed, and the older one goes.
-abbrev pub accepted_in : List ℕ → ℕ → Holding → Holding
-accepted_in id number holding =
-    if option_map_or (has_id id) holding.pending false
-    then record holding { confirmed = option_map (taking number) holding.pending; pending = None }
-    else if option_map_or (has_id id) holding.confirmed false
-    then record holding { confirmed = option_map (taking number) holding.confirmed }
-    else holding
+abbrev pub accepted_in : List ℕ → ℕ → TokenEntry → TokenEntry
+accepted_in id number entry =
+    if option_map_or (has_id id) entry.pending false
+    then record entry { confirmed = option_map (taking number) entry.pending; pending = None }
+    else if option_map_or (has_id id) entry.confirmed false
+    then record entry { confirmed = option_map (taking number) entry.confirmed }
+    else entry
 
-abbrev pub accepted : List ℕ → ℕ → List Holding → List Holding
+abbrev pub accepted : List ℕ → ℕ → List TokenEntry → List TokenEntry
 accepted id number table = map (accepted_in id number) table
 
 -- ---- one more context
 
-abbrev pub has_token : List ℕ → List Holding → Bool
-has_token token table = list_any (λ holding. bytes_eq token holding.id) table
+abbrev pub has_token : List ℕ → List TokenEntry → Bool
+has_token token table = list_any (λ entry. bytes_eq token entry.id) table
 
 -- 64 token ids are in the table, and this one is new
-pub record IsFull (token : List ℕ) (table : List Holding) : Type 0 where
+pub record IsFull (token : List ℕ) (table : List TokenEntry) : Type 0 where
   pub many : 64 ≤ length table
   pub new : has_token token table ≡ false
 
 -- without the pending context of a token id
-abbrev pub without_pending_in : List ℕ → Holding → Holding
-without_pending_in token holding = if bytes_eq token holding.id then record holding { pending = None } else holding
+abbrev pub without_pending_in : List ℕ → TokenEntry → TokenEntry
+without_pending_in token entry = if bytes_eq token entry.id then record entry { pending = None } else entry
 
-abbrev pub without_pending : List ℕ → List Holding → List Holding
+abbrev pub without_pending : List ℕ → List TokenEntry → List TokenEntry
 without_pending token table = map (without_pending_in token) table
 
 -- with this pending context of a token id, in the place of the one before
-abbrev pub with_pending : List ℕ → Held → List Holding → List Holding
+abbrev pub with_pending : List ℕ → SecurityContext → List TokenEntry → List TokenEntry
 with_pending token held [] = (record { id = token; confirmed = None; pending = Some held }) ∷ []
-with_pending token held (holding ∷ table) =
-    if bytes_eq token holding.id then (record holding { pending = Some held }) ∷ table
-    else holding ∷ with_pending token held table
+with_pending token held (entry ∷ table) =
+    if bytes_eq token entry.id then (record entry { pending = Some held }) ∷ table
+    else entry ∷ with_pending token held table
 
 -- the least byte that is none of these IDs
 pub record IsLeastFree (taken : List (List ℕ)) (byte : ℕ) : Type 0 where

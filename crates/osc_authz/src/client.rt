@@ -55,7 +55,6 @@ pub struct ClientContext {
     recipient: RecipientContext,
 }
 
-// Proved once, and not anew at each exit of whoever owns one.
 impl Drop for ClientContext {
     fn drop(self) {
         let ClientContext {

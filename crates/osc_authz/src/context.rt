@@ -22,7 +22,6 @@ pub struct ServerContext {
     pub(crate) expires: Option<u64>,
 }
 
-// Proved once, and not anew at each exit of whoever owns one.
 impl Drop for ServerContext {
     fn drop(self) {
         let ServerContext {
@@ -42,9 +41,9 @@ impl Model for ServerContext {
     ghost use Rattle.osc_context.specs.Derivation.{sender_of, recipient_of};
     ghost use Rattle.std.specs.Coded.{codes};
     ghost use Rattle.osc_model.specs.Scope.{coded_scope};
-    ghost use Rattle.osc_authz.specs.Held.{Held};
+    ghost use Rattle.osc_authz.specs.SecurityContext.{SecurityContext};
 
-    ghost Value = { Held };
+    ghost Value = { SecurityContext };
 
     ghost coded = { Prim.hlevel (codes, coded_scope) };
 

@@ -12,7 +12,7 @@ ghost use Rattle.osc_model.specs.Scope.{Scope as AnyScope};
 ghost use Rattle.osc_token.specs.Claims.{ComesTo};
 ghost use Rattle.osc_token.specs.declared.claims.Claims.{Claims as AnyClaims};
 ghost use Rattle.osc_authz.specs.Agreement.{Agrees, Answers};
-ghost use Rattle.osc_authz.specs.Held.{Held};
+ghost use Rattle.osc_authz.specs.SecurityContext.{SecurityContext};
 ghost use Rattle.osc_authz.specs.Inner.Payload.{post_fields as fields_of};
 ghost use Rattle.osc_token.specs.Inner.Reading.{IsItem};
 ghost use Rattle.osc_authz.specs.Table.{IsTable, IsFull, accepted, alive, confirmed_at, meant, taking, with_id};
@@ -21,7 +21,7 @@ ghost use Rattle.osc_authz.specs.Post.{Posts};
 use crate::agreement::context_of;
 use crate::context::ServerContext;
 use crate::error::PostError;
-use crate::holding::Holding;
+use crate::token_entry::TokenEntry;
 use crate::payload::{PostFields, post_fields};
 use crate::places::{NOWHERE, Places, places_of};
 use crate::post::{Post, PostAnswer};
@@ -41,12 +41,11 @@ use std::marker::Model;
 pub struct ServerDesk {
     key: [u8; 16],
     audience: Audience,
-    table: Vec<Holding>,
+    table: Vec<TokenEntry>,
     // Where each recipient ID stands in the table.
     places: Places,
 }
 
-// Proved once, and not anew at each exit of whoever owns one.
 impl Drop for ServerDesk {
     fn drop(self) {
         let ServerDesk {
@@ -293,7 +292,7 @@ impl ServerDesk {
     /// right to one reply comes of it. If the context was pending, it is confirmed, and the older one of its token id goes. Answers
     /// the place of the context's token id as well, so that it needn't be looked up again. Takes no memory.
     pub fn accept(&mut self, id: &[u8], number: u64) -> (AcceptedNumber, usize)
-        requires fresh { (held : Held) × (with_id id.now self.old.table ≡ Some held) × IsFresh held.window number }
+        requires fresh { (held : SecurityContext) × (with_id id.now self.old.table ≡ Some held) × IsFresh held.window number }
         requires number { number ≤ greatest_number }
         ensures right { IfSome (with_id id.now self.old.table) (λ held. result.0 ≡ accepted_of held.name Server number) }
         ensures placed { IfSome (with_id id.now self.old.table) (λ held. confirmed_at result.1 self.new.table ≡ Some (taking number held)) }

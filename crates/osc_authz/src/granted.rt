@@ -28,7 +28,6 @@ pub struct ClientDesk {
     pub ghost id_context_size: { ForSome id_context IsShort },
 }
 
-// Proved once, and not anew at each exit of whoever owns one.
 impl Drop for ClientDesk {
     fn drop(self) {
         let ClientDesk {

@@ -17,7 +17,7 @@ ghost use Rattle.osc_authz.specs.Client.{Finishes};
 ghost use Rattle.osc_authz.specs.Contexts.{OfToken, of_tokens, IsLive, AreKept, HasAdded, HasTaken};
 ghost use Rattle.osc_authz.specs.Desk.{DeskState};
 ghost use Rattle.osc_authz.specs.Exchange.{IsPost, IsAnswer, post_item, answer_item};
-ghost use Rattle.osc_authz.specs.Held.{Held};
+ghost use Rattle.osc_authz.specs.SecurityContext.{SecurityContext};
 ghost use Rattle.osc_authz.specs.HoldsToken.{HoldsToken};
 ghost use Rattle.osc_authz.specs.Members.{In};
 ghost use Rattle.osc_authz.specs.Post.{Posts};
@@ -26,7 +26,7 @@ ghost use Rattle.osc_authz.specs.Table.{IsLawfulContext, IsTable, accepted, aliv
 ghost use Rattle.osc_authz.specs.Welcome.{IsWelcome};
 ghost use Rattle.osc_authz.specs.declared.error.FinishError.{FinishError as AnyFinishError};
 ghost use Rattle.osc_authz.specs.declared.granted.ClientDesk.{ClientDesk as AnyClient};
-ghost use Rattle.osc_authz.specs.declared.holding.Holding.{Holding};
+ghost use Rattle.osc_authz.specs.declared.token_entry.TokenEntry.{TokenEntry};
 ghost use Rattle.osc_authz.specs.declared.post.Post.{Post as AnyPost};
 ghost use Rattle.osc_authz.specs.declared.post.PostAnswer.{PostAnswer as AnyAnswer};
 
@@ -63,31 +63,31 @@ pub fn lengths_of_answers()
 
 /// A context is live exactly in the time of its token.
 pub fn live_in_its_time()
-    ensures { (held : Held) (now : AnyMoment)
+    ensures { (held : SecurityContext) (now : AnyMoment)
         → is_live now held ≡ true ↔ (HasBegun held.not_before now × IsNotOver held.expires now) }
 {}
 
 /// The context that a request means is held, pending or confirmed, and live, and has the request's kid as its recipient ID.
 pub fn meant_contexts()
-    ensures { (now : AnyMoment) (kid : List ℕ) (kid_context : Option (List ℕ)) (table : List Holding) (held : Held)
+    ensures { (now : AnyMoment) (kid : List ℕ) (kid_context : Option (List ℕ)) (table : List TokenEntry) (held : SecurityContext)
         → meant now kid kid_context table ≡ Some held
         → (context : OfToken) × In context (of_tokens table) × (context.held ≡ held)
         × IsLive now held × (held.name.client_id ≡ kid) }
 {}
 
-/// Held contexts with one recipient ID are one context, of one token id, and either confirmed or pending.
+/// SecurityContext contexts with one recipient ID are one context, of one token id, and either confirmed or pending.
 pub fn one_context()
-    ensures held { (table : List Holding) (context other : Held)
+    ensures held { (table : List TokenEntry) (context other : SecurityContext)
         → IsTable table → In context (contexts table) → In other (contexts table)
         → context.name.client_id ≡ other.name.client_id → context ≡ other }
-    ensures of_token { (table : List Holding) (context other : OfToken)
+    ensures of_token { (table : List TokenEntry) (context other : OfToken)
         → IsTable table → In context (of_tokens table) → In other (of_tokens table)
         → context.held.name.client_id ≡ other.held.name.client_id → context ≡ other }
 {}
 
 /// A live context of a table is the one that a request means by its recipient ID and its id context.
 pub fn held_contexts_are_meant()
-    ensures { (now : AnyMoment) (table : List Holding) (held : Held)
+    ensures { (now : AnyMoment) (table : List TokenEntry) (held : SecurityContext)
         → IsTable table → In held (contexts table) → IsLive now held
         → meant now held.name.client_id held.name.id_context table ≡ Some held }
 {
@@ -97,14 +97,14 @@ pub fn held_contexts_are_meant()
 
 /// Where the token ids without a live context leave the table, no context comes, and each that lives stays.
 pub fn live_contexts()
-    ensures { (now : AnyMoment) (table : List Holding)
+    ensures { (now : AnyMoment) (table : List TokenEntry)
         → AreKept now (of_tokens table) (of_tokens (alive now table)) }
 {}
 
 /// One more pending context of a token id, where the token ids without a live context have left the table, takes the place of
 /// the one that was pending for this id, and each other that lives stays.
 pub fn one_more_context()
-    ensures { (now : AnyMoment) (token : List ℕ) (held : Held) (table : List Holding)
+    ensures { (now : AnyMoment) (token : List ℕ) (held : SecurityContext) (table : List TokenEntry)
         → IsTable (with_pending token held (alive now table))
         → HasAdded now token held (of_tokens table) (of_tokens (with_pending token held (alive now table))) }
 {}
@@ -112,7 +112,7 @@ pub fn one_more_context()
 /// Where the context with an ID accepts a number, its window takes the number, it is confirmed in the place of the older one of
 /// its token id, and no other context changes.
 pub fn numbers_taken()
-    ensures { (now : AnyMoment) (number : ℕ) (context : OfToken) (table : List Holding)
+    ensures { (now : AnyMoment) (number : ℕ) (context : OfToken) (table : List TokenEntry)
         → IsTable table → In context (of_tokens table)
         → HasTaken now number context (of_tokens table) (of_tokens (accepted context.held.name.client_id number table)) }
 {}
@@ -149,7 +149,7 @@ pub fn one_name<A: Aead>()
         (record { at = now; body = spelling (post_item client.token begun.nonce1 (begun.recipient_id ∷ [])); draw = draw }) post after
         → post.answer ≡ Ok answer
         → Finishes client begun (code 2 1) (spelling (answer_item answer.nonce2 (answer.recipient_id ∷ []))) finished
-        → (held : Held) × In held (contexts after.table) × (held.scope ≡ scope_of entries)
+        → (held : SecurityContext) × In held (contexts after.table) × (held.scope ≡ scope_of entries)
         × (held.not_before ≡ claims.not_before) × (held.expires ≡ claims.expires)
         × (finished ≡ Ok (record { name = held.name; next = 0 }))
         × (held.window ≡ []) × IsLawfulContext held

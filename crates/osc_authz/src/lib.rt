@@ -11,7 +11,7 @@ mod derivation;
 mod desk;
 mod error;
 mod granted;
-mod holding;
+mod token_entry;
 pub mod laws;
 mod marks;
 mod payload;

@@ -5,7 +5,7 @@ ghost use Rattle.osc_authz.specs.Inner.Marks.{AddsMarks};
 ghost use Rattle.osc_authz.specs.Table.{alive, ids, listed, without_pending};
 
 use crate::context::ServerContext;
-use crate::holding::Holding;
+use crate::token_entry::TokenEntry;
 use osc_model::Moment;
 
 /// A mark for each byte, which stands for the ID that is this one byte.
@@ -21,22 +21,22 @@ pub(crate) fn mark(marks: &mut Marks, id: &[u8])
 }
 
 /// Marks the recipient IDs that stay in use once the dead and the pending context of this token id have gone.
-pub(crate) fn mark_staying(marks: &mut Marks, table: &[Holding], now: Moment, token: &[u8])
+pub(crate) fn mark_staying(marks: &mut Marks, table: &[TokenEntry], now: Moment, token: &[u8])
     ensures { AddsMarks (ids (without_pending token.now (alive now table.now))) marks.old marks.new }
 {
-    for holding in table {
-        mark_holding(marks, holding, now, token);
+    for entry in table {
+        mark_entry(marks, entry, now, token);
     }
 }
 
 /// The same of one token id.
-fn mark_holding(marks: &mut Marks, holding: &Holding, now: Moment, token: &[u8])
-    ensures { AddsMarks (ids (without_pending token.now (alive now (holding.now ∷ [])))) marks.old marks.new }
+fn mark_entry(marks: &mut Marks, entry: &TokenEntry, now: Moment, token: &[u8])
+    ensures { AddsMarks (ids (without_pending token.now (alive now (entry.now ∷ [])))) marks.old marks.new }
 {
-    if holding.holds_live(now) {
-        mark_context(marks, &holding.confirmed);
-        if !holding.is_of_token(token) {
-            mark_context(marks, &holding.pending);
+    if entry.holds_live(now) {
+        mark_context(marks, &entry.confirmed);
+        if !entry.is_of_token(token) {
+            mark_context(marks, &entry.pending);
         }
     }
 }

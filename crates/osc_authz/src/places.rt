@@ -6,7 +6,7 @@ ghost use Rattle.osc_authz.specs.Inner.Places.{IsIndex, place_at, nowhere};
 ghost use Rattle.osc_authz.specs.Table.{IsTable, has_id, holds_id};
 
 use crate::context::ServerContext;
-use crate::holding::Holding;
+use crate::token_entry::TokenEntry;
 
 /// For each byte, which stands for the recipient ID that is this one byte, the place of the token id that has the context, or
 /// [`NOWHERE`].
@@ -16,7 +16,7 @@ pub(crate) type Places = [u8; 256];
 pub(crate) const NOWHERE: u8 = 255;
 
 /// Where the recipient IDs of this table stand; takes time linear in its token ids.
-pub(crate) fn places_of(table: &[Holding]) -> Places
+pub(crate) fn places_of(table: &[TokenEntry]) -> Places
     requires { length table.now ≤ 64 }
     ensures { IsIndex result table.now }
 {
@@ -25,13 +25,13 @@ pub(crate) fn places_of(table: &[Holding]) -> Places
     // From the last one on, so that of two with one ID the first one counts.
     while left > 0 {
         left -= 1;
-        note_holding(&mut places, &table[left], left as u8);
+        note_entry(&mut places, &table[left], left as u8);
     }
     places
 }
 
 /// The place of the token id that has the context with this recipient ID.
-pub(crate) fn place_of_id(table: &[Holding], places: &Places, id: &[u8]) -> Option<usize>
+pub(crate) fn place_of_id(table: &[TokenEntry], places: &Places, id: &[u8]) -> Option<usize>
     requires table { IsTable table.now }
     requires index { IsIndex places.now table.now }
     ensures { result ≡ position (holds_id id.now) table.now }
@@ -44,11 +44,11 @@ pub(crate) fn place_of_id(table: &[Holding], places: &Places, id: &[u8]) -> Opti
 }
 
 /// Notes the place of a token id for the recipient IDs of its contexts.
-fn note_holding(places: &mut Places, holding: &Holding, place: u8)
-    ensures { (byte : ℕ) → byte < 256 → place_at places.new byte ≡ (if holds_id (byte ∷ []) holding.now then place else place_at places.old byte) }
+fn note_entry(places: &mut Places, entry: &TokenEntry, place: u8)
+    ensures { (byte : ℕ) → byte < 256 → place_at places.new byte ≡ (if holds_id (byte ∷ []) entry.now then place else place_at places.old byte) }
 {
-    note_context(places, &holding.confirmed, place);
-    note_context(places, &holding.pending, place);
+    note_context(places, &entry.confirmed, place);
+    note_context(places, &entry.pending, place);
 }
 
 /// The same of one context, where it is there.

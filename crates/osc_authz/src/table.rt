@@ -6,12 +6,12 @@ ghost use Rattle.osc_model.specs.declared.context.Side.TheVariants.{Server};
 ghost use Rattle.osc_context.specs.Derivation.{accepted_of};
 ghost use Rattle.osc_context.specs.Nonce.{greatest_number};
 ghost use Rattle.osc_window.specs.Window.{IsFresh};
-ghost use Rattle.osc_authz.specs.Held.{Held};
+ghost use Rattle.osc_authz.specs.SecurityContext.{SecurityContext};
 ghost use Rattle.osc_authz.specs.Inner.Places.{IsIndex};
 ghost use Rattle.osc_authz.specs.Table.{IsTable, IsFull, IsLeastFree, accepted, alive, confirmed_at, has_token, ids, taking, with_id as with_id_of, without_pending, with_pending};
 
 use crate::context::ServerContext;
-use crate::holding::Holding;
+use crate::token_entry::TokenEntry;
 use crate::marks::{least_unmarked, mark, mark_staying};
 use crate::places::{Places, place_of_id, places_of};
 use osc_context::AcceptedNumber;
@@ -22,7 +22,7 @@ const MOST: usize = 64;
 
 /// The context with this recipient ID.
 pub(crate) fn with_id<'a>(
-    table: &'a [Holding],
+    table: &'a [TokenEntry],
     places: &Places,
     id: &[u8],
 ) -> Option<&'a ServerContext>
@@ -39,14 +39,14 @@ pub(crate) fn with_id<'a>(
 /// The window of the context with this recipient ID takes this fresh number. If it was pending, it is confirmed, and the
 /// older one of its token id goes. Answers the place of the token id as well.
 pub(crate) fn accept(
-    table: &mut [Holding],
+    table: &mut [TokenEntry],
     places: &mut Places,
     id: &[u8],
     number: u64,
 ) -> (AcceptedNumber, usize)
     requires table { IsTable table.old }
     requires index { IsIndex places.old table.old }
-    requires fresh { (held : Held) × (with_id_of id.now table.old ≡ Some held) × IsFresh held.window number }
+    requires fresh { (held : SecurityContext) × (with_id_of id.now table.old ≡ Some held) × IsFresh held.window number }
     requires number { number ≤ greatest_number }
     ensures right { IfSome (with_id_of id.now table.old) (λ held. result.0 ≡ accepted_of held.name Server number) }
     ensures placed { IfSome (with_id_of id.now table.old) (λ held. confirmed_at result.1 table.new ≡ Some (taking number held)) }
@@ -62,10 +62,10 @@ pub(crate) fn accept(
 }
 
 /// Whether a request under the context with this recipient ID confirms it, so that an older one may go; else each ID stays where it is.
-fn confirms(table: &[Holding], places: &Places, id: &[u8]) -> bool
+fn confirms(table: &[TokenEntry], places: &Places, id: &[u8]) -> bool
     requires table { IsTable table.now }
     requires index { IsIndex places.now table.now }
-    requires there { (held : Held) × (with_id_of id.now table.now ≡ Some held) }
+    requires there { (held : SecurityContext) × (with_id_of id.now table.now ≡ Some held) }
     ensures { IsFalse result → (number : ℕ) → IsIndex places.now (accepted id.now number table.now) }
 {
     match place_of_id(table, places, id) {
@@ -77,14 +77,14 @@ fn confirms(table: &[Holding], places: &Places, id: &[u8]) -> bool
 
 /// The same as [`accept`], with the places as they were.
 fn take_number(
-    table: &mut [Holding],
+    table: &mut [TokenEntry],
     places: &Places,
     id: &[u8],
     number: u64,
 ) -> (AcceptedNumber, usize)
     requires table { IsTable table.old }
     requires index { IsIndex places.now table.old }
-    requires fresh { (held : Held) × (with_id_of id.now table.old ≡ Some held) × IsFresh held.window number }
+    requires fresh { (held : SecurityContext) × (with_id_of id.now table.old ≡ Some held) × IsFresh held.window number }
     requires number { number ≤ greatest_number }
     ensures right { IfSome (with_id_of id.now table.old) (λ held. result.0 ≡ accepted_of held.name Server number) }
     ensures placed { IfSome (with_id_of id.now table.old) (λ held. confirmed_at result.1 table.new ≡ Some (taking number held)) }
@@ -98,7 +98,7 @@ fn take_number(
 }
 
 /// Whether 64 other token ids have a live context.
-pub(crate) fn is_full(table: &[Holding], now: Moment, token: &[u8]) -> bool
+pub(crate) fn is_full(table: &[TokenEntry], now: Moment, token: &[u8]) -> bool
     ensures { IsTrue result ↔ IsFull token.now (alive now table.now) }
 {
     count_alive(table, now) >= MOST && !has_alive(table, now, token)
@@ -106,7 +106,7 @@ pub(crate) fn is_full(table: &[Holding], now: Moment, token: &[u8]) -> bool
 
 /// The least byte that is no recipient ID in use, once the dead and the pending context of this token id have gone, and
 /// isn't the client's ID.
-pub(crate) fn free_id(table: &[Holding], now: Moment, token: &[u8], client_id: &[u8]) -> u8
+pub(crate) fn free_id(table: &[TokenEntry], now: Moment, token: &[u8], client_id: &[u8]) -> u8
     requires { IsTable table.now }
     ensures { IsLeastFree (client_id.now ∷ ids (without_pending token.now (alive now table.now))) result }
 {
@@ -122,7 +122,7 @@ pub(crate) fn free_id(table: &[Holding], now: Moment, token: &[u8], client_id: &
 
 /// Lets the token ids without a live context go, and adds this pending one, for which there is room.
 pub(crate) fn add_pending(
-    table: &mut Vec<Holding>,
+    table: &mut Vec<TokenEntry>,
     now: Moment,
     token: Bytes,
     context: ServerContext,
@@ -135,42 +135,42 @@ pub(crate) fn add_pending(
 }
 
 /// How many token ids have a live context.
-fn count_alive(table: &[Holding], now: Moment) -> usize
+fn count_alive(table: &[TokenEntry], now: Moment) -> usize
     ensures { result ≡ length (alive now table.now) }
 {
     table
         .iter()
-        .filter(|holding| holding.holds_live(now))
+        .filter(|entry| entry.holds_live(now))
         .count()
 }
 
 /// Whether this token id has a live context.
-fn has_alive(table: &[Holding], now: Moment, token: &[u8]) -> bool
+fn has_alive(table: &[TokenEntry], now: Moment, token: &[u8]) -> bool
     ensures { result ≡ has_token token.now (alive now table.now) }
 {
     table
         .iter()
-        .filter(|holding| holding.holds_live(now))
-        .any(|holding| holding.is_of_token(token))
+        .filter(|entry| entry.holds_live(now))
+        .any(|entry| entry.is_of_token(token))
 }
 
 /// Lets the token ids without a live context go.
-fn keep_alive(table: &mut Vec<Holding>, now: Moment)
+fn keep_alive(table: &mut Vec<TokenEntry>, now: Moment)
     ensures items { table.new.items ≡ alive now table.old.items }
     ensures len { vec_len table.new ≤ vec_len table.old }
     ensures capacity { vec_capacity table.new ≡ vec_capacity table.old }
 {
-    table.retain(|holding| holding.holds_live(now));
+    table.retain(|entry| entry.holds_live(now));
 }
 
 /// Makes this the pending context of its token id, in the room that there is.
-fn put_pending(table: &mut Vec<Holding>, token: Bytes, context: ServerContext)
+fn put_pending(table: &mut Vec<TokenEntry>, token: Bytes, context: ServerContext)
     requires { vec_len table.old < vec_capacity table.old }
     ensures { table.new.items ≡ with_pending token context table.old.items }
 {
     match place_of(table, token.as_slice()) {
         Some(index) => table[index].pending = Some(context),
-        None => table.push_reserved(Holding {
+        None => table.push_reserved(TokenEntry {
             id: token,
             confirmed: None,
             pending: Some(context),
@@ -179,8 +179,8 @@ fn put_pending(table: &mut Vec<Holding>, token: Bytes, context: ServerContext)
 }
 
 /// The place of a token id.
-fn place_of(table: &[Holding], token: &[u8]) -> Option<usize>
-    ensures { result ≡ position (λ holding. bytes_eq token.now holding.id) table.now }
+fn place_of(table: &[TokenEntry], token: &[u8]) -> Option<usize>
+    ensures { result ≡ position (λ entry. bytes_eq token.now entry.id) table.now }
 {
-    table.iter().position(|holding| holding.is_of_token(token))
+    table.iter().position(|entry| entry.is_of_token(token))
 }

@@ -14,7 +14,7 @@ use Rattle.osc_client.specs.State.{State, core}
 use Rattle.osc_client.specs.Steps.{IsStep}
 use Rattle.osc_run.specs.ClientKinds.{ClientStep}
 use Rattle.osc_run.specs.Nodes.{Came}
-use Rattle.osc_client.specs.declared.way.Way.{Way}
+use Rattle.osc_client.specs.declared.route.Route.{Route}
 use Rattle.osc_c.specs.Arguments.{IsUnfit, Tells}
 use Rattle.osc_c.specs.Ends.{At, DoneAt, Ends}
 use Rattle.osc_c.specs.Given.{GivenDatagram, GivenGrant, GivenRequest}
@@ -28,7 +28,7 @@ use Rattle.osc_c.specs.declared.calls.outcome.Outcome.{Outcome}
 use Rattle.osc_c.specs.declared.calls.outcome.Outcome.TheVariants.{Done, Nothing}
 
 -- it was granted this, and has done nothing
-abbrev pub IsFresh : ClientDesk → Way → ClientNode → Type 0
+abbrev pub IsFresh : ClientDesk → Route → ClientNode → Type 0
 IsFresh desk way node = node ≡ record {
   client = record { desk = desk; next_hop = way.next_hop; origin = way.origin; context = None; waiting = None; endpoint = fresh };
   last = nothing;

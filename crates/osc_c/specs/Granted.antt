@@ -5,7 +5,7 @@ use Rattle.osc_model.specs.Algorithm.{algorithm_number}
 use Rattle.osc_model.specs.declared.algorithm.Algorithm.{Algorithm}
 use Rattle.osc_authz.specs.Granted.{IsSecret, IsShort}
 use Rattle.osc_authz.specs.declared.granted.ClientDesk.{ClientDesk}
-use Rattle.osc_client.specs.Way.{HostAndPort, IsHost}
+use Rattle.osc_client.specs.Route.{HostAndPort, IsHost}
 use Rattle.osc_c.specs.Given.{GivenGrant}
 
 -- it is no algorithm's number

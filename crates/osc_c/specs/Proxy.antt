@@ -5,7 +5,7 @@ use Rattle.osc_model.specs.declared.node.Draw.{Draw}
 use Rattle.osc_model.specs.declared.node.Moment.{Moment}
 use Rattle.osc_model.specs.declared.step.Step.{Step}
 use Rattle.osc_message.specs.Endpoint.{fresh}
-use Rattle.osc_client.specs.Way.{IsHost}
+use Rattle.osc_client.specs.Route.{IsHost}
 use Rattle.osc_proxy.specs.Exchanges.{none_open}
 use Rattle.osc_proxy.specs.Hearing.{Hears}
 use Rattle.osc_proxy.specs.State.{State, restarted}

@@ -12,7 +12,7 @@ use Rattle.osc_authz.specs.Exchange.{post_item}
 use Rattle.osc_authz.specs.declared.granted.ClientDesk.{ClientDesk}
 use Rattle.osc_protect.specs.Protection.{longest_message}
 use Rattle.osc_client.specs.Sending.{OfEachPost, post_with}
-use Rattle.osc_client.specs.Way.{HostAndPort, through}
+use Rattle.osc_client.specs.Route.{HostAndPort, through}
 use Rattle.osc_client.proofs.Through.{LengthLaw}
 
 -- ---- heads (RFC 8949 section 3)

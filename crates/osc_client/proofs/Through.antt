@@ -18,7 +18,7 @@ use Rattle.osc_options.specs.PlaintextRequests.{request_plaintext}
 use Rattle.osc_options.specs.Split.{AreInOrder, has_oscore, inner_options, insert, merge, of_number, outer_options, plaintext_of, same_class, unprotected}
 use Rattle.osc_options.specs.Table.{class_of}
 use Rattle.osc_client.specs.Sending.{plain_request, post_with}
-use Rattle.osc_client.specs.Way.{HostAndPort, proxy_options, through}
+use Rattle.osc_client.specs.Route.{HostAndPort, proxy_options, through}
 
 -- ---- the laws that this stands on
 

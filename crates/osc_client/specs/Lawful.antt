@@ -2,7 +2,7 @@
 use Rattle.std.specs.Prelude.{◌≡◌, [], None, IfSome, length}
 use Rattle.osc_protect.specs.Protection.{HasShortContext}
 use Rattle.osc_client.specs.State.{State}
-use Rattle.osc_client.specs.Way.{IsLawfulOrigin}
+use Rattle.osc_client.specs.Route.{IsLawfulOrigin}
 
 -- No message is open where nothing waits; an id context is short enough for OSCORE's option; the host of a server behind a proxy can be
 -- a Uri-Host; and what waits does so under a token of 8 bytes.

@@ -1,5 +1,5 @@
 pub mod State
-pub mod Way
+pub mod Route
 pub mod Sending
 pub mod Lying
 pub mod Told

@@ -19,7 +19,7 @@ use Rattle.osc_run.specs.ClientKinds.{request_note}
 use Rattle.osc_message.specs.Sending.{datagram}
 use Rattle.osc_client.specs.Sending.{refusing}
 use Rattle.osc_client.specs.State.{State}
-use Rattle.osc_client.specs.Way.{HostAndPort, through}
+use Rattle.osc_client.specs.Route.{HostAndPort, through}
 
 -- what goes around a lie: a confirmable POST, with a message ID and a token that are drawn (RFC 8613 section 4.2)
 abbrev pub outside_of : Option HostAndPort → Draw → Message

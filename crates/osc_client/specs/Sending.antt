@@ -33,7 +33,7 @@ use Rattle.osc_authz.specs.declared.granted.ClientDesk.{ClientDesk}
 use Rattle.osc_run.specs.ClientKinds.{request_note}
 use Rattle.osc_message.specs.Sending.{GoesOut, datagram}
 use Rattle.osc_client.specs.State.{State}
-use Rattle.osc_client.specs.Way.{HostAndPort, through}
+use Rattle.osc_client.specs.Route.{HostAndPort, through}
 use Rattle.osc_client.specs.declared.waiting.Awaited.{Awaited}
 use Rattle.osc_client.specs.declared.waiting.Awaited.TheVariants.{Exchange, Ask}
 use Rattle.osc_client.specs.declared.waiting.Waiting.{Waiting}

@@ -5,7 +5,7 @@ use Rattle.osc_authz.specs.Begun.{ClientContextState}
 use Rattle.osc_authz.specs.declared.granted.ClientDesk.{ClientDesk}
 use Rattle.osc_message.specs.Endpoint.{EndpointState}
 use Rattle.osc_run.specs.States.{ClientState, Outstanding, Nothing, Exchange as OpenExchange, Ask as AskOf}
-use Rattle.osc_client.specs.Way.{HostAndPort}
+use Rattle.osc_client.specs.Route.{HostAndPort}
 use Rattle.osc_client.specs.declared.waiting.Awaited.{Awaited}
 use Rattle.osc_client.specs.declared.waiting.Awaited.TheVariants.{Exchange, Ask}
 use Rattle.osc_client.specs.declared.waiting.Waiting.{Waiting}

@@ -7,12 +7,12 @@ ghost use Rattle.osc_options.specs.Split.{unprotected};
 ghost use Rattle.osc_protect.specs.Protection.{HasShortContext, IsProtectedRequest, longest_message, plain_bytes, request_length};
 ghost use Rattle.osc_client.specs.Inner.Bounds.{room_for, size_for};
 ghost use Rattle.osc_client.specs.Sending.{plain_request};
-ghost use Rattle.osc_client.specs.Way.{through as through_of};
+ghost use Rattle.osc_client.specs.Route.{through as through_of};
 ghost use Rattle.osc_run.specs.ClientKinds.{request_note};
 
 use crate::proxied::outside_with;
 use crate::waiting::OpenAsk;
-use crate::way::Origin;
+use crate::route::Origin;
 use osc_authz::ClientContext;
 use osc_ccm::Ciphers;
 use osc_coap::MessageBuilder;

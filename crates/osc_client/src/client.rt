@@ -27,7 +27,7 @@ ghost use Rattle.osc_options.specs.Split.{unprotected};
 ghost use Rattle.osc_client.specs.Sending.{IsFree, IsHindered, PostFits, PostIsTooLong, acts_at, is_over_by, opened, plain_of, restarted};
 ghost use Rattle.osc_client.specs.Inner.Bounds.{AsksFor, IsLawful, NeedsContext, room_for};
 ghost use Rattle.osc_client.specs.Lawful.{IsLawfulClient};
-ghost use Rattle.osc_client.specs.Way.{IsLawfulOrigin};
+ghost use Rattle.osc_client.specs.Route.{IsLawfulOrigin};
 
 use crate::Endpoint;
 use crate::answering::{Learnt, learn, outcome_of};
@@ -38,7 +38,7 @@ use crate::lying::{lie_under, outside};
 use crate::refusing::refused;
 use crate::sending::{acknowledged, refusal};
 use crate::waiting::{Awaited, Waiting};
-use crate::way::{Origin, Way};
+use crate::route::{Origin, Route};
 use osc_authz::{ClientContext, ClientDesk};
 use osc_ccm::Ciphers;
 use osc_coap::{Kind, MessageBuilder, MessageRef};
@@ -65,7 +65,6 @@ pub struct Client {
     endpoint: Endpoint,
 }
 
-// Proved once, and not anew at each exit of whoever owns one.
 impl Drop for Client {
     fn drop(self) {
         let Client {
@@ -129,10 +128,10 @@ fn is_whole(token: &[u8; 8])
 
 impl Client {
     /// A client that was granted this, and reaches its server this way; it has no context and waits for nothing.
-    pub fn new(alloc: Global, desk: ClientDesk, way: Way) -> Result<Client, AllocError>
+    pub fn new(alloc: Global, desk: ClientDesk, way: Route) -> Result<Client, AllocError>
         ensures { IfOk result (λ client. client ≡ record { desk = desk; next_hop = way.next_hop; origin = way.origin; context = None; waiting = None; endpoint = fresh }) }
     {
-        let Way { next_hop, origin } = way;
+        let Route { next_hop, origin } = way;
         Ok(Client {
             desk,
             next_hop,

@@ -4,11 +4,11 @@ ghost use Rattle.osc_cbor.specs.Head.{head};
 ghost use Rattle.osc_coap.specs.Length.{datagram_limit};
 ghost use Rattle.osc_coap.specs.Message.{spelling};
 ghost use Rattle.osc_client.specs.Sending.{OfEachPost, post_with};
-ghost use Rattle.osc_client.specs.Way.{through as through_of};
+ghost use Rattle.osc_client.specs.Route.{through as through_of};
 ghost use Rattle.osc_protect.specs.Protection.{longest_message};
 
 use crate::proxied::through;
-use crate::way::Origin;
+use crate::route::Origin;
 use osc_authz::ClientDesk;
 use osc_coap::laws::length_of_spelling;
 use osc_coap::{DATAGRAM_LIMIT, DatagramTooLong, Kind, MessageBuilder};

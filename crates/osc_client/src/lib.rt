@@ -14,13 +14,13 @@ mod proxied;
 mod refusing;
 mod sending;
 mod waiting;
-mod way;
+mod route;
 
 pub use answering::Outcome;
 pub use case::Case;
 pub use client::Client;
 pub use waiting::{Awaited, OpenAsk, Waiting};
-pub use way::{Origin, Way};
+pub use route::{Origin, Route};
 
 /// The message layer of a client. It awaits one thing at a time, so it has a place for one confirmable message.
 type Endpoint = osc_message::Endpoint<1>;

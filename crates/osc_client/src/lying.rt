@@ -10,7 +10,7 @@ ghost use Rattle.osc_client.specs.State.{State};
 use crate::proxied::outside_with;
 use crate::refusing::refused;
 use crate::sending::message_out;
-use crate::way::Origin;
+use crate::route::Origin;
 use osc_authz::ClientContext;
 use osc_ccm::Ciphers;
 use osc_coap::{DATAGRAM_LIMIT, MessageBuilder};

@@ -5,9 +5,9 @@ ghost use Rattle.osc_coap.specs.Length.{datagram_limit};
 ghost use Rattle.osc_coap.specs.declared.kind.Kind.TheVariants.{Confirmable};
 ghost use Rattle.osc_coap.specs.Message.{spelling};
 ghost use Rattle.osc_options.specs.Split.{inner_options};
-ghost use Rattle.osc_client.specs.Way.{port_options, proxy_options, through as through_of};
+ghost use Rattle.osc_client.specs.Route.{port_options, proxy_options, through as through_of};
 
-use crate::way::Origin;
+use crate::route::Origin;
 use osc_coap::laws::length_of_spelling;
 use osc_coap::{DatagramTooLong, Kind, MessageBuilder, PlaintextRef};
 use osc_options::laws::length_of_split;

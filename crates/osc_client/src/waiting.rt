@@ -10,7 +10,6 @@ pub struct OpenAsk {
     pub plaintext: Bytes,
 }
 
-// Proved once, and not anew at each exit of whoever owns one.
 impl Drop for OpenAsk {
     fn drop(self) {
         let OpenAsk {

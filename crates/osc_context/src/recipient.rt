@@ -87,7 +87,6 @@ pub struct RecipientContext {
     window: Window,
 }
 
-// Proved once, and not anew at each exit of whoever owns one.
 impl Drop for RecipientContext {
     fn drop(self) {
         let RecipientContext {

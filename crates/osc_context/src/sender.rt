@@ -94,7 +94,6 @@ pub struct SenderContext {
     next: u64,
 }
 
-// Proved once, and not anew at each exit of whoever owns one.
 impl Drop for SenderContext {
     fn drop(self) {
         let SenderContext {

@@ -15,7 +15,7 @@ use Rattle.osc_ccm.specs.Ciphers.{Sealings, Tags}
 use Rattle.osc_scope.specs.Entries.{Entry}
 use Rattle.osc_token.specs.declared.claims.Claims.{Claims}
 use Rattle.osc_authz.specs.Begun.{ClientContextState}
-use Rattle.osc_authz.specs.Held.{Held}
+use Rattle.osc_authz.specs.SecurityContext.{SecurityContext}
 use Rattle.osc_client.specs.Hearing.{Begins, Hears as ClientHears, Requests}
 use Rattle.osc_client.specs.Lawful.{IsLawfulClient}
 use Rattle.osc_client.specs.Sending.{Asked, Asks, Exchanges}
@@ -42,7 +42,7 @@ one_step o a b e f = cc
 
 module _ (is_sealing : Sealings) (tag : Tags)
     (law : (client asked : Client) (server : Server) (asks : Asked) (now : Moment) (at server_at : Peer)
-    (context : ClientContextState) (held : Held) (first : Step)
+    (context : ClientContextState) (held : SecurityContext) (first : Step)
     → IsLawfulServer server → IsLawfulClient asked
     → IsStraight client server now asks.draw at server_at → MayAsk client server now context held
     → first.notes.result ≢ Some (result.Refused 14)
@@ -50,7 +50,7 @@ module _ (is_sealing : Sealings) (tag : Tags)
     → IsAskedAndAnswered is_sealing
     (record { asked = asked; server = server; at = at; server_at = server_at; now = now; held = held; number = context.next; text = asked_text client asks.draw asks.request })
     client asks.draw first)
-    (old new : State) (asks : Asked) (server_draw : Draw) (context : ClientContextState) (held : Held) (asked : Client) (round : Round)
+    (old new : State) (asks : Asked) (server_draw : Draw) (context : ClientContextState) (held : SecurityContext) (asked : Client) (round : Round)
     (straight : (old.own.origin ≡ None) × (old.own.next_hop ≡ server_address)) (lawful : IsLawfulServer old.server) (lawful_own : IsLawfulClient asked)
     (ready : IsReady old asks.at asks.draw context held) (whole : IsWhole round)
     (requests : Requests is_sealing tag old.own asks round.begun asked) where

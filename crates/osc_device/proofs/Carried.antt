@@ -18,7 +18,7 @@ use Rattle.osc_run.specs.ServerKinds.{ServerStep}
 use Rattle.osc_client.specs.Hearing.{Hears as ClientHears, Ticks}
 use Rattle.osc_client.specs.Sending.{Asked, Asks, Exchanges, OfEachPost, PostFits, TicksBy, is_over}
 use Rattle.osc_client.specs.State.{State as Client, core as client_core}
-use Rattle.osc_client.specs.Way.{HostAndPort}
+use Rattle.osc_client.specs.Route.{HostAndPort}
 use Rattle.osc_server.specs.Hearing.{Hears as ServerHears}
 use Rattle.osc_server.specs.State.{State as Server, core as server_core}
 use Rattle.osc_device.specs.Carrying.{ClientTakesMemory, ComesBack, Reaches, ServerTakesMemory, at_device}

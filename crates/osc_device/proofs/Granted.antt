@@ -13,7 +13,7 @@ use Rattle.osc_model.specs.declared.node.Draw.{Draw}
 use Rattle.osc_model.specs.declared.node.Moment.{Moment}
 use Rattle.osc_ccm.specs.Ciphers.{Sealings}
 use Rattle.osc_authz.specs.Table.{IsFull, alive}
-use Rattle.osc_authz.specs.declared.holding.Holding.{Holding}
+use Rattle.osc_authz.specs.declared.token_entry.TokenEntry.{TokenEntry}
 use Rattle.osc_scope.specs.Entries.{Entry}
 use Rattle.osc_token.specs.declared.claims.Claims.{Claims}
 use Rattle.osc_device.specs.Answered.{MayOpen}
@@ -33,7 +33,7 @@ may_open is_sealing device now draw claims entries granted idle empty unheard = 
       audience = granted.audience;
       begun = λ seconds is. let none = sym granted.not_before ∙ is in absurd cc;
       not_over = λ seconds is. let none = sym granted.expires ∙ is in absurd cc;
-      room = λ full. let none : IsFull claims.material.id (alive now []) = subst (λ (table : List Holding). IsFull claims.material.id (alive now table)) empty full in absurd (omega (arith, none.many));
+      room = λ full. let none : IsFull claims.material.id (alive now []) = subst (λ (table : List TokenEntry). IsFull claims.material.id (alive now table)) empty full in absurd (omega (arith, none.many));
     };
   };
   unheard = ap (looked now own_address (own_id draw device.own.endpoint.next_id)) unheard;

@@ -17,7 +17,7 @@ use Rattle.osc_scope.specs.Entries.{Entry}
 use Rattle.osc_token.specs.declared.claims.Claims.{Claims}
 use Rattle.osc_ccm.specs.Ciphers.{Sealings}
 use Rattle.osc_authz.specs.Begun.{ClientContextState}
-use Rattle.osc_authz.specs.Held.{Held}
+use Rattle.osc_authz.specs.SecurityContext.{SecurityContext}
 use Rattle.osc_client.specs.Sending.{Asked}
 use Rattle.osc_run.specs.ServerKinds.{Replies as AppliesTo}
 use Rattle.osc_options.specs.Texts.{read_request}
@@ -30,7 +30,7 @@ use Rattle.osc_device.specs.declared.round.Round.{Round}
 
 -- The device may ask: it waits for nothing, both have a context of one name, which is live, and its next number is fresh at the server,
 -- which heard no message of the ID that it takes.
-pub record IsReady (device : State) (now : Moment) (draw : Draw) (context : ClientContextState) (held : Held) : Type 0 where
+pub record IsReady (device : State) (now : Moment) (draw : Draw) (context : ClientContextState) (held : SecurityContext) : Type 0 where
   pub may_ask : MayAsk device.own device.server now context held
   pub unheard : looked now own_address (own_id draw device.own.endpoint.next_id) device.server.endpoint.seen ≡ None
 
@@ -42,7 +42,7 @@ pub record IsWhole (round : Round) : Type 0 where
 
 -- It is served as one entry: its plaintext is applied to the resources under the scope of the device's token, or is answered by 5.00 where the
 -- resources lack memory; the device learns that reply, and waits for nothing.
-pub record IsAnswered (old : State) (asked : Asked) (held : Held) (number : ℕ) (round : Round) (new : State) : Type 0 where
+pub record IsAnswered (old : State) (asked : Asked) (held : SecurityContext) (number : ℕ) (round : Round) (new : State) : Type 0 where
   pub reply : Reply
   pub applied : AppliesTo old.server.tree (apply_read old.server.tree held.scope (read_request (asked_text old.own asked.draw asked.request))) reply new.server.tree
   pub second : Step
@@ -56,7 +56,7 @@ pub record IsAnswered (old : State) (asked : Asked) (held : Held) (number : ℕ)
 -- wherever it may ask, and no step wants memory
 abbrev pub IsAnsweredWhereReady : State → Asked → Round → State → Type 0
 IsAnsweredWhereReady old asked round new =
-    (context : ClientContextState) (held : Held) → IsReady old asked.at asked.draw context held → IsWhole round
+    (context : ClientContextState) (held : SecurityContext) → IsReady old asked.at asked.draw context held → IsWhole round
     → IsAnswered old asked held context.next round new
 
 -- a request of this method on this path, with a payload, its format, and no other option
@@ -74,7 +74,7 @@ module _ (is_sealing : Sealings) where
 
 -- The server has a live context with the token's scope, and the device one of the same name, and waits for nothing.
 pub record IsOpen (now : Moment) (entries : List Entry) (device : State) : Type 0 where
-  pub held : Held
+  pub held : SecurityContext
   pub is_held : IsHeld device.server now entries held
   pub context : device.own.context ≡ Some (record { name = held.name; next = 0 })
   pub idle : device.own.waiting ≡ None

@@ -10,7 +10,7 @@ ghost use Rattle.osc_device.specs.declared.own_token.ServerParts.{ServerParts as
 
 use crate::own_token::{OwnToken, ServerParts};
 use osc_ccm::Ciphers;
-use osc_client::{Client, Way};
+use osc_client::{Client, Route};
 use osc_model::{Algorithm, Bytes, Peer};
 use osc_server::Server;
 use osc_token::{Audience, Claims, InputMaterial};
@@ -54,7 +54,7 @@ pub(crate) fn own_holder(alloc: Global, audience: Audience, own: OwnToken) -> Ho
     } = own;
     Holder {
         at: OWN,
-        way: Way {
+        way: Route {
             next_hop: SERVER,
             origin: None,
         },

@@ -18,7 +18,7 @@ ghost use Rattle.osc_model.specs.declared.node.Draw.{Draw as AnyDraw};
 ghost use Rattle.osc_model.specs.declared.node.Moment.{Moment as AnyMoment};
 ghost use Rattle.osc_message.specs.Endpoint.{after_tick, fresh};
 ghost use Rattle.osc_authz.specs.Begun.{ClientContextState};
-ghost use Rattle.osc_authz.specs.Held.{Held};
+ghost use Rattle.osc_authz.specs.SecurityContext.{SecurityContext};
 ghost use Rattle.osc_rounds.specs.AskRound.{IsLawfulServer};
 ghost use Rattle.osc_model.specs.declared.step.ClientResult.TheVariants as result_of;
 ghost use Rattle.osc_model.specs.declared.code.Method.TheVariants.{Delete, Get, Post, Put};
@@ -54,7 +54,6 @@ pub struct Device {
     own: Placed<Client>,
 }
 
-// Proved once for whoever owns one.
 impl Drop for Device {
     fn drop(self) {
         let Device { server: _, own: _ } = self;

@@ -9,7 +9,7 @@ ghost use Rattle.osc_token.specs.Minted.{HasLawfulParts};
 ghost use Rattle.osc_token.specs.declared.claims.Claims.{Claims as AnyClaims};
 ghost use Rattle.osc_world.specs.Starts.{minted_of};
 ghost use Rattle.osc_authz.specs.Begun.{ClientContextState};
-ghost use Rattle.osc_authz.specs.Held.{Held};
+ghost use Rattle.osc_authz.specs.SecurityContext.{SecurityContext};
 ghost use Rattle.osc_client.specs.Hearing.{Begins, Requests};
 ghost use Rattle.osc_client.specs.Lawful.{IsLawfulClient};
 ghost use Rattle.osc_client.specs.Sending.{Asked};
@@ -35,7 +35,7 @@ use osc_ccm::Ciphers;
 /// A request of a device that may ask, which isn't too long for a datagram, and for whose steps there is memory: it is served as one entry, and
 /// the device learns its reply.
 pub fn a_request_is_answered<A: Ciphers>()
-    ensures { (old new : State) (asks : Asked) (server_draw : AnyDraw) (context : ClientContextState) (held : Held) (asked : Own) (round : AnyRound)
+    ensures { (old new : State) (asks : Asked) (server_draw : AnyDraw) (context : ClientContextState) (held : SecurityContext) (asked : Own) (round : AnyRound)
         → (old.own.origin ≡ None) × (old.own.next_hop ≡ server_address) → IsLawfulServer old.server → IsLawfulClient asked
         → IsReady old asks.at asks.draw context held → IsWhole round
         → Requests A.is_sealing A.TAG old.own asks round.begun asked

@@ -7,7 +7,7 @@ use crate::supply::Draws;
 use crate::wire::{LOCK, sent};
 use osc_authz::ClientDesk;
 use osc_ccm::{Ccm, Suite};
-use osc_client::{Client, Way};
+use osc_client::{Client, Route};
 use osc_model::{Algorithm, Bytes, ETags, Method, Moment, Peer, Request, Step};
 use osc_scope::text_to_cbor;
 use osc_token::{Audience, Claims, InputMaterial, mint};
@@ -101,7 +101,7 @@ fn desk(alloc: Global, grant: Grant) -> Result<ClientDesk, Fault> {
 
 fn client(alloc: Global, grant: Grant) -> Result<Client, Fault> {
     let desk = desk(alloc, grant)?;
-    let way = Way {
+    let way = Route {
         next_hop: LOCK,
         origin: None,
     };

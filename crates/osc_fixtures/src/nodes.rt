@@ -3,7 +3,7 @@
 use crate::grants::{KEY, Right, desk};
 use crate::peers::{PROXY, SERVER};
 use osc_authz::ServerDesk;
-use osc_client::{Client, Origin, Way};
+use osc_client::{Client, Origin, Route};
 use osc_model::{Bytes, Peer, Step};
 use osc_proxy::{Proxy, Target, Targets};
 use osc_scope::Scope;
@@ -13,24 +13,24 @@ use osc_tree::Tree;
 use std::alloc::{AllocError, Global};
 
 /// Straight to the server.
-pub fn straight() -> Way {
-    Way {
+pub fn straight() -> Route {
+    Route {
         next_hop: SERVER,
         origin: None,
     }
 }
 
 /// Through the proxy, to which the server is this host, at this port.
-pub fn through(alloc: Global, host: &[u8], port: u16) -> Result<Way, AllocError> {
+pub fn through(alloc: Global, host: &[u8], port: u16) -> Result<Route, AllocError> {
     let host = Bytes::from_slice(alloc, host)?;
-    Ok(Way {
+    Ok(Route {
         next_hop: PROXY,
         origin: Origin::new(host, port),
     })
 }
 
 /// A client that was granted the token of this right.
-pub fn client(alloc: Global, right: Right, way: Way) -> Result<Client, AllocError> {
+pub fn client(alloc: Global, right: Right, way: Route) -> Result<Client, AllocError> {
     let desk = desk(alloc, right)?;
     Client::new(alloc, desk, way)
 }

@@ -22,7 +22,7 @@ use osc_programs::{Ended, moment_and_draw, send, take_turn};
 use osc_run::{Actor, Minted, Node, Noted, Notes};
 use osc_script::{ClientName, Line};
 use osc_tree::Tree;
-use osc_turn::{Port, PortFault, Supply, Turned, Watch};
+use osc_turn::{Port, PortFault, ClockAndRandom, Turned, Watch};
 use osc_world::{Nodes, Parts};
 use std::alloc::{AllocError, Global};
 use std::io::Write;
@@ -306,7 +306,7 @@ fn note<O: Write>(
 // The step by which the client does what the line says, if it says something: a request with the code 0.00 is none.
 fn begun<W: Watch + Drop>(
     alloc: Global,
-    supply: &mut Supply<W>,
+    supply: &mut ClockAndRandom<W>,
     client: &mut Client,
     asked: &Line,
 ) -> Result<Option<Step>, Ended>
@@ -360,7 +360,7 @@ fn reserve(notes: &mut Notes) -> Result<(), Ended>
 // The node's turn, which is noted as this actor's, which learns nothing: whether it was busy.
 fn noted_turn<W: Watch + Drop, P: Port + Drop, N: Node<Suite>>(
     alloc: Global,
-    supply: &mut Supply<W>,
+    supply: &mut ClockAndRandom<W>,
     port: &mut PacedPort<P>,
     node: &mut N,
     actor: Actor,
@@ -401,7 +401,7 @@ fn noted_as(actor: Actor, notes: StepNotes) -> Noted
 // A turn of the node.
 fn turn_of<W: Watch + Drop, P: Port + Drop, N: Node<Suite>>(
     alloc: Global,
-    supply: &mut Supply<W>,
+    supply: &mut ClockAndRandom<W>,
     port: &mut PacedPort<P>,
     node: &mut N,
 ) -> Result<Turned, Ended>

@@ -6,7 +6,7 @@ use crate::port::{AddressMap, Known, LabPort};
 use osc_model::Peer;
 use osc_programs::{Ended, UdpPort, bound};
 use osc_script::Node;
-use osc_turn::{Pace, Port, Supply, Watch};
+use osc_turn::{Pace, Port, ClockAndRandom, Watch};
 use osc_world::{Parts, Placed};
 use std::alloc::Global;
 use std::net::Net;
@@ -50,7 +50,7 @@ pub(crate) struct Means<W: Watch + Drop, P: Port + Drop> {
     /// The allocator.
     pub alloc: Global,
     /// What hands them moments and draws.
-    pub supply: Supply<W>,
+    pub supply: ClockAndRandom<W>,
     /// Their ports.
     pub ports: LabPorts<P>,
 }

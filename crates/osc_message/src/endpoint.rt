@@ -63,7 +63,6 @@ pub struct Endpoint<const PLACES: usize> {
     next_id: Option<u16>,
 }
 
-// Proved once, and not anew at each exit of whoever owns one.
 impl<const PLACES: usize> Drop for Endpoint<PLACES> {
     fn drop(self) {
         let Endpoint {

@@ -21,7 +21,6 @@ pub struct ContextName {
     pub alg: Algorithm,
 }
 
-// Proved once, and not anew at each exit of whoever owns one.
 impl Drop for ContextName {
     fn drop(self) {
         let ContextName {

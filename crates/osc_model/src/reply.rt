@@ -20,7 +20,6 @@ pub struct Reply {
     pub payload: Bytes,
 }
 
-// Proved once, and not anew at each exit of whoever owns one.
 impl Drop for Reply {
     fn drop(self) {
         let Reply {

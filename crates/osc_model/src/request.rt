@@ -25,7 +25,6 @@ pub struct Request {
     pub payload: Bytes,
 }
 
-// Proved once, and not anew at each exit of whoever owns one.
 impl Drop for Request {
     fn drop(self) {
         let Request {

@@ -17,7 +17,6 @@ pub struct SharedName {
     name: Rc<ContextName, Global>,
 }
 
-// Proved once, and not anew at each exit of whoever owns one.
 impl Drop for SharedName {
     fn drop(self) {
         let SharedName { name: _ } = self;

@@ -30,7 +30,6 @@ pub struct Note {
     pub plaintext: Bytes,
 }
 
-// Proved once, and not anew at each exit of whoever owns one.
 impl Drop for Note {
     fn drop(self) {
         let Note {
@@ -66,7 +65,6 @@ pub struct Entry {
     pub reply: Reply,
 }
 
-// Proved once, and not anew at each exit of whoever owns one.
 impl Drop for Entry {
     fn drop(self) {
         let Entry {
@@ -125,7 +123,6 @@ pub struct Datagrams {
     items: Vec<Datagram>,
 }
 
-// Proved once, and not anew at each exit of whoever owns one.
 impl Drop for Datagrams {
     fn drop(self) {
         let Datagrams { items: _ } = self;

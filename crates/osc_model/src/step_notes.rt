@@ -16,7 +16,6 @@ pub struct StepNotes {
     refused: Option<RefusedRequest>,
 }
 
-// Proved once, and not anew at each exit of whoever owns one.
 impl Drop for StepNotes {
     fn drop(self) {
         let StepNotes {

@@ -6,7 +6,7 @@ use Rattle.osc_model.specs.declared.step.Datagram.{Datagram}
 use Rattle.osc_model.specs.declared.step.Step.{Step}
 use Rattle.osc_programs.specs.Ended.{IsFault, NoSettings, EndsNode, EndsTurns, EndsTold, EndsClient, CannotTalk, CannotAsk}
 use Rattle.osc_run.specs.Nodes.{Cause}
-use Rattle.osc_turn.specs.Supply.{IsSeeded, SupplyState}
+use Rattle.osc_turn.specs.ClockAndRandom.{IsSeeded, ClockAndRandomState}
 use Rattle.osc_programs.specs.Turning.{GoesOn, Running, Runs, Shown, Turns, and_then}
 use Rattle.osc_programs.specs.Turning as turning
 use Rattle.osc_programs.specs.declared.ended.Ended.{Ended}
@@ -179,7 +179,7 @@ one_more acts is_step n first between last shown next taken turn =
     subst (λ (k : ℕ). Turns acts is_step k first (and_then shown next) last) (sym (add-one n)) (turning.more n first between last shown next taken turn)
 
 -- who ended well took all turns
-pub runs : {N : Type 0} (acts : N → Moment → Bool) (is_step : N → Cause → Step → N → Type 0) (turns taken : ℕ) (old new : N) (start : SupplyState) (out : List Datagram) (log : List ℕ) (last : Running N) (ended : Ended)
+pub runs : {N : Type 0} (acts : N → Moment → Bool) (is_step : N → Cause → Step → N → Type 0) (turns taken : ℕ) (old new : N) (start : ClockAndRandomState) (out : List Datagram) (log : List ℕ) (last : Running N) (ended : Ended)
     → IsSeeded start → Turns acts is_step taken (record { node = old; busy = None; supply = start }) (record { sent = out; text = log }) last → new ≡ last.node
     → ((ended ≡ Done) × (taken ≡ turns)) ⊎ ((ended ≢ Done) × (taken < turns)) → ended ≡ Done → Runs acts is_step turns log old new
 runs acts is_step turns taken old new start out log last ended seeded all is_last (inl done) e = record {

@@ -12,12 +12,12 @@ use Rattle.osc_client.specs.Hearing.{Begins, Requests as Asks}
 use Rattle.osc_client.specs.Sending.{acts_at}
 use Rattle.osc_client.specs.State.{State as Client}
 use Rattle.osc_client.specs.Steps.{IsStep}
-use Rattle.osc_client.specs.Way.{HostAndPort}
+use Rattle.osc_client.specs.Route.{HostAndPort}
 use Rattle.osc_settings.specs.declared.client.ClientSettings.{ClientSettings}
 use Rattle.osc_simulation.specs.Records.{learnt_text}
 use Rattle.osc_simulation.specs.Simulation.{is_sealing, tag_of}
 use Rattle.osc_simulation.specs.Text.{line}
-use Rattle.osc_turn.specs.Supply.{Gives, IsSeeded, SupplyState}
+use Rattle.osc_turn.specs.ClockAndRandom.{Gives, IsSeeded, ClockAndRandomState}
 use Rattle.osc_programs.specs.Turning.{Running, TakesTurn}
 use Rattle.osc_programs.specs.declared.asking.Outcome.{Outcome}
 use Rattle.osc_programs.specs.declared.asking.Outcome.TheVariants.{Told, Open}
@@ -100,7 +100,7 @@ pub record Converses (turns : ℕ) (request : Request) (old : Running Client) (u
 
 -- the same from the start on
 pub record Talks (turns : ℕ) (request : Request) (old : Client) (outcome : Outcome) (new : Client) : Type 0 where
-  pub start : SupplyState
+  pub start : ClockAndRandomState
   pub seeded : IsSeeded start
   pub sent : List Datagram
   pub last : Running Client

@@ -7,7 +7,7 @@ use Rattle.osc_model.specs.declared.step.Step.{Step}
 use Rattle.osc_run.specs.Nodes.{Cause}
 use Rattle.osc_turn.specs.Pace.{busy_after, must_tick}
 use Rattle.osc_turn.specs.Ports.{Received, cause_of}
-use Rattle.osc_turn.specs.Supply.{Gives, IsSeeded, SupplyState}
+use Rattle.osc_turn.specs.ClockAndRandom.{Gives, IsSeeded, ClockAndRandomState}
 use Rattle.osc_programs.specs.Log.{IsStepText, lost_text}
 
 -- ---- turns
@@ -16,7 +16,7 @@ use Rattle.osc_programs.specs.Log.{IsStepText, lost_text}
 pub record Running (N : Type 0) : Type 0 where
   pub node : N
   pub busy : Option Moment
-  pub supply : SupplyState
+  pub supply : ClockAndRandomState
 
 -- what turns sent, and what there is to tell of them
 pub record Shown : Type 0 where
@@ -65,7 +65,7 @@ module _ {N : Type 0} (acts : N → Moment → Bool) (is_step : N → Cause → 
 
   -- The node takes so many turns from the start on, and this there is to tell of them.
   pub record Runs (turns : ℕ) (log : List ℕ) (old new : N) : Type 0 where
-    pub start : SupplyState
+    pub start : ClockAndRandomState
     pub seeded : IsSeeded start
     pub sent : List Datagram
     pub last : Running N

@@ -4,7 +4,7 @@ ghost use Rattle.std.specs.Io.KnownBytes.{Appends};
 ghost use Rattle.osc_client.specs.Sending.{acts_at};
 ghost use Rattle.osc_client.specs.State.{State as AnyClient};
 ghost use Rattle.osc_client.specs.Steps.{IsStep};
-ghost use Rattle.osc_client.specs.Way.{HostAndPort};
+ghost use Rattle.osc_client.specs.Route.{HostAndPort};
 ghost use Rattle.osc_model.specs.declared.step.Datagram.{Datagram as AnyDatagram};
 ghost use Rattle.osc_model.specs.declared.step.Step.{Step as AnyStep};
 ghost use Rattle.osc_turn.specs.Ports.{grown};
@@ -26,11 +26,11 @@ use crate::supply::{moment_and_draw, supply_of};
 use crate::turns::take_turn;
 use osc_authz::ClientDesk;
 use osc_ccm::Suite;
-use osc_client::{Client, Origin, Way};
+use osc_client::{Client, Origin, Route};
 use osc_model::{Bytes, ClientResult, Peer, Request, Step};
 use osc_settings::ClientSettings;
 use osc_simulation::learnt_text;
-use osc_turn::{Pace, Port, Supply, Turned, Watch};
+use osc_turn::{Pace, Port, ClockAndRandom, Turned, Watch};
 use osc_words::ClientWords;
 use std::alloc::{AllocError, Global};
 use std::io::{Eprint, Read, Write};
@@ -177,7 +177,7 @@ fn client_of(alloc: Global, settings: ClientSettings) -> Result<Client, Ended>
         alg,
         ..
     } = settings;
-    let way = Way {
+    let way = Route {
         next_hop: peer,
         origin: origin_of(origin)?,
     };
@@ -211,7 +211,7 @@ fn origin_of(named: Option<(Bytes, u16)>) -> Result<Option<Origin>, Ended>
 struct Talking<W: Watch + Drop> {
     client: Client,
     pace: Pace,
-    supply: Supply<W>,
+    supply: ClockAndRandom<W>,
 }
 
 // The client's conversation at its own address, with the peer that everything goes to.

@@ -11,14 +11,14 @@ use crate::log::Log;
 use crate::supply::moment_and_draw;
 use osc_ccm::Suite;
 use osc_run::Node;
-use osc_turn::{Pace, Port, Supply, TurnError, Turned, Watch, paced_turn};
+use osc_turn::{Pace, Port, ClockAndRandom, TurnError, Turned, Watch, paced_turn};
 use std::alloc::Global;
 
 /// The node takes so many turns, unless one fails, and the log tells of each. A datagram that can't be sent is lost, as on the way; so
 /// is what came where there is no memory for its step.
 pub(crate) fn take_turns<W: Watch + Drop, P: Port, N: Node<Suite>, L: Log>(
     alloc: Global,
-    supply: &mut Supply<W>,
+    supply: &mut ClockAndRandom<W>,
     port: &mut P,
     node: &mut N,
     log: &mut L,
@@ -44,7 +44,7 @@ pub(crate) fn take_turns<W: Watch + Drop, P: Port, N: Node<Suite>, L: Log>(
 // One turn, of which the log tells.
 fn one_turn<W: Watch + Drop, P: Port, N: Node<Suite>, L: Log>(
     alloc: Global,
-    supply: &mut Supply<W>,
+    supply: &mut ClockAndRandom<W>,
     port: &mut P,
     node: &mut N,
     log: &mut L,
@@ -78,7 +78,7 @@ fn one_turn<W: Watch + Drop, P: Port, N: Node<Suite>, L: Log>(
 /// One turn of the node, at the next moment and with the next draw.
 pub fn take_turn<W: Watch + Drop, P: Port, N: Node<Suite>>(
     alloc: Global,
-    supply: &mut Supply<W>,
+    supply: &mut ClockAndRandom<W>,
     port: &mut P,
     node: &mut N,
     pace: &mut Pace,

@@ -28,7 +28,6 @@ pub struct Room {
     text: Vec<u8>,
 }
 
-// Proved once, and not anew at each exit of whoever owns one.
 impl Drop for Room {
     fn drop(self) {
         let Room {

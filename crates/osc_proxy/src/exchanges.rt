@@ -95,7 +95,6 @@ pub struct Exchanges {
     open: Slab<Exchange>,
 }
 
-// Proved once, and not anew at each exit of whoever owns one.
 impl Drop for Exchanges {
     fn drop(self) {
         let Exchanges { open: _ } = self;

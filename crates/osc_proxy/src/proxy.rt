@@ -50,7 +50,6 @@ pub struct Proxy {
     endpoint: Endpoint,
 }
 
-// Proved once, and not anew at each exit of whoever owns one.
 impl Drop for Proxy {
     fn drop(self) {
         let Proxy {

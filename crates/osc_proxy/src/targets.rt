@@ -23,7 +23,6 @@ pub struct Targets {
     items: Vec<Target>,
 }
 
-// Proved once, and not anew at each exit of whoever owns one.
 impl Drop for Targets {
     fn drop(self) {
         let Targets { items: _ } = self;

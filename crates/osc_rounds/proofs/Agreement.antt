@@ -45,7 +45,7 @@ use Rattle.osc_authz.specs.Begun.{Begun, ClientContextState}
 use Rattle.osc_authz.specs.Client.{Finishes}
 use Rattle.osc_authz.specs.Desk.{DeskState}
 use Rattle.osc_authz.specs.Exchange.{answer_item, post_item}
-use Rattle.osc_authz.specs.Held.{Held}
+use Rattle.osc_authz.specs.SecurityContext.{SecurityContext}
 use Rattle.osc_authz.specs.HoldsToken.{HoldsToken}
 use Rattle.osc_authz.specs.Members.{In}
 use Rattle.osc_authz.specs.Post.{Posts}
@@ -69,7 +69,7 @@ use Rattle.osc_client.specs.Hearing.{Hears as ClientHears}
 use Rattle.osc_client.specs.Sending.{post_with}
 use Rattle.osc_client.specs.State.{State as Client}
 use Rattle.osc_client.specs.Table.{Answers as ClientAnswers, AnswersNew as ClientAnswersNew, Counts}
-use Rattle.osc_client.specs.Way.{IsHost}
+use Rattle.osc_client.specs.Route.{IsHost}
 use Rattle.osc_client.specs.declared.answering.Outcome.{Outcome}
 use Rattle.osc_client.specs.declared.case.Case.{Case as ClientCase}
 use Rattle.osc_client.specs.declared.case.Case.TheVariants.{Counted}
@@ -186,14 +186,14 @@ counts_confirmable next_hop from waiting seen now id token answer peer unheard s
   counts = case_confirmable next_hop from waiting id token answer peer same_token;
 }
 
-abbrev pub made_of : Held → ClientContextState
+abbrev pub made_of : SecurityContext → ClientContextState
 made_of held = record { name = held.name; next = 0 }
 
 both_ways : (b : Bool) → b ≡ true → b ≡ false → ⊥
 both_ways b is isnt = cc
 
 -- the client's end of an exchange, once it is over by this message
-pub record IsEnded (old : Client) (from : Peer) (response : Message) (held : Held) (step : Step) (new : Client) : Type 0 where
+pub record IsEnded (old : Client) (from : Peer) (response : Message) (held : SecurityContext) (step : Step) (new : Client) : Type 0 where
   pub told : step ≡ record { out = sent_to from (acknowledgement response); notes = record quiet { result = Some result.Made } }
   pub kept : new ≡ record old { context = Some (made_of held); waiting = None; endpoint = new.endpoint }
 
@@ -215,7 +215,7 @@ module _ (is_sealing : Sealings) where
         → Posts (is_sealing EightByteTag) before (record { at = now; body = item_spelling (post_item client.token begun.nonce1 (begun.recipient_id ∷ [])); draw = draw }) post after
         → post.answer ≡ Ok answer
         → Finishes client begun (code 2 1) (item_spelling (answer_item answer.nonce2 (answer.recipient_id ∷ []))) finished
-        → (held : Held) × In held (contexts after.table) × (held.scope ≡ scope_of entries)
+        → (held : SecurityContext) × In held (contexts after.table) × (held.scope ≡ scope_of entries)
         × (held.not_before ≡ claims.not_before) × (held.expires ≡ claims.expires)
         × (finished ≡ Ok (record { name = held.name; next = 0 }))
         × (held.window ≡ []) × IsLawfulContext held × (HasLawfulParts claims → HasShortContext held.name)
@@ -306,7 +306,7 @@ module _ (is_sealing : Sealings) (laws : ExchangeLaws is_sealing)
 
   finishes : (finished : Result ClientContextState FinishError)
       → Finishes holder its (code 2 1) (item_spelling (answer_item is.answer.nonce2 (is.answer.recipient_id ∷ []))) finished
-      → (held : Held) × IsHeld agreed now entries held × (finished ≡ Ok (made_of held))
+      → (held : SecurityContext) × IsHeld agreed now entries held × (finished ≡ Ok (made_of held))
   finishes finished finish =
       let one =
       laws.one_name server.desk agreed.desk now came.draw is.post is.answer exchange.claims entries holder its finished size awaits.nonce awaits.welcome.holds is.posts is.agrees finish in (
@@ -329,7 +329,7 @@ module _ (is_sealing : Sealings) (laws : ExchangeLaws is_sealing)
     response = agreement kind to under is.answer
 
     makes : (outcome : Outcome) → ExchangeComes holder its response outcome
-        → (held : Held) × IsHeld agreed now entries held × (outcome ≡ ended_by (Ok (made_of held)))
+        → (held : SecurityContext) × IsHeld agreed now entries held × (outcome ≡ ended_by (Ok (made_of held)))
     makes outcome (comes.protected plain stays) = absurd (both_ways (has_oscore response.options) plain refl)
     makes outcome (comes.ExchangeComes.other plain error success stays) = absurd (both_ways false (sym success) refl)
     makes outcome (comes.ExchangeComes.failed plain error ends) = absurd (both_ways false error refl)
@@ -345,14 +345,14 @@ module _ (is_sealing : Sealings) (laws : ExchangeLaws is_sealing)
       abbrev ending : Outcome → Waiting → EndpointState → Client
       ending outcome waiting endpoint = record old { context = context_after outcome old.context; waiting = waits_after outcome waiting; endpoint = endpoint }
 
-      kept_so : (outcome : Outcome) (waiting : Waiting) (held : Held) (endpoint : EndpointState) → outcome ≡ ended_by (Ok (made_of held)) → after ≡ ending outcome waiting endpoint
+      kept_so : (outcome : Outcome) (waiting : Waiting) (held : SecurityContext) (endpoint : EndpointState) → outcome ≡ ended_by (Ok (made_of held)) → after ≡ ending outcome waiting endpoint
           → after ≡ record old { context = Some (made_of held); waiting = None; endpoint = after.endpoint }
       kept_so outcome waiting held endpoint ends kept =
           kept
           ∙ ap (λ (e : EndpointState). ending outcome waiting e) (sym (ap (λ (c : Client). c.endpoint) kept))
           ∙ ap (λ (o : Outcome). ending o waiting after.endpoint) ends
 
-      counted : Counts is_sealing old back third after → (held : Held) × IsHeld agreed now entries held × IsEnded old hop response held third after
+      counted : Counts is_sealing old back third after → (held : SecurityContext) × IsHeld agreed now entries held × IsEnded old hop response held third after
       counted it =
           let what_is : it.waiting.what ≡ Exchange its = ap (λ (w : Waiting). w.what) (same_Some it.waiting waits.waiting (sym it.waits ∙ waits.waits)) ∙ waits.exchange in
           let comes_to : ExchangeComes old.desk its response it.outcome = subst (λ (w : Awaited). Comes is_sealing old.desk old.context w response it.outcome) what_is it.comes in
@@ -368,7 +368,7 @@ module _ (is_sealing : Sealings) (laws : ExchangeLaws is_sealing)
       pub hears_agreement : IsCarried response
           → IsCounted old.next_hop hop waits.waiting old.endpoint.seen later response
           → ClientHears is_sealing old (in_bytes back) third after
-          → (held : Held) × IsHeld agreed now entries held × IsEnded old hop response held third after
+          → (held : SecurityContext) × IsHeld agreed now entries held × IsEnded old hop response held third after
       hears_agreement sendable is hears =
           let as_it : hears.received ≡ received.Message response = received_as laws.one_reception response hears.received sendable hears.receives in
           let heard_is : heard old.endpoint.seen later hop hears.received ≡ heard_as.Message response =

@@ -38,10 +38,10 @@ use Rattle.osc_ccm.specs.Ciphers.{Sealings, Tags, IsLongerBy}
 use Rattle.osc_protect.specs.Protection.{HasShortContext, IsProtectedRequest, longest_message, plain_bytes, request_length, request_value}
 use Rattle.osc_authz.specs.Begun.{ClientContextState}
 use Rattle.osc_authz.specs.Contexts.{IsLive}
-use Rattle.osc_authz.specs.Held.{Held}
+use Rattle.osc_authz.specs.SecurityContext.{SecurityContext}
 use Rattle.osc_authz.specs.Members.{In}
 use Rattle.osc_authz.specs.Table.{IsLawfulContext, IsTable, contexts, meant}
-use Rattle.osc_authz.specs.declared.holding.Holding.{Holding}
+use Rattle.osc_authz.specs.declared.token_entry.TokenEntry.{TokenEntry}
 use Rattle.osc_run.specs.ClientKinds.{request_note}
 use Rattle.osc_run.specs.ServerKinds.{Replies as AppliesTo}
 use Rattle.osc_options.specs.Texts.{read_request}
@@ -51,7 +51,7 @@ use Rattle.osc_server.specs.Table.{answered, reply_to}
 use Rattle.osc_client.specs.Lawful.{IsLawfulClient}
 use Rattle.osc_client.specs.Sending.{Asked, plain_of, plain_request, waits}
 use Rattle.osc_client.specs.State.{State as Client}
-use Rattle.osc_client.specs.Way.{HostAndPort, through}
+use Rattle.osc_client.specs.Route.{HostAndPort, through}
 use Rattle.osc_client.specs.declared.waiting.Awaited.TheVariants.{Ask}
 use Rattle.osc_client.specs.declared.waiting.Waiting.{Waiting}
 use Rattle.osc_rounds.specs.AskRound.{IsAskedAndAnswered, IsLawfulServer, IsServedAndAnswered, StraightRequest, asked_text}
@@ -68,7 +68,7 @@ use Rattle.osc_rounds.proofs.Sendable.{IsShortReply, TextLaw, request_sendable, 
 module _ (is_sealing : Sealings) (tag : Tags) where
   pub record RoundLaws : Type 0 where
     pub itself : (a : Peer) → same_peer a a ≡ true
-    pub meant_is : (now : Moment) (table : List Holding) (held : Held) → IsTable table → In held (contexts table) → IsLive now held
+    pub meant_is : (now : Moment) (table : List TokenEntry) (held : SecurityContext) → IsTable table → In held (contexts table) → IsLive now held
         → meant now held.name.client_id held.name.id_context table ≡ Some held
     pub request : RequestLaws is_sealing
     pub reply : ReplyLaws is_sealing
@@ -84,12 +84,12 @@ module _ (is_sealing : Sealings) (tag : Tags) where
 
 -- ---- a context of a table
 
-each_lawful : (all : List Held) (held : Held) → AllByRecursion IsLawfulContext all → In held all → IsLawfulContext held
+each_lawful : (all : List SecurityContext) (held : SecurityContext) → AllByRecursion IsLawfulContext all → In held all → IsLawfulContext held
 each_lawful [] held lawful here = absurd here
 each_lawful (other ∷ all) held lawful (inl same) = subst IsLawfulContext (sym same) lawful.0
 each_lawful (other ∷ all) held lawful (inr here) = each_lawful all held lawful.1 here
 
-pub lawful_context : (table : List Holding) (held : Held) → IsTable table → In held (contexts table) → IsLawfulContext held
+pub lawful_context : (table : List TokenEntry) (held : SecurityContext) → IsTable table → In held (contexts table) → IsLawfulContext held
 lawful_context table held is here = each_lawful (contexts table) held (recursion_from_All IsLawfulContext (contexts table) is.lawful) here
 
 -- ---- a reply is encrypted whole
@@ -113,7 +113,7 @@ module _ (is_sealing : Sealings) (tag : Tags) (laws : RoundLaws is_sealing tag)
   abbrev message : Message
   message = came.what
 
-  abbrev held : Held
+  abbrev held : SecurityContext
   held = request.held
 
   abbrev number : ℕ
@@ -193,7 +193,7 @@ answered_unheard endpoint came later answer other kind isnt unheard =
 -- ---- what the client asks
 
 module _ (is_sealing : Sealings) (tag : Tags) (laws : RoundLaws is_sealing tag)
-    (client asked : Client) (server : Server) (asks_for : Asked) (now : Moment) (at server_at : Peer) (context : ClientContextState) (held : Held) (first : Step)
+    (client asked : Client) (server : Server) (asks_for : Asked) (now : Moment) (at server_at : Peer) (context : ClientContextState) (held : SecurityContext) (first : Step)
     (lawful : IsLawfulServer server) (lawful_client : IsLawfulClient asked) (goes : IsStraight client server now asks_for.draw at server_at) (ends : MayAsk client server now context held)
     (sent : IsSent is_sealing tag client asked asks_for first context) where
   abbrev draw : Draw

@@ -13,7 +13,7 @@ use Rattle.osc_message.specs.Confirmables.{acknowledged}
 use Rattle.osc_message.specs.Endpoint.{EndpointState}
 use Rattle.osc_message.specs.Sending.{empty_acknowledgement}
 use Rattle.osc_ccm.specs.Ciphers.{Sealings}
-use Rattle.osc_authz.specs.Held.{Held}
+use Rattle.osc_authz.specs.SecurityContext.{SecurityContext}
 use Rattle.osc_server.specs.Hearing.{Hears as ServerHears}
 use Rattle.osc_server.specs.State.{State as Server}
 use Rattle.osc_client.specs.Hearing.{Hears as ClientHears}
@@ -39,7 +39,7 @@ module _ (is_sealing : Sealings) where
       → (step ≡ sends []) × (new ≡ record old { endpoint = record old.endpoint { sending = acknowledged came.from came.what old.endpoint.sending } })
 
   module _ (passes : PassesLaw) (settles : AcknowledgedLaw)
-      (client asked : Client) (proxy : Proxy) (server : Server) (asks_for : Asked) (hops : Hops) (held : Held) (number : ℕ) (asks : Step)
+      (client asked : Client) (proxy : Proxy) (server : Server) (asks_for : Asked) (hops : Hops) (held : SecurityContext) (number : ℕ) (asks : Step)
       (lawful : IsLawfulProxy proxy) (size : length hops.proxy_draw.0 ≡ 32) (may : IsThrough client proxy server asks_for.draw hops)
       (is : IsAskedAndAnsweredThrough is_sealing client
       (record { origin = may.origin; proxy_at = hops.proxy_at; asks = asks_for; held = held; number = number; server = server; now = hops.now }) asks asked) where

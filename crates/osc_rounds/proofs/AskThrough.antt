@@ -22,13 +22,13 @@ use Rattle.osc_context.specs.Nonce.{longest_id}
 use Rattle.osc_ccm.specs.Ciphers.{Sealings, Tags}
 use Rattle.osc_protect.specs.Protection.{HasShortContext, plain_bytes, request_value, response_value}
 use Rattle.osc_authz.specs.Begun.{ClientContextState}
-use Rattle.osc_authz.specs.Held.{Held}
+use Rattle.osc_authz.specs.SecurityContext.{SecurityContext}
 use Rattle.osc_server.specs.Hearing.{Hears as ServerHears}
 use Rattle.osc_server.specs.State.{State as Server}
 use Rattle.osc_client.specs.Hearing.{Hears as ClientHears}
 use Rattle.osc_client.specs.Sending.{Asked, plain_of, plain_request, waits}
 use Rattle.osc_client.specs.State.{State as Client}
-use Rattle.osc_client.specs.Way.{HostAndPort, proxy_options, through}
+use Rattle.osc_client.specs.Route.{HostAndPort, proxy_options, through}
 use Rattle.osc_client.specs.declared.waiting.Awaited.TheVariants.{Ask}
 use Rattle.osc_client.specs.declared.waiting.Waiting.{Waiting}
 use Rattle.osc_proxy.specs.Forwarding.{answer as sent_back, forwarded, forwarded_options, has_proxy_uri, is_taken_out}
@@ -205,7 +205,7 @@ module _ (is_sealing : Sealings) (tag : Tags) (laws : RoundLaws is_sealing tag)
   abbrev message : Message
   message = came.what
 
-  abbrev held : Held
+  abbrev held : SecurityContext
   held = opened.held
 
   abbrev number : ℕ
@@ -315,7 +315,7 @@ module _ (is_sealing : Sealings) (tag : Tags) (laws : RoundLaws is_sealing tag)
 -- ---- there and back
 
 module _ (is_sealing : Sealings) (tag : Tags) (laws : ThroughLaws is_sealing tag)
-    (client asked : Client) (server : Server) (now : Moment) (asks_for : Asked) (origin : HostAndPort) (proxy_at : Peer) (context : ClientContextState) (held : Held) (first : Step)
+    (client asked : Client) (server : Server) (now : Moment) (asks_for : Asked) (origin : HostAndPort) (proxy_at : Peer) (context : ClientContextState) (held : SecurityContext) (first : Step)
     (lawful : IsLawfulServer server) (ends : MayAsk client server now context held) (short : HasShortContext held.name)
     (is : IsAskedThrough is_sealing client (record { origin = origin; proxy_at = proxy_at; asks = asks_for; name = held.name; number = context.next }) first asked) where
   abbrev text : List ℕ

@@ -19,7 +19,7 @@ use Rattle.osc_context.specs.Nonce.{greatest_number}
 use Rattle.osc_ccm.specs.Ciphers.{Sealings}
 use Rattle.osc_protect.specs.Protection.{IsProtectedRequest, plain_bytes}
 use Rattle.osc_authz.specs.Begun.{ClientContextState}
-use Rattle.osc_authz.specs.Held.{Held}
+use Rattle.osc_authz.specs.SecurityContext.{SecurityContext}
 use Rattle.osc_authz.specs.Table.{accepted}
 use Rattle.osc_run.specs.ClientKinds.{request_note}
 use Rattle.osc_run.specs.ServerKinds.{Replies as AppliesTo}
@@ -30,7 +30,7 @@ use Rattle.osc_server.specs.Table.{notes_of_request}
 use Rattle.osc_client.specs.Hearing.{Hears as ClientHears}
 use Rattle.osc_client.specs.Sending.{Asked, plain_of}
 use Rattle.osc_client.specs.State.{State as Client}
-use Rattle.osc_client.specs.Way.{HostAndPort, IsLawfulOrigin}
+use Rattle.osc_client.specs.Route.{HostAndPort, IsLawfulOrigin}
 use Rattle.osc_proxy.specs.Forwarding.{answer as sent_back, forwarded}
 use Rattle.osc_proxy.specs.ThereAndBack.{IsAnswerTo}
 use Rattle.osc_rounds.specs.AskRound.{asked_text}
@@ -67,7 +67,7 @@ pub record ProxiedRequest : Type 0 where
   pub origin : HostAndPort
   pub proxy_at : Peer
   pub asks : Asked
-  pub held : Held
+  pub held : SecurityContext
   pub number : ℕ
   pub server : Server
   pub now : Moment

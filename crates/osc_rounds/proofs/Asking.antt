@@ -33,7 +33,7 @@ use Rattle.osc_protect.specs.Aad.{aad_of}
 use Rattle.osc_ccm.specs.Ciphers.{Sealings}
 use Rattle.osc_protect.specs.Protection.{HasShortContext, IsFor, IsProtectedRequest, IsProtectedResponse, IsRequest, SealedRequest, plain_bytes, request_nonce, request_value}
 use Rattle.osc_protect.specs.Value.{Compressed, SpellsValue}
-use Rattle.osc_authz.specs.Held.{Held}
+use Rattle.osc_authz.specs.SecurityContext.{SecurityContext}
 use Rattle.osc_authz.specs.Table.{meant, accepted}
 use Rattle.osc_run.specs.ServerKinds.{Replies as AppliesTo}
 use Rattle.osc_options.specs.Texts.{read_request, IsWithinRanges}
@@ -48,7 +48,7 @@ use Rattle.osc_rounds.specs.Asked.{AreForServer, AwaitsRequest, IsForServer, IsS
 use Rattle.osc_rounds.specs.Coming.{in_bytes}
 use Rattle.osc_proxy.specs.ThereAndBack.{IsCarried}
 use Rattle.osc_server.specs.Hearing.{Hears as ServerHears}
-use Rattle.osc_client.specs.Way.{IsHost}
+use Rattle.osc_client.specs.Route.{IsHost}
 
 -- ---- what the floors below say
 
@@ -177,7 +177,7 @@ module _ (is_sealing : Sealings) (laws : RequestLaws is_sealing)
 -- ---- it is served
 
 module _ (is_sealing : Sealings) (laws : RequestLaws is_sealing)
-    (old : Server) (came : Arrival Message) (held : Held) (number : ℕ) (m : Message) (step : Step) (new : Server)
+    (old : Server) (came : Arrival Message) (held : SecurityContext) (number : ℕ) (m : Message) (step : Step) (new : Server)
     (awaits : AwaitsRequest old came.at came.from held number m.id) (for_server : IsForServer m)
     (made : IsProtectedRequest is_sealing held.name number m came.what) where
   abbrev now : Moment
@@ -205,7 +205,7 @@ module _ (is_sealing : Sealings) (laws : RequestLaws is_sealing)
   once = opens_once is_sealing laws name number m p awaits.lawful.context awaits.lawful.client_id awaits.number_lawful made
 
   -- which context it means
-  same_held : (request : SealedRequest) (other : Held) → IsMeant old.desk came request other → held ≡ other
+  same_held : (request : SealedRequest) (other : SecurityContext) → IsMeant old.desk came request other → held ≡ other
   same_held request other is =
       same_Some held other
       (sym awaits.means ∙ ap (λ (r : SealedRequest). meant now r.kid r.kid_context old.desk.table) (sym (whatever request is.is_request)) ∙ is.is_meant)
@@ -217,14 +217,14 @@ module _ (is_sealing : Sealings) (laws : RequestLaws is_sealing)
       let none : Some held ≡ None = sym awaits.means ∙ ap (λ (r : SealedRequest). meant now r.kid r.kid_context old.desk.table) (sym (whatever is.0 is.1)) ∙ is.2 in cc
   not_refused Replayed is =
       let number_is : number ≡ is.0.number = ap (λ (r : SealedRequest). r.number) (sym (whatever is.0 is.2.is_request)) in
-      is.3 (subst (IsFresh is.1.window) number_is (subst (λ (h : Held). IsFresh h.window number) (same_held is.0 is.1 is.2) awaits.fresh))
+      is.3 (subst (IsFresh is.1.window) number_is (subst (λ (h : SecurityContext). IsFresh h.window number) (same_held is.0 is.1 is.2) awaits.fresh))
   not_refused NotGenuine is =
       is.4 (plain_bytes m)
-      (subst (λ (h : Held). IsSealed is_sealing h is.0 (plain_bytes m)) (same_held is.0 is.1 is.2)
+      (subst (λ (h : SecurityContext). IsSealed is_sealing h is.0 (plain_bytes m)) (same_held is.0 is.1 is.2)
       (subst (λ (r : SealedRequest). IsSealed is_sealing held r (plain_bytes m)) (sym (whatever is.0 is.2.is_request)) made.is_sealed))
 
   -- what is known of a request that is served, by what it says, its context and its text
-  record AreServed (h : Held) (request : SealedRequest) (text : List ℕ) : Type 0 where
+  record AreServed (h : SecurityContext) (request : SealedRequest) (text : List ℕ) : Type 0 where
     opens : IsSealed is_sealing h request text
     reply : Reply
     within : IsWithinRanges reply
@@ -250,7 +250,7 @@ module _ (is_sealing : Sealings) (laws : RequestLaws is_sealing)
       let request_is : s.request ≡ what = whatever s.request s.opened.meant.is_request in
       let held_is : s.held ≡ held = sym (same_held s.request s.held s.opened.meant) in
       let read : AreServed s.held what s.text = subst (λ (r : SealedRequest). AreServed s.held r s.text) request_is (are_served s) in
-      let under : AreServed held what s.text = subst (λ (h : Held). AreServed h what s.text) held_is read in
+      let under : AreServed held what s.text = subst (λ (h : SecurityContext). AreServed h what s.text) held_is read in
       by (subst (λ (t : List ℕ). AreServed held what t) (once s.text under.opens) under)
     where
       by : AreServed held what (plain_bytes m) → IsServed is_sealing old came opened step new

@@ -50,7 +50,7 @@ use Rattle.osc_client.specs.Lawful.{IsLawfulClient}
 use Rattle.osc_client.specs.Sending.{Exchanges, begins, begun_by, busy, post_by, post_with}
 use Rattle.osc_client.specs.Sending as sending
 use Rattle.osc_client.specs.State.{State as Client}
-use Rattle.osc_client.specs.Way.{HostAndPort, through}
+use Rattle.osc_client.specs.Route.{HostAndPort, through}
 use Rattle.osc_client.specs.declared.waiting.Awaited.TheVariants.{Exchange}
 use Rattle.osc_rounds.specs.Coming.{coming, in_bytes}
 use Rattle.osc_rounds.specs.ProxiedExchange.{claims_text}

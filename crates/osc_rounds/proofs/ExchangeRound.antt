@@ -20,13 +20,13 @@ use Rattle.osc_protect.specs.Protection.{longest_message}
 use Rattle.osc_scope.specs.Entries.{Entry}
 use Rattle.osc_token.specs.declared.claims.Claims.{Claims}
 use Rattle.osc_authz.specs.Begun.{Begun}
-use Rattle.osc_authz.specs.Held.{Held}
+use Rattle.osc_authz.specs.SecurityContext.{SecurityContext}
 use Rattle.osc_client.specs.Hearing.{Hears as ClientHears}
 use Rattle.osc_client.specs.Lawful.{IsLawfulClient}
 use Rattle.osc_client.specs.Sending.{Exchanges, begun_by, busy, begins, opened, post_by, post_with, waits}
 use Rattle.osc_client.specs.Sending as sending
 use Rattle.osc_client.specs.State.{State as Client}
-use Rattle.osc_client.specs.Way.{HostAndPort, through}
+use Rattle.osc_client.specs.Route.{HostAndPort, through}
 use Rattle.osc_client.specs.declared.waiting.Awaited.{Awaited}
 use Rattle.osc_client.specs.declared.waiting.Awaited.TheVariants.{Exchange}
 use Rattle.osc_client.specs.declared.waiting.Waiting.{Waiting}
@@ -129,7 +129,7 @@ module _ (is_sealing : Sealings) (laws : ExchangeLaws is_sealing)
     made_so : (server_draw : Draw) (second : Step) (agreed : Server) (size : length server_draw.0 ≡ 32)
         (is : IsAgreedTo is_sealing server (heard_as server_draw) exchange second agreed) (its_draw : Draw) (third : Step) (after : Client)
         → ClientHears is_sealing begun (coming now server_at its_draw (agreement Acknowledgement id token is.answer)) third after
-        → (held : Held) × IsHeld agreed now entries held × IsMade held third after
+        → (held : SecurityContext) × IsHeld agreed now entries held × IsMade held third after
     unfolding awaits_agreement
     made_so server_draw second agreed size is its_draw third after hears =
         let it =

@@ -20,7 +20,7 @@ use Rattle.osc_client.specs.Lawful.{IsLawfulClient}
 use Rattle.osc_client.specs.Sending.{Exchanges, begins, begun_by, busy, opened, post_by}
 use Rattle.osc_client.specs.Sending as sending
 use Rattle.osc_client.specs.State.{State as Client}
-use Rattle.osc_client.specs.Way.{HostAndPort, IsLawfulOrigin}
+use Rattle.osc_client.specs.Route.{HostAndPort, IsLawfulOrigin}
 use Rattle.osc_client.specs.declared.waiting.Awaited.TheVariants.{Exchange}
 use Rattle.osc_proxy.specs.Forwarding.{forwarded_token}
 use Rattle.osc_proxy.specs.Hearing.{Hears as ProxyHears}

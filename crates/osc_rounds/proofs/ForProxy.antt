@@ -7,7 +7,7 @@ use Rattle.osc_options.specs.Replies.{uint_bytes}
 use Rattle.osc_options.specs.Requests.{uint, value}
 use Rattle.osc_options.specs.Split.{merge}
 use Rattle.osc_client.specs.Sending.{post_with}
-use Rattle.osc_client.specs.Way.{HostAndPort, IsLawfulOrigin, through}
+use Rattle.osc_client.specs.Route.{HostAndPort, IsLawfulOrigin, through}
 use Rattle.osc_proxy.specs.Forwarding.{forwarded, has_proxy_uri}
 use Rattle.osc_proxy.specs.Route.{port_in}
 use Rattle.osc_rounds.proofs.Agreement.{post_to}

@@ -7,7 +7,7 @@ use Rattle.osc_model.specs.declared.node.Moment.{Moment}
 use Rattle.osc_model.specs.declared.reply.Reply.{Reply}
 use Rattle.osc_model.specs.declared.step.Note.{Note}
 use Rattle.osc_token.specs.Token.{token_note}
-use Rattle.osc_authz.specs.Held.{Held}
+use Rattle.osc_authz.specs.SecurityContext.{SecurityContext}
 use Rattle.osc_authz.specs.Members.{In}
 use Rattle.osc_authz.specs.Table.{IsLawfulContext}
 use Rattle.osc_run.specs.ClientKinds.{request_note, response_note}
@@ -129,7 +129,7 @@ no_byte bytes byte some none = let wrong : [] ≡ byte ∷ [] = sym none ∙ som
 
 module _ (minted : List Minted) (old : List Noted) (now : Moment) (request : OpenedRequest) (reply : Reply) (asked served answered : Noted)
     (lawful : IsLawfulContext request.held) (notes : AreNotesOfRequest now request reply asked.notes served.notes answered.notes) where
-  abbrev held : Held
+  abbrev held : SecurityContext
   held = request.held
 
   abbrev number : ℕ

@@ -20,13 +20,13 @@ use Rattle.osc_message.specs.Sending.{datagram, empty_acknowledgement}
 use Rattle.osc_ccm.specs.Ciphers.{Sealings}
 use Rattle.osc_protect.specs.Protection.{longest_message}
 use Rattle.osc_authz.specs.Begun.{Begun}
-use Rattle.osc_authz.specs.Held.{Held}
+use Rattle.osc_authz.specs.SecurityContext.{SecurityContext}
 use Rattle.osc_authz.specs.declared.granted.ClientDesk.{ClientDesk}
 use Rattle.osc_client.specs.Hearing.{Hears as ClientHears}
 use Rattle.osc_client.specs.Sending.{Exchanges, begun_by, busy, begins, opened, post_by, post_of, waits}
 use Rattle.osc_client.specs.Sending as sending
 use Rattle.osc_client.specs.State.{State as Client}
-use Rattle.osc_client.specs.Way.{HostAndPort, IsLawfulOrigin, through}
+use Rattle.osc_client.specs.Route.{HostAndPort, IsLawfulOrigin, through}
 use Rattle.osc_client.specs.declared.waiting.Awaited.TheVariants.{Exchange}
 use Rattle.osc_proxy.specs.Forwarding.{answer as sent_back, forwarded}
 use Rattle.osc_server.specs.Hearing.{Hears as ServerHears}
@@ -132,7 +132,7 @@ module _ (is_sealing : Sealings) (laws : ExchangeLaws is_sealing) where
       → back.what.id < 2 ^ 16 → length back.what.token ≤ 8 → looked back.at back.from back.what.id client.endpoint.seen ≡ None
       → back.what ≡ sent_back Confirmable back.what.id back.what.token (agreement Acknowledgement came.what.id came.what.token is.answer)
       → ClientHears is_sealing client (in_bytes back) third after
-      → (held : Held) × IsHeld agreed came.at exchange.entries held × IsMadeThrough client back.from back.what.id held third after
+      → (held : SecurityContext) × IsHeld agreed came.at exchange.entries held × IsMadeThrough client back.from back.what.id held third after
   confirmable_makes server agreed came exchange second client after back third awaits size is waits small short unheard is_back hears =
       let id = back.what.id in
       let token = back.what.token in
@@ -239,7 +239,7 @@ module _ (is_sealing : Sealings) (laws : ExchangeLaws is_sealing) (tokens : Toke
         made_so : (endpoint : EndpointState) (back : ℕ) (its_draw : Draw) (third : Step) (after : Client)
             → back < 2 ^ 16 → looked now proxy_at back endpoint.seen ≡ None
             → ClientHears is_sealing (record begun { endpoint = endpoint }) (coming now proxy_at its_draw (sent_back Confirmable back its_token response)) third after
-            → (held : Held) × IsHeld agreed now exchange.entries held × IsMadeThrough begun proxy_at back held third after
+            → (held : SecurityContext) × IsHeld agreed now exchange.entries held × IsMadeThrough begun proxy_at back held third after
         made_so endpoint back its_draw third after little fresh hears =
             let waiting : Client = record begun { endpoint = endpoint } in
             let comes : Arrival Message = record { at = now; from = proxy_at; draw = its_draw; what = sent_back Confirmable back its_token response } in

@@ -9,7 +9,7 @@ use Rattle.osc_options.specs.Requests.{uint, value}
 use Rattle.osc_options.specs.Split.{AreInOrder, insert, merge, outer_options, same_class}
 use Rattle.osc_options.specs.Table.{class_of}
 use Rattle.osc_options.specs.declared.table.Class.TheVariants.{U}
-use Rattle.osc_client.specs.Way.{HostAndPort, IsHost, proxy_options}
+use Rattle.osc_client.specs.Route.{HostAndPort, IsHost, proxy_options}
 use Rattle.osc_proxy.specs.Forwarding.{forwarded_options, has_proxy_uri}
 use Rattle.osc_proxy.specs.Route.{port_in}
 

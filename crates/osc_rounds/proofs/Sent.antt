@@ -19,7 +19,7 @@ use Rattle.osc_run.specs.ClientKinds.{request_note}
 use Rattle.osc_client.specs.Lawful.{IsLawfulClient}
 use Rattle.osc_client.specs.Sending.{Asked, Asks, IsFree, IsHindered, IsRefused, asks, hindered, busy, exhausted, no_context, too_long, opened, plain_of, plain_request}
 use Rattle.osc_client.specs.State.{State as Client}
-use Rattle.osc_client.specs.Way.{HostAndPort, IsLawfulOrigin, through}
+use Rattle.osc_client.specs.Route.{HostAndPort, IsLawfulOrigin, through}
 use Rattle.osc_client.specs.declared.waiting.Awaited.TheVariants.{Ask}
 use Rattle.osc_client.specs.declared.waiting.Waiting.{Waiting}
 

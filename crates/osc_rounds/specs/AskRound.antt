@@ -14,7 +14,7 @@ use Rattle.osc_message.specs.Endpoint.{own_id}
 use Rattle.osc_message.specs.Sending.{datagram}
 use Rattle.osc_ccm.specs.Ciphers.{Sealings}
 use Rattle.osc_protect.specs.Protection.{plain_bytes}
-use Rattle.osc_authz.specs.Held.{Held}
+use Rattle.osc_authz.specs.SecurityContext.{SecurityContext}
 use Rattle.osc_authz.specs.Table.{IsTable, accepted}
 use Rattle.osc_run.specs.ClientKinds.{request_note}
 use Rattle.osc_run.specs.ServerKinds.{Replies as AppliesTo}
@@ -44,7 +44,7 @@ pub record StraightRequest : Type 0 where
   pub at : Peer
   pub server_at : Peer
   pub now : Moment
-  pub held : Held
+  pub held : SecurityContext
   pub number : ℕ
   pub text : List ℕ
 

@@ -12,7 +12,7 @@ use Rattle.osc_model.specs.declared.step.Step.{Step}
 use Rattle.osc_coap.specs.Message.{Message}
 use Rattle.osc_message.specs.Sending.{datagram, empty_acknowledgement}
 use Rattle.osc_ccm.specs.Ciphers.{Sealings}
-use Rattle.osc_authz.specs.Held.{Held}
+use Rattle.osc_authz.specs.SecurityContext.{SecurityContext}
 use Rattle.osc_authz.specs.Table.{accepted}
 use Rattle.osc_run.specs.ClientKinds.{request_note}
 use Rattle.osc_run.specs.ServerKinds.{Replies as AppliesTo}
@@ -42,7 +42,7 @@ pub record OnItsWay : Type 0 where
   pub server_at : Peer
   pub now : Moment
   pub proxy_draw : Draw
-  pub held : Held
+  pub held : SecurityContext
   pub number : ℕ
   pub text : List ℕ
   pub message : Message

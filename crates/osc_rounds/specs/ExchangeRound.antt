@@ -13,7 +13,7 @@ use Rattle.osc_ccm.specs.Ciphers.{Sealings}
 use Rattle.osc_protect.specs.Protection.{HasShortContext}
 use Rattle.osc_scope.specs.Entries.{Entry, scope_of}
 use Rattle.osc_authz.specs.Contexts.{IsLive}
-use Rattle.osc_authz.specs.Held.{Held}
+use Rattle.osc_authz.specs.SecurityContext.{SecurityContext}
 use Rattle.osc_authz.specs.Members.{In}
 use Rattle.osc_authz.specs.Table.{contexts}
 use Rattle.osc_server.specs.State.{State as Server}
@@ -23,13 +23,13 @@ use Rattle.osc_server.specs.Hearing.{Hears as ServerHears}
 use Rattle.osc_rounds.specs.Coming.{coming}
 
 -- the client's end of an exchange, once it is over: nothing goes out, nothing waits, and it has this context
-pub record IsMade (held : Held) (step : Step) (new : Client) : Type 0 where
+pub record IsMade (held : SecurityContext) (step : Step) (new : Client) : Type 0 where
   pub told : step ≡ record { out = []; notes = record quiet { result = Some result.Made } }
   pub context : new.context ≡ Some (record { name = held.name; next = 0 })
   pub waiting : new.waiting ≡ None
 
 -- the server holds a live context with this scope, which has accepted no number yet, and whose id context is no longer than one may be
-pub record IsHeld (server : Server) (now : Moment) (entries : List Entry) (held : Held) : Type 0 where
+pub record IsHeld (server : Server) (now : Moment) (entries : List Entry) (held : SecurityContext) : Type 0 where
   pub here : In held (contexts server.desk.table)
   pub live : IsLive now held
   pub scope : held.scope ≡ scope_of entries
@@ -54,7 +54,7 @@ module _ (is_sealing : Sealings) where
     pub answer : Message
     pub out : second.out ≡ datagram post.at answer ∷ []
     pub made : (draw : Draw) (third : Step) (after : Client) → ClientHears is_sealing post.begun (coming post.now post.server_at draw answer) third after
-        → (held : Held) × IsHeld agreed post.now post.entries held × IsMade held third after
+        → (held : SecurityContext) × IsHeld agreed post.now post.entries held × IsMade held third after
 
   -- One datagram goes to the server; and where that comes there, it is agreed, and a context is made.
   pub record IsBegunAndMade (post : StraightPost) (client : Client) (draw : Draw) (first : Step) : Type 0 where

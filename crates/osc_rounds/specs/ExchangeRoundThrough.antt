@@ -12,7 +12,7 @@ use Rattle.osc_message.specs.Sending.{datagram, empty_acknowledgement}
 use Rattle.osc_scope.specs.Entries.{Entry}
 use Rattle.osc_token.specs.declared.claims.Claims.{Claims}
 use Rattle.osc_ccm.specs.Ciphers.{Sealings}
-use Rattle.osc_authz.specs.Held.{Held}
+use Rattle.osc_authz.specs.SecurityContext.{SecurityContext}
 use Rattle.osc_server.specs.Hearing.{Hears as ServerHears}
 use Rattle.osc_server.specs.State.{State as Server}
 use Rattle.osc_client.specs.Hearing.{Hears as ClientHears}
@@ -64,7 +64,7 @@ module _ (is_sealing : Sealings) where
   -- sixth: client and server have a context of one name, the server's with the scope of these entries, and the client acknowledged the
   -- answer; and where that comes to the proxy, nothing goes out
   pub record IsMadeAndEnds (post : PostOnItsWay) (agreed : Server) (brought : Proxy) (fifth : Step) (made : Client) : Type 0 where
-    pub held : Held
+    pub held : SecurityContext
     pub is_held : IsHeld agreed post.now post.entries held
     pub is_made : IsMadeThrough post.begun post.proxy_at (post_id_back post) held fifth made
     pub ends : (draw : Draw) (sixth : Step) (rested : Proxy)

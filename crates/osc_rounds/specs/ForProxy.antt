@@ -6,7 +6,7 @@ use Rattle.osc_coap.specs.declared.kind.Kind.TheVariants.{Confirmable}
 use Rattle.osc_options.specs.Numbers.{proxy_scheme, proxy_uri, uri_host, uri_port}
 use Rattle.osc_options.specs.Recognised.{has_unrecognised_unsafe, recognised}
 use Rattle.osc_options.specs.Requests.{value}
-use Rattle.osc_client.specs.Way.{HostAndPort}
+use Rattle.osc_client.specs.Route.{HostAndPort}
 use Rattle.osc_proxy.specs.Forwarding.{has_proxy_uri}
 use Rattle.osc_proxy.specs.Route.{port_in}
 use Rattle.osc_proxy.specs.ThereAndBack.{IsCarried}

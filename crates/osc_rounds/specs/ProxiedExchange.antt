@@ -22,14 +22,14 @@ use Rattle.osc_scope.specs.Entries.{Entry}
 use Rattle.osc_token.specs.Token.{claims_item}
 use Rattle.osc_token.specs.declared.claims.Claims.{Claims}
 use Rattle.osc_ccm.specs.Ciphers.{Sealings}
-use Rattle.osc_authz.specs.Held.{Held}
+use Rattle.osc_authz.specs.SecurityContext.{SecurityContext}
 use Rattle.osc_authz.specs.Welcome.{IsWelcome}
 use Rattle.osc_server.specs.Hearing.{Hears as ServerHears}
 use Rattle.osc_server.specs.State.{State as Server}
 use Rattle.osc_client.specs.Hearing.{Hears as ClientHears}
 use Rattle.osc_client.specs.Sending.{post_by}
 use Rattle.osc_client.specs.State.{State as Client}
-use Rattle.osc_client.specs.Way.{HostAndPort, IsLawfulOrigin}
+use Rattle.osc_client.specs.Route.{HostAndPort, IsLawfulOrigin}
 use Rattle.osc_proxy.specs.Forwarding.{answer as sent_back, forwarded}
 use Rattle.osc_proxy.specs.ThereAndBack.{IsAnswerTo}
 use Rattle.osc_rounds.specs.Coming.{coming, in_bytes}
@@ -68,7 +68,7 @@ pub record IsPostedThrough (origin : HostAndPort) (old : Client) (draw : Draw) (
 
 -- The client's end of an exchange, once it is over by a confirmable message of this ID from there: that is acknowledged, and nothing
 -- waits; the client has this context.
-pub record IsMadeThrough (old : Client) (from : Peer) (id : ℕ) (held : Held) (step : Step) (new : Client) : Type 0 where
+pub record IsMadeThrough (old : Client) (from : Peer) (id : ℕ) (held : SecurityContext) (step : Step) (new : Client) : Type 0 where
   pub told : step ≡ record { out = datagram from (empty_acknowledgement id) ∷ []; notes = record quiet { result = Some result.Made } }
   pub kept : new ≡ record old { context = Some (record { name = held.name; next = 0 }); waiting = None; endpoint = new.endpoint }
 
@@ -97,7 +97,7 @@ module _ (is_sealing : Sealings) where
         → back < 2 ^ 16 → looked exchange.now exchange.proxy_at back endpoint.seen ≡ None
         → ClientHears is_sealing (record posted.begun { endpoint = endpoint })
         (coming exchange.now exchange.proxy_at draw (sent_back Confirmable back posted.message.token response)) third after
-        → (held : Held) × IsHeld agreed exchange.now exchange.entries held × IsMadeThrough posted.begun exchange.proxy_at back held third after
+        → (held : SecurityContext) × IsHeld agreed exchange.now exchange.entries held × IsMadeThrough posted.begun exchange.proxy_at back held third after
 
   -- One datagram goes to the proxy, under the message ID that the client takes, and the proxy can take it up. The client drew a nonce, and
   -- of it nothing else changes but what waits and its message layer, which heard nothing. Where the proxy acknowledges the datagram, the

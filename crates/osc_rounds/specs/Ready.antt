@@ -15,13 +15,13 @@ use Rattle.osc_token.specs.declared.claims.Claims.{Claims}
 use Rattle.osc_ccm.specs.Ciphers.{Sealings}
 use Rattle.osc_authz.specs.Begun.{ClientContextState}
 use Rattle.osc_authz.specs.Contexts.{IsLive}
-use Rattle.osc_authz.specs.Held.{Held}
+use Rattle.osc_authz.specs.SecurityContext.{SecurityContext}
 use Rattle.osc_authz.specs.Members.{In}
 use Rattle.osc_authz.specs.Table.{contexts}
 use Rattle.osc_authz.specs.Welcome.{IsWelcome}
 use Rattle.osc_server.specs.State.{State as Server}
 use Rattle.osc_client.specs.State.{State as Client}
-use Rattle.osc_client.specs.Way.{HostAndPort}
+use Rattle.osc_client.specs.Route.{HostAndPort}
 use Rattle.osc_proxy.specs.Exchanges.{free_key}
 use Rattle.osc_proxy.specs.State.{State as Proxy}
 use Rattle.osc_proxy.specs.Table.{next_own}
@@ -67,7 +67,7 @@ pub record IsThrough (client : Client) (proxy : Proxy) (server : Server) (draw :
 
 -- The client waits for nothing. Both have a context of one name, which is live at the server; and the client's next number is one that
 -- may be taken, and fresh at the server.
-pub record MayAsk (client : Client) (server : Server) (now : Moment) (context : ClientContextState) (held : Held) : Type 0 where
+pub record MayAsk (client : Client) (server : Server) (now : Moment) (context : ClientContextState) (held : SecurityContext) : Type 0 where
   pub idle : client.waiting ≡ None
   pub has : client.context ≡ Some context
   pub here : In held (contexts server.desk.table)

@@ -24,10 +24,10 @@ ghost use Rattle.osc_message.specs.Endpoint.{own_id};
 ghost use Rattle.osc_protect.specs.Protection.{IsProtectedRequest, IsProtectedResponse, plain_bytes};
 ghost use Rattle.osc_token.specs.declared.claims.Claims.{Claims as AnyClaims};
 ghost use Rattle.osc_authz.specs.Begun.{ClientContextState};
-ghost use Rattle.osc_authz.specs.Held.{Held};
+ghost use Rattle.osc_authz.specs.SecurityContext.{SecurityContext};
 ghost use Rattle.osc_authz.specs.Members.{In};
 ghost use Rattle.osc_authz.specs.Table.{IsTable, contexts};
-ghost use Rattle.osc_authz.specs.declared.holding.Holding.{Holding};
+ghost use Rattle.osc_authz.specs.declared.token_entry.TokenEntry.{TokenEntry};
 ghost use Rattle.osc_run.specs.Notes.{Noted};
 ghost use Rattle.osc_run.specs.Premise.{HasFreshDraws, IsMinted, Premise};
 ghost use Rattle.osc_run.specs.States.{Minted};
@@ -36,7 +36,7 @@ ghost use Rattle.osc_server.specs.State.{State as Server};
 ghost use Rattle.osc_client.specs.Hearing.{Hears as ClientHears};
 ghost use Rattle.osc_client.specs.Sending.{Asked, Asks, Exchanges, post_of};
 ghost use Rattle.osc_client.specs.State.{State as Client};
-ghost use Rattle.osc_client.specs.Way.{HostAndPort, IsLawfulOrigin, through};
+ghost use Rattle.osc_client.specs.Route.{HostAndPort, IsLawfulOrigin, through};
 ghost use Rattle.osc_proxy.specs.Forwarding.{answer as sent_back, forwarded, forwarded_options, has_proxy_uri};
 ghost use Rattle.osc_proxy.specs.State.{State as Proxy};
 ghost use Rattle.osc_rounds.specs.Asked.{AwaitsReply, AwaitsRequest, CarriesReply, IsAnsweredWith, IsForServer, IsServed, OpenedRequest};
@@ -77,7 +77,7 @@ use osc_token::laws::{minted_tokens, one_token};
 /// proxy leaves, is served: its plaintext is applied to the resources under the context's scope, one entry is served, and one protected
 /// reply goes out.
 pub fn a_request_is_served<A: Ciphers>()
-    ensures { (old new : Server) (came : Arrival Message) (held : Held) (number : ℕ) (plain : Message) (step : AnyStep)
+    ensures { (old new : Server) (came : Arrival Message) (held : SecurityContext) (number : ℕ) (plain : Message) (step : AnyStep)
         → AwaitsRequest old came.at came.from held number plain.id → IsForServer plain
         → IsProtectedRequest A.is_sealing held.name number plain came.what → IsCarried came.what
         → ServerHears A.is_sealing old (in_bytes came) step new
@@ -113,7 +113,7 @@ pub fn a_reply_is_accepted<A: Ciphers>()
 /// datagram; where that comes to the server, its plaintext is served as one entry, and one datagram goes back; and where that comes
 /// to the client, the request is answered by the reply that was served.
 pub fn a_request_is_answered<A: Ciphers>()
-    ensures { (client asked : Client) (server : Server) (asks : Asked) (now : AnyMoment) (at server_at : AnyPeer) (context : ClientContextState) (held : Held)
+    ensures { (client asked : Client) (server : Server) (asks : Asked) (now : AnyMoment) (at server_at : AnyPeer) (context : ClientContextState) (held : SecurityContext)
         (first : AnyStep)
         → IsLawfulServer server → IsLawfulClient asked
         → IsStraight client server now asks.draw at server_at → MayAsk client server now context held
@@ -233,7 +233,7 @@ pub fn an_answer_sent_back_makes_a_context<A: Ciphers>()
         → back.what.id < 2 ^ 16 → length back.what.token ≤ 8 → looked back.at back.from back.what.id client.endpoint.seen ≡ None
         → back.what ≡ sent_back Confirmable back.what.id back.what.token (agreement Acknowledgement came.what.id came.what.token is.answer)
         → ClientHears A.is_sealing client (in_bytes back) third after
-        → (held : Held) × IsHeld agreed came.at exchange.entries held × IsMadeThrough client back.from back.what.id held third after }
+        → (held : SecurityContext) × IsHeld agreed came.at exchange.entries held × IsMadeThrough client back.from back.what.id held third after }
 {
     one_peer();
     one_reception();
@@ -273,7 +273,7 @@ pub fn an_exchange_is_made_through_a_proxy<A: Ciphers>()
 /// request and forwards it; the server serves it as one entry, and answers in the acknowledgement; the proxy sends the answer back; the
 /// client takes it for the answer, with the reply that was served, and acknowledges it; and the proxy is at rest again.
 pub fn a_request_goes_through_a_proxy<A: Ciphers>()
-    ensures { (client asked : Client) (proxy : Proxy) (server : Server) (asks : Asked) (hops : Hops) (context : ClientContextState) (held : Held) (first : AnyStep)
+    ensures { (client asked : Client) (proxy : Proxy) (server : Server) (asks : Asked) (hops : Hops) (context : ClientContextState) (held : SecurityContext) (first : AnyStep)
         → IsLawfulServer server → IsLawfulProxy proxy → IsLawfulClient asked → length hops.proxy_draw.0 ≡ 32
         → (way : IsThrough client proxy server asks.draw hops) → MayAsk client server hops.now context held
         → first.notes.result ≢ Some (result_as.Refused refusal.datagram_too_long)
@@ -350,7 +350,7 @@ pub fn an_exchange_goes_through_a_proxy<A: Ciphers>()
 /// Where a request is asked, served under a context of a server's table and answered, and other steps noted nothing, what is assumed of a
 /// run goes on: what each end opened was sealed by the other, and no nonce was drawn.
 pub fn a_request_keeps_the_premise()
-    ensures { (minted : List Minted) (old all : List Noted) (table : List Holding) (now : AnyMoment) (request : OpenedRequest) (reply : AnyReply)
+    ensures { (minted : List Minted) (old all : List Noted) (table : List TokenEntry) (now : AnyMoment) (request : OpenedRequest) (reply : AnyReply)
         (asked served answered : Noted)
         → IsTable table → In request.held (contexts table) → AreNotesOfRequest now request reply asked.notes served.notes answered.notes
         → AreAmongQuiet (answered ∷ served ∷ asked ∷ []) all

@@ -16,7 +16,7 @@ use Rattle.osc_model.specs.declared.step.Entry.{Entry}
 use Rattle.osc_window.specs.Window.{IsFresh}
 use Rattle.osc_token.specs.Claims.{ComesTo}
 use Rattle.osc_token.specs.Token.{token_note}
-use Rattle.osc_authz.specs.Held.{Held}
+use Rattle.osc_authz.specs.SecurityContext.{SecurityContext}
 use Rattle.osc_authz.specs.Members.{In}
 use Rattle.osc_run.specs.Notes.{Noted}
 use Rattle.osc_run.specs.States.{ServerState, Minted, grants_of}
@@ -53,7 +53,7 @@ grant_found (x ∷ others) m name own i e = by (bytes_eq x.grant.secret name.sec
 
 -- ---- the rights of a held context
 
-pub record Granted (minted : List Minted) (c : Held) : Type 0 where
+pub record Granted (minted : List Minted) (c : SecurityContext) : Type 0 where
   pub source : Minted
   pub granted : In source minted
   pub secret : source.grant.secret ≡ c.name.secret

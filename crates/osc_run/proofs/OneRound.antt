@@ -28,7 +28,7 @@ use Rattle.osc_token.specs.declared.claims.Claims.{Claims}
 use Rattle.osc_authz.specs.Agreement.{new_context}
 use Rattle.osc_authz.specs.Begun.{Begun}
 use Rattle.osc_authz.specs.Contexts.{OfToken, pending_of, confirmed_by}
-use Rattle.osc_authz.specs.Held.{Held}
+use Rattle.osc_authz.specs.SecurityContext.{SecurityContext}
 use Rattle.osc_authz.specs.declared.granted.ClientDesk.{ClientDesk}
 use Rattle.osc_authz.specs.declared.post.PostAnswer.{PostAnswer}
 use Rattle.osc_run.specs.Notes.{Noted, by_server, by_client}
@@ -104,7 +104,7 @@ module _ (key text audience : List ℕ) (now : Moment) (claims : Claims) (lawful
   abbrev answer : PostAnswer
   answer = record { nonce2 = eight 2; recipient_id = 1 }
 
-  abbrev held : Held
+  abbrev held : SecurityContext
   held = new_context claims scope (eight 1) (byte 0) answer
 
   abbrev name : ContextName

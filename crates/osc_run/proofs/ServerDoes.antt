@@ -13,13 +13,13 @@ use Rattle.osc_authz.specs.Agreed.{IsAgreed}
 use Rattle.osc_authz.specs.Agreement.{Answers, new_context}
 use Rattle.osc_authz.specs.Contexts.{OfToken, of_tokens, IsLive, AreKept, HasAdded, HasTaken}
 use Rattle.osc_authz.specs.Desk.{DeskState}
-use Rattle.osc_authz.specs.Held.{Held}
+use Rattle.osc_authz.specs.SecurityContext.{SecurityContext}
 use Rattle.osc_authz.specs.Members.{In}
 use Rattle.osc_authz.specs.Post.{Posts}
 use Rattle.osc_authz.specs.Posting.{Posting, offered}
 use Rattle.osc_authz.specs.Table.{IsTable, accepted, alive, meant, with_pending}
 use Rattle.osc_authz.specs.declared.error.PostError.{PostError}
-use Rattle.osc_authz.specs.declared.holding.Holding.{Holding}
+use Rattle.osc_authz.specs.declared.token_entry.TokenEntry.{TokenEntry}
 use Rattle.osc_authz.specs.declared.post.Post.{Post}
 use Rattle.osc_authz.specs.declared.post.PostAnswer.{PostAnswer}
 use Rattle.osc_options.specs.Texts.{read_request, IsWithinRanges}
@@ -29,7 +29,7 @@ use Rattle.osc_run.specs.ServerKinds.{opening_note, reply_note, Replies, IsServe
 
 -- with one more pending context the others are as they were
 abbrev pub AddedLaw : Type 0
-AddedLaw = (now : Moment) (token : List ℕ) (held : Held) (table : List Holding) → IsTable (with_pending token held (alive now table))
+AddedLaw = (now : Moment) (token : List ℕ) (held : SecurityContext) (table : List TokenEntry) → IsTable (with_pending token held (alive now table))
     → HasAdded now token held (of_tokens table) (of_tokens (with_pending token held (alive now table)))
 
 pub agreed : AddedLaw → (IsSealing : List ℕ → List ℕ → List ℕ → List ℕ → List ℕ → Type 0) (before after : DeskState) (posting : Posting) (post : Post) (answer : PostAnswer) (tree : Tree)
@@ -37,7 +37,7 @@ pub agreed : AddedLaw → (IsSealing : List ℕ → List ℕ → List ℕ → Li
     → IsPosted (record { contexts = of_tokens before.table; tree = tree }) posting.at (record quiet { opens = post.opened; drawn = Some answer.nonce2 }) (record { contexts = of_tokens after.table; tree = tree })
 agreed law IsSealing before after posting post answer tree size a is_table =
     let token : List ℕ = a.claims.material.id in
-    let added : Held = new_context a.claims a.scope a.nonce1 a.client_id answer in
+    let added : SecurityContext = new_context a.claims a.scope a.nonce1 a.client_id answer in
     let table : after.table ≡ with_pending token added (alive posting.at before.table) = ap (λ (d : DeskState). d.table) a.agrees.added in
     let eight : length (nonce_drawn posting.draw) ≡ 8 = omega (arith, size, length-take 8 posting.draw.0) in
     record {
@@ -56,7 +56,7 @@ agreed law IsSealing before after posting post answer tree size a is_table =
       size = ap length a.agrees.drawn ∙ eight;
       apart = λ same. a.agrees.free.free (0, omega arith, sym same);
       noted = λ i. record quiet { opens = a.noted i; drawn = Some answer.nonce2 };
-      contexts = subst (λ (t : List Holding). HasAdded posting.at token added (of_tokens before.table) (of_tokens t)) (sym table) (law posting.at token added before.table (subst IsTable table is_table));
+      contexts = subst (λ (t : List TokenEntry). HasAdded posting.at token added (of_tokens before.table) (of_tokens t)) (sym table) (law posting.at token added before.table (subst IsTable table is_table));
       tree = refl;
     }
 
@@ -96,16 +96,16 @@ refused IsSealing before after posting post error why tree posts e =
 
 -- the context that a request means is one of the table
 abbrev pub MeantLaw : Type 0
-MeantLaw = (now : Moment) (kid : List ℕ) (kid_context : Option (List ℕ)) (table : List Holding) (held : Held) → meant now kid kid_context table ≡ Some held
+MeantLaw = (now : Moment) (kid : List ℕ) (kid_context : Option (List ℕ)) (table : List TokenEntry) (held : SecurityContext) → meant now kid kid_context table ≡ Some held
     → (context : OfToken) × In context (of_tokens table) × (context.held ≡ held) × IsLive now held × (held.name.client_id ≡ kid)
 
 -- where it takes a number, the others are as they were
 abbrev pub TakenLaw : Type 0
-TakenLaw = (now : Moment) (number : ℕ) (context : OfToken) (table : List Holding) → IsTable table → In context (of_tokens table)
+TakenLaw = (now : Moment) (number : ℕ) (context : OfToken) (table : List TokenEntry) → IsTable table → In context (of_tokens table)
     → HasTaken now number context (of_tokens table) (of_tokens (accepted context.held.name.client_id number table))
 
-module _ (taken : TakenLaw) (now : Moment) (table : List Holding) (is_table : IsTable table) (number : ℕ) (few : number ≤ greatest_number) (text : List ℕ) (reply : Reply) (within : IsWithinRanges reply) (tree after : Tree) where
-  abbrev Serves : Held → List ℕ → Type 0
+module _ (taken : TakenLaw) (now : Moment) (table : List TokenEntry) (is_table : IsTable table) (number : ℕ) (few : number ≤ greatest_number) (text : List ℕ) (reply : Reply) (within : IsWithinRanges reply) (tree after : Tree) where
+  abbrev Serves : SecurityContext → List ℕ → Type 0
   Serves held kid = IsServed (record { contexts = of_tokens table; tree = tree }) now
       (record quiet {
         seals = Some (reply_note held.name number reply);
@@ -131,12 +131,12 @@ module _ (taken : TakenLaw) (now : Moment) (table : List Holding) (is_table : Is
     contexts = taken now number context table is_table there;
   }
 
-  pub opened : MeantLaw → (kid : List ℕ) (kid_context : Option (List ℕ)) (held : Held) → meant now kid kid_context table ≡ Some held → IsFresh held.window number
+  pub opened : MeantLaw → (kid : List ℕ) (kid_context : Option (List ℕ)) (held : SecurityContext) → meant now kid kid_context table ≡ Some held → IsFresh held.window number
       → Replies tree (apply_read tree held.scope (read_request text)) reply after → Serves held kid
   opened law kid kid_context held means fresh replies =
       let m = law now kid kid_context table held means in
       let its : IsLive now m.0.held = subst (IsLive now) (sym m.2) m.3 in
-      let its_fresh : IsFresh m.0.held.window number = subst (λ (h : Held). IsFresh h.window number) (sym m.2) fresh in
-      let its_reply : Replies tree (apply_read tree m.0.held.scope (read_request text)) reply after = subst (λ (h : Held). Replies tree (apply_read tree h.scope (read_request text)) reply after) (sym m.2) replies in
+      let its_fresh : IsFresh m.0.held.window number = subst (λ (h : SecurityContext). IsFresh h.window number) (sym m.2) fresh in
+      let its_reply : Replies tree (apply_read tree m.0.held.scope (read_request text)) reply after = subst (λ (h : SecurityContext). Replies tree (apply_read tree h.scope (read_request text)) reply after) (sym m.2) replies in
       let serves : Serves m.0.held m.0.held.name.client_id = opened_under m.0 m.1 its its_fresh its_reply in
-      subst (Serves held) m.4 (subst (λ (h : Held). Serves h h.name.client_id) m.2 serves)
+      subst (Serves held) m.4 (subst (λ (h : SecurityContext). Serves h h.name.client_id) m.2 serves)

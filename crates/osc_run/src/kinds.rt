@@ -30,12 +30,12 @@ ghost use Rattle.osc_authz.specs.Begun.{Begun, ClientContextState};
 ghost use Rattle.osc_authz.specs.Client.{Finishes, offered_id};
 ghost use Rattle.osc_authz.specs.Contexts.{of_tokens};
 ghost use Rattle.osc_authz.specs.Desk.{DeskState};
-ghost use Rattle.osc_authz.specs.Held.{Held};
+ghost use Rattle.osc_authz.specs.SecurityContext.{SecurityContext};
 ghost use Rattle.osc_authz.specs.Post.{Posts};
 ghost use Rattle.osc_authz.specs.Posting.{Posting};
 ghost use Rattle.osc_authz.specs.Table.{IsTable, accepted, meant};
 ghost use Rattle.osc_authz.specs.declared.error.PostError.{PostError as AnyError};
-ghost use Rattle.osc_authz.specs.declared.holding.Holding.{Holding};
+ghost use Rattle.osc_authz.specs.declared.token_entry.TokenEntry.{TokenEntry};
 ghost use Rattle.osc_authz.specs.declared.post.Post.{Post as AnyPost};
 ghost use Rattle.osc_authz.specs.declared.post.PostAnswer.{PostAnswer as AnyAnswer};
 ghost use Rattle.osc_model.specs.declared.step.RefusedRequest.{RefusedRequest as AnyRefused};
@@ -82,7 +82,7 @@ pub fn posts_that_are_refused<A: Aead>()
 /// A request that opens under the context that it means, at a fresh number, is the kind of step that serves: the window takes the
 /// number, and the reply is the machine's.
 pub fn requests_that_open()
-    ensures { (now : AnyMoment) (kid : List ℕ) (kid_context : Option (List ℕ)) (table : List Holding) (held : Held) (number : ℕ) (text : List ℕ) (reply : AnyReply) (tree after : Tree)
+    ensures { (now : AnyMoment) (kid : List ℕ) (kid_context : Option (List ℕ)) (table : List TokenEntry) (held : SecurityContext) (number : ℕ) (text : List ℕ) (reply : AnyReply) (tree after : Tree)
         → IsTable table → meant now kid kid_context table ≡ Some held
         → number ≤ greatest_number → IsFresh held.window number
         → IsWithinRanges reply → Replies tree (apply_read tree held.scope (read_request text)) reply after

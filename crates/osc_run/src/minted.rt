@@ -21,7 +21,6 @@ pub struct Grant {
     pub holder: usize,
 }
 
-// Proved once, and not anew at each exit of whoever owns one.
 impl Drop for Grant {
     fn drop(self) {
         let Grant {
@@ -71,7 +70,6 @@ pub struct Minted {
     pub text: Bytes,
 }
 
-// Proved once, and not anew at each exit of whoever owns one.
 impl Drop for Minted {
     fn drop(self) {
         let Minted { grant: _, text: _ } = self;

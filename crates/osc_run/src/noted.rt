@@ -26,7 +26,6 @@ pub struct Noted {
     notes: StepNotes,
 }
 
-// Proved once, and not anew at each exit of whoever owns one.
 impl Drop for Noted {
     fn drop(self) {
         let Noted {

@@ -20,7 +20,6 @@ pub struct Notes {
     items: Vec<Noted>,
 }
 
-// Proved once, and not anew at each exit of whoever owns one.
 impl Drop for Notes {
     fn drop(self) {
         let Notes { items: _ } = self;

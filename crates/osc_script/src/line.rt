@@ -158,7 +158,6 @@ pub struct Script {
     lines: Vec<Line>,
 }
 
-// Proved once, and not anew at each exit of whoever owns one.
 impl Drop for Script {
     fn drop(self) {
         let Script { lines: _ } = self;

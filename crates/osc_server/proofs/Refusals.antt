@@ -6,7 +6,7 @@ use Rattle.osc_model.specs.declared.algorithm.Algorithm.{Algorithm}
 use Rattle.osc_coap.specs.Message.{Message}
 use Rattle.osc_context.specs.Algorithm.{algorithm_of}
 use Rattle.osc_authz.specs.Desk.{DeskState}
-use Rattle.osc_authz.specs.Held.{Held}
+use Rattle.osc_authz.specs.SecurityContext.{SecurityContext}
 use Rattle.osc_authz.specs.Table.{meant}
 use Rattle.osc_ccm.specs.Ciphers.{Sealings, SealsOneText}
 use Rattle.osc_protect.specs.Protection.{SealedRequest, IsRequest}
@@ -20,27 +20,27 @@ module _ (is_sealing : Sealings)
     (one_request : (m : Message) (a b : SealedRequest) → IsRequest m a → IsRequest m b → a ≡ b)
     (desk : DeskState) (came : Arrival Message) where
   -- the request, and the context that it means
-  one_meant : (r s : SealedRequest) (h k : Held) → IsMeant desk came r h → IsMeant desk came s k → (r ≡ s) × (h ≡ k)
+  one_meant : (r s : SealedRequest) (h k : SecurityContext) → IsMeant desk came r h → IsMeant desk came s k → (r ≡ s) × (h ≡ k)
   one_meant r s h k m n =
       let same : r ≡ s = one_request came.what r s m.is_request n.is_request in
       (same, same_Some h k (sym m.is_meant ∙ ap (λ (q : SealedRequest). meant came.at q.kid q.kid_context desk.table) same ∙ n.is_meant))
 
-  not_meant : (r s : SealedRequest) (k : Held) → IsRequest came.what r → meant came.at r.kid r.kid_context desk.table ≡ None → IsMeant desk came s k → ⊥
+  not_meant : (r s : SealedRequest) (k : SecurityContext) → IsRequest came.what r → meant came.at r.kid r.kid_context desk.table ≡ None → IsMeant desk came s k → ⊥
   not_meant r s k is none n =
       let same : r ≡ s = one_request came.what r s is n.is_request in
       let no : None ≡ Some k = sym none ∙ ap (λ (q : SealedRequest). meant came.at q.kid q.kid_context desk.table) same ∙ n.is_meant in
       absurd (cc)
 
-  same_fresh : (r s : SealedRequest) (h k : Held) → (r ≡ s) × (h ≡ k) → IsFresh h.window r.number → IsFresh k.window s.number
+  same_fresh : (r s : SealedRequest) (h k : SecurityContext) → (r ≡ s) × (h ≡ k) → IsFresh h.window r.number → IsFresh k.window s.number
   same_fresh r s h k same fresh =
-      subst (λ (c : Held). IsFresh c.window s.number) same.1 (subst (λ (q : SealedRequest). IsFresh h.window q.number) same.0 fresh)
+      subst (λ (c : SecurityContext). IsFresh c.window s.number) same.1 (subst (λ (q : SealedRequest). IsFresh h.window q.number) same.0 fresh)
 
-  same_sealed : (r s : SealedRequest) (h k : Held) (text : List ℕ) → (r ≡ s) × (h ≡ k) → IsSealed is_sealing h r text → IsSealed is_sealing k s text
+  same_sealed : (r s : SealedRequest) (h k : SecurityContext) (text : List ℕ) → (r ≡ s) × (h ≡ k) → IsSealed is_sealing h r text → IsSealed is_sealing k s text
   same_sealed r s h k text same sealed =
-      subst (λ (c : Held). IsSealed is_sealing c s text) same.1 (subst (λ (q : SealedRequest). IsSealed is_sealing h q text) same.0 sealed)
+      subst (λ (c : SecurityContext). IsSealed is_sealing c s text) same.1 (subst (λ (q : SealedRequest). IsSealed is_sealing h q text) same.0 sealed)
 
   -- a reason, and a later one
-  earlier : (r s : SealedRequest) (h k : Held) → IsMeant desk came r h → (IsFresh h.window r.number → ⊥) → IsMeant desk came s k → IsFresh k.window s.number → ⊥
+  earlier : (r s : SealedRequest) (h k : SecurityContext) → IsMeant desk came r h → (IsFresh h.window r.number → ⊥) → IsMeant desk came s k → IsFresh k.window s.number → ⊥
   earlier r s h k m stale n fresh = let same = one_meant s r k h n m in stale (same_fresh s r k h same fresh)
 
   pub refused_once : (a b : Refusal) → IsRefused is_sealing desk came a → IsRefused is_sealing desk came b → a ≡ b
@@ -61,7 +61,7 @@ module _ (is_sealing : Sealings)
   refused_once NotGenuine Replayed x y = absurd (earlier y.0 x.0 y.1 x.1 y.2 y.3 x.2 x.3)
   refused_once NotGenuine NotGenuine x y = refl
 
-  pub opened_or_refused : (request : SealedRequest) (held : Held) (text : List ℕ) (refusal : Refusal)
+  pub opened_or_refused : (request : SealedRequest) (held : SecurityContext) (text : List ℕ) (refusal : Refusal)
       → IsOpened is_sealing desk came request held text → IsRefused is_sealing desk came refusal → ⊥
   opened_or_refused request held text Malformed is x = x request is.meant.is_request
   opened_or_refused request held text NoContext is x = not_meant x.0 request held x.1 x.2 is.meant
@@ -70,7 +70,7 @@ module _ (is_sealing : Sealings)
       let same = one_meant request x.0 held x.1 is.meant x.2 in
       x.4 text (same_sealed request x.0 held x.1 text same is.opens)
 
-  pub opened_once : (request other : SealedRequest) (held holder : Held) (text said : List ℕ)
+  pub opened_once : (request other : SealedRequest) (held holder : SecurityContext) (text said : List ℕ)
       → IsOpened is_sealing desk came request held text → IsOpened is_sealing desk came other holder said
       → (request ≡ other) × (held ≡ holder) × (text ≡ said)
   opened_once request other held holder text said a b =

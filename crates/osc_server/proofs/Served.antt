@@ -9,7 +9,7 @@ use Rattle.osc_model.specs.declared.step.Note.{Note}
 use Rattle.osc_model.specs.declared.step.Step.{Step}
 use Rattle.osc_coap.specs.Message.{Message}
 use Rattle.osc_authz.specs.Desk.{DeskState}
-use Rattle.osc_authz.specs.Held.{Held}
+use Rattle.osc_authz.specs.SecurityContext.{SecurityContext}
 use Rattle.osc_authz.specs.Table.{accepted, taking}
 use Rattle.osc_ccm.specs.Ciphers.{Sealings}
 use Rattle.osc_protect.specs.Protection.{SealedRequest}
@@ -64,13 +64,13 @@ serves is_sealing old came request served tree step new is sent kept =
 
 -- what becomes of it under the context as it is once it took the number
 pub served_as : (is_sealing : Sealings) (old : Standing) (came : Arrival Message) (request : SealedRequest)
-    (held context : Held) (taken number : ℕ) (text : List ℕ) (served : Served) (new : Tree)
+    (held context : SecurityContext) (taken number : ℕ) (text : List ℕ) (served : Served) (new : Tree)
     → IsOpened is_sealing old.desk came request held text → context ≡ taking taken held → number ≡ request.number
     → IsReplied is_sealing old came (record { held = context; number = number; text = text }) served new
     → IsServedAs is_sealing old came request served new
 served_as is_sealing old came request held context taken number text served new opened is same replied =
     let it : IsReplied is_sealing old came (record { held = taking taken held; number = request.number; text = text }) served new =
-    subst (λ (c : Held). IsReplied is_sealing old came (record { held = c; number = request.number; text = text }) served new) is
+    subst (λ (c : SecurityContext). IsReplied is_sealing old came (record { held = c; number = request.number; text = text }) served new) is
     (subst (λ (n : ℕ). IsReplied is_sealing old came (record { held = context; number = n; text = text }) served new) same replied)
     in
     record {
@@ -91,7 +91,7 @@ served_as is_sealing old came request held context taken number text served new 
 -- what is noted of the opening, with the memory beside it
 pub opened_note : (is_sealing : Sealings) (desk : DeskState) (came : Arrival Message) (request : SealedRequest) (note taken : Note)
     → taken ≡ note
-    → (held : Held) × IsOpened is_sealing desk came request held note.plaintext × (note ≡ opening_note held.name request.number note.plaintext)
-    → (held : Held) × IsOpened is_sealing desk came request held taken.plaintext × (taken ≡ opening_note held.name request.number taken.plaintext)
+    → (held : SecurityContext) × IsOpened is_sealing desk came request held note.plaintext × (note ≡ opening_note held.name request.number note.plaintext)
+    → (held : SecurityContext) × IsOpened is_sealing desk came request held taken.plaintext × (taken ≡ opening_note held.name request.number taken.plaintext)
 opened_note is_sealing desk came request note taken same opened =
-    subst (λ (n : Note). (held : Held) × IsOpened is_sealing desk came request held n.plaintext × (n ≡ opening_note held.name request.number n.plaintext)) (sym same) opened
+    subst (λ (n : Note). (held : SecurityContext) × IsOpened is_sealing desk came request held n.plaintext × (n ≡ opening_note held.name request.number n.plaintext)) (sym same) opened

@@ -17,12 +17,12 @@ use Rattle.osc_window.specs.Window.{IsFresh}
 use Rattle.osc_ccm.specs.Ciphers.{Sealings}
 use Rattle.osc_authz.specs.Contexts.{of_tokens}
 use Rattle.osc_authz.specs.Desk.{DeskState}
-use Rattle.osc_authz.specs.Held.{Held}
+use Rattle.osc_authz.specs.SecurityContext.{SecurityContext}
 use Rattle.osc_authz.specs.Post.{Posts}
 use Rattle.osc_authz.specs.Posting.{Posting}
 use Rattle.osc_authz.specs.Table.{IsTable, accepted, meant}
 use Rattle.osc_authz.specs.declared.error.PostError.{PostError}
-use Rattle.osc_authz.specs.declared.holding.Holding.{Holding}
+use Rattle.osc_authz.specs.declared.token_entry.TokenEntry.{TokenEntry}
 use Rattle.osc_authz.specs.declared.post.Post.{Post}
 use Rattle.osc_authz.specs.declared.post.PostAnswer.{PostAnswer}
 use Rattle.osc_run.specs.ServerKinds.{opening_note, reply_note, Replies as AppliesTo, IsServerIdle, IsPosted, IsServed, ServerStep, ServerIdle, Posted, Served, ServerRestarted}
@@ -47,7 +47,7 @@ pub record Laws (is_sealing : Sealings) : Type 0 where
       → IsServerIdle (record { contexts = of_tokens before.table; tree = tree }) posting.at
       (record quiet { opens = post.opened; refused = why })
       (record { contexts = of_tokens after.table; tree = tree })
-  pub opens : (now : Moment) (kid : List ℕ) (kid_context : Option (List ℕ)) (table : List Holding) (held : Held) (number : ℕ) (text : List ℕ) (reply : Reply) (tree after : Tree)
+  pub opens : (now : Moment) (kid : List ℕ) (kid_context : Option (List ℕ)) (table : List TokenEntry) (held : SecurityContext) (number : ℕ) (text : List ℕ) (reply : Reply) (tree after : Tree)
       → IsTable table → meant now kid kid_context table ≡ Some held
       → number ≤ greatest_number → IsFresh held.window number
       → IsWithinRanges reply → AppliesTo tree (apply_read tree held.scope (read_request text)) reply after

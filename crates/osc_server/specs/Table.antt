@@ -32,7 +32,7 @@ use Rattle.osc_protect.specs.Protection.{SealedRequest, IsRequest, IsProtectedRe
 use Rattle.osc_authz.specs.Desk.{DeskState}
 use Rattle.osc_authz.specs.Errors.{post_number}
 use Rattle.osc_authz.specs.Exchange.{answer_item}
-use Rattle.osc_authz.specs.Held.{Held}
+use Rattle.osc_authz.specs.SecurityContext.{SecurityContext}
 use Rattle.osc_authz.specs.Post.{Posts, code_of}
 use Rattle.osc_authz.specs.Posting.{Posting}
 use Rattle.osc_authz.specs.Table.{meant, accepted}
@@ -155,12 +155,12 @@ refusal_to endpoint came refusal =
     with_error (reply_start came.draw endpoint.next_id came.what why.0) why.0 (refusal_age refusal) (refusal_text refusal)
 
 -- the message says this, and there is a live context that it means
-pub record IsMeant (desk : DeskState) (came : Arrival Message) (request : SealedRequest) (held : Held) : Type 0 where
+pub record IsMeant (desk : DeskState) (came : Arrival Message) (request : SealedRequest) (held : SecurityContext) : Type 0 where
   pub is_request : IsRequest came.what request
   pub is_meant : meant came.at request.kid request.kid_context desk.table ≡ Some held
 
 -- what is noted of a request that is served
-abbrev pub notes_of_request : Moment → Held → ℕ → List ℕ → Reply → StepNotes
+abbrev pub notes_of_request : Moment → SecurityContext → ℕ → List ℕ → Reply → StepNotes
 notes_of_request now held number text reply = record quiet {
   seals = Some (reply_note held.name number reply);
   opens = Some (opening_note held.name number text);
@@ -170,7 +170,7 @@ notes_of_request now held number text reply = record quiet {
 -- `is_sealing algorithm` is the relation of the algorithm's cipher
 module _ (is_sealing : Sealings) where
   -- this text is sealed in it
-  abbrev pub IsSealed : Held → SealedRequest → List ℕ → Type 0
+  abbrev pub IsSealed : SecurityContext → SealedRequest → List ℕ → Type 0
   IsSealed held request text =
       is_sealing (algorithm_of held.name) (key_of held.name Client) (request_nonce held.name request.number) (aad_of held.name request.number) text request.sealed
 
@@ -179,13 +179,13 @@ module _ (is_sealing : Sealings) where
   IsRefused desk came Malformed = (request : SealedRequest) → ¬ IsRequest came.what request
   IsRefused desk came NoContext =
       (request : SealedRequest) × IsRequest came.what request × (meant came.at request.kid request.kid_context desk.table ≡ None)
-  IsRefused desk came Replayed = (request : SealedRequest) × (held : Held) × IsMeant desk came request held × (¬ IsFresh held.window request.number)
+  IsRefused desk came Replayed = (request : SealedRequest) × (held : SecurityContext) × IsMeant desk came request held × (¬ IsFresh held.window request.number)
   IsRefused desk came NotGenuine =
-      (request : SealedRequest) × (held : Held) × IsMeant desk came request held × IsFresh held.window request.number
+      (request : SealedRequest) × (held : SecurityContext) × IsMeant desk came request held × IsFresh held.window request.number
       × ((text : List ℕ) → ¬ IsSealed held request text)
 
   -- the request opens to this text, under a context that it means, at a fresh number
-  pub record IsOpened (desk : DeskState) (came : Arrival Message) (request : SealedRequest) (held : Held) (text : List ℕ) : Type 0 where
+  pub record IsOpened (desk : DeskState) (came : Arrival Message) (request : SealedRequest) (held : SecurityContext) (text : List ℕ) : Type 0 where
     pub meant : IsMeant desk came request held
     pub fresh : IsFresh held.window request.number
     pub opens : IsSealed held request text
@@ -194,7 +194,7 @@ module _ (is_sealing : Sealings) where
   -- The context's window takes its number, and the context is confirmed.
   pub record Serves (old : State) (came : Arrival Message) (step : Step) (new : State) : Type 0 where
     pub request : SealedRequest
-    pub held : Held
+    pub held : SecurityContext
     pub text : List ℕ
     pub opened : IsOpened old.desk came request held text
     pub reply : Reply

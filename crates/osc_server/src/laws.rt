@@ -2,7 +2,7 @@
 ghost use Rattle.std.specs.Prelude.{◌≡◌, ◌<◌, ◌≤◌, ℕ, List, length};
 ghost use Rattle.std.specs.Option.{ForSome};
 ghost use Rattle.osc_authz.specs.Desk.{DeskState};
-ghost use Rattle.osc_authz.specs.Held.{Held};
+ghost use Rattle.osc_authz.specs.SecurityContext.{SecurityContext};
 ghost use Rattle.osc_coap.specs.Message.{Message};
 ghost use Rattle.osc_model.specs.Apply.{apply_read};
 ghost use Rattle.osc_model.specs.Arrival.{Arrival};
@@ -33,9 +33,9 @@ pub fn lengths_of_replies()
 pub fn one_refusal<A: Ciphers>()
     ensures refused { (desk : DeskState) (came : Arrival Message) (a b : AnyRefusal)
         → IsRefused A.is_sealing desk came a → IsRefused A.is_sealing desk came b → a ≡ b }
-    ensures opened { (desk : DeskState) (came : Arrival Message) (request : SealedRequest) (held : Held) (text : List ℕ) (refusal : AnyRefusal)
+    ensures opened { (desk : DeskState) (came : Arrival Message) (request : SealedRequest) (held : SecurityContext) (text : List ℕ) (refusal : AnyRefusal)
         → IsOpened A.is_sealing desk came request held text → ¬ IsRefused A.is_sealing desk came refusal }
-    ensures once { (desk : DeskState) (came : Arrival Message) (request other : SealedRequest) (held holder : Held) (text said : List ℕ)
+    ensures once { (desk : DeskState) (came : Arrival Message) (request other : SealedRequest) (held holder : SecurityContext) (text said : List ℕ)
         → IsOpened A.is_sealing desk came request held text → IsOpened A.is_sealing desk came other holder said
         → (request ≡ other) × (held ≡ holder) × (text ≡ said) }
 {

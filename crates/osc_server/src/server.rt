@@ -49,7 +49,6 @@ pub struct Server {
     endpoint: Endpoint,
 }
 
-// Proved once, and not anew at each exit of whoever owns one.
 impl Drop for Server {
     fn drop(self) {
         let Server {

@@ -2,7 +2,7 @@
 //! memory is taken before the number is accepted, and nothing fails from there but what is answered by 5.00.
 ghost use Rattle.std.specs.Prelude.{◌≡◌, ◌<◌, ◌≤◌, ◌+◌, ℕ, List, length, Some, None, IfOk, IfErr, IfSome, IfNone, OnErr, OnOk};
 ghost use Rattle.osc_coap.specs.Message.{Message as AnyMessage, spelling};
-ghost use Rattle.osc_authz.specs.Held.{Held};
+ghost use Rattle.osc_authz.specs.SecurityContext.{SecurityContext};
 ghost use Rattle.osc_authz.specs.Table.{accepted, meant};
 ghost use Rattle.osc_context.specs.Algorithm.{algorithm_of};
 ghost use Rattle.osc_context.specs.Derivation.{accepted_of};
@@ -297,7 +297,7 @@ fn serve_opened<A: Ciphers>(
     request: &ProtectedRequest<'_>,
     taken: Taken,
 ) -> Served
-    requires opened { (held : Held) × IsOpened A.is_sealing desk.old request.now.came.now request.now.says held taken.note.plaintext
+    requires opened { (held : SecurityContext) × IsOpened A.is_sealing desk.old request.now.came.now request.now.says held taken.note.plaintext
         × (taken.note ≡ opening_note held.name request.now.says.number taken.note.plaintext) }
     requires taken { IsTakenFor A.TAG tree.old taken }
     ensures served { IsServedAs A.is_sealing (record { tree = tree.old; desk = desk.old; endpoint = endpoint.now }) request.now.came.now request.now.says result tree.new }
@@ -333,7 +333,7 @@ fn opened<A: Ciphers>(
     request: &ProtectedRequest<'_>,
 ) -> Result<Result<Note, Refusal>, AllocError>
     requires { IsRequest request.now.came.now.what request.now.says }
-    ensures opened { IfOk result (λ outcome. IfOk outcome (λ note. (held : Held)
+    ensures opened { IfOk result (λ outcome. IfOk outcome (λ note. (held : SecurityContext)
         × IsOpened A.is_sealing desk.now request.now.came.now request.now.says held note.plaintext
         × (note ≡ opening_note held.name request.now.says.number note.plaintext))) }
     ensures refused { IfOk result (λ outcome. IfErr outcome (λ refusal. IsRefused A.is_sealing desk.now request.now.came.now refusal)) }

@@ -1,6 +1,6 @@
 -- A client that a line grants to is the holder that the lines make of it.
 use Rattle.std.proofs.Common.{◌≡◌, ◌∙◌, ap, ℕ, List}
-use Rattle.osc_client.specs.declared.way.Way.{Way}
+use Rattle.osc_client.specs.declared.route.Route.{Route}
 use Rattle.osc_script.specs.Grants.{iv_of}
 use Rattle.osc_script.specs.Node.{address_of}
 use Rattle.osc_script.specs.declared.client_name.ClientName.{ClientName}
@@ -10,10 +10,10 @@ use Rattle.osc_token.specs.declared.claims.Claims.{Claims}
 use Rattle.osc_world.specs.declared.start.Holder.{Holder}
 use Rattle.osc_simulation.specs.Simulation.{holder_of, proxy_of, way_by}
 
-pub holder_is : (lines : List Line) (number : ℕ) (client : ClientName) (granted : Claims) (way : Way) (claims : Claims) (holder : Holder)
+pub holder_is : (lines : List Line) (number : ℕ) (client : ClientName) (granted : Claims) (way : Route) (claims : Claims) (holder : Holder)
     → way ≡ way_by (proxy_of client lines) → claims ≡ granted
     → holder ≡ record { at = address_of (Client client); way = way; claims = claims; iv = iv_of number }
     → holder ≡ holder_of lines number client granted
 holder_is lines number client granted way claims holder w c h =
-    let at_way : Way → Holder = λ w. record { at = address_of (Client client); way = w; claims = claims; iv = iv_of number } in
+    let at_way : Route → Holder = λ w. record { at = address_of (Client client); way = w; claims = claims; iv = iv_of number } in
     h ∙ ap at_way w ∙ ap (λ c. holder_of lines number client c) c

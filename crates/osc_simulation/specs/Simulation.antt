@@ -7,8 +7,8 @@ use Rattle.osc_model.specs.Tree.{Tree}
 use Rattle.osc_model.specs.Scope.{Scope, exactly}
 use Rattle.osc_model.specs.declared.code.Method.TheVariants.{Get}
 use Rattle.osc_ccm.specs.Ccm.{IsSealing}
-use Rattle.osc_client.specs.Way.{HostAndPort}
-use Rattle.osc_client.specs.declared.way.Way.{Way}
+use Rattle.osc_client.specs.Route.{HostAndPort}
+use Rattle.osc_client.specs.declared.route.Route.{Route}
 use Rattle.osc_proxy.specs.declared.targets.Target.{Target}
 use Rattle.osc_ccm.specs.Ciphers.{Sealing, Sealings, Tags, chosen_sealing, chosen_tag}
 use Rattle.osc_run.specs.History.{history}
@@ -85,7 +85,7 @@ proxy_of client (Via other proxy ∷ lines) = if other.digit == client.digit the
 proxy_of client (line ∷ lines) = proxy_of client lines
 
 -- the way to the server: by this proxy, or straight
-abbrev pub way_by : Option ProxyName → Way
+abbrev pub way_by : Option ProxyName → Route
 way_by None = record { next_hop = address_of Server; origin = None }
 way_by (Some proxy) = record { next_hop = address_of (Proxy proxy); origin = Some server_origin }
 

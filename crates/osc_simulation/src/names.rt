@@ -14,7 +14,6 @@ pub struct Names {
     proxies: Vec<ProxyName>,
 }
 
-// Proved once, and not anew at each exit of whoever owns one.
 impl Drop for Names {
     fn drop(self) {
         let Names {

@@ -12,7 +12,7 @@ ghost use Rattle.osc_simulation.specs.SetUp.{CanPut, CanPutAll};
 
 use crate::names::Names;
 use osc_ccm::Suite;
-use osc_client::{Origin, Way};
+use osc_client::{Origin, Route};
 use osc_model::{Bytes, Method};
 use osc_proxy::{Target, Targets};
 use osc_scope::Scope;
@@ -228,15 +228,15 @@ fn proxy_of(client: ClientName, lines: &[Line]) -> Option<ProxyName>
 }
 
 // The way to the server: by this proxy, or straight.
-fn way_by(alloc: Global, proxy: Option<ProxyName>) -> Result<Way, AllocError>
+fn way_by(alloc: Global, proxy: Option<ProxyName>) -> Result<Route, AllocError>
     ensures { IfOk result (λ way. way ≡ spec.way_by proxy) }
 {
     match proxy {
-        Some(proxy) => Ok(Way {
+        Some(proxy) => Ok(Route {
             next_hop: Node::Proxy(proxy).address(),
             origin: Some(server_origin(alloc)?),
         }),
-        None => Ok(Way {
+        None => Ok(Route {
             next_hop: Node::Server.address(),
             origin: None,
         }),
@@ -255,7 +255,7 @@ fn server_origin(alloc: Global) -> Result<Origin, AllocError>
 }
 
 // The client with the token of the grant of this number, which claims this.
-fn holder(number: u8, client: ClientName, way: Way, claims: Claims) -> Holder
+fn holder(number: u8, client: ClientName, way: Route, claims: Claims) -> Holder
     ensures { result ≡ record { at = address_of (Client client); way = way; claims = claims; iv = iv_of number } }
 {
     Holder {

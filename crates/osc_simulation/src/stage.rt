@@ -27,7 +27,6 @@ pub(crate) struct Stage {
     draws: Option<DrawnBefore>,
 }
 
-// Proved once, and not anew at each exit of whoever owns one.
 impl Drop for Stage {
     fn drop(self) {
         let Stage {

@@ -39,7 +39,6 @@ impl<D: Disk> Left<D> {
     }
 }
 
-// Proved once, and not at each exit of whoever owns one.
 impl<D: Disk + Drop> Drop for Left<D> {
     fn drop(self) {
         match self {

@@ -6,7 +6,7 @@ use crate::common::{
     lies, restarts, start, ticks,
 };
 use crate::quiet::settles;
-use osc_client::Way;
+use osc_client::Route;
 use osc_fixtures::{
     GET, NOWHERE, PROXY, PUT, Right, SERVER, own, place, straight, targets, through,
 };
@@ -62,7 +62,7 @@ fn right(client: u8) -> Right {
 }
 
 /// Straight to the server, or through the proxy, to which the server is `s`.
-fn way(alloc: Global, client: u8) -> Result<Way, AllocError> {
+fn way(alloc: Global, client: u8) -> Result<Route, AllocError> {
     if client % 2 == 0 {
         Ok(straight())
     } else {

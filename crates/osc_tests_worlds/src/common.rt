@@ -1,7 +1,7 @@
 //! Worlds, and what happens in them.
 
 use osc_ccm::Suite;
-use osc_client::Way;
+use osc_client::Route;
 use osc_fixtures::{
     KEY, PROXY, Right, SERVER, claims, drawn, iv_of, own, place, request, straight,
 };
@@ -29,7 +29,7 @@ pub(crate) fn start(alloc: Global, first: Tree, audience: &str) -> Result<Start,
     Ok(Start::new(alloc, first, Scope::new(alloc), KEY, audience, SERVER))
 }
 
-fn holder(alloc: Global, right: Right, way: Result<Way, AllocError>) -> Result<Holder, AllocError> {
+fn holder(alloc: Global, right: Right, way: Result<Route, AllocError>) -> Result<Holder, AllocError> {
     let way = way?;
     Ok(Holder {
         at: place(right.client),
@@ -44,7 +44,7 @@ pub(crate) fn is_enrolled(
     alloc: Global,
     start: &mut Start,
     right: Right,
-    way: Result<Way, AllocError>,
+    way: Result<Route, AllocError>,
 ) -> bool {
     match holder(alloc, right, way) {
         Ok(holder) => start.enroll::<Suite>(alloc, holder).is_ok(),

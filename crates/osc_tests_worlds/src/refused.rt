@@ -4,7 +4,7 @@
 
 use crate::common::{SCOPE, has, has_proxy, is_enrolled, start};
 use osc_ccm::Suite;
-use osc_client::Way;
+use osc_client::Route;
 use osc_fixtures::{GET, POST, at, drawn, own, request, straight, targets, through};
 use osc_model::Code;
 use osc_run::Actor;
@@ -66,7 +66,7 @@ const THROUGH: [(u64, Doing); 19] = [
 ];
 
 /// A world of one client, with this way to the server, and a proxy.
-fn world(alloc: Global, way: Result<Way, AllocError>) -> Option<World> {
+fn world(alloc: Global, way: Result<Route, AllocError>) -> Option<World> {
     let mut start = start(alloc, Tree::new(alloc), "s").ok()?;
     let whole = has_proxy(alloc, &mut start, targets(alloc))
         && is_enrolled(alloc, &mut start, own(0, SCOPE), way);
@@ -85,7 +85,7 @@ fn world_at_last(alloc: Global, by_proxy: bool) -> Option<World> {
     }
 }
 
-fn way(alloc: Global, by_proxy: bool) -> Result<Way, AllocError> {
+fn way(alloc: Global, by_proxy: bool) -> Result<Route, AllocError> {
     if by_proxy {
         through(alloc, b"s", 5683)
     } else {

@@ -24,7 +24,6 @@ pub struct Tree {
     resources: BTreeMap<Path, Resource>,
 }
 
-// Proved once, and not anew at each exit of whoever owns one.
 impl Drop for Tree {
     fn drop(self) {
         let Tree { resources: _ } = self;

@@ -3,4 +3,4 @@ pub mod Ports
 pub mod Turns
 pub mod Errors
 pub mod Pace
-pub mod Supply
+pub mod ClockAndRandom

@@ -1,17 +1,17 @@
 //! Turns of a running node: a port takes what came, the node makes one step of it, and the port sends what the step sends. No socket is known
-//! here: what a port is stands in its contract. The moment and the draw of each turn are handed in, and `Supply` has both, by a clock and a generator.
+//! here: what a port is stands in its contract. The moment and the draw of each turn are handed in, and `ClockAndRandom` has both, by a clock and a generator.
 #![tactic(auto)]
 
 mod error;
 mod pace;
 mod port;
-mod supply;
+mod clock_and_random;
 mod turning;
 mod watch;
 
 pub use error::TurnError;
 pub use pace::{Pace, paced_turn};
 pub use port::{Port, PortFault};
-pub use supply::{Supply, not_before};
+pub use clock_and_random::{ClockAndRandom, not_before};
 pub use turning::{Turned, send_all, turn};
 pub use watch::{SystemWatch, Watch};

@@ -1,7 +1,7 @@
 //! What tells the time.
 ghost use Rattle.std.specs.Duration.{as_nanos};
 ghost use Rattle.std.specs.Prelude.{◌≡◌, ◌∷◌, [], ℕ, List, Option, None, IfOk};
-ghost use Rattle.osc_turn.specs.Supply.{one_more};
+ghost use Rattle.osc_turn.specs.ClockAndRandom.{one_more};
 
 use std::io;
 use std::time::{Clock, Duration};

@@ -17,7 +17,7 @@ use Rattle.osc_message.specs.Confirmables.{same_peer}
 use Rattle.osc_message.specs.Sending.{datagram, empty_acknowledgement}
 use Rattle.osc_ccm.specs.Ciphers.{Sealings, Tags}
 use Rattle.osc_authz.specs.Begun.{ClientContextState}
-use Rattle.osc_authz.specs.Held.{Held}
+use Rattle.osc_authz.specs.SecurityContext.{SecurityContext}
 use Rattle.osc_authz.specs.Table.{taking}
 use Rattle.osc_run.specs.ClientKinds.{request_note}
 use Rattle.osc_run.specs.History.{history}
@@ -143,7 +143,7 @@ on_its_way asked proxy server hops request message key = record {
 module _ (is_sealing : Sealings) (tag : Tags) where
   -- a request that goes through a proxy is answered
   abbrev pub AnswersThrough : Type 0
-  AnswersThrough = (client asked : Client) (proxy : Proxy) (server : Server) (asks : Asked) (hops : Hops) (context : ClientContextState) (held : Held) (first : Step)
+  AnswersThrough = (client asked : Client) (proxy : Proxy) (server : Server) (asks : Asked) (hops : Hops) (context : ClientContextState) (held : SecurityContext) (first : Step)
       → IsLawfulServer server → IsLawfulProxy proxy → IsLawfulClient asked → length hops.proxy_draw.0 ≡ 32
       → (way : IsThrough client proxy server asks.draw hops) → MayAsk client server hops.now context held
       → first.notes.result ≢ Some (result.Refused 14)
@@ -180,7 +180,7 @@ module _ (is_sealing : Sealings) (tag : Tags) where
     abbrev context : ClientContextState
     context = begins.context
 
-    abbrev held : Held
+    abbrev held : SecurityContext
     held = begins.held
 
     abbrev now : Moment

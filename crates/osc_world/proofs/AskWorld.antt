@@ -18,10 +18,10 @@ use Rattle.osc_message.specs.Endpoint.{own_id}
 use Rattle.osc_message.specs.Sending.{datagram}
 use Rattle.osc_ccm.specs.Ciphers.{Sealings, Tags}
 use Rattle.osc_authz.specs.Begun.{ClientContextState}
-use Rattle.osc_authz.specs.Held.{Held}
+use Rattle.osc_authz.specs.SecurityContext.{SecurityContext}
 use Rattle.osc_authz.specs.Members.{In}
 use Rattle.osc_authz.specs.Table.{IsTable, contexts, taking}
-use Rattle.osc_authz.specs.declared.holding.Holding.{Holding}
+use Rattle.osc_authz.specs.declared.token_entry.TokenEntry.{TokenEntry}
 use Rattle.osc_run.specs.ClientKinds.{request_note}
 use Rattle.osc_run.specs.History.{history}
 use Rattle.osc_run.specs.Notes.{Noted, by_client, by_server}
@@ -56,14 +56,14 @@ use Rattle.osc_world.proofs.Way.{asks_id, asks_same, hears_id}
 
 -- what is assumed goes on over a request's round
 abbrev pub KeepsByNotes : Type 0
-KeepsByNotes = (minted : List Minted) (old all : List Noted) (table : List Holding) (now : Moment) (request : OpenedRequest) (reply : Reply) (asked served answered : Noted)
+KeepsByNotes = (minted : List Minted) (old all : List Noted) (table : List TokenEntry) (now : Moment) (request : OpenedRequest) (reply : Reply) (asked served answered : Noted)
     → IsTable table → In request.held (contexts table) → AreNotesOfRequest now request reply asked.notes served.notes answered.notes
     → AreAmongQuiet (answered ∷ served ∷ asked ∷ []) all → Premise minted old → Premise minted (all ++ old)
 
 module _ (is_sealing : Sealings) (tag : Tags) where
   -- a request that goes straight to the server is answered
   abbrev pub AnswersStraight : Type 0
-  AnswersStraight = (client asked : Client) (server : Server) (asks : Asked) (now : Moment) (at server_at : Peer) (context : ClientContextState) (held : Held) (first : Step)
+  AnswersStraight = (client asked : Client) (server : Server) (asks : Asked) (now : Moment) (at server_at : Peer) (context : ClientContextState) (held : SecurityContext) (first : Step)
       → IsLawfulServer server → IsLawfulClient asked
       → IsStraight client server now asks.draw at server_at → MayAsk client server now context held
       → first.notes.result ≢ Some (result.Refused 14)
@@ -98,7 +98,7 @@ module _ (is_sealing : Sealings) (tag : Tags) where
     abbrev context : ClientContextState
     context = it.context
 
-    abbrev held : Held
+    abbrev held : SecurityContext
     held = it.held
 
     abbrev now : Moment

@@ -10,7 +10,7 @@ use Rattle.osc_cbor.specs.Spelling.{spelling}
 use Rattle.osc_cose.specs.Encrypt0.{enc_structure}
 use Rattle.osc_authz.specs.HoldsToken.{HoldsToken}
 use Rattle.osc_authz.specs.Welcome.{IsWelcome}
-use Rattle.osc_client.specs.Way.{HostAndPort}
+use Rattle.osc_client.specs.Route.{HostAndPort}
 use Rattle.osc_dedup.specs.Table.{looked}
 use Rattle.osc_message.specs.Endpoint.{EndpointState}
 use Rattle.osc_proxy.specs.Targets.{peer_of}

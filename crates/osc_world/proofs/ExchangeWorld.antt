@@ -14,7 +14,7 @@ use Rattle.osc_dedup.specs.Table.{looked}
 use Rattle.osc_message.specs.Confirmables.{same_peer}
 use Rattle.osc_message.specs.Endpoint.{own_id}
 use Rattle.osc_message.specs.Sending.{datagram}
-use Rattle.osc_authz.specs.Held.{Held}
+use Rattle.osc_authz.specs.SecurityContext.{SecurityContext}
 use Rattle.osc_run.specs.Notes.{Noted, by_client, by_server}
 use Rattle.osc_run.specs.Premise.{HasFreshDraws, IsMinted, Premise}
 use Rattle.osc_run.specs.States.{Minted}
@@ -162,7 +162,7 @@ module _ (is_sealing : Sealings) (tag : Tags) where
     abbrev agreed : IsAgreedAndMade is_sealing post round.serving round.server
     agreed = is.agreed round.draw round.serving round.server round.good round.served
 
-    made : (held : Held) × IsHeld round.server now entries held × IsMade held round.taking round.client
+    made : (held : SecurityContext) × IsHeld round.server now entries held × IsMade held round.taking round.client
     made = agreed.made round.client_draw round.taking round.client round.taken
 
     abbrev last : Placed Client

@@ -7,16 +7,16 @@ use Rattle.osc_model.specs.declared.node.Moment.{Moment}
 use Rattle.osc_window.specs.Window.{IsFresh, is_near, put, width, with_accepted}
 use Rattle.osc_authz.specs.Contexts.{HasTaken, OfToken, confirmed_by, of_token, of_tokens}
 use Rattle.osc_authz.specs.Desk.{DeskState}
-use Rattle.osc_authz.specs.Held.{Held}
+use Rattle.osc_authz.specs.SecurityContext.{SecurityContext}
 use Rattle.osc_authz.specs.Members.{In}
 use Rattle.osc_authz.specs.Table.{IsTable, accepted, contexts, listed, taking}
-use Rattle.osc_authz.specs.declared.holding.Holding.{Holding}
+use Rattle.osc_authz.specs.declared.token_entry.TokenEntry.{TokenEntry}
 use Rattle.osc_server.specs.State.{State as Server}
 use Rattle.osc_world.specs.Ready.{HoldsStill}
 
 -- where a context of a table takes a number
 abbrev pub TakesNumbers : Type 0
-TakesNumbers = (now : Moment) (number : ℕ) (context : OfToken) (table : List Holding) → IsTable table → In context (of_tokens table)
+TakesNumbers = (now : Moment) (number : ℕ) (context : OfToken) (table : List TokenEntry) → IsTable table → In context (of_tokens table)
     → HasTaken now number context (of_tokens table) (of_tokens (accepted context.held.name.client_id number table))
 
 -- ---- members of two lists
@@ -37,63 +37,63 @@ in_either x (z ∷ xs) ys (inr m) = ⊎_elim (λ (h : In x xs). inl (inr h)) (λ
 
 -- ---- a context, and the token id that it is of
 
-abbrev IsOf : Held → List OfToken → Type 0
+abbrev IsOf : SecurityContext → List OfToken → Type 0
 IsOf held all = (c : OfToken) × In c all × (c.held ≡ held)
 
-one_of : (token : List ℕ) (is_confirmed : Bool) (place : Option Held) (held : Held) → In held (listed place) → IsOf held (of_token token is_confirmed place)
+one_of : (token : List ℕ) (is_confirmed : Bool) (place : Option SecurityContext) (held : SecurityContext) → In held (listed place) → IsOf held (of_token token is_confirmed place)
 one_of token is_confirmed None held here = absurd here
 one_of token is_confirmed (Some other) held (inl same) = (record { token = token; is_confirmed = is_confirmed; held = other }, inl refl, sym same)
 one_of token is_confirmed (Some other) held (inr m) = absurd m
 
-of_front : (held : Held) (xs ys : List OfToken) → IsOf held xs → IsOf held (xs ++ ys)
+of_front : (held : SecurityContext) (xs ys : List OfToken) → IsOf held xs → IsOf held (xs ++ ys)
 of_front held xs ys it = (it.0, in_front it.0 xs ys it.1, it.2)
 
-of_back : (held : Held) (xs ys : List OfToken) → IsOf held ys → IsOf held (xs ++ ys)
+of_back : (held : SecurityContext) (xs ys : List OfToken) → IsOf held ys → IsOf held (xs ++ ys)
 of_back held xs ys it = (it.0, in_back it.0 xs ys it.1, it.2)
 
-with_token : (table : List Holding) (held : Held) → In held (contexts table) → IsOf held (of_tokens table)
+with_token : (table : List TokenEntry) (held : SecurityContext) → In held (contexts table) → IsOf held (of_tokens table)
 with_token [] held here = absurd here
-with_token (holding ∷ table) held here = by (in_either held (listed holding.confirmed ++ listed holding.pending) (contexts table) here) (with_token table held)
+with_token (entry ∷ table) held here = by (in_either held (listed entry.confirmed ++ listed entry.pending) (contexts table) here) (with_token table held)
   where
-    its : In held (listed holding.confirmed) ⊎ In held (listed holding.pending)
-        → IsOf held (of_token holding.id true holding.confirmed ++ of_token holding.id false holding.pending)
-    its (inl m) = of_front held (of_token holding.id true holding.confirmed) (of_token holding.id false holding.pending) (one_of holding.id true holding.confirmed held m)
-    its (inr m) = of_back held (of_token holding.id true holding.confirmed) (of_token holding.id false holding.pending) (one_of holding.id false holding.pending held m)
+    its : In held (listed entry.confirmed) ⊎ In held (listed entry.pending)
+        → IsOf held (of_token entry.id true entry.confirmed ++ of_token entry.id false entry.pending)
+    its (inl m) = of_front held (of_token entry.id true entry.confirmed) (of_token entry.id false entry.pending) (one_of entry.id true entry.confirmed held m)
+    its (inr m) = of_back held (of_token entry.id true entry.confirmed) (of_token entry.id false entry.pending) (one_of entry.id false entry.pending held m)
 
-    by : In held (listed holding.confirmed ++ listed holding.pending) ⊎ In held (contexts table) → (In held (contexts table) → IsOf held (of_tokens table))
-        → IsOf held (of_token holding.id true holding.confirmed ++ of_token holding.id false holding.pending ++ of_tokens table)
+    by : In held (listed entry.confirmed ++ listed entry.pending) ⊎ In held (contexts table) → (In held (contexts table) → IsOf held (of_tokens table))
+        → IsOf held (of_token entry.id true entry.confirmed ++ of_token entry.id false entry.pending ++ of_tokens table)
     by (inl m) rest =
-        of_front held (of_token holding.id true holding.confirmed ++ of_token holding.id false holding.pending) (of_tokens table)
-        (its (in_either held (listed holding.confirmed) (listed holding.pending) m))
-    by (inr m) rest = of_back held (of_token holding.id true holding.confirmed ++ of_token holding.id false holding.pending) (of_tokens table) (rest m)
+        of_front held (of_token entry.id true entry.confirmed ++ of_token entry.id false entry.pending) (of_tokens table)
+        (its (in_either held (listed entry.confirmed) (listed entry.pending) m))
+    by (inr m) rest = of_back held (of_token entry.id true entry.confirmed ++ of_token entry.id false entry.pending) (of_tokens table) (rest m)
 
-in_place : (token : List ℕ) (is_confirmed : Bool) (place : Option Held) (c : OfToken) → In c (of_token token is_confirmed place) → In c.held (listed place)
+in_place : (token : List ℕ) (is_confirmed : Bool) (place : Option SecurityContext) (c : OfToken) → In c (of_token token is_confirmed place) → In c.held (listed place)
 in_place token is_confirmed None c here = absurd here
 in_place token is_confirmed (Some held) c (inl same) = inl (ap (λ (k : OfToken). k.held) same)
 in_place token is_confirmed (Some held) c (inr m) = absurd m
 
-without_token : (table : List Holding) (c : OfToken) → In c (of_tokens table) → In c.held (contexts table)
+without_token : (table : List TokenEntry) (c : OfToken) → In c (of_tokens table) → In c.held (contexts table)
 without_token [] c here = absurd here
-without_token (holding ∷ table) c here =
-    by (in_either c (of_token holding.id true holding.confirmed ++ of_token holding.id false holding.pending) (of_tokens table) here) (without_token table c)
+without_token (entry ∷ table) c here =
+    by (in_either c (of_token entry.id true entry.confirmed ++ of_token entry.id false entry.pending) (of_tokens table) here) (without_token table c)
   where
-    its : In c (of_token holding.id true holding.confirmed) ⊎ In c (of_token holding.id false holding.pending)
-        → In c.held (listed holding.confirmed ++ listed holding.pending)
-    its (inl m) = in_front c.held (listed holding.confirmed) (listed holding.pending) (in_place holding.id true holding.confirmed c m)
-    its (inr m) = in_back c.held (listed holding.confirmed) (listed holding.pending) (in_place holding.id false holding.pending c m)
+    its : In c (of_token entry.id true entry.confirmed) ⊎ In c (of_token entry.id false entry.pending)
+        → In c.held (listed entry.confirmed ++ listed entry.pending)
+    its (inl m) = in_front c.held (listed entry.confirmed) (listed entry.pending) (in_place entry.id true entry.confirmed c m)
+    its (inr m) = in_back c.held (listed entry.confirmed) (listed entry.pending) (in_place entry.id false entry.pending c m)
 
-    by : In c (of_token holding.id true holding.confirmed ++ of_token holding.id false holding.pending) ⊎ In c (of_tokens table) → (In c (of_tokens table) → In c.held (contexts table))
-        → In c.held (listed holding.confirmed ++ listed holding.pending ++ contexts table)
+    by : In c (of_token entry.id true entry.confirmed ++ of_token entry.id false entry.pending) ⊎ In c (of_tokens table) → (In c (of_tokens table) → In c.held (contexts table))
+        → In c.held (listed entry.confirmed ++ listed entry.pending ++ contexts table)
     by (inl m) rest =
-        in_front c.held (listed holding.confirmed ++ listed holding.pending) (contexts table)
-        (its (in_either c (of_token holding.id true holding.confirmed) (of_token holding.id false holding.pending) m))
-    by (inr m) rest = in_back c.held (listed holding.confirmed ++ listed holding.pending) (contexts table) (rest m)
+        in_front c.held (listed entry.confirmed ++ listed entry.pending) (contexts table)
+        (its (in_either c (of_token entry.id true entry.confirmed) (of_token entry.id false entry.pending) m))
+    by (inr m) rest = in_back c.held (listed entry.confirmed ++ listed entry.pending) (contexts table) (rest m)
 
-still_here : TakesNumbers → (now : Moment) (table : List Holding) (held : Held) (number : ℕ) → IsTable table → In held (contexts table)
+still_here : TakesNumbers → (now : Moment) (table : List TokenEntry) (held : SecurityContext) (number : ℕ) → IsTable table → In held (contexts table)
     → In (taking number held) (contexts (accepted held.name.client_id number table))
 still_here law now table held number is here =
     let it : IsOf held (of_tokens table) = with_token table held here in
-    subst (λ (h : Held). In (taking number h) (contexts (accepted h.name.client_id number table))) it.2
+    subst (λ (h : SecurityContext). In (taking number h) (contexts (accepted h.name.client_id number table))) it.2
     (without_token (accepted it.0.held.name.client_id number table) (confirmed_by number it.0) (law now number it.0 table is it.1).here)
 
 -- ---- its window
@@ -114,7 +114,7 @@ fresh_still window number later above fresh =
 
 -- ---- both
 
-pub holds_still : TakesNumbers → (now : Moment) (old new : Server) (held : Held) (number : ℕ) → IsTable old.desk.table → In held (contexts old.desk.table)
+pub holds_still : TakesNumbers → (now : Moment) (old new : Server) (held : SecurityContext) (number : ℕ) → IsTable old.desk.table → In held (contexts old.desk.table)
     → new.desk ≡ record old.desk { table = accepted held.name.client_id number old.desk.table } → HoldsStill new held number (taking number held)
 holds_still law now old new held number is here kept = record {
   here = subst (λ (d : DeskState). In (taking number held) (contexts d.table)) (sym kept) (still_here law now old.desk.table held number is here);

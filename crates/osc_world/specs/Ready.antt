@@ -12,7 +12,7 @@ use Rattle.osc_dedup.specs.Table.{looked}
 use Rattle.osc_message.specs.Endpoint.{own_id}
 use Rattle.osc_window.specs.Window.{IsFresh}
 use Rattle.osc_authz.specs.Begun.{ClientContextState}
-use Rattle.osc_authz.specs.Held.{Held}
+use Rattle.osc_authz.specs.SecurityContext.{SecurityContext}
 use Rattle.osc_authz.specs.Members.{In}
 use Rattle.osc_authz.specs.Table.{contexts}
 use Rattle.osc_run.specs.History.{history}
@@ -113,7 +113,7 @@ beginning now draw client = record { moment = now; draw = draw; what = Exchange 
 -- The client began an exchange, the server agreed, and the client learnt that a context is made: client and server have one of the
 -- same name, which is live at the server, with the scope of these entries; and the client waits for nothing more.
 pub record HasMade (old : State) (client : ℕ) (now : Moment) (entries : List Entry) (new : State) : Type 0 where
-  pub held : Held
+  pub held : SecurityContext
   pub at_server : IsHeld new.nodes.server now entries held
   pub placed : Placed Client
   pub is_there : slice_get new.nodes.clients client ≡ Some placed
@@ -137,7 +137,7 @@ asking client asked = record { moment = asked.at; draw = asked.draw; what = Ask 
 
 -- The server still holds the context under which it accepted a number: with the name, the scope and the time that it had; and of the
 -- numbers behind the accepted one each that was fresh is fresh.
-pub record HoldsStill (server : Server) (held : Held) (number : ℕ) (after : Held) : Type 0 where
+pub record HoldsStill (server : Server) (held : SecurityContext) (number : ℕ) (after : SecurityContext) : Type 0 where
   pub here : In after (contexts server.desk.table)
   pub name : after.name ≡ held.name
   pub scope : after.scope ≡ held.scope
@@ -163,7 +163,7 @@ pub record HasAnswered (old : State) (client : ℕ) (now : Moment) (request : Op
   pub among : AreAmongQuiet (by_client client false answered ∷ by_server served ∷ by_client client false asked ∷ []) all
   pub steps : new.steps ≡ all ++ old.steps
   pub learnt : answered.result ≡ Some (result.Answer reply)
-  pub after : Held
+  pub after : SecurityContext
   pub at_server : HoldsStill new.nodes.server request.held request.number after
   pub placed : Placed Client
   pub is_there : slice_get new.nodes.clients client ≡ Some placed
@@ -212,7 +212,7 @@ module _ (is_sealing : Sealings) (tag : Tags) where
     pub placed : Placed Client
     pub what : Asked
     pub context : ClientContextState
-    pub held : Held
+    pub held : SecurityContext
     pub ready : IsReady before client placed (round_of deliveries what.draw asked) count
     pub may : MayAsk placed.node before.nodes.server deliveries.at context held
     pub code : 0 < what.request.code.0

@@ -53,7 +53,6 @@ pub struct Event {
     pub what: What,
 }
 
-// Proved once, and not anew at each exit of whoever owns one.
 impl Drop for Event {
     fn drop(self) {
         let Event {

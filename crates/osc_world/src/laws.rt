@@ -9,7 +9,7 @@ ghost use Rattle.osc_authz.specs.Contexts.{IsLive};
 ghost use Rattle.osc_context.specs.Nonce.{greatest_number};
 ghost use Rattle.osc_window.specs.Window.{IsFresh};
 ghost use Rattle.osc_client.specs.State.{State as AnyClient};
-ghost use Rattle.osc_client.specs.Way.{HostAndPort};
+ghost use Rattle.osc_client.specs.Route.{HostAndPort};
 ghost use Rattle.osc_dedup.specs.Table.{looked};
 ghost use Rattle.osc_message.specs.Endpoint.{own_id};
 ghost use Rattle.osc_proxy.specs.State.{State as AnyProxy};

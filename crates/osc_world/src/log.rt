@@ -21,7 +21,6 @@ pub struct SentDatagram {
     pub waits: bool,
 }
 
-// Proved once, and not anew at each exit of whoever owns one.
 impl Drop for SentDatagram {
     fn drop(self) {
         let SentDatagram {
@@ -54,7 +53,6 @@ pub(crate) struct Log {
     records: Vec<Record>,
 }
 
-// Proved once, and not anew at each exit of whoever owns one.
 impl Drop for Log {
     fn drop(self) {
         let Log {

@@ -33,7 +33,6 @@ pub struct Placed<N> {
     pub node: N,
 }
 
-// Proved once for whoever owns one.
 impl<N: Drop> Drop for Placed<N> {
     fn drop(self) {
         let Placed { at: _, node: _ } = self;
@@ -73,7 +72,6 @@ pub struct Nodes {
     proxies: Vec<Placed<Proxy>>,
 }
 
-// Proved once for whoever owns one.
 impl Drop for Nodes {
     fn drop(self) {
         let Nodes {

@@ -21,7 +21,7 @@ use crate::nodes::{Nodes, Placed};
 use crate::world::World;
 use osc_authz::{ClientDesk, ServerDesk};
 use osc_ccm::Ciphers;
-use osc_client::{Client, Way};
+use osc_client::{Client, Route};
 use osc_message::laws::one_peer;
 use osc_model::{Bytes, Peer};
 use osc_protect::TokenCipher;
@@ -41,7 +41,7 @@ pub struct Holder {
     /// Its address.
     pub at: Peer,
     /// To whom it sends, and the server behind it where that is a proxy.
-    pub way: Way,
+    pub way: Route,
     /// What its token claims.
     pub claims: Claims,
     /// The IV under which its token is sealed; one IV is used for one token alone.

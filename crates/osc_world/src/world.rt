@@ -45,7 +45,6 @@ pub struct World {
     log: Log,
 }
 
-// Proved once for whoever owns one.
 impl Drop for World {
     fn drop(self) {
         let World {

@@ -2,7 +2,7 @@
 -- the context, or 255. No public contract rests on this.
 use Rattle.std.specs.Prelude.{◌≡◌, ℕ, ◌<◌, ◌==◌, if◌then◌else◌, List, [], ◌∷◌, Option, Some, None, position, slice_index_or}
 use Rattle.osc_authz.specs.Table.{holds_id}
-use Rattle.osc_authz.specs.declared.holding.Holding.{Holding}
+use Rattle.osc_authz.specs.declared.token_entry.TokenEntry.{TokenEntry}
 
 abbrev pub nowhere : ℕ
 nowhere = 255
@@ -14,5 +14,5 @@ abbrev pub told : ℕ → Option ℕ
 told place = if place == nowhere then None else Some place
 
 -- each byte has the place of the token id that has its context
-abbrev pub IsIndex : List ℕ → List Holding → Type 0
+abbrev pub IsIndex : List ℕ → List TokenEntry → Type 0
 IsIndex places table = (byte : ℕ) → byte < 256 → told (place_at places byte) ≡ position (holds_id (byte ∷ [])) table

@@ -18,7 +18,7 @@ use crate::calls::requests::request;
 use crate::calls::results::tell_result;
 use osc_authz::ClientDesk;
 use osc_ccm::Ciphers;
-use osc_client::{Client, Way};
+use osc_client::{Client, Route};
 use osc_model::{Moment, Request};
 use std::alloc::{AllocError, Global};
 use std::marker::Model;
@@ -106,7 +106,6 @@ pub struct ClientNode {
     pub last: Last,
 }
 
-// Proved once, and not anew at each exit of whoever owns one.
 impl Drop for ClientNode {
     fn drop(self) {
         let ClientNode { client: _, last: _ } = self;
@@ -115,7 +114,7 @@ impl Drop for ClientNode {
 
 impl ClientNode {
     /// A client that was granted this, and reaches its server this way.
-    fn of(alloc: Global, desk: ClientDesk, way: Way) -> Result<ClientNode, AllocError>
+    fn of(alloc: Global, desk: ClientDesk, way: Route) -> Result<ClientNode, AllocError>
         ensures { IfOk result (λ node. IsFresh desk way node) }
     {
         Ok(ClientNode {

@@ -26,7 +26,6 @@ pub struct DeviceNode {
     pub last: Last,
 }
 
-// Proved once, and not anew at each exit of whoever owns one.
 impl Drop for DeviceNode {
     fn drop(self) {
         let DeviceNode { device: _, last: _ } = self;

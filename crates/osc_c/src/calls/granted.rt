@@ -10,7 +10,7 @@ use crate::calls::arguments::{flag, optional};
 use crate::calls::outcome::Outcome;
 use crate::calls::plain::PlainPeer;
 use osc_authz::ClientDesk;
-use osc_client::{Origin, Way};
+use osc_client::{Origin, Route};
 use osc_model::{Algorithm, Bytes};
 use std::alloc::{AllocError, Global};
 
@@ -73,19 +73,19 @@ pub(crate) fn way(
     next_hop: &PlainPeer,
     host: &[u8],
     port: u16,
-) -> Result<Way, Outcome>
+) -> Result<Route, Outcome>
     ensures ok { IfOk result (λ way. way ≡ record { next_hop = peer_of next_hop.now; origin = origin_of host.now port }) }
     ensures lawful { IfOk result (λ way. IsWay host.now) }
     ensures err { IfErr result (IsUnfit (¬ (IsWay host.now))) }
 {
     if host.is_empty() {
-        return Ok(Way {
+        return Ok(Route {
             next_hop: next_hop.peer(),
             origin: None,
         });
     }
     match Origin::new(Bytes::from_slice(alloc, host)?, port) {
-        Some(origin) => Ok(Way {
+        Some(origin) => Ok(Route {
             next_hop: next_hop.peer(),
             origin: Some(origin),
         }),

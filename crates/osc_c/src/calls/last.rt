@@ -18,7 +18,6 @@ pub struct Last {
     own: Option<Told>,
 }
 
-// Proved once, and not anew at each exit of whoever owns one.
 impl Drop for Last {
     fn drop(self) {
         let Last {

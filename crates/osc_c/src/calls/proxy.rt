@@ -1,6 +1,6 @@
 //! A proxy by calls of plain numbers and bytes.
 ghost use Rattle.std.specs.Prelude.{◌≡◌, ◌↔◌, [], IfOk, IsTrue, OnOk, OnErr};
-ghost use Rattle.osc_client.specs.Way.{IsHost};
+ghost use Rattle.osc_client.specs.Route.{IsHost};
 ghost use Rattle.osc_c.specs.Ends.{Ends};
 ghost use Rattle.osc_c.specs.Last.{HandsOut, nothing};
 ghost use Rattle.osc_c.specs.Plain.{draw_of, peer_of};
@@ -36,7 +36,6 @@ pub enum Forwarding {
     Running(Proxy),
 }
 
-// Proved once, and not anew at each exit of whoever owns one.
 impl Drop for Forwarding {
     fn drop(self) {
         match self {
@@ -54,7 +53,6 @@ pub struct ProxyNode {
     pub last: Last,
 }
 
-// Proved once, and not anew at each exit of whoever owns one.
 impl Drop for ProxyNode {
     fn drop(self) {
         let ProxyNode {

@@ -13,7 +13,6 @@ pub struct Settings {
     items: Vec<Target>,
 }
 
-// Proved once, and not anew at each exit of whoever owns one.
 impl Drop for Settings {
     fn drop(self) {
         let Settings { items: _ } = self;

@@ -18,7 +18,7 @@ use Rattle.osc_model.specs.declared.request.Request.{Request}
 use Rattle.osc_model.specs.declared.step.Datagram.{Datagram}
 use Rattle.osc_context.specs.Algorithm.{algorithm_of}
 use Rattle.osc_authz.specs.Desk.{DeskState}
-use Rattle.osc_authz.specs.Held.{Held}
+use Rattle.osc_authz.specs.SecurityContext.{SecurityContext}
 use Rattle.osc_message.specs.Endpoint.{EndpointState, settled}
 use Rattle.osc_message.specs.Sending.{AreSendable, FitsDatagram, datagram, replied}
 use Rattle.osc_message.specs.declared.handling.Handling.TheVariants.{Answered}
@@ -130,7 +130,7 @@ pub record Standing : Type 0 where
 
 -- a request that was opened: under this context, with this number, to this text
 pub record Opened : Type 0 where
-  pub held : Held
+  pub held : SecurityContext
   pub number : ℕ
   pub text : List ℕ
 
@@ -146,7 +146,7 @@ pub record IsReplied (is_sealing : Sealings) (old : Standing) (came : Arrival Me
 
 -- the same of a request that came protected
 pub record IsServedAs (is_sealing : Sealings) (old : Standing) (came : Arrival Message) (request : SealedRequest) (served : Served) (new : Tree) : Type 0 where
-  pub held : Held
+  pub held : SecurityContext
   pub text : List ℕ
   pub opened : IsOpened is_sealing old.desk came request held text
   pub replied : IsReplied is_sealing old came (record { held = held; number = request.number; text = text }) served new

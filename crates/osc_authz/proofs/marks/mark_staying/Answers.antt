@@ -3,8 +3,8 @@ use Rattle.osc_authz.specs.Inner.Marks.{is_marked}
 use Rattle.osc_authz.proofs.MarkLemmas.{marked_more}
 use Rattle.osc_authz.proofs.marks.mark_staying.Goals as goal
 
-pub loop-holding-preserved : goal.loop-holding-preserved
-loop-holding-preserved c = λ byte small.
-    marked_more c.args.now c.args.token.now c.args.table.now c.loop-holding.holding-index c.holding-item.result byte
-    (is_marked c.loop-holding.marks byte) (is_marked c.mark_holding.new.marks byte) _ (omega arith) c.holding-item.is
-    (c.mark_holding.ensures byte small) (c.loop-holding.invariant byte small)
+pub loop-entry-preserved : goal.loop-entry-preserved
+loop-entry-preserved c = λ byte small.
+    marked_more c.args.now c.args.token.now c.args.table.now c.loop-entry.entry-index c.entry-item.result byte
+    (is_marked c.loop-entry.marks byte) (is_marked c.mark_entry.new.marks byte) _ (omega arith) c.entry-item.is
+    (c.mark_entry.ensures byte small) (c.loop-entry.invariant byte small)

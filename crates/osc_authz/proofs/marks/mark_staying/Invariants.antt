@@ -4,8 +4,8 @@ use Rattle.osc_authz.specs.Table.{alive, ids, without_pending}
 use Rattle.osc_authz.proofs.marks.mark_staying.Given as goal
 
 -- what is marked or yet to be marked is what was so at first
-abbrev pub invariant-loop-holding : goal.invariant-loop-holding
-invariant-loop-holding l =
+abbrev pub invariant-loop-entry : goal.invariant-loop-entry
+invariant-loop-entry l =
     (byte : ℕ) → byte < 256
-    → (is_among (ids (without_pending l.token (alive l.now (drop l.holding-index l.table)))) byte || is_marked l.marks byte)
+    → (is_among (ids (without_pending l.token (alive l.now (drop l.entry-index l.table)))) byte || is_marked l.marks byte)
     ≡ (is_among (ids (without_pending l.token (alive l.now l.table))) byte || is_marked l.initial.marks byte)

@@ -17,8 +17,8 @@ loop-left-preserved c =
     record {
       within = omega (arith, c.loop-left.invariant.within);
       noted = λ byte small.
-          one_more table (left - 1) c.index-table-left.result byte (place_at c.loop-left.places byte) (place_at c.note_holding.new.places byte)
-          (omega (arith, again, c.loop-left.invariant.within)) c.requires c.index-table-left.is (c.note_holding.ensures byte small)
+          one_more table (left - 1) c.index-table-left.result byte (place_at c.loop-left.places byte) (place_at c.note_entry.new.places byte)
+          (omega (arith, again, c.loop-left.invariant.within)) c.requires c.index-table-left.is (c.note_entry.ensures byte small)
           (c.loop-left.invariant.noted byte small ∙ ap (λ n. place_from n (byte ∷ []) (drop n table)) (sym again));
     }
 

@@ -1,6 +1,6 @@
 use Rattle.std.proofs.Common.{false, sym, ap, ◌∙◌}
 use Rattle.std.specs.Option.{option_map_or}
-use Rattle.osc_authz.specs.declared.holding.Holding.{Holding}
+use Rattle.osc_authz.specs.declared.token_entry.TokenEntry.{TokenEntry}
 use Rattle.osc_authz.specs.Table.{has_id}
 use Rattle.osc_authz.proofs.Lookups.{is_placed}
 use Rattle.osc_authz.proofs.PlaceLemmas.{stays_indexed}
@@ -14,4 +14,4 @@ returns c = λ none number.
     let here = c.index-table-index.result in
     stays_indexed c.args.id.now number c.args.table.now c.args.places.now c.in-Some.index here c.requires.table c.requires.index
     (sym c.place_of_id.ensures ∙ c.in-Some.is)
-    (ap (λ (holding : Holding). option_map_or (has_id c.args.id.now) holding.pending false) (sym c.index-table-index.is) ∙ sym c.awaits.ensures ∙ none)
+    (ap (λ (entry : TokenEntry). option_map_or (has_id c.args.id.now) entry.pending false) (sym c.index-table-index.is) ∙ sym c.awaits.ensures ∙ none)

@@ -3,9 +3,9 @@ use Rattle.std.specs.Prelude.{option_and_then, slice_get}
 use Rattle.std.proofs.lemmas.List.{get_or-set_same, length-set}
 use Rattle.std.proofs.lemmas.Option.{slice_get-get_or}
 use Rattle.osc_window.specs.Window.{IsFresh}
-use Rattle.osc_authz.specs.Held.{Held}
+use Rattle.osc_authz.specs.SecurityContext.{SecurityContext}
 use Rattle.osc_authz.specs.Table.{confirmed_at, has_id, taking}
-use Rattle.osc_authz.specs.declared.holding.Holding.{Holding}
+use Rattle.osc_authz.specs.declared.token_entry.TokenEntry.{TokenEntry}
 use Rattle.osc_authz.proofs.Lookups.{HoldOf, accepted_here, each_of, found_here, is_placed}
 use Rattle.osc_authz.proofs.table.take_number.Goals as goal
 
@@ -29,13 +29,13 @@ pub unreachable-requires : goal.unreachable-requires
 unreachable-requires c =
     is_placed c.args.id.now c.args.number c.args.table.now c.requires.fresh.0 c.requires.fresh.1 (sym c.place_of_id.ensures ∙ c.in-None.is)
 
--- the confirmed context of a holding that was put at a place
-confirmed_in : (table : List Holding) (i : ℕ) (new : Holding) (held : Held) → i < length table → new.confirmed ≡ Some held
+-- the confirmed context of an entry that was put at a place
+confirmed_in : (table : List TokenEntry) (i : ℕ) (new : TokenEntry) (held : SecurityContext) → i < length table → new.confirmed ≡ Some held
     → confirmed_at i (set table i new) ≡ Some held
 confirmed_in table i new held within is =
     let there : slice_get (set table i new) i ≡ Some new =
     slice_get-get_or (set table i new) i new (omega (arith, within, length-set table i new)) ∙ ap Some (get_or-set_same table i new new within) in
-    ap (λ (found : Option Holding). option_and_then (λ holding. holding.confirmed) found) there ∙ is
+    ap (λ (found : Option TokenEntry). option_and_then (λ entry. entry.confirmed) found) there ∙ is
 
 -- the context is the only one that has the ID
 alone : (c : goal.After-accept)

@@ -5,7 +5,7 @@ use Rattle.osc_options.specs.Split.{unprotected}
 use Rattle.osc_protect.specs.Protection.{longest_message, request_length}
 use Rattle.osc_client.specs.Inner.Bounds.{size_for}
 use Rattle.osc_client.specs.Sending.{plain_request}
-use Rattle.osc_client.specs.Way.{through}
+use Rattle.osc_client.specs.Route.{through}
 use Rattle.osc_client.proofs.Through.{request_around}
 use Rattle.osc_client.proofs.asking.fitting.Goals as goal
 

@@ -1,6 +1,6 @@
 use Rattle.std.proofs.Common.{◌≡◌, Some, ap, ◌∙◌}
 use Rattle.std.proofs.lemmas.Option.{same_Some}
-use Rattle.osc_authz.specs.Held.{Held}
+use Rattle.osc_authz.specs.SecurityContext.{SecurityContext}
 use Rattle.osc_authz.specs.Table.{confirmed_at, taking, with_id}
 use Rattle.osc_context.specs.Derivation.{Accepted}
 use Rattle.osc_server.proofs.Requests.{is_found}
@@ -19,7 +19,7 @@ accept-number-requires-clause-fresh g c =
 pub returns-clause-served : goal.returns-clause-served
 returns-clause-served g c =
     let opened = c.requires.opened in
-    let held : Held = opened.0 in
+    let held : SecurityContext = opened.0 in
     let there : with_id c.kid.result.now c.args.desk.now.table ≡ Some held =
     rw c.kid.ensures (is_found c.args.request.now.came.now.at c.args.request.now.says.kid c.args.request.now.says.kid_context c.args.desk.now.table held opened.1.meant.is_meant).same
     in

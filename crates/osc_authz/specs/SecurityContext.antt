@@ -4,7 +4,7 @@ use Rattle.osc_model.specs.Scope.{Scope}
 use Rattle.osc_model.specs.declared.context.ContextName.{ContextName}
 
 -- its name, the rights and the time of the token that made it, and the window of the numbers that it accepted
-pub record Held : Type 0 where
+pub record SecurityContext : Type 0 where
   pub name : ContextName
   pub scope : Scope
   pub not_before : Option ℕ

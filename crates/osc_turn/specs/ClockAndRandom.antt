@@ -20,23 +20,23 @@ abbrev pub stream_from : ChaCha → Stream
 stream_from generator = stream_of (steps_u32 (next_word 6)) generator
 
 -- what hands a node its moments and draws: the last moment, the generator, and the clock's readings so far, where contracts see them
-pub record SupplyState : Type 0 where
+pub record ClockAndRandomState : Type 0 where
   pub last : Moment
   pub generator : ChaCha
   pub told : Option (List ℕ)
 
 -- its generator is that of a seed of 32 bytes
-abbrev pub IsSeeded : SupplyState → Type 0
+abbrev pub IsSeeded : ClockAndRandomState → Type 0
 IsSeeded supply = (seed : List ℕ) × (length seed ≡ 32) × (supply.generator ≡ of_seed seed)
 
 -- The clock was read once more, and the moment is that reading's, or still the last one.
-pub record Reads (old : SupplyState) (now : Moment) (new : SupplyState) : Type 0 where
+pub record Reads (old : ClockAndRandomState) (now : Moment) (new : ClockAndRandomState) : Type 0 where
   pub reading : ℕ
   pub told : new.told ≡ one_more old.told reading
   pub is_moment : now.ms ≡ not_before old.last.ms reading
   pub kept : new.last ≡ now
 
 -- The next moment, and the next draw: the generator's next 32 bytes.
-pub record Gives (old : SupplyState) (now : Moment) (draw : Draw) (new : SupplyState) : Type 0 where
+pub record Gives (old : ClockAndRandomState) (now : Moment) (draw : Draw) (new : ClockAndRandomState) : Type 0 where
   pub reads : Reads old now new
   pub drawn : (draw.0, stream_from new.generator) ≡ fill_bytes 32 (stream_from old.generator)

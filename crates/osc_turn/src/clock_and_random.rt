@@ -2,7 +2,7 @@
 ghost use Rattle.std.specs.Duration.{as_nanos};
 ghost use Rattle.std.specs.Prelude.{◌≡◌, ◌≤◌, ◌<◌, ◌^◌, ◌/◌, ◌↔◌, IfOk, IfSome, IsSome};
 ghost use Rattle.rand_core.specs.Stream.{fill_bytes};
-ghost use Rattle.osc_turn.specs.Supply as spec;
+ghost use Rattle.osc_turn.specs.ClockAndRandom as spec;
 
 use crate::watch::{SystemWatch, Watch};
 use osc_model::{Draw, Moment};
@@ -15,37 +15,37 @@ use std::time::{Clock, Duration};
 
 /// Where a node runs: a watch, the last moment, and a generator. Contracts see what the watch told in its place.
 #[derive(Drop)]
-pub struct Supply<W: Watch + Drop> {
+pub struct ClockAndRandom<W: Watch + Drop> {
     watch: W,
     last: Moment,
     generator: StdRng,
 }
 
-impl<W: Watch + Drop> Model for Supply<W> {
-    ghost use Rattle.osc_turn.specs.Supply.{SupplyState};
+impl<W: Watch + Drop> Model for ClockAndRandom<W> {
+    ghost use Rattle.osc_turn.specs.ClockAndRandom.{ClockAndRandomState};
 
-    ghost Value = { SupplyState };
+    ghost Value = { ClockAndRandomState };
 
     ghost view = { λ supply. record { last = supply.last; generator = supply.generator; told = W.told supply.watch } };
 }
 
-impl<'a, R: Clock + RandomSource> Supply<SystemWatch<'a, R>> {
+impl<'a, R: Clock + RandomSource> ClockAndRandom<SystemWatch<'a, R>> {
     /// Over the clock of this runtime, with a generator whose seed of 32 bytes comes from the system.
-    pub fn of_system(runtime: &'a R) -> io::Result<Supply<SystemWatch<'a, R>>>
+    pub fn of_system(runtime: &'a R) -> io::Result<ClockAndRandom<SystemWatch<'a, R>>>
         ensures seeded { IfOk result (λ supply. spec.IsSeeded supply) }
     {
         let generator = rand::make_rng(runtime)?;
-        Ok(Supply::new(SystemWatch::new(runtime), generator))
+        Ok(ClockAndRandom::new(SystemWatch::new(runtime), generator))
     }
 }
 
-impl<W: Watch + Drop> Supply<W> {
+impl<W: Watch + Drop> ClockAndRandom<W> {
     /// From the start on.
-    pub fn new(watch: W, generator: StdRng) -> Supply<W>
+    pub fn new(watch: W, generator: StdRng) -> ClockAndRandom<W>
         ensures generator { result.generator ≡ generator }
         ensures told { result.told ≡ W.told watch }
     {
-        Supply {
+        ClockAndRandom {
             watch,
             last: Moment::START,
             generator,

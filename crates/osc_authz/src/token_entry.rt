@@ -6,7 +6,7 @@ ghost use Rattle.osc_model.specs.declared.context.Side.TheVariants.{Server};
 ghost use Rattle.osc_context.specs.Derivation.{accepted_of};
 ghost use Rattle.osc_context.specs.Nonce.{greatest_number};
 ghost use Rattle.osc_window.specs.Window.{IsFresh};
-ghost use Rattle.osc_authz.specs.Held.{Held};
+ghost use Rattle.osc_authz.specs.SecurityContext.{SecurityContext};
 ghost use Rattle.osc_authz.specs.Table.{is_live as is_live_of, holds_live as holds_live_of, holds_id, listed, has_id, taking, accepted_in};
 
 use crate::context::ServerContext;
@@ -14,16 +14,15 @@ use osc_context::AcceptedNumber;
 use osc_model::{Bytes, Moment};
 
 /// The contexts of one token id: one that a request has opened under, and one of the newest post.
-pub struct Holding {
+pub struct TokenEntry {
     pub id: Bytes,
     pub confirmed: Option<ServerContext>,
     pub pending: Option<ServerContext>,
 }
 
-// Proved once, and not anew at each exit of whoever owns one.
-impl Drop for Holding {
+impl Drop for TokenEntry {
     fn drop(self) {
-        let Holding {
+        let TokenEntry {
             id: _,
             confirmed: _,
             pending: _,
@@ -65,7 +64,7 @@ fn take_number(context: &mut Option<ServerContext>, number: u64) -> AcceptedNumb
     }
 }
 
-impl Holding {
+impl TokenEntry {
     /// Whether one of the contexts is live.
     pub fn holds_live(&self, now: Moment) -> bool
         ensures { result ≡ holds_live_of now self.now }
@@ -107,11 +106,11 @@ impl Holding {
         requires number { number ≤ greatest_number }
         requires confirmed { IfSome self.old.confirmed (λ held. has_id id.now held ≡ true → IsFresh held.window number) }
         requires pending { IfSome self.old.pending (λ held. has_id id.now held ≡ true → IsFresh held.window number) }
-        ensures right { (held : Held)
+        ensures right { (held : SecurityContext)
             → IfSome self.old.confirmed (λ context. has_id id.now context ≡ true → context ≡ held)
             → IfSome self.old.pending (λ context. has_id id.now context ≡ true → context ≡ held)
             → result ≡ accepted_of held.name Server number }
-        ensures confirmed { (held : Held)
+        ensures confirmed { (held : SecurityContext)
             → IfSome self.old.confirmed (λ context. has_id id.now context ≡ true → context ≡ held)
             → IfSome self.old.pending (λ context. has_id id.now context ≡ true → context ≡ held)
             → self.new.confirmed ≡ Some (taking number held) }

@@ -1,6 +1,6 @@
 //! The way to the server.
 ghost use Rattle.std.specs.Prelude.{◌≡◌, ◌↔◌, IfSome, IsSome};
-ghost use Rattle.osc_client.specs.Way.{IsHost};
+ghost use Rattle.osc_client.specs.Route.{IsHost};
 
 use osc_model::{Bytes, Peer};
 use std::marker::Model;
@@ -15,7 +15,6 @@ pub struct Origin {
     port: u16,
 }
 
-// Proved once, and not anew at each exit of whoever owns one.
 impl Drop for Origin {
     fn drop(self) {
         let Origin { host: _, port: _ } = self;
@@ -23,7 +22,7 @@ impl Drop for Origin {
 }
 
 impl Model for Origin {
-    ghost use Rattle.osc_client.specs.Way.{HostAndPort, IsHost};
+    ghost use Rattle.osc_client.specs.Route.{HostAndPort, IsHost};
 
     ghost Value = { HostAndPort };
 
@@ -62,7 +61,7 @@ impl Origin {
 
 /// The way to the server.
 #[derive(Debug, Drop)]
-pub struct Way {
+pub struct Route {
     /// To whom is sent: the server, or a proxy.
     pub next_hop: Peer,
     /// The server behind the proxy; none where the next hop is the server itself.
